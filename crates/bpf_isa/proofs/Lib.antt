@@ -1,0 +1,5 @@
+pub mod Tables
+pub mod RowLaws
+pub mod FieldLaws
+pub mod DecodedLaws
+pub mod ErrorLaws

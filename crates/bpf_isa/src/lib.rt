@@ -1,0 +1,26 @@
+//! The BPF instruction set, conformance groups base64 and divmul64 of RFC 9669: what an instruction
+//! is, and which bytes spell it.
+#![tactic(auto)]
+
+mod code_unit;
+mod decode;
+mod decode_error;
+mod encoding;
+mod instruction;
+mod laws;
+mod making;
+mod register;
+mod row;
+mod rows;
+#[cfg(test)]
+mod tests;
+
+pub use decode::decode_at;
+pub use decode_error::DecodeError;
+pub use encoding::encode;
+pub use instruction::{
+    ByteOrder, Comparison, Distance, Extension, Instruction, Operand, Operation, SignedSize, Size,
+    SwapBits, Width,
+};
+pub use laws::decoded_is_code;
+pub use register::Register;
