@@ -1,0 +1,6 @@
+pub mod Numbers
+pub mod Around
+pub mod Neighbours
+pub mod Pairs
+pub mod Batches
+pub mod Pasts

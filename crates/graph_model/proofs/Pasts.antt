@@ -1,0 +1,57 @@
+-- The graph of a past, and a past with one entry more.
+use Rattle.std.proofs.Common.{◌≡◌, ℕ, ◌+◌, List, [], ◌∷◌, ◌++◌, refl, ap, subst, ◌∙◌}
+use Rattle.std.specs.List.{AllByRecursion}
+use Rattle.std.proofs.lemmas.List.{length_push, same_from_push}
+use Rattle.std.proofs.lemmas.Bool.{false≢true}
+use Rattle.graph_model.specs.declared.entry.Entry.{Entry}
+use Rattle.graph_model.specs.Graph.{Graph, IsGraph, empty_graph}
+use Rattle.graph_model.specs.Edits.{after_batch, AreEditsBelow}
+use Rattle.graph_model.specs.Laws.{ReplayIsGraph}
+use Rattle.graph_model.specs.Past.{Past, IsPast, graph_of, number_of, replay, longer}
+use Rattle.graph_model.proofs.Batches.{IsGraph-after_batch}
+
+replay-push : (log : List Entry) (e : Entry) (g : Graph) → replay (log ++ e ∷ []) g ≡ after_batch e.batch (replay log g)
+replay-push [] e g = refl
+replay-push (first ∷ log) e g = replay-push log e (after_batch first.batch g)
+
+pub graph_of-longer : (p : Past) (e : Entry) → graph_of (longer p e) ≡ after_batch e.batch (graph_of p)
+graph_of-longer p e = replay-push p.log e (empty_graph p.vertex_count)
+
+vertex_count-replay : (log : List Entry) (g : Graph) → (replay log g).vertex_count ≡ g.vertex_count
+vertex_count-replay [] g = refl
+vertex_count-replay (e ∷ log) g = vertex_count-replay log (after_batch e.batch g)
+
+pub vertex_count-graph_of : (p : Past) → (graph_of p).vertex_count ≡ p.vertex_count
+vertex_count-graph_of p = vertex_count-replay p.log (empty_graph p.vertex_count)
+
+pub number_of-longer : (p : Past) (e : Entry) → number_of (longer p e) ≡ number_of p + 1
+number_of-longer p e = length_push p.log e
+
+all_push : (P : Entry → Type 0) (xs : List Entry) (x : Entry) → AllByRecursion P xs → P x → AllByRecursion P (xs ++ x ∷ [])
+all_push P [] x h here = (here, tt)
+all_push P (y ∷ ys) x h here = (h.0, all_push P ys x h.1 here)
+
+pub IsPast-longer : (p : Past) (e : Entry) → IsPast p → AreEditsBelow p.vertex_count e.batch → IsPast (longer p e)
+IsPast-longer p e is below = all_push (λ f. AreEditsBelow p.vertex_count f.batch) p.log e is below
+
+pub IsGraph-empty_graph : (n : ℕ) → IsGraph (empty_graph n)
+IsGraph-empty_graph n u v edge = absurd (false≢true edge)
+
+IsGraph-replay : (n : ℕ) (log : List Entry) (g : Graph) → n ≡ g.vertex_count → AllByRecursion (λ e. AreEditsBelow n e.batch) log → IsGraph g → IsGraph (replay log g)
+IsGraph-replay n [] g same below is = is
+IsGraph-replay n (e ∷ log) g same below is =
+    IsGraph-replay n log (after_batch e.batch g) same below.1 (IsGraph-after_batch e.batch g (subst (λ m. AreEditsBelow m e.batch) same below.0) is)
+
+pub IsGraph-graph_of : ReplayIsGraph
+IsGraph-graph_of p is = IsGraph-replay p.vertex_count p.log (empty_graph p.vertex_count) refl is (IsGraph-empty_graph p.vertex_count)
+
+-- a past that ends with an entry is the past before it, and that entry, and no other
+pub longer_same : (p q : Past) (e f : Entry) → longer p e ≡ longer q f → (p ≡ q) × (e ≡ f)
+longer_same p q e f h =
+    let logs : p.log ++ e ∷ [] ≡ q.log ++ f ∷ [] = ap (λ (r : Past). r.log) h in
+    let counts : p.vertex_count ≡ q.vertex_count = ap (λ (r : Past). r.vertex_count) h in
+    let parts = same_from_push p.log q.log e f logs in
+    (ap (λ n. past_of n p.log) counts ∙ ap (past_of q.vertex_count) parts.0, parts.1)
+  where
+    past_of : ℕ → List Entry → Past
+    past_of n log = record { vertex_count = n; log = log }

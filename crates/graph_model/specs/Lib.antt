@@ -1,0 +1,5 @@
+pub mod Graph
+pub mod Edits
+pub mod Shared
+pub mod Past
+pub mod Laws

@@ -1,0 +1,32 @@
+//! The laws of the definitions. Each function does nothing: its contract is the law.
+ghost use Rattle.graph_model.specs.Laws.{NeighboursAscend, NeighboursAreTargets, OneEdit, EditsInTurn, ChangeOfSize, ReplayIsGraph};
+
+/// A vertex's neighbours are strictly ascending.
+pub fn neighbours_ascend()
+    ensures { NeighboursAscend }
+{}
+
+/// A vertex's neighbours are exactly the targets of its edges.
+pub fn neighbours_are_targets()
+    ensures { NeighboursAreTargets }
+{}
+
+/// One edit decides its own pair and leaves every other.
+pub fn one_edit()
+    ensures { OneEdit }
+{}
+
+/// A batch does what its edits do one after another.
+pub fn edits_in_turn()
+    ensures { EditsInTurn }
+{}
+
+/// What a batch adds less what it removes is the change of the number of edges.
+pub fn change_of_size()
+    ensures { ChangeOfSize }
+{}
+
+/// A log whose edits name vertices makes a graph.
+pub fn replay_is_graph()
+    ensures { ReplayIsGraph }
+{}

@@ -1,0 +1,14 @@
+//! What a graph, a batch of edits and a version are. The other crates' contracts speak in these
+//! words; here stand the definitions (in `specs/`), the types that they name, and their laws.
+#![tactic(auto)]
+
+mod batch;
+mod edit;
+mod entry;
+pub mod laws;
+mod view;
+
+pub use batch::Batch;
+pub use edit::Edit;
+pub use entry::Entry;
+pub use view::GraphView;
