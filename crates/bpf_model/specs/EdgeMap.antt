@@ -1,0 +1,54 @@
+-- A program mapped over edges: one run for each edge, each on a record of its own.
+use Rattle.std.specs.Prelude.{◌≡◌, ℕ, ◌+◌, ◌-◌, ◌^◌, ◌%◌, min, max, List, [], ◌∷◌, ◌++◌, map, sum, Option, Some, None}
+use Rattle.std.specs.Int.{w32, to_le_bytes}
+use Rattle.bpf_image.specs.Program.{Program}
+use Rattle.graph_model.specs.Graph.{Graph, neighbours, degree}
+use Rattle.bpf_model.specs.declared.reduction.Reduction.{Reduction}
+use Rattle.bpf_model.specs.declared.reduction.Reduction.TheVariants.{Min, Max, Sum}
+use Rattle.bpf_model.specs.State.{start}
+use Rattle.bpf_model.specs.Step.{Next, Goes, Exits, Traps}
+use Rattle.bpf_model.specs.Run.{after}
+
+-- the record of an edge: source, target, the target's place among the neighbours, the source's
+-- degree, each as four bytes in little-endian order, and then the argument
+abbrev pub edge_record : Graph → ℕ → ℕ → ℕ → List ℕ → List ℕ
+edge_record g source target place argument =
+    (to_le_bytes w32 source ++ to_le_bytes w32 target ++ to_le_bytes w32 place ++ to_le_bytes w32 (degree g source)) ++ argument
+
+-- the number that a run has exited with, if it has
+abbrev pub exit_number : Next → Option ℕ
+exit_number (Goes s) = None
+exit_number (Exits v) = Some v
+exit_number (Traps kind pc) = None
+
+-- the exit number of a run on a record, within so many steps
+abbrev pub number_for : Program → ℕ → Graph → List ℕ → Option ℕ
+number_for p steps g bytes = exit_number (after p g steps (start bytes))
+
+-- the exit numbers of a vertex's edges, from the edge at a place on
+abbrev pub numbers_from : Program → ℕ → Graph → List ℕ → ℕ → ℕ → List ℕ → List (Option ℕ)
+numbers_from p steps g argument source place [] = []
+numbers_from p steps g argument source place (target ∷ targets) =
+    number_for p steps g (edge_record g source target place argument) ∷ numbers_from p steps g argument source (place + 1) targets
+
+-- the exit numbers of a vertex's edges, targets ascending
+abbrev pub numbers_of : Program → ℕ → Graph → List ℕ → ℕ → List (Option ℕ)
+numbers_of p steps g argument source = numbers_from p steps g argument source 0 (neighbours g source)
+
+-- numbers that are all there
+abbrev pub AreNumbers : List (Option ℕ) → List ℕ → Type 0
+AreNumbers found numbers = found ≡ map Some numbers
+
+abbrev pub least : List ℕ → ℕ
+least [] = 2 ^ 64 - 1
+least (x ∷ xs) = min x (least xs)
+
+abbrev pub greatest : List ℕ → ℕ
+greatest [] = 0
+greatest (x ∷ xs) = max x (greatest xs)
+
+-- the numbers of some edges as one
+abbrev pub reduced : Reduction → List ℕ → ℕ
+reduced Min numbers = least numbers
+reduced Max numbers = greatest numbers
+reduced Sum numbers = sum numbers % 2 ^ 64

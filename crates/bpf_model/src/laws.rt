@@ -1,0 +1,22 @@
+//! The laws of the definitions. Each function does nothing: its contract is the law.
+ghost use Rattle.bpf_model.specs.Laws.{EndStays, StepsInTurn, RecordAtStart, OneOutcome};
+
+/// An end of a run stays, however many steps are counted after it.
+pub fn end_stays()
+    ensures { EndStays }
+{}
+
+/// Where k steps lead to a state, k + m steps lead to what m steps from that state do.
+pub fn steps_in_turn()
+    ensures { StepsInTurn }
+{}
+
+/// A run begins with its record's bytes at the record's address.
+pub fn record_at_start()
+    ensures { RecordAtStart }
+{}
+
+/// A run with so much fuel has one outcome, and leaves its record in one way.
+pub fn one_outcome()
+    ensures { OneOutcome }
+{}

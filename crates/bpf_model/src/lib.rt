@@ -1,0 +1,12 @@
+//! What a BPF program means: the state of a run, the step relation, whole runs, and the map of a
+//! program over the edges of a graph. Definitions (in `specs/`), the types that they name, and laws.
+#![tactic(auto)]
+
+pub mod laws;
+mod outcome;
+mod reduction;
+mod trap;
+
+pub use outcome::Outcome;
+pub use reduction::Reduction;
+pub use trap::TrapKind;

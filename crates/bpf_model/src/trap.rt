@@ -1,0 +1,18 @@
+/// Why a run stopped without an exit number. Where several apply, the first one is given.
+#[derive(Clone, Copy, Debug, PartialEq, Eq)]
+pub enum TrapKind {
+    /// No instruction stands at the pc, or one that the machine does not run.
+    BadInstruction = 1,
+    /// The pc is outside the code.
+    OutsideCode = 2,
+    /// A register is read that is not set.
+    UnsetRegister = 3,
+    /// An access lies neither wholly in the record nor wholly in one live frame.
+    OutsideMemory = 4,
+    /// A stack byte is read that is not set.
+    UnsetByte = 5,
+    /// R10 is written.
+    FrameRegister = 6,
+    /// The function exits while R0 is not set.
+    UnsetResult = 10,
+}
