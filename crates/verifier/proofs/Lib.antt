@@ -1,0 +1,10 @@
+pub mod Faults
+pub mod Starts
+pub mod Coming
+pub mod PassSteps
+pub mod Walking
+pub mod Places
+pub mod Values
+pub mod Steps
+pub mod Runs
+pub mod Equal

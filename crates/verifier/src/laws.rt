@@ -1,0 +1,16 @@
+ghost use Rattle.verifier.specs.Laws.{AssignedSolves, OneSolution, JoinDescribes};
+
+/// What is known at each pc solves the equations of the abstract pass.
+pub fn assigned_solves()
+    ensures { AssignedSolves }
+{}
+
+/// The equations have no other solution.
+pub fn one_solution()
+    ensures { OneSolution }
+{}
+
+/// A join describes all that its two sides describe.
+pub fn join_describes()
+    ensures { JoinDescribes }
+{}

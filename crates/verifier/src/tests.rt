@@ -1,0 +1,136 @@
+use super::*;
+use bpf_image::Image;
+use std::alloc::Global;
+use std::test::Fail;
+
+/// What the verifier answers: the bound, or the cause and where.
+type Answer = Result<u32, (Cause, usize)>;
+
+// Instructions of one unit, the bytes in the order of the code.
+const MOVE_SEVEN: u64 = 0xb700_0000_0700_0000;
+
+const EXIT: u64 = 0x9500_0000_0000_0000;
+
+/// Verifies a program of these units, and sees that the program comes back whole.
+fn answer(alloc: Global, record_length: u16, units: &[u64]) -> Result<Answer, Fail> {
+    let mut code = Vec::new(alloc);
+    for unit in units {
+        code.extend_from_slice(&unit.to_be_bytes())?;
+    }
+    let Ok(image) = Image::new(record_length, code.clone()?) else {
+        return Err(Fail::from("no image"));
+    };
+    match verify(image) {
+        Ok(verified) => {
+            let image = verified.image();
+            if image.code() != code.as_slice() || image.record_length() != record_length {
+                return Err(Fail::from("another program was verified"));
+            }
+            if verified.frames() != 1 {
+                return Err(Fail::from("not one frame"));
+            }
+            Ok(Ok(verified.bound()))
+        }
+        Err((image, refusal)) => {
+            if image.code() != code.as_slice() || image.record_length() != record_length {
+                return Err(Fail::from("another program came back"));
+            }
+            Ok(Err((refusal.cause, refusal.pc)))
+        }
+    }
+}
+
+#[test]
+fn one_unit_and_an_exit(rt: HostRuntime) -> Result<(), Fail> {
+    let rows = [
+        (MOVE_SEVEN, Ok(2)),
+        // Loads at the record's beginning, at its end and across it, and before its beginning.
+        (0x6110_0400_0000_0000, Ok(2)),
+        (0x6110_0c00_0000_0000, Ok(2)),
+        (0x6110_0d00_0000_0000, Err((Cause::OutOfRange, 0))),
+        (0x6110_ffff_0000_0000, Err((Cause::OutOfRange, 0))),
+        // In the frame, whose bytes are unset, at its bottom, and across its two ends.
+        (0x61a0_f8ff_0000_0000, Err((Cause::UnsetStackByte, 0))),
+        (0x61a0_00fe_0000_0000, Err((Cause::UnsetStackByte, 0))),
+        (0x61a0_0000_0000_0000, Err((Cause::OutOfRange, 0))),
+        (0x61a0_fdff_0000_0000, Err((Cause::OutOfRange, 0))),
+        (0x61a0_fffd_0000_0000, Err((Cause::OutOfRange, 0))),
+        // The exit's result.
+        (0xbf10_0000_0000_0000, Err((Cause::ResultNotNumber, 1))),
+        (0xbfa0_0000_0000_0000, Err((Cause::ResultNotNumber, 1))),
+        (0xbf20_0000_0000_0000, Ok(2)),
+        // R10 is written: a rule of less number goes before, one of greater number behind.
+        (0xb70a_0000_0100_0000, Err((Cause::FrameRegister, 0))),
+        (0xbf0a_0000_0000_0000, Err((Cause::UnsetRegister, 0))),
+        (0x611a_0d00_0000_0000, Err((Cause::FrameRegister, 0))),
+        // An addition and a move of 32 bits are not known yet; 0xff is no instruction.
+        (0x0700_0000_0100_0000, Err((Cause::BadInstruction, 0))),
+        (0xb400_0000_0100_0000, Err((Cause::BadInstruction, 0))),
+        (0xff00_0000_0000_0000, Err((Cause::BadInstruction, 0))),
+    ];
+    for (unit, wanted) in rows {
+        assert_eq!(rt; answer(rt.alloc(), 16, &[unit, EXIT])?, wanted, "{unit:x}");
+    }
+    Ok(())
+}
+
+#[test]
+fn whole_programs(rt: HostRuntime) -> Result<(), Fail> {
+    let rows = [
+        (&[EXIT][..], Err((Cause::UnsetRegister, 0))),
+        (&[MOVE_SEVEN][..], Err((Cause::FallsOff, 0))),
+        // A wide instruction, which is not known yet.
+        (
+            &[0x1800_0000_0100_0000, 0, EXIT][..],
+            Err((Cause::BadInstruction, 0)),
+        ),
+        // A load through the number 5, and through the record's address in another register.
+        (
+            &[0xb703_0000_0500_0000, 0x6130_0000_0000_0000, EXIT][..],
+            Err((Cause::PointerUse, 1)),
+        ),
+        (
+            &[0xbf13_0000_0000_0000, 0x7130_0f00_0000_0000, EXIT][..],
+            Ok(3),
+        ),
+        (
+            &[0xbf13_0000_0000_0000, 0x7130_1000_0000_0000, EXIT][..],
+            Err((Cause::OutOfRange, 1)),
+        ),
+        // What follows an exit is decoded and has to end in one, but it is not walked.
+        (
+            &[MOVE_SEVEN, EXIT, MOVE_SEVEN][..],
+            Err((Cause::FallsOff, 2)),
+        ),
+        (&[MOVE_SEVEN, EXIT, 0x6110_0d00_0000_0000, EXIT][..], Ok(2)),
+        // A pass goes before the next one, wherever their faults are.
+        (
+            &[0x6110_0d00_0000_0000, 0x0700_0000_0100_0000, MOVE_SEVEN][..],
+            Err((Cause::BadInstruction, 1)),
+        ),
+        (
+            &[0x6110_0d00_0000_0000, MOVE_SEVEN][..],
+            Err((Cause::FallsOff, 1)),
+        ),
+    ];
+    for (units, wanted) in rows {
+        assert_eq!(rt; answer(rt.alloc(), 16, units)?, wanted, "{units:?}");
+    }
+
+    // The longest record.
+    let last = [0x7910_f800_0000_0000, EXIT];
+    let past = [0x7910_f900_0000_0000, EXIT];
+    assert_eq!(rt; answer(rt.alloc(), 256, &last)?, Ok(2));
+    assert_eq!(rt;
+        answer(rt.alloc(), 256, &past)?,
+        Err((Cause::OutOfRange, 0))
+    );
+    Ok(())
+}
+
+#[test]
+fn causes_have_texts(rt: HostRuntime) -> Result<(), Fail> {
+    let text = format!(in rt.alloc(); "{}", Cause::FrameRegister)?;
+    assert_eq!(rt; text.as_str(), "r10 is written");
+    Ok(())
+}
