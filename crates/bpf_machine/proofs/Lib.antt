@@ -1,0 +1,3 @@
+pub mod MemoryFacts
+pub mod RunFacts
+pub mod VerifiedRuns

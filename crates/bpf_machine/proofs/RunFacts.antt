@@ -1,0 +1,36 @@
+-- A run's steps, and the record that is seen after them.
+use Rattle.std.proofs.Common.{◌≡◌, ℕ, suc, ◌+◌, ◌-◌, ◌≤◌, nat_le, false, true, List, length, arith, ap, ◌∙◌}
+use Rattle.std.proofs.lemmas.Bool.{cond-true, cond-false, le-leb, lt-leb}
+use Rattle.std.specs.Prelude.{slice_get}
+use Rattle.graph_model.specs.Graph.{Graph}
+use Rattle.bpf_image.specs.Program.{Program}
+use Rattle.bpf_model.specs.State.{State, start, HasRecord, record_base, frame_top, frame_bytes}
+use Rattle.bpf_model.specs.Step.{Next, Goes, step}
+use Rattle.bpf_model.specs.Run.{after, then_step, Stops}
+use Rattle.bpf_machine.specs.declared.machine.Machine.{Machine}
+use Rattle.bpf_machine.specs.Seen.{seen}
+
+-- the record is seen at its address, below the frames
+pub record_seen : (machine : Machine) (bytes : List ℕ) → length bytes ≤ 256 → HasRecord (seen machine bytes) bytes
+record_seen machine bytes short k within =
+    let below : nat_le (frame_top 0 - frame_bytes) (record_base + k) ≡ false = lt-leb _ _ (omega arith) in
+    let above : nat_le record_base (record_base + k) ≡ true = le-leb _ _ (omega arith) in
+    let place : (record_base + k) - record_base ≡ k = omega arith in
+    cond-false _ _ _ below ∙ cond-true _ _ _ above ∙ ap (slice_get bytes) place
+
+-- where a run stops at a machine's state
+pub stops_at : (p : Program) (g : Graph) (old : List ℕ) (k : ℕ) (machine : Machine) (new : List ℕ) (next : Next)
+    → after p g k (start old) ≡ Goes (seen machine new) → step p g (seen machine new) ≡ next → length new ≡ length old → length new ≤ 256
+    → Stops p g old k next new
+stops_at p g old k machine new next reached stops same short = record {
+  last = seen machine new;
+  reached = reached;
+  stops = stops;
+  same_length = same;
+  record_bytes = record_seen machine new short;
+}
+
+-- one step more
+pub after_more : (p : Program) (g : Graph) (k : ℕ) (s t : State) (next : Next)
+    → after p g k s ≡ Goes t → step p g t ≡ next → after p g (suc k) s ≡ next
+after_more p g k s t next reached stepped = ap (then_step p g) reached ∙ stepped

@@ -1,0 +1,16 @@
+//! The machine: it tests everything that a program does, and stops it where it may not go on.
+#![tactic(auto)]
+
+mod effect;
+mod machine;
+mod memory;
+mod run;
+#[cfg(test)]
+mod tests;
+mod turn;
+mod verified;
+
+pub use bpf_model::{Outcome, TrapKind};
+pub use graph_model::GraphView;
+pub use run::run_checked;
+pub use verified::run_verified;

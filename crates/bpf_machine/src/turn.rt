@@ -1,0 +1,12 @@
+use bpf_model::TrapKind;
+
+/// What came of one instruction.
+#[derive(Clone, Copy, Debug, PartialEq, Eq)]
+pub enum Turn {
+    /// The run goes on.
+    Went,
+    /// It has exited with this number.
+    Exited(u64),
+    /// It was stopped, and the machine is as it was before the instruction.
+    Trapped(TrapKind),
+}
