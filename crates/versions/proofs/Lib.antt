@@ -1,0 +1,4 @@
+pub mod RowLemmas
+pub mod TableLemmas
+pub mod DraftLemmas
+pub mod VersionLemmas

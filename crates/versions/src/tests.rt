@@ -1,0 +1,172 @@
+ghost use Rattle.std.specs.Prelude.{◌≡◌, IfOk};
+
+use super::{Batch, Edit, PublishError, Store, StoreError};
+use std::alloc::{AllocError, Global};
+use std::test::Fail;
+
+fn batch_of(alloc: Global, edits: &[Edit]) -> Result<Batch, AllocError>
+    ensures { IfOk result (λ batch. batch ≡ edits.now) }
+{
+    Batch::new(alloc, Vec::from_slice(alloc, edits)?)
+}
+
+#[test]
+fn later_edits_decide(rt: HostRuntime) -> Result<(), Fail> {
+    let alloc = rt.alloc();
+    let edits = [
+        Edit::Insert(0, 1),
+        Edit::Remove(0, 1),
+        Edit::Insert(0, 1),
+        Edit::Remove(2, 3),
+    ];
+    let mut publisher = Store::new(alloc, 4)?;
+    let first = publisher.publish(batch_of(alloc, &edits)?)?;
+    assert_eq!(rt; first.number(), 1);
+    assert_eq!(rt; first.added(), 1);
+    assert_eq!(rt; first.removed(), 0);
+    assert_eq!(rt; first.feed(), 0);
+    assert_eq!(rt; first.batch().edits(), edits.as_slice());
+
+    let second = publisher.publish(Batch::empty())?;
+    assert_eq!(rt; second.number(), 2);
+    assert_eq!(rt; second.added(), 0);
+    assert_eq!(rt; second.removed(), 0);
+    assert_eq!(rt; publisher.number(), 2);
+    Ok(())
+}
+
+#[test]
+fn each_pair_counts_once(rt: HostRuntime) -> Result<(), Fail> {
+    let alloc = rt.alloc();
+    let mut publisher = Store::new(alloc, 4)?;
+    let twice = [Edit::Insert(1, 3), Edit::Insert(1, 3), Edit::Insert(1, 0)];
+    let receipt = publisher.publish(batch_of(alloc, &twice)?)?;
+    assert_eq!(rt; receipt.added(), 2);
+    assert_eq!(rt; receipt.removed(), 0);
+
+    let missing = [Edit::Remove(1, 2), Edit::Remove(3, 1), Edit::Remove(1, 3)];
+    let receipt = publisher.publish(batch_of(alloc, &missing)?)?;
+    assert_eq!(rt; receipt.added(), 0);
+    assert_eq!(rt; receipt.removed(), 1);
+
+    // Taken out and put back, and put in and taken out.
+    let back = [
+        Edit::Remove(1, 0),
+        Edit::Insert(1, 0),
+        Edit::Insert(2, 2),
+        Edit::Remove(2, 2),
+    ];
+    let receipt = publisher.publish(batch_of(alloc, &back)?)?;
+    assert_eq!(rt; receipt.added(), 0);
+    assert_eq!(rt; receipt.removed(), 0);
+    let pin = publisher.pin()?;
+    assert_eq!(rt; pin.version().edge_count(), 1);
+    assert_eq!(rt; pin.version().neighbours(1), [0].as_slice());
+    Ok(())
+}
+
+#[test]
+fn neighbours_ascend(rt: HostRuntime) -> Result<(), Fail> {
+    let alloc = rt.alloc();
+    let mut publisher = Store::new(alloc, 4)?;
+    let edits = [
+        Edit::Insert(2, 3),
+        Edit::Insert(2, 0),
+        Edit::Insert(2, 2),
+        Edit::Insert(2, 1),
+        Edit::Remove(2, 2),
+    ];
+    publisher.publish(batch_of(alloc, &edits)?)?;
+    let pin = publisher.pin()?;
+    let version = pin.version();
+    assert_eq!(rt; version.neighbours(2), [0, 1, 3].as_slice());
+    assert_eq!(rt; version.neighbours(3), [].as_slice());
+    assert_eq!(rt; version.neighbours(4), [].as_slice());
+    assert_eq!(rt; version.neighbours(u32::MAX), [].as_slice());
+    assert_eq!(rt; version.edge_count(), 3);
+    assert_eq!(rt; version.vertex_count(), 4);
+    assert_eq!(rt; publisher.vertex_count(), 4);
+    Ok(())
+}
+
+#[test]
+fn one_vertex_is_enough(rt: HostRuntime) -> Result<(), Fail> {
+    let publisher = Store::new(rt.alloc(), 1)?;
+    let pin = publisher.pin()?;
+    assert_eq!(rt; pin.version().number(), 0);
+    assert_eq!(rt; pin.version().edge_count(), 0);
+    assert_eq!(rt; pin.version().vertex_count(), 1);
+    assert_eq!(rt; pin.version().neighbours(0), [].as_slice());
+    Ok(())
+}
+
+#[test]
+fn a_pin_stays(rt: HostRuntime) -> Result<(), Fail> {
+    let alloc = rt.alloc();
+    let mut publisher = Store::new(alloc, 4)?;
+    let before = publisher.pin()?;
+    publisher.publish(batch_of(alloc, &[Edit::Insert(0, 1)])?)?;
+    let after = publisher.pin()?;
+    assert_eq!(rt; before.version().number(), 0);
+    assert_eq!(rt; before.version().neighbours(0), [].as_slice());
+    assert_eq!(rt; after.version().number(), 1);
+    assert_eq!(rt; after.version().neighbours(0), [1].as_slice());
+    Ok(())
+}
+
+#[test]
+fn vertex_counts_are_tested(rt: HostRuntime) -> Result<(), Fail> {
+    for vertex_count in [0, 1_048_577, u32::MAX] {
+        let refused = Store::new(rt.alloc(), vertex_count).err();
+        assert_eq!(rt; refused, Some(StoreError::VertexCount), "at {vertex_count}");
+    }
+    let largest = Store::new(rt.alloc(), 1_048_576)?;
+    assert_eq!(rt; largest.vertex_count(), 1_048_576);
+    Ok(())
+}
+
+#[test]
+fn a_full_log_refuses(rt: HostRuntime) -> Result<(), Fail> {
+    let mut publisher = Store::new(rt.alloc(), 1)?;
+    for number in 1..4097 {
+        let receipt = publisher.publish(Batch::empty())?;
+        assert_eq!(rt; receipt.number(), number);
+    }
+    let refused = publisher.publish(Batch::empty()).err();
+    assert_eq!(rt; refused, Some(PublishError::LogFull));
+    assert_eq!(rt; publisher.number(), 4096);
+    Ok(())
+}
+
+// With an allocation that fails, each answer is the error or what it would be without.
+#[test]
+fn refused_memory_changes_nothing(rt: HostRuntime) -> Result<(), Fail> {
+    let alloc = rt.alloc();
+    let mut publisher = match Store::new(alloc, 4) {
+        Ok(publisher) => publisher,
+        Err(error) => {
+            assert_eq!(rt; error, StoreError::OutOfMemory);
+            return Ok(());
+        }
+    };
+    let before = publisher.pin()?;
+    let Ok(batch) = batch_of(alloc, &[Edit::Insert(0, 1), Edit::Insert(0, 2)]) else {
+        return Ok(());
+    };
+    let number = match publisher.publish(batch) {
+        Ok(receipt) => {
+            assert_eq!(rt; receipt.added(), 2);
+            1
+        }
+        Err(error) => {
+            assert_eq!(rt; error, PublishError::OutOfMemory);
+            0
+        }
+    };
+    let after = publisher.pin()?;
+    assert_eq!(rt; after.version().number(), number);
+    assert_eq!(rt; after.version().edge_count(), 2 * number);
+    assert_eq!(rt; before.version().edge_count(), 0);
+    assert_eq!(rt; before.version().neighbours(0), [].as_slice());
+    Ok(())
+}
