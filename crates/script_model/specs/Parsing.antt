@@ -1,0 +1,90 @@
+-- What the words of a line say, before anything is known of names and graphs.
+use Rattle.std.specs.Prelude.{ℕ, if◌then◌else◌, List, [], ◌∷◌, Option, Some, None, codes}
+use Rattle.graph_model.specs.declared.edit.Edit.{Edit}
+use Rattle.graph_model.specs.declared.edit.Edit.TheVariants.{Insert}
+use Rattle.bpf_model.specs.declared.reduction.Reduction.{Reduction}
+use Rattle.bpf_model.specs.declared.reduction.Reduction.TheVariants.{Min, Max, Sum}
+use Rattle.script_model.specs.Lexing.{number, is_name, hex, same_bytes}
+
+pub data Command : Type 0 where
+  -- a graph of so many vertices
+  MakeGraph : (vertices : ℕ) → Command
+  -- a batch of edits begins
+  BeginBatch : Command
+  -- a program's name, record length and code
+  LoadCode : (name : List ℕ) (record_length : ℕ) (code : List ℕ) → Command
+  -- a name for the last version
+  TakePin : (name : List ℕ) → Command
+  -- a program mapped over the edges of a pin
+  RunProgram : (program pin : List ℕ) (reduction : Reduction) (argument : List ℕ) (frontier : List ℕ) → Command
+
+-- goes on with a value, where there is one
+abbrev pub given : {A B : Type 0} → Option A → (A → Option B) → Option B
+given None go = None
+given (Some x) go = go x
+
+abbrev pub named : List ℕ → Option Command → Option Command
+named name command = if is_name name then command else None
+
+abbrev pub reduction_of : List ℕ → Option Reduction
+reduction_of word =
+    if same_bytes word (codes "min") then Some Min
+    else (if same_bytes word (codes "max") then Some Max
+    else (if same_bytes word (codes "sum") then Some Sum else None))
+
+-- numbers that are all numbers
+abbrev pub with_number : Option ℕ → Option (List ℕ) → Option (List ℕ)
+with_number None rest = None
+with_number (Some n) None = None
+with_number (Some n) (Some ns) = Some (n ∷ ns)
+
+abbrev pub numbers : List (List ℕ) → Option (List ℕ)
+numbers [] = Some []
+numbers (word ∷ words) = with_number (number word) (numbers words)
+
+abbrev pub graph_command : List (List ℕ) → Option Command
+graph_command (n ∷ []) = given (number n) (λ vertices. Some (MakeGraph vertices))
+graph_command _ = None
+
+abbrev pub batch_command : List (List ℕ) → Option Command
+batch_command (feed ∷ []) = if same_bytes feed (codes "A") then Some BeginBatch else None
+batch_command _ = None
+
+abbrev pub code_command : List (List ℕ) → Option Command
+code_command (name ∷ length ∷ digits ∷ []) =
+    named name (given (number length) (λ record_length. given (hex digits) (λ code. Some (LoadCode name record_length code))))
+code_command _ = None
+
+abbrev pub pin_command : List (List ℕ) → Option Command
+pin_command (name ∷ []) = named name (Some (TakePin name))
+pin_command _ = None
+
+abbrev pub run_command : List (List ℕ) → Option Command
+run_command (program ∷ pin ∷ reducer ∷ digits ∷ frontier) =
+    named program (named pin (given (reduction_of reducer) (λ reduction. given (hex digits) (λ argument. given (numbers frontier) (λ vertices. Some (RunProgram program pin reduction argument vertices))))))
+run_command _ = None
+
+-- the command that a line's first word names, with the words behind it
+abbrev pub command : List ℕ → List (List ℕ) → Option Command
+command word operands =
+    if same_bytes word (codes "graph") then graph_command operands
+    else (if same_bytes word (codes "batch") then batch_command operands
+    else (if same_bytes word (codes "code") then code_command operands
+    else (if same_bytes word (codes "pin") then pin_command operands
+    else (if same_bytes word (codes "run") then run_command operands else None))))
+
+-- a line of a batch: an edit, or its end
+pub data BatchLine : Type 0 where
+  OneEdit : Edit → BatchLine
+  EndBatch : BatchLine
+
+abbrev pub edit_of : Option ℕ → Option ℕ → Option BatchLine
+edit_of (Some u) (Some v) = Some (OneEdit (Insert u v))
+edit_of None v = None
+edit_of (Some u) None = None
+
+abbrev pub batch_line : List (List ℕ) → Option BatchLine
+batch_line (word ∷ []) = if same_bytes word (codes "end") then Some EndBatch else None
+batch_line (sign ∷ source ∷ target ∷ []) =
+    if same_bytes sign (codes "+") then edit_of (number source) (number target) else None
+batch_line _ = None

@@ -1,0 +1,66 @@
+-- The lines that are written.
+use Rattle.std.specs.Prelude.{ℕ, List, [], ◌∷◌, ◌++◌, codes}
+use Rattle.std.specs.Fmt.{decimal}
+use Rattle.verifier.specs.declared.refusal.Cause.{Cause}
+use Rattle.verifier.specs.declared.refusal.Cause.TheVariants.{BadInstruction, FallsOff, UnsetRegister, FrameRegister, PointerUse, OutOfRange, UnsetStackByte, ResultNotNumber}
+use Rattle.verifier.specs.declared.refusal.Refusal.{Refusal}
+use Rattle.script_model.specs.declared.fault.Fault.{Fault}
+use Rattle.script_model.specs.declared.fault.Fault.TheVariants as faults
+
+abbrev pub newline : List ℕ
+newline = 10 ∷ []
+
+abbrev pub fault_number : Fault → ℕ
+fault_number faults.LongLine = 1
+fault_number faults.Words = 2
+fault_number faults.Order = 3
+fault_number faults.Range = 4
+fault_number faults.Name = 5
+fault_number faults.ArgumentLength = 6
+fault_number faults.Frontier = 7
+fault_number faults.TooMany = 8
+fault_number faults.LogFull = 9
+fault_number faults.OpenBlock = 10
+
+abbrev pub cause_number : Cause → ℕ
+cause_number BadInstruction = 1
+cause_number FallsOff = 5
+cause_number UnsetRegister = 8
+cause_number FrameRegister = 9
+cause_number PointerUse = 10
+cause_number OutOfRange = 11
+cause_number UnsetStackByte = 12
+cause_number ResultNotNumber = 15
+
+abbrev pub graph_text : ℕ → List ℕ
+graph_text n = codes "graph " ++ decimal n ++ newline
+
+abbrev pub batch_text : ℕ → ℕ → ℕ → List ℕ
+batch_text number added removed =
+    codes "batch A version " ++ decimal number ++ codes " added " ++ decimal added ++ codes " removed " ++ decimal removed ++ newline
+
+abbrev pub program_text : List ℕ → ℕ → ℕ → List ℕ
+program_text name bound frames =
+    codes "program " ++ name ++ codes " bound " ++ decimal bound ++ codes " frames " ++ decimal frames ++ newline
+
+abbrev pub refused_text : List ℕ → Refusal → List ℕ
+refused_text name refusal =
+    codes "refused " ++ name ++ codes " cause " ++ decimal (cause_number refusal.cause) ++ codes " pc " ++ decimal refusal.pc ++ newline
+
+-- the image error of a code length that is not allowed
+abbrev pub image_text : List ℕ → List ℕ
+image_text name = codes "image " ++ name ++ codes " error 4" ++ newline
+
+abbrev pub pin_text : List ℕ → ℕ → ℕ → List ℕ
+pin_text name number edges =
+    codes "pin " ++ name ++ codes " version " ++ decimal number ++ codes " edges " ++ decimal edges ++ newline
+
+abbrev pub run_text : List ℕ → List ℕ → ℕ → ℕ → List ℕ
+run_text program pin edges total =
+    codes "run " ++ program ++ codes " " ++ pin ++ codes " edges " ++ decimal edges ++ codes " total " ++ decimal total ++ newline
+
+abbrev pub row_text : ℕ → ℕ → List ℕ
+row_text vertex value = codes "row " ++ decimal vertex ++ codes " " ++ decimal value ++ newline
+
+abbrev pub fault_text : Fault → ℕ → List ℕ
+fault_text fault line = codes "fault " ++ decimal (fault_number fault) ++ codes " line " ++ decimal line ++ newline
