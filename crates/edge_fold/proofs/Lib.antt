@@ -1,0 +1,4 @@
+pub mod Reductions
+pub mod Numbers
+pub mod RowFacts
+pub mod Frontiers

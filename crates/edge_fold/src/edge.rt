@@ -1,0 +1,28 @@
+ghost use Rattle.std.specs.Prelude.{◌≡◌, ◌+◌, length};
+
+/// An edge as a program sees it.
+#[derive(Clone, Copy)]
+pub struct Edge {
+    pub source: u32,
+    pub target: u32,
+    /// The target's place among the source's neighbours.
+    pub place: u32,
+    /// How many neighbours the source has.
+    pub degree: u32,
+}
+
+impl Edge {
+    ghost use Rattle.edge_fold.specs.Numbers.{record_bytes};
+
+    /// Writes the record of the edge: its four numbers in little-endian order, and the argument.
+    pub fn write_record(&self, bytes: &mut [u8], argument: &[u8])
+        requires { length argument.now + 16 ≡ length bytes.old }
+        ensures { bytes.new ≡ record_bytes self.now argument.now }
+    {
+        bytes[..4].copy_from_slice(&self.source.to_le_bytes());
+        bytes[4..8].copy_from_slice(&self.target.to_le_bytes());
+        bytes[8..12].copy_from_slice(&self.place.to_le_bytes());
+        bytes[12..16].copy_from_slice(&self.degree.to_le_bytes());
+        bytes[16..].copy_from_slice(argument);
+    }
+}

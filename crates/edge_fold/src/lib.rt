@@ -1,0 +1,16 @@
+//! A verified program mapped over the edges of a graph, and what its numbers reduce to. One thread
+//! does it, in one pass over the edges.
+#![tactic(auto)]
+
+mod edge;
+mod fold;
+mod outcome;
+
+pub use bpf_model::Reduction;
+pub use fold::map_edges;
+pub use outcome::{MapOutcome, Row};
+pub use verifier::Verified;
+pub use versions::Version;
+
+#[cfg(test)]
+mod tests;
