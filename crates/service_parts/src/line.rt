@@ -1,0 +1,49 @@
+use bpf_model::Reduction;
+
+/// A line inside a batch. A number from 2^64 - 1 on stands as 2^64 - 1, which no graph has as a vertex.
+#[derive(Clone, Copy, Debug, PartialEq, Eq)]
+pub enum BatchLine {
+    /// An edge is inserted.
+    Insert { source: u64, target: u64 },
+    /// The batch ends.
+    End,
+}
+
+/// A command of the script language. Numbers stand as in a `BatchLine`.
+#[derive(Debug, Drop)]
+pub enum Command<'a> {
+    /// A graph of so many vertices.
+    Graph {
+        vertices: u64,
+    },
+    /// A batch of edits begins.
+    Batch,
+    /// A program's name, record length and code.
+    Code {
+        name: &'a [u8],
+        record_length: u64,
+        code: Vec<u8>,
+    },
+    /// A name for the last version.
+    Pin {
+        name: &'a [u8],
+    },
+    /// A program mapped over the edges of a pin.
+    Run {
+        program: &'a [u8],
+        pin: &'a [u8],
+        reduction: Reduction,
+        argument: Vec<u8>,
+        frontier: Vec<u64>,
+    },
+}
+
+/// What a line outside blocks says.
+#[derive(Debug, Drop)]
+pub enum Line<'a> {
+    /// It has no word, or is a comment.
+    Skipped,
+    /// It is no command.
+    Unknown,
+    Command(Command<'a>),
+}

@@ -1,0 +1,162 @@
+use super::*;
+use bpf_model::Reduction;
+use std::test::Fail;
+
+#[test]
+fn batches(rt: HostRuntime) {
+    let cases: [(&[u8], Option<BatchLine>); 13] = [
+        (
+            b"+ 0 1",
+            Some(BatchLine::Insert {
+                source: 0,
+                target: 1,
+            }),
+        ),
+        (
+            b"  +\t0   00017 ",
+            Some(BatchLine::Insert {
+                source: 0,
+                target: 17,
+            }),
+        ),
+        (
+            b"+ 18446744073709551614 1234567890123456789012345",
+            Some(BatchLine::Insert {
+                source: 18446744073709551614,
+                target: 18446744073709551615,
+            }),
+        ),
+        (b"end", Some(BatchLine::End)),
+        (b" end ", Some(BatchLine::End)),
+        (b"end x", None),
+        (b"- 0 1", None),
+        (b"+ 0", None),
+        (b"+ 0 1 2", None),
+        (b"+ 0 1a", None),
+        (b"+0 1", None),
+        (b"# x", None),
+        (b"", None),
+    ];
+    for (line, expected) in &cases {
+        assert_eq!(rt; batch_line(line), *expected);
+    }
+}
+
+#[test]
+fn plain(rt: HostRuntime) {
+    assert!(rt; is_plain_line(b"run t a sum -\t~ !"));
+    assert!(rt; is_plain_line(b""));
+    assert!(rt; !is_plain_line(b"a\r"));
+    assert!(rt; !is_plain_line(b"\x7f"));
+    assert!(rt; !is_plain_line(b"\xc3\xa4"));
+}
+
+#[test]
+fn unknown(rt: HostRuntime) -> Result<(), Fail> {
+    let lines: [&[u8]; 15] = [
+        b"graph",
+        b"graph 4 5",
+        b"graph x",
+        b"batch B",
+        b"batch A A",
+        b"code t 16 abc",
+        b"code t 16 0g",
+        b"code t 16",
+        b"code t x -",
+        b"pin abcdefghijklmnopqrstuvwxyz_-01234",
+        b"pin a.b",
+        b"run t a med -",
+        b"run t a sum - 1 x",
+        b"run t a sum",
+        b"end",
+    ];
+    for line in &lines {
+        assert!(rt; matches!(command_line(rt.alloc(), line)?, Line::Unknown));
+    }
+    Ok(())
+}
+
+#[test]
+fn skipped(rt: HostRuntime) -> Result<(), Fail> {
+    let lines: [&[u8]; 4] = [b"", b" \t ", b"# x", b"\t#graph 4"];
+    for line in &lines {
+        assert!(rt; matches!(command_line(rt.alloc(), line)?, Line::Skipped));
+    }
+    Ok(())
+}
+
+#[test]
+fn small_commands(rt: HostRuntime) -> Result<(), Fail> {
+    let graph = command_line(rt.alloc(), b"graph 4")?;
+    assert!(rt; matches!(&graph, Line::Command(Command::Graph { vertices: 4 })));
+    let batch = command_line(rt.alloc(), b"batch A")?;
+    assert!(rt; matches!(&batch, Line::Command(Command::Batch)));
+    let pin = command_line(rt.alloc(), b" pin  Az09_-")?;
+    assert!(rt; matches!(&pin, Line::Command(Command::Pin { name: b"Az09_-" })));
+    let longest = command_line(rt.alloc(), b"pin abcdefghijklmnopqrstuvwxyz012345")?;
+    assert!(rt; matches!(&longest, Line::Command(Command::Pin { .. })));
+    Ok(())
+}
+
+#[test]
+fn codes(rt: HostRuntime) -> Result<(), Fail> {
+    let line = command_line(rt.alloc(), b"code t 16 61100400000000009500000000000000")?;
+    let Line::Command(
+        Command::Code {
+            name,
+            record_length,
+            code,
+        },
+    ) = line
+    else {
+        return Err(Fail::new("no such command"));
+    };
+    assert_eq!(rt; name, b"t".as_slice());
+    assert_eq!(rt; record_length, 16);
+    assert_eq!(rt;
+        code.as_slice(),
+        b"\x61\x10\x04\0\0\0\0\0\x95\0\0\0\0\0\0\0".as_slice()
+    );
+    let empty = command_line(rt.alloc(), b"code t 16 -")?;
+    let Line::Command(Command::Code { code, .. }) = empty else {
+        return Err(Fail::new("no such command"));
+    };
+    assert!(rt; code.is_empty());
+    Ok(())
+}
+
+#[test]
+fn runs(rt: HostRuntime) -> Result<(), Fail> {
+    let line = command_line(rt.alloc(), b"run t a sum 0Aff 1 2")?;
+    let Line::Command(
+        Command::Run {
+            program,
+            pin,
+            reduction,
+            argument,
+            frontier,
+        },
+    ) = line
+    else {
+        return Err(Fail::new("no such command"));
+    };
+    assert_eq!(rt; program, b"t".as_slice());
+    assert_eq!(rt; pin, b"a".as_slice());
+    assert_eq!(rt; reduction, Reduction::Sum);
+    assert_eq!(rt; argument.as_slice(), b"\x0a\xff".as_slice());
+    assert_eq!(rt; frontier.as_slice(), [1, 2].as_slice());
+    let every = command_line(rt.alloc(), b"run t a min -")?;
+    let Line::Command(
+        Command::Run {
+            reduction: Reduction::Min,
+            argument,
+            frontier,
+            ..
+        },
+    ) = every
+    else {
+        return Err(Fail::new("no such command"));
+    };
+    assert!(rt; argument.is_empty() && frontier.is_empty());
+    Ok(())
+}
