@@ -1,0 +1,9 @@
+pub mod NameLemmas
+pub mod Cuts
+pub mod CommandCuts
+pub mod FrontierLemmas
+pub mod PinLemmas
+pub mod RunLemmas
+pub mod PlaceLemmas
+pub mod Serving
+pub mod KnownLemmas
