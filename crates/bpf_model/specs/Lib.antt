@@ -1,3 +1,4 @@
+pub mod Arithmetic
 pub mod State
 pub mod Step
 pub mod Run
