@@ -1,15 +1,15 @@
 -- A command whose numbers are cut at 2^64 - 1 does what the whole one does.
-use Rattle.std.proofs.Common.{◌≡◌, ◌≢◌, ℕ, zero, suc, ◌+◌, ◌-◌, ◌^◌, ◌<◌, ◌≤◌, min, Bool, true, false, cond, ltb, leb, ◌&&◌, List, [], ◌∷◌, length, Option, Some, None, refl, sym, ap, ◌∙◌, arith, inl, inr}
-use Rattle.std.specs.Prelude.{map, not, nat_lt, nat_le}
+use Rattle.std.proofs.Common.{◌≡◌, ℕ, ◌<◌, ◌≤◌, Bool, true, false, leb, ◌&&◌, List, [], ◌∷◌, Option, Some, None, refl, ◌∙◌, arith, inl, inr}
+use Rattle.std.specs.Prelude.{map, nat_lt}
 use Rattle.std.specs.List.{list_all}
-use Rattle.std.proofs.lemmas.Bool.{cases_Bool, cases_lt, lt-ltb, le-ltb, ltb-true, leb-true, and_parts}
+use Rattle.std.proofs.lemmas.Bool.{cases_Bool, cases_lt, ltb-true, leb-true, and_parts}
 use Rattle.bpf_image.specs.Program.{Program}
 use Rattle.graph_model.specs.Past.{Past}
 use Rattle.bpf_model.specs.declared.reduction.Reduction.{Reduction}
 use Rattle.script_model.specs.Session.{Session}
 use Rattle.script_model.specs.Parsing.{Command, MakeGraph, BeginBatch, LoadCode, TakePin, RunProgram, command}
 use Rattle.script_model.specs.declared.fault.Fault.TheVariants.{Words}
-use Rattle.script_model.specs.Execution.{Answer, is_vertex_count, is_record_length, make_graph, load_code, run_program, perform, is_comment, needing, outside}
+use Rattle.script_model.specs.Execution.{is_vertex_count, is_record_length, make_graph, load_code, run_program, perform, is_comment, needing, outside}
 use Rattle.service_parts.specs.Said.{cut, cut_command, Saying, Nothing, NoCommand, Commands, found_command, saying, cut_saying}
 use Rattle.service.specs.Executed.{answer_to}
 use Rattle.service.specs.Kept.{IsSmall}

@@ -1,20 +1,17 @@
 -- A number that is cut at 2^64 - 1 meets the same tests as the whole one, so a line does the same.
-use Rattle.std.proofs.Common.{◌≡◌, ◌≢◌, ℕ, zero, suc, ◌+◌, ◌-◌, ◌^◌, ◌<◌, ◌≤◌, min, Bool, true, false, cond, ltb, leb, ◌&&◌, List, [], ◌∷◌, length, Option, Some, None, Result, Ok, Err, refl, sym, ap, ◌∙◌, arith, inl, inr}
-use Rattle.std.specs.Prelude.{map, not, nat_lt, nat_le, option_map, ◌++◌}
+use Rattle.std.proofs.Common.{◌≡◌, ℕ, ◌<◌, ◌≤◌, true, false, ltb, List, [], Option, Some, None, Result, Ok, Err, refl, sym, ap, ◌∙◌, arith, inl, inr}
+use Rattle.std.specs.Prelude.{option_map}
 use Rattle.std.proofs.lemmas.List.{append-nil}
-use Rattle.std.specs.List.{list_all}
-use Rattle.std.proofs.lemmas.Bool.{cases_Bool, cases_lt, lt-ltb, le-ltb, ltb-true, ltb-false, le-leb, leb-true}
-use Rattle.std.proofs.lemmas.Bool.Decides.{nat_tests}
+use Rattle.std.proofs.lemmas.Bool.{cases_lt, lt-ltb, le-ltb}
 use Rattle.graph_model.specs.Past.{Past}
-use Rattle.graph_model.specs.declared.edit.Edit.{Edit}
 use Rattle.graph_model.specs.declared.edit.Edit.TheVariants.{Insert, Remove}
 use Rattle.script_model.specs.Session.{OpenBatch, Session}
-use Rattle.script_model.specs.Parsing.{Command, BatchLine, OneEdit, EndBatch, batch_line}
-use Rattle.script_model.specs.Execution.{Answer, one_edit, batch_step, inside_batch}
+use Rattle.script_model.specs.Parsing.{BatchLine, OneEdit, EndBatch, batch_line}
+use Rattle.script_model.specs.Execution.{Answer, one_edit, inside_batch}
 use Rattle.service.specs.declared.stop.Stop.{Stop}
 use Rattle.service.specs.declared.stop.SessionError.{SessionError}
 use Rattle.service.specs.Executed.{Executes}
-use Rattle.service_parts.specs.Said.{cut, cut_edit, cut_batch_line}
+use Rattle.service_parts.specs.Said.{cut, cut_batch_line}
 
 -- a limit up to 2^64 - 1 tells them apart from neither
 pub ltb-cut : (n limit : ℕ) → limit ≤ 1048576 → ltb (cut n) limit ≡ ltb n limit

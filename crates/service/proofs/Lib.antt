@@ -7,3 +7,4 @@ pub mod RunLemmas
 pub mod PlaceLemmas
 pub mod Serving
 pub mod KnownLemmas
+pub mod RoundLemmas

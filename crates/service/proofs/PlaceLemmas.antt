@@ -1,7 +1,6 @@
 -- A line where no batch is open.
-use Rattle.std.proofs.Common.{◌≡◌, Bool, true, false, Option, Some, None, refl}
+use Rattle.std.proofs.Common.{◌≡◌, false, Option, Some, None, refl}
 use Rattle.std.specs.Prelude.{is_some, option_map}
-use Rattle.script_model.specs.Session.{OpenBatch}
 use Rattle.service.specs.declared.kept.BegunBatch.{BegunBatch}
 use Rattle.service.specs.Kept.{open_batch}
 

@@ -1,18 +1,19 @@
 -- A script is served line by line.
-use Rattle.std.proofs.Common.{◌≡◌, ◌≢◌, ℕ, zero, suc, ◌+◌, ◌-◌, ◌<◌, ◌≤◌, Bool, true, false, cond, eqb, ltb, List, [], ◌∷◌, ◌++◌, length, Option, Some, None, refl, sym, ap, subst, ◌∙◌, arith, inl, inr, append_assoc, length-append}
-use Rattle.std.specs.List.{slice_split, onto_first, All, AllByRecursion, list_all}
-use Rattle.std.specs.Prelude.{nat_lt, not}
+use Rattle.std.proofs.Common.{◌≡◌, ℕ, ◌+◌, ◌<◌, true, false, ltb, List, [], ◌∷◌, ◌++◌, length, Option, Some, None, refl, sym, ap, ◌∙◌, arith, inl, inr, append_assoc, length-append}
+use Rattle.std.specs.List.{slice_split, onto_first}
+use Rattle.std.specs.Prelude.{◌==◌, option_map}
 use Rattle.std.proofs.lemmas.Bool.{cases_Bool, lt-ltb}
 use Rattle.std.proofs.lemmas.List.{append-nil}
 use Rattle.std.proofs.lemmas.List.Splits.{slice_split-cons_yes, slice_split-cons_no}
+use Rattle.script_model.specs.declared.ending.Ending.{Ending}
 use Rattle.script_model.specs.declared.ending.Ending.TheVariants as endings
 use Rattle.script_model.specs.declared.fault.Fault.{Fault}
 use Rattle.script_model.specs.declared.fault.Fault.TheVariants as faults
-use Rattle.script_model.specs.Lexing.{is_newline, is_empty, without_last_empty, script_lines}
+use Rattle.script_model.specs.Lexing.{is_newline, without_last_empty, script_lines}
 use Rattle.script_model.specs.Session.{Session, OpenBatch, new_session}
 use Rattle.script_model.specs.Texts.{fault_text}
-use Rattle.script_model.specs.Execution.{Answer, Says, Fails, execute, most_bytes}
-use Rattle.script_model.specs.Script.{Outcome, after_text, faulted, finished, continued, follow, meaning}
+use Rattle.script_model.specs.Execution.{Says, Fails, execute, most_bytes}
+use Rattle.script_model.specs.Script.{Outcome, after_text, faulted, finished, follow, meaning}
 use Rattle.service.specs.Served.{Served, Settled, IsOneLine}
 
 abbrev parts : List ℕ → List (List ℕ)
@@ -140,3 +141,36 @@ served_last_fault read said left n s fault at h one some fails =
     let lines = ap (λ (ls : List (List ℕ)). after_text said (follow n s ls)) (lines_one left one some) in
     let goes : follow n s (left ∷ []) ≡ faulted fault at = rw fails refl in
     at_end read said left n s h ∙ lines ∙ ap (λ (o : Outcome). after_text said o) goes
+
+-- what is open, by its line
+pub closed : (block : Option OpenBatch) → None ≡ option_map (λ (begun : OpenBatch). begun.line) block → finished block ≡ record { text = []; ending = endings.Complete }
+closed None h = refl
+closed (Some begun) h = absurd cc
+
+pub still_open : (block : Option OpenBatch) (line : ℕ) → Some line ≡ option_map (λ (begun : OpenBatch). begun.line) block → finished block ≡ faulted faults.OpenBlock line
+still_open None line h = absurd cc
+still_open (Some begun) line h =
+    let same : line ≡ begun.line = cc in
+    ap (λ (l : ℕ). faulted faults.OpenBlock l) (sym same)
+
+-- the ends of a script
+pub ends_here : (read before : List ℕ) (n : ℕ) (s : Session) (text said : List ℕ) (e : Ending) → said ≡ text ++ (finished s.block).text → e ≡ (finished s.block).ending → Served read before n s [] → (t : List ℕ) × (said ≡ text ++ t) × (meaning read ≡ record { text = before ++ t; ending = e })
+ends_here read before n s text said e writes ends h =
+    ((finished s.block).text, writes, served_end read before n s h ∙ ap (λ (x : Ending). record { text = before ++ (finished s.block).text; ending = x }) (sym ends))
+
+pub ends_after : (read before left : List ℕ) (n : ℕ) (s : Session) (t : List ℕ) (next : Session) (text middle said : List ℕ) (e : Ending) → execute s n left ≡ Says t next → IsOneLine left → 0 < length left → middle ≡ text ++ t → said ≡ middle ++ (finished next.block).text → e ≡ (finished next.block).ending → Served read before n s left → (u : List ℕ) × (said ≡ text ++ u) × (meaning read ≡ record { text = before ++ u; ending = e })
+ends_after read before left n s t next text middle said e says one some first writes ends h =
+    let last = (finished next.block).text in
+    let whole : said ≡ text ++ (t ++ last) = writes ∙ ap (λ (x : List ℕ). x ++ last) first ∙ append_assoc text t last in
+    let means : meaning read ≡ after_text (before ++ t) (finished next.block) = served_last read before left n s t next h one some says in
+    let joined : meaning read ≡ record { text = before ++ (t ++ last); ending = (finished next.block).ending } = means ∙ ap (λ (x : List ℕ). record { text = x; ending = (finished next.block).ending }) (append_assoc before t last) in
+    (t ++ last, whole, joined ∙ ap (λ (x : Ending). record { text = before ++ (t ++ last); ending = x }) (sym ends))
+
+pub ends_in_fault : (read before left : List ℕ) (n : ℕ) (s : Session) (fault : Fault) (at : ℕ) (text middle said : List ℕ) → execute s n left ≡ Fails fault at → IsOneLine left → 0 < length left → middle ≡ text → said ≡ middle ++ fault_text fault at → Served read before n s left → (u : List ℕ) × (said ≡ text ++ u) × (meaning read ≡ record { text = before ++ u; ending = endings.Fault })
+ends_in_fault read before left n s fault at text middle said fails one some same writes h =
+    (fault_text fault at, writes ∙ ap (λ (x : List ℕ). x ++ fault_text fault at) same, served_last_fault read before left n s fault at h one some fails)
+
+-- bytes that are not none are some
+pub some_left : (left : List ℕ) → false ≡ (length left == 0) → 0 < length left
+some_left [] h = absurd cc
+some_left (b ∷ left) h = omega (arith)

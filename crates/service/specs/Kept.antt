@@ -1,7 +1,6 @@
 -- What a session keeps: its fields as the session of the definitions, and what is always true of them.
-use Rattle.std.specs.Prelude.{◌≡◌, ◌≤◌, ℕ, List, [], ◌∷◌, length, map, Option, Some, None, option_map}
+use Rattle.std.specs.Prelude.{◌≡◌, ◌≤◌, List, [], length, map, Option, Some, None, option_map}
 use Rattle.std.specs.List.{AllByRecursion}
-use Rattle.bpf_image.specs.Program.{Program}
 use Rattle.graph_model.specs.Past.{Past}
 use Rattle.graph_model.specs.Edits.{AreEditsBelow}
 use Rattle.script_model.specs.Session.{KeptProgram, KeptPin, OpenBatch, Session}

@@ -2,3 +2,5 @@ pub mod Ends
 pub mod Kept
 pub mod Executed
 pub mod Served
+pub mod Rounds
+pub mod Report

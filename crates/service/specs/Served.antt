@@ -1,5 +1,5 @@
 -- How far a script has come, against its meaning.
-use Rattle.std.specs.Prelude.{◌≡◌, ◌+◌, ◌<◌, ◌≤◌, ℕ, false, length, take, drop, List, [], ◌∷◌, ◌++◌, Result, Ok, Err, ⊤}
+use Rattle.std.specs.Prelude.{◌≡◌, ◌+◌, ◌<◌, ◌≤◌, ℕ, false, length, take, drop, List, ◌∷◌, ◌++◌, Result, Ok, Err, ⊤}
 use Rattle.std.specs.List.{AllByRecursion}
 use Rattle.service.specs.declared.lines.Step.{Step}
 use Rattle.service.specs.declared.lines.Step.TheVariants as steps
@@ -8,11 +8,10 @@ use Rattle.service.specs.declared.lines.Progress.TheVariants as progress
 use Rattle.service.specs.declared.stop.SessionError.{SessionError}
 use Rattle.script_model.specs.declared.ending.Ending.{Ending}
 use Rattle.script_model.specs.declared.ending.Ending.TheVariants as endings
-use Rattle.script_model.specs.declared.fault.Fault.{Fault}
 use Rattle.script_model.specs.Lexing.{is_newline, script_lines}
 use Rattle.script_model.specs.Session.{Session}
-use Rattle.script_model.specs.Texts.{fault_text}
-use Rattle.script_model.specs.Script.{Outcome, after_text, faulted, follow, meaning}
+use Rattle.script_model.specs.Execution.{most_bytes}
+use Rattle.script_model.specs.Script.{after_text, follow, meaning}
 
 -- however the script goes on, it means what was said so far, and then what follows from the line of
 -- this number on, in this session, of the bytes that are left
@@ -51,3 +50,15 @@ Goes (Ok (progress.Left from)) bytes line old next new text said =
 Goes (Ok progress.Settled) bytes line old next new text said =
     (read before : List ℕ) → Served read before line old bytes → (t : List ℕ) × (said ≡ text ++ t) × Settled read (before ++ t)
 Goes (Err e) bytes line old next new text said = ⊤
+
+-- less than a line is left, and no more bytes than a line may have
+abbrev pub LeavesFew : Result Progress SessionError → List ℕ → Type 0
+LeavesFew (Ok (progress.Left from)) bytes = length bytes ≤ from + most_bytes
+LeavesFew (Ok progress.Settled) bytes = ⊤
+LeavesFew (Err e) bytes = ⊤
+
+-- the end of a script whose last bytes end no line
+abbrev pub Finishes : Result Ending SessionError → List ℕ → ℕ → Session → List ℕ → List ℕ → Type 0
+Finishes (Ok ending) rest line old text said =
+    (read before : List ℕ) → Served read before line old rest → (t : List ℕ) × (said ≡ text ++ t) × (meaning read ≡ record { text = before ++ t; ending = ending })
+Finishes (Err e) rest line old text said = ⊤

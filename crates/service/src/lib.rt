@@ -1,21 +1,25 @@
-//! The service: a session executes the lines of a script, between an input and an output.
+//! The service: it reads a script, executes its lines, and writes what they say.
 #![tactic(auto)]
 
+mod ending;
 mod ends;
+mod exit;
 mod frontier;
 mod kept;
 mod lines;
 mod names;
 mod run;
+mod serve_error;
 mod session;
 mod stop;
 #[cfg(test)]
 mod tests;
 mod texts;
+mod whole;
 mod written;
 
 pub use ends::{Failure, Input, Output, StdInput, StdOutput};
-pub use lines::{Progress, execute_lines};
-pub use session::Session;
-pub use stop::{SessionError, Stop};
-pub use written::write_all;
+pub use exit::report;
+pub use script_model::Ending;
+pub use serve_error::ServeError;
+pub use whole::serve;

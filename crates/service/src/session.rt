@@ -27,7 +27,7 @@ use verifier::verify;
 use versions::{PublishError, Publisher, Store, StoreError};
 
 /// The greatest length of a line, in bytes, its end left out.
-const MOST_BYTES: usize = 70_000;
+pub const MOST_BYTES: usize = 70_000;
 
 /// The greatest number of programs that are kept, and of pins.
 const MOST_KEPT: usize = 256;

@@ -1,24 +1,19 @@
-use super::*;
-use script_model::Fault;
+use crate::tests::ends::{Parts, Written};
+use crate::{Ending, ServeError, serve};
 use std::alloc::Global;
 use std::test::Fail;
+
+mod ends;
 
 /// The program that exits with the target of its edge.
 const TARGET: &str = "code t 16 61100400000000009500000000000000";
 
-/// The text of a script's lines, and the fault that they end in.
-fn executed(alloc: Global, script: &str) -> Result<(Vec<u8>, Option<Stop>), SessionError> {
-    let mut session = Session::new(alloc);
-    let mut text = Vec::new(alloc);
-    let mut line = 1u64;
-    for words in script.lines() {
-        let stop = session.execute(&mut text, words.as_bytes(), line)?;
-        if stop.is_some() {
-            return Ok((text, stop));
-        }
-        line = line.wrapping_add(1);
-    }
-    Ok((text, None))
+/// What a script writes, and how it ends.
+fn served(alloc: Global, script: &[u8]) -> Result<(Vec<u8>, Ending), Fail> {
+    let mut input = Parts::of(script, usize::MAX, None);
+    let mut output = Written::new(alloc, usize::MAX, None);
+    let ending = serve(alloc, &mut input, &mut output)?;
+    Ok((output.bytes, ending))
 }
 
 #[test]
@@ -35,9 +30,9 @@ fn runs(rt: HostRuntime) -> Result<(), Fail> {
     ] {
         let script = format!(in rt.alloc(); "{graph}{TARGET}\npin a\nrun t a {run}")?;
         let wanted = format!(in rt.alloc(); "{said}run t a {rows}")?;
-        let (text, stop) = executed(rt.alloc(), script.as_str())?;
-        assert_eq!(rt; stop, None, "{run}");
+        let (text, ending) = served(rt.alloc(), script.as_bytes())?;
         assert_eq!(rt; text.as_slice(), wanted.as_bytes(), "{run}");
+        assert_eq!(rt; ending, Ending::Complete, "{run}");
     }
     Ok(())
 }
@@ -62,57 +57,176 @@ fn texts(rt: HostRuntime) -> Result<(), Fail> {
             "graph 1\nrefused t cause 11 pc 0\nrefused t cause 12 pc 0\nimage t error 4\n",
         ),
     ] {
-        let (text, stop) = executed(rt.alloc(), script)?;
-        assert_eq!(rt; stop, None, "{script}");
+        let (text, ending) = served(rt.alloc(), script.as_bytes())?;
         assert_eq!(rt; text.as_slice(), wanted.as_bytes(), "{script}");
+        assert_eq!(rt; ending, Ending::Complete, "{script}");
     }
     Ok(())
 }
 
 #[test]
 fn faults(rt: HostRuntime) -> Result<(), Fail> {
-    for (script, fault, line) in [
-        ("graph four", Fault::Words, 1),
-        ("graph 4\nbatch A\n\nend", Fault::Words, 3),
-        ("graph 4\nbatch A\n- 0 1", Fault::Words, 3),
-        ("graph 4\nend", Fault::Words, 2),
-        ("list t a -", Fault::Words, 1),
-        ("pin a", Fault::Order, 1),
-        ("graph 4\ngraph 0", Fault::Order, 2),
-        ("graph 0", Fault::Range, 1),
-        ("graph 1048577", Fault::Range, 1),
-        ("graph 99999999999999999999999999", Fault::Range, 1),
-        ("graph 4\nbatch A\n+ 0 4", Fault::Range, 3),
-        ("graph 4\ncode t 15 -", Fault::Range, 2),
-        ("graph 4\nrun t a sum - 4", Fault::Range, 2),
-        ("graph 4\nrun t a sum -", Fault::Name, 2),
-        ("graph 4\npin a\npin a", Fault::Name, 3),
+    for (script, number, line) in [
+        ("graph four", 2, 1),
+        ("graph 4\nbatch A\n\nend", 2, 3),
+        ("graph 4\nbatch A\n- 0 1", 2, 3),
+        ("graph 4\nend", 2, 2),
+        ("list t a -", 2, 1),
+        ("pin a", 3, 1),
+        ("graph 4\ngraph 0", 3, 2),
+        ("graph 0", 4, 1),
+        ("graph 1048577", 4, 1),
+        ("graph 99999999999999999999999999", 4, 1),
+        ("graph 4\nbatch A\n+ 0 4", 4, 3),
+        ("graph 4\ncode t 15 -", 4, 2),
+        ("graph 4\nrun t a sum - 4", 4, 2),
+        ("graph 4\nrun t a sum -", 5, 2),
+        ("graph 4\npin a\npin a", 5, 3),
         (
             "graph 4\ncode t 16 61100400000000009500000000000000\npin a\nrun t a sum 00 1 0",
-            Fault::ArgumentLength,
+            6,
             4,
         ),
         (
             "graph 4\ncode t 16 61100400000000009500000000000000\npin a\nrun t a sum - 1 1",
-            Fault::Frontier,
+            7,
             4,
         ),
+        ("graph 4\nbatch A\n+ 0 1", 10, 2),
+        ("graph 4\n\nbatch A\n+ 0 1\n", 10, 3),
+        ("graph 4\nbatch A\n", 10, 2),
+        ("graph 4\r\n", 2, 1),
     ] {
-        let (_, stop) = executed(rt.alloc(), script)?;
-        assert_eq!(rt; stop, Some(Stop { fault, line }), "{script}");
+        let (text, ending) = served(rt.alloc(), script.as_bytes())?;
+        let last = format!(in rt.alloc(); "fault {number} line {line}\n")?;
+        assert!(rt; text.ends_with(last.as_bytes()), "{script}");
+        assert_eq!(rt; ending, Ending::Fault, "{script}");
     }
     Ok(())
 }
 
 #[test]
-fn long_line(rt: HostRuntime) -> Result<(), Fail> {
-    let blanks = vec![in rt.alloc(); b' '; 70_001]?;
-    let mut session = Session::new(rt.alloc());
-    let mut text = Vec::new(rt.alloc());
-    let stop = session.execute(&mut text, &blanks[..70_000], 1)?;
-    assert_eq!(rt; stop, None);
-    let stop = session.execute(&mut text, &blanks, 2)?;
-    let fault = Fault::LongLine;
-    assert_eq!(rt; stop, Some(Stop { fault, line: 2 }));
+fn faults_of_a_run(rt: HostRuntime) -> Result<(), Fail> {
+    let example = "graph 4\nbatch A\n+ 0 1\n+ 0 2\n+ 1 2\nend";
+    for (run, number) in [
+        ("run u a sum 00", 5),
+        ("run t b sum 00", 5),
+        ("run t a sum 00", 6),
+        ("run t a sum 00 1 0", 6),
+        ("run t a sum - 1 0", 7),
+        ("run t a sum - 4 0", 4),
+        ("run t a mean -", 2),
+    ] {
+        let script = format!(in rt.alloc(); "{example}\n{TARGET}\npin a\nrun t a sum -\n{run}")?;
+        let (text, ending) = served(rt.alloc(), script.as_bytes())?;
+        let last = format!(in rt.alloc(); "row 1 2\nfault {number} line 10\n")?;
+        assert!(rt; text.ends_with(last.as_bytes()), "{run}");
+        assert_eq!(rt; ending, Ending::Fault, "{run}");
+    }
+    Ok(())
+}
+
+#[test]
+fn long_lines(rt: HostRuntime) -> Result<(), Fail> {
+    let mut script = vec![in rt.alloc(); b' '; 70_000]?;
+    let (text, ending) = served(rt.alloc(), &script)?;
+    assert_eq!(rt; text.as_slice(), b"".as_slice());
+    assert_eq!(rt; ending, Ending::Complete);
+    // One byte more, whether the line ends or not, and a million more.
+    script.push(b' ')?;
+    let (text, _) = served(rt.alloc(), &script)?;
+    assert_eq!(rt; text.as_slice(), b"fault 1 line 1\n".as_slice());
+    script.extend_from_slice(b"\ngraph 4\n")?;
+    let (text, _) = served(rt.alloc(), &script)?;
+    assert_eq!(rt; text.as_slice(), b"fault 1 line 1\n".as_slice());
+    let endless = vec![in rt.alloc(); b'x'; 1_000_000]?;
+    let (text, ending) = served(rt.alloc(), &endless)?;
+    assert_eq!(rt; text.as_slice(), b"fault 1 line 1\n".as_slice());
+    assert_eq!(rt; ending, Ending::Fault);
+    Ok(())
+}
+
+#[test]
+fn too_many(rt: HostRuntime) -> Result<(), Fail> {
+    for (begin, each, count, last) in [
+        (
+            "graph 1\nbatch A\n",
+            "+ 0 0\n",
+            65_537,
+            "fault 8 line 65539\n",
+        ),
+        ("graph 1\n", "batch A\nend\n", 4_097, "fault 9 line 8195\n"),
+    ] {
+        let mut script = Vec::from_slice(rt.alloc(), begin.as_bytes())?;
+        for _ in 0..count {
+            script.extend_from_slice(each.as_bytes())?;
+        }
+        let (text, ending) = served(rt.alloc(), &script)?;
+        assert!(rt; text.ends_with(last.as_bytes()), "{last}");
+        assert_eq!(rt; ending, Ending::Fault);
+    }
+    Ok(())
+}
+
+#[test]
+fn too_many_names(rt: HostRuntime) -> Result<(), Fail> {
+    for command in ["pin p", "code p"] {
+        let mut script = format!(in rt.alloc(); "graph 1\n")?;
+        for number in 0..257 {
+            let words = if command == "pin p" {
+                ""
+            } else {
+                " 16 b7000000000000009500000000000000"
+            };
+            script = format!(in rt.alloc(); "{script}{command}{number}{words}\n")?;
+        }
+        let (text, _) = served(rt.alloc(), script.as_bytes())?;
+        assert!(rt; text.ends_with(b"fault 8 line 258\n"), "{command}");
+    }
+    Ok(())
+}
+
+/// A script that says something at most of its lines, and what it says.
+const SCRIPT: &str =
+    "graph 4\nbatch A\n+ 0 1\n+ 0 2\n+ 1 2\nend\ncode t 16 61100400000000009500000000000000\npin a\nrun t a sum -\nrun t a min - 1\nlist";
+
+const SAID: &str =
+    "graph 4\nbatch A version 1 added 3 removed 0\nprogram t bound 2 frames 1\npin a version 1 edges 3\nrun t a edges 3 total 5\nrow 0 3\nrow 1 2\nrun t a edges 1 total 2\nrow 1 2\nfault 2 line 11\n";
+
+#[test]
+fn parts_of_any_size(rt: HostRuntime) -> Result<(), Fail> {
+    for (read, written) in [(1, 3), (1, 1), (7, 2), (100, 5)] {
+        let mut input = Parts::of(SCRIPT.as_bytes(), read, None);
+        let mut output = Written::new(rt.alloc(), written, None);
+        let ending = serve(rt.alloc(), &mut input, &mut output)?;
+        assert_eq!(rt; ending, Ending::Fault);
+        assert_eq!(rt; output.bytes.as_slice(), SAID.as_bytes());
+    }
+    Ok(())
+}
+
+#[test]
+fn failing_reads(rt: HostRuntime) -> Result<(), Fail> {
+    // The end of the input is a read too.
+    let reads = SCRIPT.len() + 1;
+    for failing in 0..reads {
+        let mut input = Parts::of(SCRIPT.as_bytes(), 1, Some(failing as u64));
+        let mut output = Written::new(rt.alloc(), usize::MAX, None);
+        let answer = serve(rt.alloc(), &mut input, &mut output);
+        assert_eq!(rt; answer, Err(ServeError::Read), "{failing}");
+        assert!(rt; SAID.as_bytes().starts_with(&output.bytes), "{failing}");
+    }
+    Ok(())
+}
+
+#[test]
+fn failing_writes(rt: HostRuntime) -> Result<(), Fail> {
+    for failing in 0..SAID.len() {
+        let mut input = Parts::of(SCRIPT.as_bytes(), 20, None);
+        let mut output = Written::new(rt.alloc(), 1, Some(failing as u64));
+        let answer = serve(rt.alloc(), &mut input, &mut output);
+        assert_eq!(rt; answer, Err(ServeError::Write), "{failing}");
+        assert_eq!(rt; output.bytes.as_slice(), &SAID.as_bytes()[..failing]);
+    }
     Ok(())
 }

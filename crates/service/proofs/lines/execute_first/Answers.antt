@@ -1,4 +1,4 @@
-use Rattle.std.proofs.Common.{◌≡◌, ℕ, ◌+◌, List, ◌++◌, take, drop, refl, sym, ap, subst, ◌∙◌, arith}
+use Rattle.std.proofs.Common.{ℕ, ◌+◌, List, ◌++◌, take, drop, ap, subst, ◌∙◌, arith}
 use Rattle.script_model.specs.Texts.{fault_text}
 use Rattle.service.specs.Served.{Served}
 use Rattle.service.proofs.Serving.{served_line, served_fault}

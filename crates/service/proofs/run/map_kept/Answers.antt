@@ -1,8 +1,5 @@
-use Rattle.std.proofs.Common.{◌≡◌, Some, true, refl, sym, ap, subst, ◌∙◌}
-use Rattle.std.specs.Prelude.{nat_lt}
-use Rattle.std.specs.List.{list_all}
+use Rattle.std.proofs.Common.{◌≡◌, Some, refl}
 use Rattle.std.specs.Option.{option_copied}
-use Rattle.graph_model.specs.Past.{Past}
 use Rattle.service.proofs.run.map_kept.Goals as goal
 
 pub put_map-requires-clause-below : goal.put_map-requires-clause-below

@@ -1,4 +1,4 @@
-use Rattle.std.proofs.Common.{◌≡◌, ◌≤◌, ℕ, length, refl, sym, ap, ◌∙◌, arith, rules}
+use Rattle.std.proofs.Common.{◌≡◌, ◌≤◌, ℕ, length, sym, ap, ◌∙◌, arith}
 use Rattle.graph_model.specs.Graph.{numbers_below}
 use Rattle.graph_model.specs.Past.{graph_of}
 use Rattle.graph_model.proofs.Numbers.{length-numbers_below}

@@ -1,10 +1,6 @@
-use Rattle.std.proofs.Common.{◌≡◌, Some, None, Option, List, refl, sym, ap, ◌∙◌}
+use Rattle.std.proofs.Common.{◌≡◌, Some, sym, ap, ◌∙◌}
 use Rattle.std.specs.Prelude.{option_map}
-use Rattle.graph_model.specs.Past.{Past}
-use Rattle.graph_model.specs.declared.edit.Edit.{Edit}
-use Rattle.script_model.specs.Session.{OpenBatch, Session}
-use Rattle.script_model.specs.Execution.{end_batch}
-use Rattle.service.specs.Executed.{Executes}
+use Rattle.script_model.specs.Session.{Session}
 use Rattle.service.specs.Kept.{open_batch, session_of}
 use Rattle.service.proofs.session.Session.end_batch.Goals as goal
 

@@ -1,12 +1,11 @@
-use Rattle.std.proofs.Common.{◌≡◌, ℕ, Bool, true, false, List, Option, Some, None, refl, sym, ap, subst, ◌∙◌}
-use Rattle.std.specs.Prelude.{is_some, option_map}
-use Rattle.graph_model.specs.Past.{Past}
+use Rattle.std.proofs.Common.{◌≡◌, ℕ, false, List, Option, None, sym, ap, subst, ◌∙◌}
+use Rattle.std.specs.Prelude.{is_some}
 use Rattle.script_model.specs.Lexing.{words}
 use Rattle.script_model.specs.Session.{Session, OpenBatch}
 use Rattle.script_model.specs.Execution.{Answer, placed, outside}
 use Rattle.service_parts.specs.Said.{Saying, saying, cut_saying, said_line}
 use Rattle.service.specs.Executed.{Executes, answer_to}
-use Rattle.service.specs.Kept.{open_batch, IsSmall}
+use Rattle.service.specs.Kept.{IsSmall}
 use Rattle.service.proofs.CommandCuts.{outside-saying, answer_to-cut}
 use Rattle.service.proofs.PlaceLemmas.{no_block}
 use Rattle.service.proofs.session.Session.placed_line.Goals as goal

@@ -1,14 +1,12 @@
-use Rattle.std.proofs.Common.{◌≡◌, ℕ, Bool, true, false, List, Option, Some, refl, sym, ap, subst, ◌∙◌}
+use Rattle.std.proofs.Common.{◌≡◌, ℕ, true, false, List, Some, refl, sym, ap, subst, ◌∙◌}
 use Rattle.std.specs.Prelude.{nat_lt, map}
 use Rattle.std.specs.List.{list_all}
 use Rattle.std.specs.Option.{option_copied}
-use Rattle.bpf_image.specs.Program.{Program}
-use Rattle.graph_model.specs.Past.{Past}
 use Rattle.script_model.specs.Session.{Session}
 use Rattle.script_model.specs.Execution.{Answer, kept_program, kept_pin}
 use Rattle.service.specs.declared.kept.NamedProgram.{NamedProgram}
 use Rattle.service.specs.declared.kept.NamedPin.{NamedPin}
-use Rattle.service.specs.Executed.{Executes, mapped}
+use Rattle.service.specs.Executed.{Executes}
 use Rattle.service.specs.Kept.{named_program, named_pin}
 use Rattle.service.proofs.PinLemmas.{pin_vertices}
 use Rattle.service.proofs.RunLemmas.{run_outside, run_inside}

@@ -1,0 +1,7 @@
+use Rattle.service.specs.declared.serve_error.ServeError.TheVariants as errors
+use Rattle.service.proofs.RoundLemmas.{begins}
+use Rattle.service.proofs.whole.Serving.until_ended.Goals as goal
+
+pub returns-clause-served : goal.returns-clause-served
+returns-clause-served g c had held served =
+    begins _ _ _ _ c.loop.self.line c.loop.self.session c.loop.self.pending.items errors.OutOfMemory (c.loop.invariant.3 had held served)

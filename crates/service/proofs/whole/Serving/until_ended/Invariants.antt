@@ -1,0 +1,12 @@
+use Rattle.std.proofs.Common.{◌≡◌, ◌<◌, ℕ, List, [], length, Option}
+use Rattle.service.specs.Served.{IsOneLine}
+use Rattle.service.specs.Rounds.{IsServed}
+use Rattle.service.proofs.whole.Serving.until_ended.Given as goal
+
+-- what was read so far is served, all that it says is written, and nothing failed
+abbrev pub invariant-loop : goal.invariant-loop
+invariant-loop g l =
+    (0 < length l.block) × (l.self.text.items ≡ []) × IsOneLine l.self.pending.items
+    × ((had held : Option (List ℕ)) → IsServed had (g.I.Input.remaining l.fn.input) held (g.O.Output.contents l.fn.output) l.fn.self.line l.fn.self.session l.fn.self.pending.items → IsServed had (g.I.Input.remaining l.input) held (g.O.Output.contents l.output) l.self.line l.self.session l.self.pending.items)
+    × (g.I.Input.failures l.input ≡ g.I.Input.failures l.fn.input)
+    × (g.O.Output.failures l.output ≡ g.O.Output.failures l.fn.output)

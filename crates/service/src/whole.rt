@@ -1,0 +1,146 @@
+ghost use Rattle.std.specs.Prelude.{◌≡◌, ◌<◌, ℕ, List, [], Option, length};
+ghost use Rattle.service.specs.Served.{IsOneLine};
+ghost use Rattle.service.specs.Rounds.{Advances, Rounds, Turns, IsServed, Serves, CountsReads, CountsWrites, IsNoWrite};
+
+use crate::ending::{execute_read, finish};
+use crate::ends::{Input, Output};
+use crate::lines::Progress;
+use crate::serve_error::ServeError;
+use crate::session::Session;
+use crate::stop::SessionError;
+use crate::written::write_all;
+use script_model::{Ending, Fault};
+use std::alloc::Global;
+
+/// The most bytes that one read asks for.
+const BLOCK_BYTES: usize = 65_536;
+
+/// A script on its way: its session, the number of its next line, the bytes that were read and not
+/// executed, and the text that is not written.
+#[derive(Drop)]
+struct Serving {
+    session: Session,
+    line: u64,
+    pending: Vec<u8>,
+    text: Vec<u8>,
+}
+
+impl Serving {
+    /// Executes the whole lines among what was read.
+    fn advance(&mut self, alloc: Global) -> Result<Option<Ending>, SessionError>
+        ensures { Advances result self.old.line self.old.session self.old.pending.items self.new.line self.new.session self.new.pending.items self.old.text.items self.new.text.items }
+    {
+        match execute_read(
+            &mut self.session,
+            &mut self.text,
+            &self.pending,
+            &mut self.line,
+        )? {
+            Progress::Settled => Ok(Some(Ending::Fault)),
+            Progress::Left(from) => {
+                self.pending = Vec::from_slice(alloc, &self.pending[from..])?;
+                Ok(None)
+            }
+        }
+    }
+
+    /// Reads some bytes and executes the lines that they end. At the end of the input it ends the script.
+    fn round<I: Input>(
+        &mut self,
+        alloc: Global,
+        input: &mut I,
+        block: &mut [u8],
+    ) -> Result<Option<Ending>, ServeError>
+        requires room { 0 < length block.old }
+        requires one { IsOneLine self.old.pending.items }
+        ensures same { length block.new ≡ length block.old }
+        ensures round { Rounds result (I.remaining input.old) (I.remaining input.new) self.old.line self.old.session self.old.pending.items self.new.line self.new.session self.new.pending.items self.old.text.items self.new.text.items }
+        ensures reads { CountsReads result (I.failures input.old) (I.failures input.new) }
+        ensures no_write { IsNoWrite result }
+    {
+        let Ok(count) = input.read(block) else {
+            return Err(ServeError::Read);
+        };
+        if count == 0 {
+            let ending = finish(&mut self.session, &mut self.text, &self.pending, self.line)?;
+            return Ok(Some(ending));
+        }
+        self.pending.extend_from_slice(&block[..count])?;
+        let ended = self.advance(alloc)?;
+        Ok(ended)
+    }
+
+    /// Reads some bytes, executes the lines that they end, and writes what they say.
+    fn turn<I: Input, O: Output>(
+        &mut self,
+        alloc: Global,
+        input: &mut I,
+        output: &mut O,
+        block: &mut [u8],
+    ) -> Result<Option<Ending>, ServeError>
+        requires room { 0 < length block.old }
+        requires one { IsOneLine self.old.pending.items }
+        requires written { self.old.text.items ≡ [] }
+        ensures same { length block.new ≡ length block.old }
+        ensures turn { Turns result (I.remaining input.old) (I.remaining input.new) (O.contents output.old) (O.contents output.new) self.old.line self.old.session self.old.pending.items self.new.line self.new.session self.new.pending.items self.new.text.items }
+        ensures reads { CountsReads result (I.failures input.old) (I.failures input.new) }
+        ensures writes { CountsWrites result (O.failures output.old) (O.failures output.new) }
+    {
+        let ended = self.round(alloc, input, block)?;
+        if write_all(output, &self.text).is_err() {
+            return Err(ServeError::Write);
+        }
+        self.text.clear();
+        Ok(ended)
+    }
+
+    /// Reads, executes and writes until the script ends.
+    fn until_ended<I: Input, O: Output>(
+        &mut self,
+        alloc: Global,
+        input: &mut I,
+        output: &mut O,
+        block: &mut [u8],
+    ) -> Result<Ending, ServeError>
+        requires room { 0 < length block.old }
+        requires one { IsOneLine self.old.pending.items }
+        requires written { self.old.text.items ≡ [] }
+        ensures served { (had held : Option (List ℕ)) → IsServed had (I.remaining input.old) held (O.contents output.old) self.old.line self.old.session self.old.pending.items → Serves result had (I.remaining input.new) held (O.contents output.new) }
+        ensures reads { CountsReads result (I.failures input.old) (I.failures input.new) }
+        ensures writes { CountsWrites result (O.failures output.old) (O.failures output.new) }
+    {
+        for _ in 0..u64::MAX {
+            if let Some(ending) = self.turn(alloc, input, output, block)? {
+                return Ok(ending);
+            }
+        }
+        // No machine reads so often.
+        Err(ServeError::OutOfMemory)
+    }
+}
+
+/// Serves the script of an input to an output: executes its lines in order, and writes what they say.
+///
+/// `Complete`: the input is at its end, and every line was executed. `Fault`: a line has a fault, and
+/// what was written ends with it. After an error, what was written begins what the script writes, and
+/// `Read` and `Write` come only where a read or a write failed, which is not tried again. Bytes are read
+/// and written in blocks; a line is executed once all of it was read, and one without end is a fault
+/// once it is too long.
+pub fn serve<I: Input, O: Output>(
+    alloc: Global,
+    input: &mut I,
+    output: &mut O,
+) -> Result<Ending, ServeError>
+    ensures served { Serves result (I.remaining input.old) (I.remaining input.new) (O.contents output.old) (O.contents output.new) }
+    ensures reads { CountsReads result (I.failures input.old) (I.failures input.new) }
+    ensures writes { CountsWrites result (O.failures output.old) (O.failures output.new) }
+{
+    let mut block = vec![in alloc; 0u8; BLOCK_BYTES]?;
+    let mut serving = Serving {
+        session: Session::new(alloc),
+        line: 1,
+        pending: Vec::new(alloc),
+        text: Vec::new(alloc),
+    };
+    serving.until_ended(alloc, input, output, &mut block)
+}
