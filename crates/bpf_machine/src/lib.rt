@@ -1,6 +1,8 @@
 //! The machine: it tests everything that a program does, and stops it where it may not go on.
 #![tactic(auto)]
 
+mod arithmetic;
+mod comparison;
 mod effect;
 mod machine;
 mod memory;
