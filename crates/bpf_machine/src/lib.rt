@@ -1,12 +1,16 @@
 //! The machine: it tests everything that a program does, and stops it where it may not go on.
 #![tactic(auto)]
 
+mod access;
+mod alu;
 mod arithmetic;
+mod branch;
 mod comparison;
 mod effect;
 mod machine;
 mod memory;
 mod run;
+mod stores;
 #[cfg(test)]
 mod tests;
 mod turn;
