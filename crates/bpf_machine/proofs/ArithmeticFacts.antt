@@ -1,7 +1,7 @@
 -- Quotients and remainders of signed numbers, as patterns of a width.
-use Rattle.std.proofs.Common.{◌≡◌, ℕ, zero, suc, ◌-◌, ◌/◌, ◌%◌, ◌^◌, ◌<◌, ◌≤◌, nat_lt, true, false, arith, inl, inr}
+use Rattle.std.proofs.Common.{◌≡◌, ℕ, zero, suc, ◌/◌, ◌%◌, ◌^◌, ◌<◌, ◌≤◌, nat_lt, true, false, arith, inl, inr}
 use Rattle.std.specs.Prelude.{ℤ, pos, negsuc, neg_ℤ, int_div, int_rem, unsigned_abs}
-use Rattle.std.specs.Int.{Width as Word, w32, w64, cast_signed, cast_unsigned}
+use Rattle.std.specs.Int.{w32, w64, cast_signed, cast_unsigned}
 use Rattle.std.proofs.Math.Nat.{mod-eq_of_lt, div-le_self, mod-le}
 use Rattle.std.proofs.lemmas.Bool.{cases_lt, lt-ltb, le-ltb}
 use Rattle.bpf_isa.specs.declared.instruction.Width.{Width}

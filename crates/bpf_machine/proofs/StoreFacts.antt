@@ -1,5 +1,5 @@
 -- Bytes stored one after another, as a loop stores them.
-use Rattle.std.proofs.Common.{◌≡◌, ℕ, suc, ◌+◌, ◌<◌, List, ◌∷◌, length, get_or, drop, drop-cons, add-one, refl, sym, ap, ◌∙◌, arith}
+use Rattle.std.proofs.Common.{◌≡◌, ℕ, ◌+◌, ◌<◌, List, ◌∷◌, length, get_or, drop, drop-cons, add-one, refl, sym, ap, ◌∙◌, arith}
 use Rattle.bpf_model.specs.State.{Partial, stored, stored_all}
 
 -- what is left to store once one byte more is stored

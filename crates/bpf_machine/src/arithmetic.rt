@@ -1,6 +1,7 @@
 ghost use Rattle.std.specs.Prelude.{◌≡◌, ◌%◌, ◌^◌};
-ghost use Rattle.bpf_model.specs.Arithmetic.{computed, calculated, negated, sign_extended, swapped};
+ghost use Rattle.bpf_model.specs.Arithmetic.{calculated, negated, sign_extended, swapped};
 
+use crate::{long, short};
 use bpf_isa::{ByteOrder, Extension, Operation, SwapBits, Width};
 
 /// The low 32 bits of a number.
@@ -10,102 +11,14 @@ pub fn low_half(x: u64) -> u32
     (x & 0xffff_ffff) as u32
 }
 
-/// What an operation makes of two numbers of 64 bits (RFC 9669, section 4.1).
-fn compute_long(operation: Operation, x: u64, y: u64) -> u64
-    ensures { result ≡ computed Width.Bits64 operation x y }
-{
-    match operation {
-        Operation::Add => x.wrapping_add(y),
-        Operation::Subtract => x.wrapping_sub(y),
-        Operation::Multiply => x.wrapping_mul(y),
-        Operation::Divide => x.checked_div(y).unwrap_or(0),
-        Operation::DivideSigned => divide_long(x, y),
-        Operation::Or => x | y,
-        Operation::And => x & y,
-        Operation::ShiftLeft => x << (y & 0x3f),
-        Operation::ShiftRight => x >> (y & 0x3f),
-        Operation::Modulo => x.checked_rem(y).unwrap_or(x),
-        Operation::ModuloSigned => remainder_long(x, y),
-        Operation::Xor => x ^ y,
-        Operation::Move => y,
-        Operation::ShiftRightSigned => (x.cast_signed() >> (y & 0x3f)).cast_unsigned(),
-    }
-}
-
-/// The quotient of signed numbers of 64 bits, cut towards zero; by zero it is 0.
-fn divide_long(x: u64, y: u64) -> u64
-    ensures { result ≡ computed Width.Bits64 Operation.DivideSigned x y }
-{
-    if y == 0 {
-        return 0;
-    }
-    let quotient = x.cast_signed().wrapping_div(y.cast_signed());
-    quotient.cast_unsigned()
-}
-
-/// The remainder of signed numbers of 64 bits, with the sign of the dividend; by zero it is that.
-fn remainder_long(x: u64, y: u64) -> u64
-    ensures { result ≡ computed Width.Bits64 Operation.ModuloSigned x y }
-{
-    if y == 0 {
-        return x;
-    }
-    let remainder = x.cast_signed().wrapping_rem(y.cast_signed());
-    remainder.cast_unsigned()
-}
-
-/// What an operation makes of two numbers of 32 bits (RFC 9669, section 4.1).
-fn compute_short(operation: Operation, x: u32, y: u32) -> u32
-    ensures { result ≡ computed Width.Bits32 operation x y }
-{
-    match operation {
-        Operation::Add => x.wrapping_add(y),
-        Operation::Subtract => x.wrapping_sub(y),
-        Operation::Multiply => x.wrapping_mul(y),
-        Operation::Divide => x.checked_div(y).unwrap_or(0),
-        Operation::DivideSigned => divide_short(x, y),
-        Operation::Or => x | y,
-        Operation::And => x & y,
-        Operation::ShiftLeft => x << (y & 0x1f),
-        Operation::ShiftRight => x >> (y & 0x1f),
-        Operation::Modulo => x.checked_rem(y).unwrap_or(x),
-        Operation::ModuloSigned => remainder_short(x, y),
-        Operation::Xor => x ^ y,
-        Operation::Move => y,
-        Operation::ShiftRightSigned => (x.cast_signed() >> (y & 0x1f)).cast_unsigned(),
-    }
-}
-
-/// The quotient of signed numbers of 32 bits, cut towards zero; by zero it is 0.
-fn divide_short(x: u32, y: u32) -> u32
-    ensures { result ≡ computed Width.Bits32 Operation.DivideSigned x y }
-{
-    if y == 0 {
-        return 0;
-    }
-    let quotient = x.cast_signed().wrapping_div(y.cast_signed());
-    quotient.cast_unsigned()
-}
-
-/// The remainder of signed numbers of 32 bits, with the sign of the dividend; by zero it is that.
-fn remainder_short(x: u32, y: u32) -> u32
-    ensures { result ≡ computed Width.Bits32 Operation.ModuloSigned x y }
-{
-    if y == 0 {
-        return x;
-    }
-    let remainder = x.cast_signed().wrapping_rem(y.cast_signed());
-    remainder.cast_unsigned()
-}
-
 /// What an arithmetic instruction makes of its destination and its operand. Of 32 bits, the upper half
 /// of the result is zero.
 pub fn calculate(width: Width, operation: Operation, x: u64, y: u64) -> u64
     ensures { result ≡ calculated width operation x y }
 {
     match width {
-        Width::Bits32 => u64::from(compute_short(operation, low_half(x), low_half(y))),
-        Width::Bits64 => compute_long(operation, x, y),
+        Width::Bits32 => u64::from(short::compute(operation, low_half(x), low_half(y))),
+        Width::Bits64 => long::compute(operation, x, y),
     }
 }
 

@@ -1,11 +1,13 @@
 ghost use Rattle.std.specs.Prelude.{◌≡◌, ℕ, ◌≤ℤ◌, pos, List};
 ghost use Rattle.bpf_isa.specs.declared.instruction.Instruction.TheVariants.{Jump, Branch, Exit};
+ghost use Rattle.bpf_model.specs.Arithmetic.{holds};
 ghost use Rattle.bpf_model.specs.Step.{effect};
 ghost use Rattle.bpf_machine.specs.Seen.{seen, answer};
 
-use crate::comparison::is_true;
+use crate::arithmetic::low_half;
 use crate::machine::Machine;
 use crate::turn::Turn;
+use crate::{long, short};
 use bpf_isa::{Comparison, Distance, Operand, Register, Width};
 use bpf_model::TrapKind;
 
@@ -20,6 +22,16 @@ pub fn jump_over(machine: &mut Machine, distance: Distance) -> Turn
     match distance {
         Distance::Near(units) => machine.jump(i32::from(units)),
         Distance::Far(units) => machine.jump(units),
+    }
+}
+
+/// Whether a branch's comparison holds of a register and its operand, in a width.
+fn is_true(width: Width, comparison: Comparison, x: u64, y: u64) -> bool
+    ensures { result ≡ holds width comparison x y }
+{
+    match width {
+        Width::Bits32 => short::compare(comparison, low_half(x), low_half(y)),
+        Width::Bits64 => long::compare(comparison, x, y),
     }
 }
 

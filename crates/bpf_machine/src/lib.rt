@@ -5,11 +5,12 @@ mod access;
 mod alu;
 mod arithmetic;
 mod branch;
-mod comparison;
 mod effect;
+mod long;
 mod machine;
 mod memory;
 mod run;
+mod short;
 mod stores;
 #[cfg(test)]
 mod tests;

@@ -1,14 +1,13 @@
 -- Results of arithmetic lie in their width, and shifts depend on the masked count alone.
-use Rattle.std.proofs.Common.{◌≡◌, ℕ, ◌+◌, ◌-◌, ◌*◌, ◌/◌, ◌%◌, ◌^◌, ◌<◌, ◌≤◌, Bool, true, false, cond, nat_lt, ap, arith}
-use Rattle.std.specs.Prelude.{◌==◌, ℤ, int_div, int_rem, bit_and, bit_or, bit_xor}
-use Rattle.std.specs.Int.{cast_unsigned}
+use Rattle.std.proofs.Common.{◌≡◌, ℕ, ◌+◌, ◌-◌, ◌*◌, ◌/◌, ◌%◌, ◌^◌, ◌<◌, Bool, true, false, cond, nat_lt, arith}
+use Rattle.std.specs.Prelude.{◌==◌, int_div, int_rem, bit_or, bit_xor}
 use Rattle.std.proofs.Math.Nat.{div-le_self, mod-le}
 use Rattle.std.proofs.lemmas.Nat.{or_lt, xor_lt, and_le_l}
 use Rattle.bpf_isa.specs.declared.instruction.Width.{Width}
 use Rattle.bpf_isa.specs.declared.instruction.Width.TheVariants.{Bits32, Bits64}
 use Rattle.bpf_isa.specs.declared.instruction.Operation.{Operation}
 use Rattle.bpf_isa.specs.declared.instruction.Operation.TheVariants.{Add, Subtract, Multiply, Divide, DivideSigned, Or, And, ShiftLeft, ShiftRight, Modulo, ModuloSigned, Xor, Move, ShiftRightSigned}
-use Rattle.bpf_model.specs.Arithmetic.{modulus, width_bits, low, signed, unsigned, shift_count, shifted_signed, computed, calculated, negated}
+use Rattle.bpf_model.specs.Arithmetic.{modulus, width_bits, low, signed, unsigned, shift_count, computed, calculated, negated}
 
 low_fits : (w : Width) (x : ℕ) → low w x < modulus w
 low_fits Bits32 x = omega arith

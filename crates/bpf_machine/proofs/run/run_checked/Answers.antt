@@ -3,7 +3,7 @@ use Rattle.std.proofs.lemmas.Int.{to_z-of_z}
 use Rattle.bpf_model.specs.State.{start}
 use Rattle.bpf_model.specs.Step.{Goes, Exits, Traps, step}
 use Rattle.bpf_model.specs.Run.{after, Stops}
-use Rattle.bpf_machine.specs.Seen.{seen, answer}
+use Rattle.bpf_machine.specs.Seen.{seen}
 use Rattle.bpf_machine.proofs.RunFacts.{stops_at, after_more}
 use Rattle.bpf_machine.proofs.run.run_checked.Goals as goal
 
@@ -15,7 +15,7 @@ returns-in-Exited g c =
     let graph = g.G.GraphView.graph c.args.graph.now in
     let short : length c.loop-steps.bytes ≤ 256 = omega (arith, c.loop-steps.auto.bytes, c.record_length.ensures.image.record_length.1) in
     let kept : c.take_turn.new.bytes ≡ c.loop-steps.bytes = (rw c.in-Exited.is at c.take_turn.ensures.kept) in
-    let exits = c.take_turn.ensures.step graph ∙ ap (λ t. answer t (seen c.take_turn.new.machine c.take_turn.new.bytes)) c.in-Exited.is in (
+    let exits = (rw c.in-Exited.is at (c.take_turn.ensures.step graph)) in (
       c.loop-steps.steps,
       refl,
       c.loop-steps-test.true,
@@ -29,7 +29,7 @@ returns-in-Trapped g c =
     let graph = g.G.GraphView.graph c.args.graph.now in
     let short : length c.loop-steps.bytes ≤ 256 = omega (arith, c.loop-steps.auto.bytes, c.record_length.ensures.image.record_length.1) in
     let kept : c.take_turn.new.bytes ≡ c.loop-steps.bytes = (rw c.in-Trapped.is at c.take_turn.ensures.kept) in
-    let traps = c.take_turn.ensures.step graph ∙ ap (λ t. answer t (seen c.take_turn.new.machine c.take_turn.new.bytes)) c.in-Trapped.is in
+    let traps = (rw c.in-Trapped.is at (c.take_turn.ensures.step graph)) in
     let fits : FitsSigned w64 c.take_turn.new.machine.pc = search rules in
     let pc = sym (to_z-of_z w64 c.take_turn.new.machine.pc fits) in (
       c.loop-steps.steps,
@@ -42,7 +42,7 @@ returns-in-Trapped g c =
 pub loop-steps-preserved : goal.loop-steps-preserved
 loop-steps-preserved g c =
     let graph = g.G.GraphView.graph c.args.graph.now in
-    let goes = c.take_turn.ensures.step graph ∙ ap (λ t. answer t (seen c.take_turn.new.machine c.take_turn.new.bytes)) c.in-Went.is in
+    let goes = (rw c.in-Went.is at (c.take_turn.ensures.step graph)) in
     rw add-one (after_more c.args.image.now graph c.loop-steps.steps (start c.args.bytes.now) (seen c.loop-steps.machine c.loop-steps.bytes) _ c.loop-steps.invariant goes)
 
 pub returns : goal.returns

@@ -1,11 +1,11 @@
-use Rattle.std.proofs.Common.{◌≡◌, ◌<◌, ◌^◌, false, refl, sym, ap, ◌∙◌, rules, FitsSigned, w64}
-use Rattle.std.specs.Prelude.{◌==◌, int_div}
-use Rattle.std.specs.Int.{cast_signed, cast_unsigned}
+use Rattle.std.proofs.Common.{◌≡◌, false, sym, ◌∙◌, rules, FitsSigned, w64}
+use Rattle.std.specs.Prelude.{◌==◌}
+use Rattle.std.specs.Int.{cast_unsigned}
 use Rattle.std.proofs.lemmas.Bool.{ne_eqb}
 use Rattle.std.proofs.lemmas.Int.{to_z-of_z, of_z-to_z}
 use Rattle.bpf_isa.specs.declared.instruction.Width.TheVariants.{Bits64}
-use Rattle.bpf_machine.proofs.ArithmeticFacts.{quotient_kept, quotient_fits, remainder_kept}
-use Rattle.bpf_machine.proofs.arithmetic.divide_long.Goals as goal
+use Rattle.bpf_machine.proofs.ArithmeticFacts.{quotient_kept, quotient_fits}
+use Rattle.bpf_machine.proofs.long.divide.Goals as goal
 
 pub returns : goal.returns
 returns c =
