@@ -1,3 +1,5 @@
 pub mod MemoryFacts
 pub mod RunFacts
 pub mod VerifiedRuns
+pub mod ArithmeticFacts
+pub mod StoreFacts

@@ -1,116 +1,24 @@
-ghost use Rattle.std.specs.Prelude.{◌≡◌, ℕ, ◌≤◌, ◌≤ℤ◌, pos, List, length};
-ghost use Rattle.bpf_model.specs.Step.{load, effect, size_bytes};
-ghost use Rattle.bpf_machine.specs.Seen.{seen, answer};
+ghost use Rattle.std.specs.Prelude.{◌≡◌, ◌≤◌, ◌≤ℤ◌, pos, length};
+ghost use Rattle.bpf_model.specs.Step.{effect};
+ghost use Rattle.bpf_machine.specs.Seen.{seen, answer, Keeps};
 
+use crate::access::{load_plain, load_signed, store_immediate, store_register};
+use crate::alu::{move_signed, negate_register, operate, swap_register};
+use crate::branch::{branch, exit, jump_over};
 use crate::machine::Machine;
-use crate::memory::{bytes_of, is_allowed, number_from};
 use crate::turn::Turn;
-use bpf_isa::{Instruction, Operand, Operation, Register, Size, Width};
+use bpf_isa::Instruction;
 use bpf_model::TrapKind;
 
-/// A move into a register (RFC 9669, section 4.1).
-fn copy(machine: &mut Machine, destination: Register, operand: Operand) -> Turn
-    requires { machine.old.pc ≤ℤ pos 4096 }
-    ensures { (record_length : ℕ) (bytes : List ℕ)
-        → effect record_length
-        (Instruction.Alu Width.Bits64 Operation.Move destination operand)
-        (seen machine.old bytes)
-        ≡ answer result (seen machine.new bytes) }
-{
-    match machine.operand(operand) {
-        None => Turn::Trapped(TrapKind::UnsetRegister),
-        Some(value) => machine.put(1, destination, value),
-    }
-}
-
-/// An arithmetic instruction (RFC 9669, section 4.1). The machine runs only the 64-bit move yet.
-fn calculate(
-    machine: &mut Machine,
-    width: Width,
-    operation: Operation,
-    destination: Register,
-    operand: Operand,
-) -> Turn
-    requires { machine.old.pc ≤ℤ pos 4096 }
-    ensures { (record_length : ℕ) (bytes : List ℕ)
-        → effect record_length
-        (Instruction.Alu width operation destination operand)
-        (seen machine.old bytes)
-        ≡ answer result (seen machine.new bytes) }
-{
-    match (width, operation) {
-        (Width::Bits64, Operation::Move) => copy(machine, destination, operand),
-        _ => Turn::Trapped(TrapKind::BadInstruction),
-    }
-}
-
-/// A load of so many bytes from an address.
-fn load_from(
-    machine: &mut Machine,
-    bytes: &[u8],
-    destination: Register,
-    address: u64,
-    size: Size,
-) -> Turn
-    requires pc { machine.old.pc ≤ℤ pos 4096 }
-    requires record { length bytes.now ≤ 256 }
-    ensures { load (length bytes.now) (seen machine.old bytes.now) destination address (size_bytes size)
-        ≡ answer result (seen machine.new bytes.now) }
-{
-    let count = bytes_of(size);
-    if !is_allowed(machine, bytes, address, count) {
-        return Turn::Trapped(TrapKind::OutsideMemory);
-    }
-    match number_from(machine, bytes, address, count) {
-        None => Turn::Trapped(TrapKind::UnsetByte),
-        Some(value) => machine.put(1, destination, value),
-    }
-}
-
-/// A load that extends by zeros (RFC 9669, section 5.1), at a distance from a register's address.
-fn load_at(
-    machine: &mut Machine,
-    bytes: &[u8],
-    size: Size,
-    destination: Register,
-    base: Register,
-    offset: i16,
-) -> Turn
-    requires pc { machine.old.pc ≤ℤ pos 4096 }
-    requires record { length bytes.now ≤ 256 }
-    ensures { effect (length bytes.now)
-        (Instruction.Load size destination base offset)
-        (seen machine.old bytes.now)
-        ≡ answer result (seen machine.new bytes.now) }
-{
-    match machine.register(base) {
-        None => Turn::Trapped(TrapKind::UnsetRegister),
-        Some(start) => {
-            let address = start.wrapping_add(i64::from(offset).cast_unsigned());
-            load_from(machine, bytes, destination, address, size)
-        }
-    }
-}
-
-/// The exit of the function (RFC 9669, section 4.3), which ends the run.
-fn exit(machine: &Machine) -> Turn
-    ensures { (record_length : ℕ) (bytes : List ℕ)
-        → effect record_length Instruction.Exit (seen machine.now bytes)
-        ≡ answer result (seen machine.now bytes) }
-{
-    match machine.register(Register::R0) {
-        None => Turn::Trapped(TrapKind::UnsetResult),
-        Some(value) => Turn::Exited(value),
-    }
-}
-
-/// What an instruction does to the machine. What the machine does not run yet is a bad instruction.
-/// A pc inside the code is below 4,096, so the next one fits.
-pub fn perform(machine: &mut Machine, bytes: &[u8], instruction: Instruction) -> Turn
-    requires pc { machine.old.pc ≤ℤ pos 4096 }
-    requires record { length bytes.now ≤ 256 }
-    ensures { effect (length bytes.now) instruction (seen machine.old bytes.now)
-        ≡ answer result (seen machine.new bytes.now) }
+/// What an instruction does to the machine and the record. A pc inside the code is below 4,096, so the
+/// next one fits.
+pub fn perform(machine: &mut Machine, bytes: &mut [u8], instruction: Instruction) -> Turn
+    requires from { pos 0 ≤ℤ machine.old.pc }
+    requires limit { machine.old.pc ≤ℤ pos 4096 }
+    requires record { length bytes.old ≤ 256 }
+    ensures step { effect (length bytes.old) instruction (seen machine.old bytes.old)
+        ≡ answer result (seen machine.new bytes.new) }
+    ensures kept { Keeps result bytes.old bytes.new }
 {
     match instruction {
         Instruction::Alu {
@@ -118,14 +26,53 @@ pub fn perform(machine: &mut Machine, bytes: &[u8], instruction: Instruction) ->
             operation,
             destination,
             operand,
-        } => calculate(machine, width, operation, destination, operand),
+        } => operate(machine, width, operation, destination, operand),
+        Instruction::MoveSigned {
+            extension,
+            destination,
+            source,
+        } => move_signed(machine, extension, destination, source),
+        Instruction::Negate { width, destination } => negate_register(machine, width, destination),
+        Instruction::Swap {
+            order,
+            bits,
+            destination,
+        } => swap_register(machine, order, bits, destination),
+        Instruction::Jump { distance } => jump_over(machine, distance),
+        Instruction::Branch {
+            width,
+            comparison,
+            left,
+            right,
+            distance,
+        } => branch(machine, width, comparison, left, right, distance),
+        Instruction::CallHelper { .. } => Turn::Trapped(TrapKind::UnknownHelper),
+        Instruction::CallLocal { .. } => Turn::Trapped(TrapKind::BadInstruction),
+        Instruction::Exit => exit(machine),
         Instruction::Load {
             size,
             destination,
             base,
             offset,
-        } => load_at(machine, bytes, size, destination, base, offset),
-        Instruction::Exit => exit(machine),
-        _ => Turn::Trapped(TrapKind::BadInstruction),
+        } => load_plain(machine, bytes, size, destination, base, offset),
+        Instruction::LoadSigned {
+            size,
+            destination,
+            base,
+            offset,
+        } => load_signed(machine, bytes, size, destination, base, offset),
+        Instruction::Store {
+            size,
+            base,
+            offset,
+            immediate,
+        } => store_immediate(machine, bytes, size, base, offset, immediate),
+        Instruction::StoreRegister {
+            size,
+            base,
+            offset,
+            source,
+        } => store_register(machine, bytes, size, base, offset, source),
+        Instruction::Wide { destination, value } => machine.put(2, destination, value),
     }
 }

@@ -1,10 +1,17 @@
 //! The machine: it tests everything that a program does, and stops it where it may not go on.
 #![tactic(auto)]
 
+mod access;
+mod alu;
+mod arithmetic;
+mod branch;
 mod effect;
+mod long;
 mod machine;
 mod memory;
 mod run;
+mod short;
+mod stores;
 #[cfg(test)]
 mod tests;
 mod turn;

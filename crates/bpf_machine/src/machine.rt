@@ -60,7 +60,7 @@ fn first_registers(record_length: u16) -> [Option<u64>; 11]
 
 impl Machine {
     ghost use Rattle.bpf_model.specs.State.{start};
-    ghost use Rattle.bpf_model.specs.Step.{operand_of, put};
+    ghost use Rattle.bpf_model.specs.Step.{operand_of, put, jump};
     ghost use Rattle.bpf_machine.specs.Seen.{seen, answer};
 
     /// The machine as a run begins on a record of so many bytes.
@@ -107,6 +107,16 @@ impl Machine {
         }
         self.registers[number as usize] = Some(value);
         self.pc += i64::from(units);
+        Turn::Went
+    }
+
+    /// Goes on at a distance from the next instruction, wherever that is.
+    pub fn jump(&mut self, distance: i32) -> Turn
+        requires from { pos 0 ≤ℤ self.old.pc }
+        requires limit { self.old.pc ≤ℤ pos 4096 }
+        ensures { (bytes : List ℕ) → jump (seen self.old bytes) distance ≡ answer result (seen self.new bytes) }
+    {
+        self.pc = self.pc + 1 + i64::from(distance);
         Turn::Went
     }
 }

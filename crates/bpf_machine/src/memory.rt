@@ -21,7 +21,7 @@ pub fn bytes_of(size: Size) -> u64
 }
 
 /// Whether so many bytes from an address lie wholly in a region.
-fn lies_within(base: u64, room: u64, address: u64, size: u64) -> bool
+pub fn lies_within(base: u64, room: u64, address: u64, size: u64) -> bool
     ensures { result ≡ (nat_le base address && nat_le (address + size) (base + room)) }
 {
     if address < base {

@@ -1,3 +1,7 @@
+mod arithmetic;
+mod branches;
+mod stores;
+
 use super::*;
 use bpf_image::Image;
 use std::alloc::Global;
@@ -25,17 +29,35 @@ const RECORD: [u8; 16] = [
 
 const EXIT: [u8; 8] = [0x95, 0, 0, 0, 0, 0, 0, 0];
 
-fn run(alloc: Global, code: &[u8], fuel: u64) -> Result<Outcome, Fail> {
+/// Runs a program, and gives the record's bytes too.
+fn run_on_record(alloc: Global, code: &[u8], fuel: u64) -> Result<(Outcome, [u8; 16]), Fail> {
     let Ok(image) = Image::new(16, code.to_vec(alloc)?) else {
         return Err(Fail::from("no image"));
     };
     let mut record = RECORD;
     let graph = Edgeless { vertices: 3 };
     let outcome = run_checked(&image, &mut record, &graph, fuel);
+    Ok((outcome, record))
+}
+
+/// Runs a program that leaves the record as it was.
+fn run(alloc: Global, code: &[u8], fuel: u64) -> Result<Outcome, Fail> {
+    let (outcome, record) = run_on_record(alloc, code, fuel)?;
     if record != RECORD {
         return Err(Fail::from("the record has changed"));
     }
     Ok(outcome)
+}
+
+/// A load of a number into a register, in two units.
+fn wide(register: u8, value: u64) -> [u8; 16] {
+    let bytes = value.to_le_bytes();
+    let mut units = [0; 16];
+    units[0] = 0x18;
+    units[1] = register;
+    units[4..8].copy_from_slice(&bytes[..4]);
+    units[12..].copy_from_slice(&bytes[4..]);
+    units
 }
 
 /// Runs a program of this unit and an exit.
@@ -116,11 +138,22 @@ fn traps(rt: HostRuntime) -> Result<(), Fail> {
         ([0xbf, 0x3a, 0, 0, 0, 0, 0, 0], TrapKind::UnsetRegister),
         ([0xbf, 0x30, 0, 0, 0, 0, 0, 0], TrapKind::UnsetRegister),
         ([0x61, 0x30, 0, 0, 0, 0, 0, 0], TrapKind::UnsetRegister),
-        // No instruction, and one that the machine does not run yet.
+        // Only moves leave their destination unread.
+        ([0x07, 0, 0, 0, 1, 0, 0, 0], TrapKind::UnsetRegister),
+        ([0x87, 0, 0, 0, 0, 0, 0, 0], TrapKind::UnsetRegister),
+        ([0xd7, 0, 0, 0, 16, 0, 0, 0], TrapKind::UnsetRegister),
+        ([0x0f, 0x31, 0, 0, 0, 0, 0, 0], TrapKind::UnsetRegister),
+        ([0x0f, 0x3a, 0, 0, 0, 0, 0, 0], TrapKind::UnsetRegister),
+        ([0x07, 0x0a, 0, 0, 8, 0, 0, 0], TrapKind::FrameRegister),
+        ([0xbf, 0x1a, 8, 0, 0, 0, 0, 0], TrapKind::FrameRegister),
+        // A branch reads both.
+        ([0x1d, 0x31, 0, 0, 0, 0, 0, 0], TrapKind::UnsetRegister),
+        ([0x15, 0x03, 0, 0, 0, 0, 0, 0], TrapKind::UnsetRegister),
+        // No instruction, and calls, which are not run yet.
         ([0xff, 0, 0, 0, 0, 0, 0, 0], TrapKind::BadInstruction),
         ([0xb7, 0x10, 0, 0, 0, 0, 0, 0], TrapKind::BadInstruction),
-        ([0x07, 0, 0, 0, 1, 0, 0, 0], TrapKind::BadInstruction),
-        ([0xb4, 0, 0, 0, 1, 0, 0, 0], TrapKind::BadInstruction),
+        ([0x85, 0x10, 0, 0, 0, 0, 0, 0], TrapKind::BadInstruction),
+        ([0x85, 0, 0, 0, 1, 0, 0, 0], TrapKind::UnknownHelper),
     ];
     for (unit, kind) in rows {
         assert_eq!(rt; run_one(rt.alloc(), unit, 9)?, trap(kind, 0), "{unit:?}");

@@ -2,6 +2,7 @@
 //! program over the edges of a graph. Definitions (in `specs/`), the types that they name, and laws.
 #![tactic(auto)]
 
+pub mod arithmetic_laws;
 pub mod laws;
 mod outcome;
 mod reduction;

@@ -4,6 +4,7 @@ use Rattle.std.specs.Prelude.{ℤ, pos, ◌+ℤ◌, FitsSigned}
 use Rattle.std.specs.Int.{w16}
 use Rattle.std.proofs.lemmas.Bool.{cases_Bool}
 use Rattle.std.proofs.lemmas.List.{length-set}
+use Rattle.std.proofs.Math.Nat.{mod-eq_of_lt}
 use Rattle.bpf_isa.specs.declared.register.Register.{Register}
 use Rattle.bpf_isa.specs.declared.instruction.Width.TheVariants.{Bits64}
 use Rattle.bpf_isa.specs.declared.instruction.Operation.TheVariants.{Move}
@@ -15,6 +16,7 @@ use Rattle.bpf_isa.specs.declared.instruction.Instruction.{Instruction}
 use Rattle.bpf_isa.specs.declared.instruction.Instruction.TheVariants.{Alu, Exit, Load}
 use Rattle.bpf_isa.specs.Encoding.{number_of, OperandFits, InstructionFits}
 use Rattle.bpf_model.specs.declared.trap.TrapKind.TheVariants.{UnsetResult}
+use Rattle.bpf_model.specs.Arithmetic.{low}
 use Rattle.bpf_model.specs.State.{State, record_base, frame_top, in_record, address_at}
 use Rattle.bpf_model.specs.Step.{Next, Goes, Exits, Traps, reading, extended, operand_of, put, size_bytes, load, effect}
 use Rattle.verifier.specs.declared.refusal.Cause.TheVariants.{OutOfRange, UnsetStackByte}
@@ -25,7 +27,7 @@ use Rattle.verifier.specs.Rules.{Ways, register, with_register, known, operand_k
 use Rattle.verifier.specs.Described.{Describes, DescribesState}
 use Rattle.verifier.proofs.Coming.{ok, failed, bind_ok, writes_from}
 use Rattle.verifier.proofs.Places.{placed, in_record_at}
-use Rattle.verifier.proofs.Values.{held, constant_described, number_there, registers_described}
+use Rattle.verifier.proofs.Values.{held, described_fits, constant_described, number_there, registers_described}
 
 -- what a step may lead to, by the ways onward
 abbrev pub Follows : ℕ → ℕ → Next → Ways → Type 0
@@ -40,6 +42,13 @@ operand_sound record_length a s (Immediate z) v fits d h =
     (extended z, refl, subst (λ x. Describes record_length (frame_top 0) x (Some (extended z))) same (constant_described record_length (frame_top 0) z fits))
 operand_sound record_length a s (Source r) v fits d h =
     held record_length (frame_top 0) (register a r) v (s.registers (number_of r)) h (d.values (number_of r))
+
+-- a value that is known describes a number of 64 bits
+operand_fits : (record_length : ℕ) (a : AbstractState) (o : Operand) (v : AbstractValue) (n : ℕ) → record_length ≤ 256 → operand_known a o ≡ ok v → Describes record_length (frame_top 0) v (Some n) → n < 2 ^ 64
+operand_fits record_length a (Immediate z) v n short h d =
+    described_fits record_length (Number (extended z) (extended z)) v n short h d
+operand_fits record_length a (Source r) v n short h d =
+    described_fits record_length (register a r) v n short h d
 
 put_sound : (record_length pc : ℕ) (a : AbstractState) (s : State) (d : Register) (v : AbstractValue) (n : ℕ) (ws : Ways) → s.pc ≡ pos pc → DescribesState record_length a s → eqb (number_of d) 10 ≡ false → Describes record_length (frame_top 0) v (Some n) → onward (pc + 1) (with_register a d v) ≡ ws → Follows record_length pc (put s 1 d n) ws
 put_sound record_length pc a s d v n ws at described may new ways =
@@ -56,7 +65,7 @@ bounded Word n lt = (omega arith, omega arith)
 bounded Double n lt = (omega arith, omega arith)
 
 -- the value that a load through a record pointer gives
-record_load : (record_length pc lo hi : ℕ) (z : ℤ) (a : AbstractState) (s : State) (d : Register) (size : Size) (v : AbstractValue) (x : ℕ) (ws : Ways) → record_length ≤ 256 → FitsSigned w16 z → s.pc ≡ pos pc → DescribesState record_length a s → Describes record_length (frame_top 0) (Record lo hi) (Some x) → is_in_record record_length lo hi z (size_bytes size) ≡ true → Number 0 (2 ^ (8 * size_bytes size) - 1) ≡ v → eqb (number_of d) 10 ≡ false → onward (pc + 1) (with_register a d v) ≡ ws → Follows record_length pc (load record_length s d (address_at x z) (size_bytes size)) ws
+record_load : (record_length pc lo hi : ℕ) (z : ℤ) (a : AbstractState) (s : State) (d : Register) (size : Size) (v : AbstractValue) (x : ℕ) (ws : Ways) → record_length ≤ 256 → FitsSigned w16 z → s.pc ≡ pos pc → DescribesState record_length a s → Describes record_length (frame_top 0) (Record lo hi) (Some x) → is_in_record record_length lo hi z (size_bytes size) ≡ true → Number 0 (2 ^ (8 * size_bytes size) - 1) ≡ v → eqb (number_of d) 10 ≡ false → onward (pc + 1) (with_register a d v) ≡ ws → Follows record_length pc (load record_length s (address_at x z) size (put s 1 d)) ws
 record_load record_length pc lo hi z a s d size v x ws short fits at described base test value may ways =
     let x-is : x ≡ record_base + base.0 = (let e : Some x ≡ Some (record_base + base.0) = base.1 in cc) in
     let place = placed record_length lo hi base.0 z (size_bytes size) short base.2 base.3 base.4 fits test in
@@ -67,7 +76,7 @@ record_load record_length pc lo hi z a s d size v x ws short fits at described b
     let new : Describes record_length (frame_top 0) v (Some number.0) = subst (λ w. Describes record_length (frame_top 0) w (Some number.0)) value (number.0, refl, omega arith, fit.0, fit.1) in
     rw (address, inside, number.1) (put_sound record_length pc a s d v number.0 ws at described may new ways)
 
-load_sound : (record_length pc : ℕ) (b : AbstractValue) (z : ℤ) (a : AbstractState) (s : State) (d : Register) (size : Size) (v : AbstractValue) (x : ℕ) (ws : Ways) → record_length ≤ 256 → FitsSigned w16 z → s.pc ≡ pos pc → DescribesState record_length a s → Describes record_length (frame_top 0) b (Some x) → loaded record_length b z (size_bytes size) ≡ ok v → eqb (number_of d) 10 ≡ false → onward (pc + 1) (with_register a d v) ≡ ws → Follows record_length pc (load record_length s d (address_at x z) (size_bytes size)) ws
+load_sound : (record_length pc : ℕ) (b : AbstractValue) (z : ℤ) (a : AbstractState) (s : State) (d : Register) (size : Size) (v : AbstractValue) (x : ℕ) (ws : Ways) → record_length ≤ 256 → FitsSigned w16 z → s.pc ≡ pos pc → DescribesState record_length a s → Describes record_length (frame_top 0) b (Some x) → loaded record_length b z (size_bytes size) ≡ ok v → eqb (number_of d) 10 ≡ false → onward (pc + 1) (with_register a d v) ≡ ws → Follows record_length pc (load record_length s (address_at x z) size (put s 1 d)) ws
 load_sound record_length pc Unset z a s d size v x ws short fits at described base h may ways = absurd cc
 load_sound record_length pc (Number lo hi) z a s d size v x ws short fits at described base h may ways = absurd cc
 load_sound record_length pc (Record lo hi) z a s d size v x ws short fits at described base h may ways =
@@ -99,7 +108,8 @@ step_sound record_length pc (Alu Bits64 Move d o) a s ws short fits at described
     let same : b.0 ≡ w.value = (let e : ok b.0 ≡ ok w.value = w.from in cc) in
     let x = operand_sound record_length a s o b.0 fits described b.1 in
     let new : Describes record_length (frame_top 0) w.value (Some x.0) = subst (λ v. Describes record_length (frame_top 0) v (Some x.0)) same x.2 in
-    rw x.1 (put_sound record_length pc a s d w.value x.0 ws at described w.may new w.to)
+    let small : low Bits64 x.0 ≡ x.0 = mod-eq_of_lt (operand_fits record_length a o b.0 x.0 short b.1 x.2) in
+    rw (x.1, small) (put_sound record_length pc a s d w.value x.0 ws at described w.may new w.to)
 step_sound record_length pc (Load size d base offset) a s ws short fits at described h =
     let b = bind_ok (known (register a base)) (λ v. written (pc + 1) a d (loaded record_length v offset (size_bytes size))) ws h in
     let w = writes_from (pc + 1) a d (loaded record_length b.0 offset (size_bytes size)) ws b.2 in

@@ -1,13 +1,14 @@
 -- What a register or a load gives is described by what the rules say.
-use Rattle.std.proofs.Common.{◌≡◌, ℕ, zero, suc, ◌+◌, ◌-◌, ◌*◌, ◌^◌, ◌<◌, true, false, eqb, Option, Some, length, get_or, refl, subst, arith, inl, inr, eq-eqb, pow-suc}
+use Rattle.std.proofs.Common.{◌≡◌, ℕ, zero, suc, ◌+◌, ◌-◌, ◌*◌, ◌^◌, ◌<◌, ◌≤◌, true, false, eqb, Option, Some, length, get_or, refl, subst, arith, inl, inr, eq-eqb, pow-suc}
 use Rattle.std.specs.Prelude.{ℤ, pos, negsuc, FitsSigned}
 use Rattle.std.specs.Int.{w32, w64, cast_unsigned}
 use Rattle.std.proofs.lemmas.Bool.{cases_eq, ne_eqb}
+use Rattle.std.proofs.lemmas.Int.{ints}
 use Rattle.std.proofs.lemmas.List.{get_or-set_same, get_or-set_other}
 use Rattle.bpf_isa.specs.declared.register.Register.{Register}
 use Rattle.bpf_isa.specs.declared.register.Register.TheVariants.{R0, R1, R2, R3, R4, R5, R6, R7, R8, R9, R10}
 use Rattle.bpf_isa.specs.Encoding.{number_of}
-use Rattle.bpf_model.specs.State.{Partial, stored, joined_bytes, number_at, record_base}
+use Rattle.bpf_model.specs.State.{Partial, stored, joined_bytes, number_at, record_base, frame_top}
 use Rattle.verifier.specs.declared.value.AbstractValue.{AbstractValue}
 use Rattle.verifier.specs.declared.value.AbstractValue.TheVariants.{Unset, Number, Record, Stack}
 use Rattle.verifier.specs.declared.state.AbstractState.{AbstractState}
@@ -30,6 +31,26 @@ held length top (Stack offset) w x h d =
     let same : Stack offset ≡ w = cc in
     let e : x ≡ Some d.0 = d.1 in
     (d.0, e, subst (λ v. Describes length top v (Some d.0)) same (d.0, refl, d.2, d.3, d.4))
+
+-- and one of 64 bits
+pub described_fits : (length : ℕ) (v w : AbstractValue) (n : ℕ) → length ≤ 256 → known v ≡ ok w → Describes length (frame_top 0) w (Some n) → n < 2 ^ 64
+described_fits length Unset w n short h d = absurd cc
+described_fits length (Number lo hi) w n short h d =
+    let same : w ≡ Number lo hi = cc in
+    let there = subst (λ v. Describes length (frame_top 0) v (Some n)) same d in
+    let number : n ≡ there.0 = (let e : Some n ≡ Some there.0 = there.1 in cc) in
+    omega (arith, number, there.4)
+described_fits length (Record lo hi) w n short h d =
+    let same : w ≡ Record lo hi = cc in
+    let there = subst (λ v. Describes length (frame_top 0) v (Some n)) same d in
+    let number : n ≡ record_base + there.0 = (let e : Some n ≡ Some (record_base + there.0) = there.1 in cc) in
+    omega (arith, number, there.4)
+described_fits length (Stack offset) w n short h d =
+    let same : w ≡ Stack offset = cc in
+    let there = subst (λ v. Describes length (frame_top 0) v (Some n)) same d in
+    let number : n ≡ there.0 = (let e : Some n ≡ Some there.0 = there.1 in cc) in
+    let below : there.0 ≤ frame_top 0 = omega (arith, ints, there.2, there.4) in
+    omega (arith, number, below)
 
 -- an immediate is a constant
 pub constant_described : (length top : ℕ) (z : ℤ) → FitsSigned w32 z → Describes length top (Number (cast_unsigned w64 z) (cast_unsigned w64 z)) (Some (cast_unsigned w64 z))

@@ -1,8 +1,26 @@
-use Rattle.std.proofs.Common.{length}
+use Rattle.std.proofs.Common.{length, rules, FitsSigned, w16}
+use Rattle.std.proofs.lemmas.Int.{to_z-of_z}
 use Rattle.bpf_machine.proofs.effect.perform.Goals as goal
 
-pub returns-in-Alu : goal.returns-in-Alu
-returns-in-Alu c = rw c.in-Alu.is (c.calculate.ensures (length c.args.bytes.now) c.args.bytes.now)
+pub returns-in-Alu-clause-step : goal.returns-in-Alu-clause-step
+returns-in-Alu-clause-step c = rw c.in-Alu.is (c.operate.ensures (length c.args.bytes.now) c.args.bytes.now)
 
-pub returns-in-Exit : goal.returns-in-Exit
-returns-in-Exit c = rw c.in-Exit.is (c.exit.ensures (length c.args.bytes.now) c.args.bytes.now)
+pub returns-in-MoveSigned-clause-step : goal.returns-in-MoveSigned-clause-step
+returns-in-MoveSigned-clause-step c = rw c.in-MoveSigned.is (c.move_signed.ensures (length c.args.bytes.now) c.args.bytes.now)
+
+pub returns-in-Negate-clause-step : goal.returns-in-Negate-clause-step
+returns-in-Negate-clause-step c = rw c.in-Negate.is (c.negate_register.ensures (length c.args.bytes.now) c.args.bytes.now)
+
+pub returns-in-Swap-clause-step : goal.returns-in-Swap-clause-step
+returns-in-Swap-clause-step c = rw c.in-Swap.is (c.swap_register.ensures (length c.args.bytes.now) c.args.bytes.now)
+
+pub returns-in-Jump-clause-step : goal.returns-in-Jump-clause-step
+returns-in-Jump-clause-step c = rw c.in-Jump.is (c.jump_over.ensures (length c.args.bytes.now) c.args.bytes.now)
+
+pub returns-in-Branch-clause-step : goal.returns-in-Branch-clause-step
+returns-in-Branch-clause-step c =
+    let fits : FitsSigned w16 c.in-Branch.distance = search rules in
+    rw c.in-Branch.is (simp to_z-of_z at (c.branch-machine.ensures (length c.args.bytes.now) c.args.bytes.now))
+
+pub returns-in-Exit-clause-step : goal.returns-in-Exit-clause-step
+returns-in-Exit-clause-step c = rw c.in-Exit.is (c.exit.ensures (length c.args.bytes.now) c.args.bytes.now)

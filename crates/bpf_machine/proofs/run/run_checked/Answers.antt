@@ -1,9 +1,9 @@
-use Rattle.std.proofs.Common.{◌≡◌, ◌≤◌, ◌∙◌, sym, ap, refl, add-one, FitsSigned, w64, length, arith, rules}
+use Rattle.std.proofs.Common.{◌≡◌, ◌≤◌, ◌∙◌, ℕ, List, sym, ap, subst, refl, add-one, FitsSigned, w64, to_z, of_z, length, arith, rules}
 use Rattle.std.proofs.lemmas.Int.{to_z-of_z}
 use Rattle.bpf_model.specs.State.{start}
 use Rattle.bpf_model.specs.Step.{Goes, Exits, Traps, step}
-use Rattle.bpf_model.specs.Run.{after}
-use Rattle.bpf_machine.specs.Seen.{seen, answer}
+use Rattle.bpf_model.specs.Run.{after, Stops}
+use Rattle.bpf_machine.specs.Seen.{seen}
 use Rattle.bpf_machine.proofs.RunFacts.{stops_at, after_more}
 use Rattle.bpf_machine.proofs.run.run_checked.Goals as goal
 
@@ -13,39 +13,44 @@ loop-steps-init g c = ap (λ s. Goes s) (c.new-machine.ensures.start c.args.byte
 pub returns-in-Exited : goal.returns-in-Exited
 returns-in-Exited g c =
     let graph = g.G.GraphView.graph c.args.graph.now in
-    let short : length c.args.bytes.now ≤ 256 = omega (arith, c.record_length.ensures.image.record_length.1) in
-    let exits = c.take_turn.ensures graph ∙ ap (λ t. answer t (seen c.take_turn.new.machine c.args.bytes.now)) c.in-Exited.is in (
+    let short : length c.loop-steps.bytes ≤ 256 = omega (arith, c.loop-steps.auto.bytes, c.record_length.ensures.image.record_length.1) in
+    let kept : c.take_turn.new.bytes ≡ c.loop-steps.bytes = (rw c.in-Exited.is at c.take_turn.ensures.kept) in
+    let exits = (rw c.in-Exited.is at (c.take_turn.ensures.step graph)) in (
       c.loop-steps.steps,
       refl,
       c.loop-steps-test.true,
-      stops_at c.args.image.now graph c.args.bytes.now c.loop-steps.steps c.loop-steps.machine c.args.bytes.now (Exits c.in-Exited.value) c.loop-steps.invariant exits refl short,
+      subst (λ (new : List ℕ). Stops c.args.image.now graph c.args.bytes.now c.loop-steps.steps (Exits c.in-Exited.value) new) (sym kept)
+          (stops_at c.args.image.now graph c.args.bytes.now c.loop-steps.steps c.loop-steps.machine c.loop-steps.bytes (Exits c.in-Exited.value)
+          c.loop-steps.invariant exits c.loop-steps.auto.bytes short),
     )
 
 pub returns-in-Trapped : goal.returns-in-Trapped
 returns-in-Trapped g c =
     let graph = g.G.GraphView.graph c.args.graph.now in
-    let short : length c.args.bytes.now ≤ 256 = omega (arith, c.record_length.ensures.image.record_length.1) in
-    let traps = c.take_turn.ensures graph ∙ ap (λ t. answer t (seen c.take_turn.new.machine c.args.bytes.now)) c.in-Trapped.is in
+    let short : length c.loop-steps.bytes ≤ 256 = omega (arith, c.loop-steps.auto.bytes, c.record_length.ensures.image.record_length.1) in
+    let kept : c.take_turn.new.bytes ≡ c.loop-steps.bytes = (rw c.in-Trapped.is at c.take_turn.ensures.kept) in
+    let traps = (rw c.in-Trapped.is at (c.take_turn.ensures.step graph)) in
     let fits : FitsSigned w64 c.take_turn.new.machine.pc = search rules in
     let pc = sym (to_z-of_z w64 c.take_turn.new.machine.pc fits) in (
       c.loop-steps.steps,
       c.loop-steps-test.true,
-      stops_at c.args.image.now graph c.args.bytes.now c.loop-steps.steps c.loop-steps.machine c.args.bytes.now _ c.loop-steps.invariant
-          (traps ∙ ap (λ z. Traps c.in-Trapped.kind z) pc) refl short,
+      subst (λ (new : List ℕ). Stops c.args.image.now graph c.args.bytes.now c.loop-steps.steps (Traps c.in-Trapped.kind (to_z w64 (of_z w64 c.take_turn.new.machine.pc))) new) (sym kept)
+          (stops_at c.args.image.now graph c.args.bytes.now c.loop-steps.steps c.loop-steps.machine c.loop-steps.bytes _ c.loop-steps.invariant
+          (traps ∙ ap (λ z. Traps c.in-Trapped.kind z) pc) c.loop-steps.auto.bytes short),
     )
 
 pub loop-steps-preserved : goal.loop-steps-preserved
 loop-steps-preserved g c =
     let graph = g.G.GraphView.graph c.args.graph.now in
-    let goes = c.take_turn.ensures graph ∙ ap (λ t. answer t (seen c.take_turn.new.machine c.args.bytes.now)) c.in-Went.is in
-    rw add-one (after_more c.args.image.now graph c.loop-steps.steps (start c.args.bytes.now) (seen c.loop-steps.machine c.args.bytes.now) _ c.loop-steps.invariant goes)
+    let goes = (rw c.in-Went.is at (c.take_turn.ensures.step graph)) in
+    rw add-one (after_more c.args.image.now graph c.loop-steps.steps (start c.args.bytes.now) (seen c.loop-steps.machine c.loop-steps.bytes) _ c.loop-steps.invariant goes)
 
 pub returns : goal.returns
 returns g c =
     let graph = g.G.GraphView.graph c.args.graph.now in
-    let short : length c.args.bytes.now ≤ 256 = omega (arith, c.record_length.ensures.image.record_length.1) in
+    let short : length c.loop-steps.bytes ≤ 256 = omega (arith, c.loop-steps.auto.bytes, c.record_length.ensures.image.record_length.1) in
     let all : c.args.fuel ≡ c.loop-steps.steps = omega arith in
     let reached = ap (λ k. after c.args.image.now graph k (start c.args.bytes.now)) all ∙ c.loop-steps.invariant in (
-      step c.args.image.now graph (seen c.loop-steps.machine c.args.bytes.now),
-      stops_at c.args.image.now graph c.args.bytes.now c.args.fuel c.loop-steps.machine c.args.bytes.now _ reached refl refl short,
+      step c.args.image.now graph (seen c.loop-steps.machine c.loop-steps.bytes),
+      stops_at c.args.image.now graph c.args.bytes.now c.args.fuel c.loop-steps.machine c.loop-steps.bytes _ reached refl c.loop-steps.auto.bytes short,
     )

@@ -1,0 +1,78 @@
+ghost use Rattle.std.specs.Prelude.{◌≡◌, ℕ, ◌≤ℤ◌, pos, List};
+ghost use Rattle.bpf_isa.specs.declared.instruction.Instruction.TheVariants.{Jump, Branch, Exit};
+ghost use Rattle.bpf_model.specs.Arithmetic.{holds};
+ghost use Rattle.bpf_model.specs.Step.{effect};
+ghost use Rattle.bpf_machine.specs.Seen.{seen, answer};
+
+use crate::arithmetic::low_half;
+use crate::machine::Machine;
+use crate::turn::Turn;
+use crate::{long, short};
+use bpf_isa::{Comparison, Distance, Operand, Register, Width};
+use bpf_model::TrapKind;
+
+/// A jump (RFC 9669, section 4.3).
+pub fn jump_over(machine: &mut Machine, distance: Distance) -> Turn
+    requires from { pos 0 ≤ℤ machine.old.pc }
+    requires limit { machine.old.pc ≤ℤ pos 4096 }
+    ensures { (record_length : ℕ) (bytes : List ℕ)
+        → effect record_length (Jump distance) (seen machine.old bytes)
+        ≡ answer result (seen machine.new bytes) }
+{
+    match distance {
+        Distance::Near(units) => machine.jump(i32::from(units)),
+        Distance::Far(units) => machine.jump(units),
+    }
+}
+
+/// Whether a branch's comparison holds of a register and its operand, in a width.
+fn is_true(width: Width, comparison: Comparison, x: u64, y: u64) -> bool
+    ensures { result ≡ holds width comparison x y }
+{
+    match width {
+        Width::Bits32 => short::compare(comparison, low_half(x), low_half(y)),
+        Width::Bits64 => long::compare(comparison, x, y),
+    }
+}
+
+/// A conditional jump (RFC 9669, section 4.3).
+pub fn branch(
+    machine: &mut Machine,
+    width: Width,
+    comparison: Comparison,
+    left: Register,
+    right: Operand,
+    distance: i16,
+) -> Turn
+    requires from { pos 0 ≤ℤ machine.old.pc }
+    requires limit { machine.old.pc ≤ℤ pos 4096 }
+    ensures { (record_length : ℕ) (bytes : List ℕ)
+        → effect record_length
+        (Branch width comparison left right distance)
+        (seen machine.old bytes)
+        ≡ answer result (seen machine.new bytes) }
+{
+    let Some(first) = machine.register(left) else {
+        return Turn::Trapped(TrapKind::UnsetRegister);
+    };
+    let Some(second) = machine.operand(right) else {
+        return Turn::Trapped(TrapKind::UnsetRegister);
+    };
+    if is_true(width, comparison, first, second) {
+        machine.jump(i32::from(distance))
+    } else {
+        machine.jump(0)
+    }
+}
+
+/// The exit of the function (RFC 9669, section 4.3), which ends the run.
+pub fn exit(machine: &Machine) -> Turn
+    ensures { (record_length : ℕ) (bytes : List ℕ)
+        → effect record_length Exit (seen machine.now bytes)
+        ≡ answer result (seen machine.now bytes) }
+{
+    match machine.register(Register::R0) {
+        None => Turn::Trapped(TrapKind::UnsetResult),
+        Some(value) => Turn::Exited(value),
+    }
+}

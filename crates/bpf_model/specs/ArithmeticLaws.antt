@@ -1,0 +1,49 @@
+-- Laws of arithmetic. Each is the contract of a public function.
+use Rattle.std.specs.Prelude.{◌≡◌, ℕ, ◌-◌, ◌<◌, ◌%◌, ◌^◌}
+use Rattle.bpf_isa.specs.declared.instruction.Width.{Width}
+use Rattle.bpf_isa.specs.declared.instruction.Width.TheVariants.{Bits32, Bits64}
+use Rattle.bpf_isa.specs.declared.instruction.Operation.{Operation}
+use Rattle.bpf_isa.specs.declared.instruction.Operation.TheVariants.{Divide, DivideSigned, ShiftLeft, ShiftRight, Modulo, ModuloSigned, ShiftRightSigned}
+use Rattle.bpf_isa.specs.declared.instruction.ByteOrder.{ByteOrder}
+use Rattle.bpf_isa.specs.declared.instruction.SwapBits.{SwapBits}
+use Rattle.bpf_isa.specs.Encoding.{swap_bits}
+use Rattle.bpf_model.specs.Arithmetic.{width_bits, modulus, low, calculated, negated, swapped}
+
+-- a quotient by zero is 0, and a remainder by zero the dividend; zero in the low bits is enough
+abbrev pub DivisionByZero : Type 0
+DivisionByZero =
+    (w : Width) (x y : ℕ) → low w y ≡ 0
+    → (calculated w Divide x y ≡ 0) × (calculated w DivideSigned x y ≡ 0) × (calculated w Modulo x y ≡ low w x) × (calculated w ModuloSigned x y ≡ low w x)
+
+-- the least signed number of a width
+abbrev pub least_signed : Width → ℕ
+least_signed Bits32 = 2 ^ 31
+least_signed Bits64 = 2 ^ 63
+
+-- minus one
+abbrev pub minus_one : Width → ℕ
+minus_one Bits32 = 2 ^ 32 - 1
+minus_one Bits64 = 2 ^ 64 - 1
+
+-- the least signed number divided by minus one is itself, and leaves no remainder
+abbrev pub LeastByMinusOne : Type 0
+LeastByMinusOne =
+    (w : Width)
+    → (calculated w DivideSigned (least_signed w) (minus_one w) ≡ least_signed w) × (calculated w ModuloSigned (least_signed w) (minus_one w) ≡ 0)
+
+-- results lie in their width, so those of 32 bits have a zero upper half
+abbrev pub ResultsFit : Type 0
+ResultsFit =
+    (w : Width) → ((operation : Operation) (x y : ℕ) → calculated w operation x y < modulus w) × ((x : ℕ) → negated w x < modulus w)
+
+-- a swap done twice is the low part
+abbrev pub SwapTwice : Type 0
+SwapTwice = (order : ByteOrder) (bits : SwapBits) (x : ℕ) → swapped order bits (swapped order bits x) ≡ x % 2 ^ swap_bits bits
+
+-- shifts go as far as the low bits of their count say: 5 of them in 32 bits, 6 in 64
+abbrev pub ShiftCountsMasked : Type 0
+ShiftCountsMasked =
+    (w : Width) (x y : ℕ)
+    → (calculated w ShiftLeft x y ≡ calculated w ShiftLeft x (y % width_bits w))
+    × (calculated w ShiftRight x y ≡ calculated w ShiftRight x (y % width_bits w))
+    × (calculated w ShiftRightSigned x y ≡ calculated w ShiftRightSigned x (y % width_bits w))
