@@ -1,5 +1,4 @@
 pub mod MemoryFacts
 pub mod RunFacts
 pub mod VerifiedRuns
-pub mod ArithmeticFacts
 pub mod StoreFacts

@@ -4,9 +4,9 @@ ghost use Rattle.bpf_isa.specs.declared.instruction.Instruction.TheVariants.{Alu
 ghost use Rattle.bpf_model.specs.Step.{left_of, effect};
 ghost use Rattle.bpf_machine.specs.Seen.{held, seen, answer};
 
-use crate::arithmetic::{calculate, extend_sign, negate, swap};
 use crate::machine::Machine;
 use crate::turn::Turn;
+use bpf_arithmetic::{calculate, extend_sign, negate, swap};
 use bpf_isa::{ByteOrder, Extension, Operand, Operation, Register, SwapBits, Width};
 use bpf_model::TrapKind;
 

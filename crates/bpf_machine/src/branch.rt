@@ -1,13 +1,11 @@
 ghost use Rattle.std.specs.Prelude.{◌≡◌, ℕ, ◌≤ℤ◌, pos, List};
 ghost use Rattle.bpf_isa.specs.declared.instruction.Instruction.TheVariants.{Jump, Branch, Exit};
-ghost use Rattle.bpf_model.specs.Arithmetic.{holds};
 ghost use Rattle.bpf_model.specs.Step.{effect};
 ghost use Rattle.bpf_machine.specs.Seen.{seen, answer};
 
-use crate::arithmetic::low_half;
 use crate::machine::Machine;
 use crate::turn::Turn;
-use crate::{long, short};
+use bpf_arithmetic::holds;
 use bpf_isa::{Comparison, Distance, Operand, Register, Width};
 use bpf_model::TrapKind;
 
@@ -22,16 +20,6 @@ pub fn jump_over(machine: &mut Machine, distance: Distance) -> Turn
     match distance {
         Distance::Near(units) => machine.jump(i32::from(units)),
         Distance::Far(units) => machine.jump(units),
-    }
-}
-
-/// Whether a branch's comparison holds of a register and its operand, in a width.
-fn is_true(width: Width, comparison: Comparison, x: u64, y: u64) -> bool
-    ensures { result ≡ holds width comparison x y }
-{
-    match width {
-        Width::Bits32 => short::compare(comparison, low_half(x), low_half(y)),
-        Width::Bits64 => long::compare(comparison, x, y),
     }
 }
 
@@ -58,7 +46,7 @@ pub fn branch(
     let Some(second) = machine.operand(right) else {
         return Turn::Trapped(TrapKind::UnsetRegister);
     };
-    if is_true(width, comparison, first, second) {
+    if holds(width, comparison, first, second) {
         machine.jump(i32::from(distance))
     } else {
         machine.jump(0)

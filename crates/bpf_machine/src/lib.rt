@@ -3,14 +3,11 @@
 
 mod access;
 mod alu;
-mod arithmetic;
 mod branch;
 mod effect;
-mod long;
 mod machine;
 mod memory;
 mod run;
-mod short;
 mod stores;
 #[cfg(test)]
 mod tests;

@@ -4,8 +4,8 @@ use Rattle.std.specs.Int.{cast_unsigned}
 use Rattle.std.proofs.lemmas.Bool.{ne_eqb}
 use Rattle.std.proofs.lemmas.Int.{to_z-of_z}
 use Rattle.bpf_isa.specs.declared.instruction.Width.TheVariants.{Bits64}
-use Rattle.bpf_machine.proofs.ArithmeticFacts.{remainder_kept}
-use Rattle.bpf_machine.proofs.long.remainder.Goals as goal
+use Rattle.bpf_arithmetic.proofs.ArithmeticFacts.{remainder_kept}
+use Rattle.bpf_arithmetic.proofs.long.remainder.Goals as goal
 
 pub returns : goal.returns
 returns c =

@@ -4,8 +4,8 @@ use Rattle.std.specs.Int.{cast_unsigned}
 use Rattle.std.proofs.lemmas.Bool.{ne_eqb}
 use Rattle.std.proofs.lemmas.Int.{to_z-of_z, of_z-to_z}
 use Rattle.bpf_isa.specs.declared.instruction.Width.TheVariants.{Bits32}
-use Rattle.bpf_machine.proofs.ArithmeticFacts.{quotient_kept, quotient_fits}
-use Rattle.bpf_machine.proofs.short.divide.Goals as goal
+use Rattle.bpf_arithmetic.proofs.ArithmeticFacts.{quotient_kept, quotient_fits}
+use Rattle.bpf_arithmetic.proofs.short.divide.Goals as goal
 
 pub returns : goal.returns
 returns c =
