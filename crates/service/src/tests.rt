@@ -56,6 +56,18 @@ fn texts(rt: HostRuntime) -> Result<(), Fail> {
             "graph 1\ncode t 16 61100D00000000009500000000000000\ncode t 16 61a0f8ff000000009500000000000000\ncode t 16 -",
             "graph 1\nrefused t cause 11 pc 0\nrefused t cause 12 pc 0\nimage t error 4\n",
         ),
+        (
+            "graph 1\ncode t 16 61100400000000009500000000000000\npin a\nrun t a min -\nrun t a max -\nrun t a sum -",
+            "graph 1\nprogram t bound 2 frames 1\npin a version 0 edges 0\nrun t a edges 0 total 18446744073709551615\nrun t a edges 0 total 0\nrun t a edges 0 total 0\n",
+        ),
+        (
+            "graph 300\nbatch A\n+ 0 1\n+ 70 2\n+ 299 3\n+ 299 4\nend\ncode t 16 61100400000000009500000000000000\npin a\nrun t a sum - 0 70 299\nrun t a sum -",
+            "graph 300\nbatch A version 1 added 4 removed 0\nprogram t bound 2 frames 1\npin a version 1 edges 4\nrun t a edges 4 total 10\nrow 0 1\nrow 70 2\nrow 299 7\nrun t a edges 4 total 10\nrow 0 1\nrow 70 2\nrow 299 7\n",
+        ),
+        (
+            "graph 2\nbatch A\n+ 1 0\nend\ncode s 16 b7000000070000009500000000000000\ncode d 16 61100c00000000009500000000000000\npin a\nrun s a sum -\nrun d a max -",
+            "graph 2\nbatch A version 1 added 1 removed 0\nprogram s bound 2 frames 1\nprogram d bound 2 frames 1\npin a version 1 edges 1\nrun s a edges 1 total 7\nrow 1 7\nrun d a edges 1 total 1\nrow 1 1\n",
+        ),
     ] {
         let (text, ending) = served(rt.alloc(), script.as_bytes())?;
         assert_eq!(rt; text.as_slice(), wanted.as_bytes(), "{script}");
