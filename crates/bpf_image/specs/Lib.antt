@@ -1,1 +1,4 @@
 pub mod Program
+pub mod Format
+pub mod Reading
+pub mod Laws

@@ -1,19 +1,11 @@
-ghost use Rattle.std.specs.Prelude.{◌≡◌, ◌≤◌, ◌↔◌, length, IfOk, IfErr, IsErrAnd, IsOk};
+ghost use Rattle.std.specs.Prelude.{◌≡◌, ◌≢◌, ◌≤◌, ◌↔◌, length, IfOk, IfErr, IsErrAnd, IsErrOf, IsOk};
 ghost use Rattle.bpf_image.specs.Program.{Program, IsRecordLength, IsCodeLength, IsImage};
+ghost use Rattle.bpf_image.specs.Format.{image_bytes, IsFault};
 
+use crate::format::{MAGIC, read_header};
+use crate::image_error::ImageError;
+use std::alloc::Global;
 use std::marker::Model;
-use thiserror::Error;
-
-/// Why there is no image of this code and record length. Where both apply, the first one is given.
-#[derive(Clone, Copy, Debug, PartialEq, Eq, Error)]
-pub enum ImageError {
-    /// The record length is not 16 to 256 bytes.
-    #[error("the record length is not 16 to 256")]
-    RecordLength,
-    /// The code is not 1 to 4,096 whole units of 8 bytes.
-    #[error("the code is not 1 to 4096 units")]
-    CodeLength,
-}
 
 /// The code of a program, and how many bytes the record has that each run is lent. The code is 1
 /// to 4,096 whole units of 8 bytes and the record 16 to 256 bytes; the code's instructions are not
@@ -77,5 +69,40 @@ impl Image {
         ensures image { IsImage self.now }
     {
         &self.code
+    }
+
+    /// The image that these bytes spell: `BPE1`, the record length and the count of units in two bytes
+    /// each, the lowest first, and the code, with nothing after it.
+    pub fn load(alloc: Global, bytes: &[u8]) -> Result<Image, ImageError>
+        // The bytes are those of the image.
+        ensures made { IfOk result (λ image. image_bytes image ≡ bytes.now) }
+
+        // Each error comes on its condition, and only there; memory is asked for last.
+        ensures fault { IfErr result (λ error. IsFault bytes.now error) }
+        ensures only { (error : ImageError)
+            → error ≢ ImageError.OutOfMemory
+            → IsFault bytes.now error
+            → IsErrOf result error }
+    {
+        let record_length = read_header(bytes)?;
+        let code = bytes[8..].to_vec(alloc)?;
+        Ok(Image {
+            record_length,
+            code,
+        })
+    }
+
+    /// The bytes of the image, as `load` reads them.
+    pub fn store(&self, alloc: Global) -> Result<Vec<u8>, ImageError>
+        ensures bytes { IfOk result (λ bytes. bytes.items ≡ image_bytes self.now) }
+        ensures error { IfErr result (λ error. error ≡ ImageError.OutOfMemory) }
+    {
+        let units = (self.code.len() / 8) as u16;
+        let mut bytes = Vec::with_capacity(alloc, 8 + self.code.len())?;
+        bytes.extend_from_slice(&MAGIC)?;
+        bytes.extend_from_slice(&self.record_length.to_le_bytes())?;
+        bytes.extend_from_slice(&units.to_le_bytes())?;
+        bytes.extend_from_slice(&self.code)?;
+        Ok(bytes)
     }
 }

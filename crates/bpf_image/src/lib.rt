@@ -1,8 +1,13 @@
-//! Images: the code of a program together with the length of the record that each run is lent.
+//! Images: the code of a program together with the length of the record that each run is lent, made
+//! of these two or read from bytes.
 #![tactic(auto)]
 
+mod format;
 mod image;
+mod image_error;
+pub mod laws;
 #[cfg(test)]
 mod tests;
 
-pub use image::{Image, ImageError};
+pub use image::Image;
+pub use image_error::ImageError;

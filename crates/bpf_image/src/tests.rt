@@ -1,4 +1,5 @@
 use super::*;
+use std::alloc::Global;
 use std::test::Fail;
 
 #[test]
@@ -27,6 +28,68 @@ fn lengths(rt: HostRuntime) -> Result<(), Fail> {
                 assert_eq!(rt; code.len(), *code_length);
             }
         }
+    }
+    Ok(())
+}
+
+/// The image of a move of 7 and an exit, for records of 16 bytes.
+const STORED: [u8; 24] = [
+    0x42, 0x50, 0x45, 0x31, 16, 0, 2, 0, 0xb7, 0, 0, 0, 7, 0, 0, 0, 0x95, 0, 0, 0, 0, 0, 0, 0,
+];
+
+#[test]
+fn stored_images(rt: HostRuntime) -> Result<(), Fail> {
+    let image = Image::load(rt.alloc(), &STORED)?;
+    assert_eq!(rt; image.record_length(), 16);
+    assert_eq!(rt; image.code(), &STORED[8..]);
+    let stored = image.store(rt.alloc())?;
+    assert_eq!(rt; stored.as_slice(), STORED.as_slice());
+    Ok(())
+}
+
+/// What loading answers that gives no image.
+fn load_error(alloc: Global, bytes: &[u8]) -> Option<ImageError> {
+    Image::load(alloc, bytes).err()
+}
+
+#[test]
+fn image_faults(rt: HostRuntime) -> Result<(), Fail> {
+    // Bytes that are cut, and one byte too many.
+    for len in 0..STORED.len() {
+        let error = if len < 4 {
+            ImageError::Magic
+        } else {
+            ImageError::Length
+        };
+        assert_eq!(rt;
+            load_error(rt.alloc(), &STORED[..len]),
+            Some(error),
+            "{len}"
+        );
+    }
+    let mut longer = STORED.to_vec(rt.alloc())?;
+    longer.push(0)?;
+    assert_eq!(rt; load_error(rt.alloc(), &longer), Some(ImageError::Length));
+
+    // One byte that is another one.
+    let rows = [
+        (0, 0x43, ImageError::Magic),
+        (3, 0x32, ImageError::Magic),
+        (4, 15, ImageError::RecordLength),
+        (5, 1, ImageError::RecordLength),
+        (6, 0, ImageError::CodeLength),
+        (7, 0x10, ImageError::CodeLength),
+        (6, 3, ImageError::Length),
+        (6, 1, ImageError::Length),
+    ];
+    for (place, byte, error) in rows {
+        let mut bytes = STORED;
+        bytes[place] = byte;
+        assert_eq!(rt;
+            load_error(rt.alloc(), &bytes),
+            Some(error),
+            "{place} {byte}"
+        );
     }
     Ok(())
 }
