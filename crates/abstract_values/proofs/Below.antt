@@ -1,14 +1,14 @@
 -- What arithmetic gives is a number of its width.
-use Rattle.std.proofs.Common.{◌≡◌, ℕ, ◌+◌, ◌-◌, ◌*◌, ◌/◌, ◌%◌, ◌^◌, ◌<◌, ◌≤◌, Bool, true, false, eqb, cond, refl, arith, inl, inr}
-use Rattle.std.specs.Prelude.{int_div, int_rem, bit_and, bit_or, bit_xor}
+use Rattle.std.proofs.Common.{◌≡◌, ℕ, ◌+◌, ◌-◌, ◌*◌, ◌/◌, ◌%◌, ◌^◌, ◌<◌, ◌≤◌, Bool, true, false, eqb, cond, refl, arith}
+use Rattle.std.specs.Prelude.{int_div, int_rem}
 use Rattle.std.proofs.Math.Nat.{mod-le, mod-eq_of_lt, div-le_self}
 use Rattle.std.proofs.Math.Dec.{ltb}
-use Rattle.std.proofs.lemmas.Nat.{mod_below, or_lt, xor_lt, and_le_l, shr_le}
+use Rattle.std.proofs.lemmas.Nat.{mod_below, or_lt, xor_lt, and_le_l}
 use Rattle.bpf_isa.specs.declared.instruction.Width.{Width}
 use Rattle.bpf_isa.specs.declared.instruction.Width.TheVariants.{Bits32, Bits64}
 use Rattle.bpf_isa.specs.declared.instruction.Operation.{Operation}
 use Rattle.bpf_isa.specs.declared.instruction.Operation.TheVariants as operations
-use Rattle.bpf_model.specs.Arithmetic.{width_bits, modulus, low, signed, unsigned, shift_count, shifted_signed, computed}
+use Rattle.bpf_model.specs.Arithmetic.{width_bits, modulus, low, signed, unsigned, shift_count, computed}
 
 -- what holds of both sides of a test holds of what it chooses
 pub either : {A : Type 0} (P : A → Type 0) (b : Bool) (x y : A) → (b ≡ true → P x) → (b ≡ false → P y) → P (cond b x y)

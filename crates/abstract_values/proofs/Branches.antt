@@ -1,11 +1,11 @@
 -- Two numbers that are described before a branch are described on the side that they take.
-use Rattle.std.proofs.Common.{◌≡◌, ◌≢◌, ℕ, ◌+◌, ◌-◌, ◌^◌, ◌<◌, ◌≤◌, Bool, true, false, eqb, not, cond, Option, Some, None, Result, Ok, Err, refl, sym, subst, ap, ◌∙◌, arith, inl, inr}
-use Rattle.std.specs.Prelude.{ℤ, pos, negsuc, int_lt, int_le, bit_and, ◌&&◌}
-use Rattle.std.specs.Int.{w32, w64, cast_signed}
-use Rattle.std.proofs.Math.Dec.{ltb, leb}
+use Rattle.std.proofs.Common.{◌≡◌, ◌≢◌, ℕ, ◌+◌, ◌-◌, ◌^◌, ◌<◌, ◌≤◌, Bool, true, false, eqb, cond, Option, Some, None, Result, Ok, refl, sym, subst, ◌∙◌, arith, inl, inr}
+use Rattle.std.specs.Prelude.{ℤ, pos, int_lt, int_le, ◌&&◌}
+use Rattle.std.specs.Int.{w32, w64}
+use Rattle.std.proofs.Math.Dec.{ltb}
 use Rattle.std.proofs.Math.Nat.{mod-le}
 use Rattle.std.proofs.lemmas.Int.{ints, to_z_pos}
-use Rattle.std.proofs.lemmas.Bool.{cases_Bool, cases_eq, and_parts, and_from, eqb-true, ltb-true, leb-true, ltb-false, leb-false, le-leb, lt-ltb, eq-eqb}
+use Rattle.std.proofs.lemmas.Bool.{cases_Bool, and_parts, and_from, eqb-true, ltb-true, leb-true, ltb-false, leb-false, le-leb, lt-ltb, eq-eqb}
 use Rattle.bpf_isa.specs.declared.instruction.Width.{Width}
 use Rattle.bpf_isa.specs.declared.instruction.Width.TheVariants.{Bits32, Bits64}
 use Rattle.bpf_isa.specs.declared.instruction.Comparison.{Comparison}
@@ -16,8 +16,7 @@ use Rattle.abstract_values.specs.declared.branch.Sides.{Sides}
 use Rattle.abstract_values.specs.declared.range.Range.{Range}
 use Rattle.abstract_values.specs.declared.value.AbstractValue.{AbstractValue}
 use Rattle.abstract_values.specs.declared.value.AbstractValue.TheVariants.{Unset, Number, Record, Stack}
-use Rattle.abstract_values.specs.Ranges.{range, is_constant}
-use Rattle.abstract_values.specs.Values.{number, of_numbers}
+use Rattle.abstract_values.specs.Ranges.{range}
 use Rattle.abstract_values.specs.Narrowing.{opposite, without, differing, above, not_below, exchanged, refined, order_limit, is_telling, is_inhabited, inhabited, side, numbers, both_sides, narrowed}
 use Rattle.abstract_values.specs.Described.{Describes, DescribesSide, side_of}
 use Rattle.abstract_values.proofs.Below.{either, low_same}

@@ -1,25 +1,25 @@
 -- A pointer moved by a number is described by where the rules say that it may point.
-use Rattle.std.proofs.Common.{◌≡◌, ℕ, zero, suc, ◌+◌, ◌-◌, ◌*◌, ◌%◌, ◌^◌, ◌<◌, ◌≤◌, Bool, true, false, eqb, cond, Option, Some, Result, Ok, Err, refl, sym, subst, ap, ◌∙◌, arith, inl, inr, ◌⊎◌}
+use Rattle.std.proofs.Common.{◌≡◌, ℕ, suc, ◌+◌, ◌-◌, ◌^◌, ◌<◌, ◌≤◌, Bool, true, false, eqb, Some, Result, Err, refl, sym, subst, ap, ◌∙◌, arith, inl, inr, ◌⊎◌}
 use Rattle.std.specs.Prelude.{ℤ, pos, negsuc, ◌+ℤ◌, ◌-ℤ◌, ◌≤ℤ◌, int_le, unsigned_abs, ◌&&◌}
 use Rattle.std.specs.Int.{w64, cast_signed}
 use Rattle.std.proofs.lemmas.Int.{ints}
 use Rattle.std.proofs.lemmas.Bool.{cases_Bool, cases_lt, and_parts, eqb-true}
 use Rattle.std.proofs.Math.Facts.{to_z-neg}
 use Rattle.bpf_isa.specs.declared.instruction.Width.{Width}
-use Rattle.bpf_isa.specs.declared.instruction.Width.TheVariants.{Bits32, Bits64}
+use Rattle.bpf_isa.specs.declared.instruction.Width.TheVariants.{Bits64}
 use Rattle.bpf_isa.specs.declared.instruction.Operation.{Operation}
 use Rattle.bpf_isa.specs.declared.instruction.Operation.TheVariants as operations
 use Rattle.bpf_model.specs.State.{record_base}
-use Rattle.bpf_model.specs.Arithmetic.{modulus, low, calculated}
+use Rattle.bpf_model.specs.Arithmetic.{low, calculated}
 use Rattle.abstract_values.specs.declared.cause.Cause.{Cause}
-use Rattle.abstract_values.specs.declared.cause.Cause.TheVariants.{OutOfRange, PointerUse}
+use Rattle.abstract_values.specs.declared.cause.Cause.TheVariants.{OutOfRange}
 use Rattle.abstract_values.specs.declared.range.Range.{Range}
 use Rattle.abstract_values.specs.declared.value.AbstractValue.{AbstractValue}
-use Rattle.abstract_values.specs.declared.value.AbstractValue.TheVariants.{Unset, Number, Record, Stack}
+use Rattle.abstract_values.specs.declared.value.AbstractValue.TheVariants.{Number, Record, Stack}
 use Rattle.abstract_values.specs.Ranges.{range, is_constant}
 use Rattle.abstract_values.specs.Values.{least_distance, greatest_distance, is_place, record_pointer, stack_pointer, stack_moved, added, subtracted, arithmetic}
 use Rattle.abstract_values.specs.Described.{Describes}
-use Rattle.abstract_values.proofs.Below.{either, low_same}
+use Rattle.abstract_values.proofs.Below.{low_same}
 use Rattle.abstract_values.proofs.Within.{Within, constant_is}
 use Rattle.abstract_values.proofs.Sound.{ok, number_within, numbers_sound, record_below, stack_below, move_sound}
 

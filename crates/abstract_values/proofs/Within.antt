@@ -1,7 +1,7 @@
 -- What arithmetic makes of numbers in two ranges lies in the range that the rules give.
-use Rattle.std.proofs.Common.{◌≡◌, ℕ, ◌+◌, ◌-◌, ◌*◌, ◌/◌, ◌%◌, ◌^◌, ◌<◌, ◌≤◌, Bool, true, false, eqb, eq-eqb, cond, Option, Some, None, ◌∙◌, refl, sym, subst, ap, arith, inl, inr}
-use Rattle.std.specs.Prelude.{min, max, bit_and, bit_or, bit_xor, ◌&&◌, ◌||◌}
-use Rattle.std.proofs.Math.Nat.{mod-le, mod-eq_of_lt, div-le_self, div-mul-le_self, mul-le-mul_left, mul-le-mul_right, add-mod_left, le_refl, pow-le-pow_right}
+use Rattle.std.proofs.Common.{◌≡◌, ℕ, ◌+◌, ◌-◌, ◌*◌, ◌/◌, ◌%◌, ◌^◌, ◌<◌, ◌≤◌, true, false, eqb, eq-eqb, cond, Option, Some, None, ◌∙◌, refl, arith, inl, inr}
+use Rattle.std.specs.Prelude.{min, max, ◌&&◌, ◌||◌}
+use Rattle.std.proofs.Math.Nat.{mod-le, div-le_self, div-mul-le_self, mul-le-mul_left, mul-le-mul_right, add-mod_left, le_refl, pow-le-pow_right}
 use Rattle.std.proofs.Math.Dec.{ltb, leb}
 use Rattle.std.proofs.lemmas.Nat.Bits.{ones_shr}
 use Rattle.std.specs.Option.{SomeIff, unwrap_or}
@@ -11,9 +11,9 @@ use Rattle.std.proofs.lemmas.Nat.{mod_below, or_lt, xor_lt, and_le_l, and_le_r, 
 use Rattle.bpf_isa.specs.declared.instruction.Width.{Width}
 use Rattle.bpf_isa.specs.declared.instruction.Operation.{Operation}
 use Rattle.bpf_isa.specs.declared.instruction.Operation.TheVariants as operations
-use Rattle.bpf_model.specs.Arithmetic.{width_bits, modulus, low, shift_count, computed, calculated}
+use Rattle.bpf_model.specs.Arithmetic.{modulus, low, shift_count, computed, calculated}
 use Rattle.abstract_values.specs.declared.range.Range.{Range}
-use Rattle.abstract_values.specs.Ranges.{range, constant, is_constant, shifted_left, shifted_right, everything, input, fitting, digits, spread, of_inputs, computed_range}
+use Rattle.abstract_values.specs.Ranges.{range, constant, shifted_left, shifted_right, everything, input, fitting, digits, spread, of_inputs, computed_range}
 use Rattle.abstract_values.proofs.Below.{either, modulus_positive, modulus_most, low_below, low_same, computed_below}
 
 abbrev pub Within : Range → ℕ → Type 0

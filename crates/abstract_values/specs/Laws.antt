@@ -1,6 +1,6 @@
 -- Soundness, in the words of abstract interpretation: what is known after an operation describes every
 -- result of what was described before it. Each law is the contract of a public function.
-use Rattle.std.specs.Prelude.{◌≡◌, ℕ, ◌<◌, ◌≤◌, ◌^◌, Option, Some, Result, Ok}
+use Rattle.std.specs.Prelude.{◌≡◌, ℕ, ◌<◌, ◌≤◌, ◌^◌, Option, Some, Ok}
 use Rattle.bpf_isa.specs.declared.instruction.Width.{Width}
 use Rattle.bpf_isa.specs.declared.instruction.Operation.{Operation}
 use Rattle.bpf_isa.specs.declared.instruction.Comparison.{Comparison}
@@ -8,7 +8,6 @@ use Rattle.bpf_isa.specs.declared.instruction.Extension.{Extension}
 use Rattle.bpf_isa.specs.declared.instruction.ByteOrder.{ByteOrder}
 use Rattle.bpf_isa.specs.declared.instruction.SwapBits.{SwapBits}
 use Rattle.bpf_model.specs.Arithmetic.{calculated, negated, sign_extended, swapped, holds}
-use Rattle.abstract_values.specs.declared.cause.Cause.{Cause}
 use Rattle.abstract_values.specs.declared.branch.Sides.{Sides}
 use Rattle.abstract_values.specs.declared.value.AbstractValue.{AbstractValue}
 use Rattle.abstract_values.specs.Values.{joined, arithmetic, negation, sign_extension, swap_result}

@@ -25,10 +25,7 @@ pub(crate) fn number_of(value: AbstractValue) -> Result<Range, Cause>
 }
 
 /// The ranges of two values that must be numbers. An unset one comes before a pointer.
-pub(crate) fn numbers_of(
-    left: AbstractValue,
-    right: AbstractValue,
-) -> Result<(Range, Range), Cause>
+pub(crate) fn numbers_of(left: AbstractValue, right: AbstractValue) -> Result<(Range, Range), Cause>
     ensures { result ≡ of_numbers (λ a b. (a, b)) left right }
 {
     if matches!(left, AbstractValue::Unset) || matches!(right, AbstractValue::Unset) {

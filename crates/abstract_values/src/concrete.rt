@@ -15,25 +15,13 @@ fn calculate_64(operation: Operation, x: u64, y: u64) -> u64
         Operation::Add => x.wrapping_add(y),
         Operation::Subtract => x.wrapping_sub(y),
         Operation::Multiply => x.wrapping_mul(y),
-        Operation::Divide => {
-            if y == 0 {
-                0
-            } else {
-                x / y
-            }
-        }
+        Operation::Divide => { if y == 0 { 0 } else { x / y } }
         Operation::DivideSigned => divide_signed_64(x, y),
         Operation::Or => x | y,
         Operation::And => x & y,
         Operation::ShiftLeft => x << (y & 0x3f),
         Operation::ShiftRight => x >> (y & 0x3f),
-        Operation::Modulo => {
-            if y == 0 {
-                x
-            } else {
-                x % y
-            }
-        }
+        Operation::Modulo => { if y == 0 { x } else { x % y } }
         Operation::ModuloSigned => remainder_signed_64(x, y),
         Operation::Xor => x ^ y,
         Operation::Move => y,
@@ -71,25 +59,13 @@ fn calculate_32(operation: Operation, x: u32, y: u32) -> u32
         Operation::Add => x.wrapping_add(y),
         Operation::Subtract => x.wrapping_sub(y),
         Operation::Multiply => x.wrapping_mul(y),
-        Operation::Divide => {
-            if y == 0 {
-                0
-            } else {
-                x / y
-            }
-        }
+        Operation::Divide => { if y == 0 { 0 } else { x / y } }
         Operation::DivideSigned => divide_signed_32(x, y),
         Operation::Or => x | y,
         Operation::And => x & y,
         Operation::ShiftLeft => x << (y & 0x1f),
         Operation::ShiftRight => x >> (y & 0x1f),
-        Operation::Modulo => {
-            if y == 0 {
-                x
-            } else {
-                x % y
-            }
-        }
+        Operation::Modulo => { if y == 0 { x } else { x % y } }
         Operation::ModuloSigned => remainder_signed_32(x, y),
         Operation::Xor => x ^ y,
         Operation::Move => y,

@@ -17,9 +17,12 @@ pub fn join(left: AbstractValue, right: AbstractValue) -> AbstractValue
             _ => AbstractValue::Unset,
         },
         AbstractValue::Record { lo, hi } => match right {
-            AbstractValue::Record { lo: low, hi: high } => AbstractValue::Record {
-                lo: lo.min(low),
-                hi: hi.max(high),
+            AbstractValue::Record {
+                lo: first,
+                hi: last,
+            } => AbstractValue::Record {
+                lo: lo.min(first),
+                hi: hi.max(last),
             },
             _ => AbstractValue::Unset,
         },

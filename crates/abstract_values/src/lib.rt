@@ -16,12 +16,11 @@ mod tests;
 mod value;
 
 pub use arithmetic::{alu, move_signed, negate, swap};
+pub use branch::{Sides, narrow};
 pub use cause::Cause;
 pub use hull::join;
 pub use laws::{
     alu_describes, join_describes, move_signed_describes, narrow_describes, negate_describes,
     swap_describes,
 };
-pub use branch::{Sides, narrow};
-pub use range::Range;
 pub use value::AbstractValue;

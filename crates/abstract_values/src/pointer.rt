@@ -30,11 +30,7 @@ fn is_record_place(record_length: u16, offset: i128) -> bool
 }
 
 /// A pointer into a record, which does not leave it.
-fn point_into_record(
-    record_length: u16,
-    lo: i128,
-    hi: i128,
-) -> Result<AbstractValue, Cause>
+fn point_into_record(record_length: u16, lo: i128, hi: i128) -> Result<AbstractValue, Cause>
     ensures { result ≡ record_pointer record_length lo hi }
 {
     if is_record_place(record_length, lo) && is_record_place(record_length, hi) {

@@ -103,10 +103,7 @@ fn quotients(width: Width, left: Range, right: Range) -> Range
     ensures { result ≡ spread width Divide left right }
 {
     if right.lo == 0 || right.hi == 0 {
-        return Range {
-            lo: 0,
-            hi: left.hi,
-        };
+        return Range { lo: 0, hi: left.hi };
     }
     Range {
         lo: left.lo / right.hi,
@@ -118,10 +115,7 @@ fn remainders(width: Width, left: Range, right: Range) -> Range
     ensures { result ≡ spread width Modulo left right }
 {
     if right.lo == 0 || right.hi == 0 {
-        return Range {
-            lo: 0,
-            hi: left.hi,
-        };
+        return Range { lo: 0, hi: left.hi };
     }
     Range {
         lo: 0,
@@ -157,10 +151,7 @@ fn right_shifts(width: Width, left: Range, right: Range) -> Range
     ensures { result ≡ spread width ShiftRight left right }
 {
     if !is_one_number(right) {
-        return Range {
-            lo: 0,
-            hi: left.hi,
-        };
+        return Range { lo: 0, hi: left.hi };
     }
     let count = masked_count(width, right.lo);
     Range {
@@ -203,12 +194,7 @@ fn spread_range(width: Width, operation: Operation, left: Range, right: Range) -
 }
 
 /// What an operation of a width makes of two ranges.
-pub(crate) fn compute_range(
-    width: Width,
-    operation: Operation,
-    left: Range,
-    right: Range,
-) -> Range
+pub(crate) fn compute_range(width: Width, operation: Operation, left: Range, right: Range) -> Range
     ensures { result ≡ computed_range width operation left right }
 {
     let left = input_range(width, left);
