@@ -1,0 +1,124 @@
+-- What is known of a value: which numbers or addresses it may be, and how arithmetic changes that.
+use Rattle.std.specs.Prelude.{ℕ, ◌^◌, ◌&&◌, int_le, min, max, if◌then◌else◌, ℤ, pos, negsuc, ◌+ℤ◌, ◌-ℤ◌, ◌≤ℤ◌, unsigned_abs, Bool, Result, Ok, Err}
+use Rattle.std.specs.Int.{w64, cast_signed}
+use Rattle.std.specs.Ordering.{int_eq}
+use Rattle.bpf_isa.specs.declared.instruction.Width.{Width}
+use Rattle.bpf_isa.specs.declared.instruction.Width.TheVariants.{Bits32, Bits64}
+use Rattle.bpf_isa.specs.declared.instruction.Operation.{Operation}
+use Rattle.bpf_isa.specs.declared.instruction.Operation.TheVariants as operations
+use Rattle.bpf_isa.specs.declared.instruction.Extension.{Extension}
+use Rattle.bpf_isa.specs.declared.instruction.ByteOrder.{ByteOrder}
+use Rattle.bpf_isa.specs.declared.instruction.SwapBits.{SwapBits}
+use Rattle.bpf_isa.specs.Encoding.{extension_width}
+use Rattle.bpf_model.specs.Arithmetic.{negated, sign_extended, swapped}
+use Rattle.abstract_values.specs.declared.cause.Cause.{Cause}
+use Rattle.abstract_values.specs.declared.cause.Cause.TheVariants.{UnsetRegister, PointerUse, OutOfRange}
+use Rattle.abstract_values.specs.declared.range.Range.{Range}
+use Rattle.abstract_values.specs.declared.value.AbstractValue.{AbstractValue}
+use Rattle.abstract_values.specs.declared.value.AbstractValue.TheVariants.{Unset, Number, Record, Stack}
+use Rattle.abstract_values.specs.Ranges.{range, constant, is_constant, everything, input, computed_range}
+
+-- the least value that says no more than either (the hull of two ranges)
+abbrev pub joined : AbstractValue → AbstractValue → AbstractValue
+joined (Number a b) (Number c d) = Number (min a c) (max b d)
+joined (Record a b) (Record c d) = Record (min a c) (max b d)
+joined (Stack a) (Stack b) = if int_eq a b then Stack a else Unset
+joined _ _ = Unset
+
+abbrev pub number : Range → AbstractValue
+number r = Number r.lo r.hi
+
+-- what a function makes of a number; a value that is not set is none, nor is a pointer
+abbrev pub of_number : {A : Type 0} → (Range → A) → AbstractValue → Result A Cause
+of_number f Unset = Err UnsetRegister
+of_number f (Number lo hi) = Ok (f (range lo hi))
+of_number f (Record lo hi) = Err PointerUse
+of_number f (Stack offset) = Err PointerUse
+
+-- what a function makes of two numbers; a value that is not set comes before a pointer
+abbrev pub of_numbers : {A : Type 0} → (Range → Range → A) → AbstractValue → AbstractValue → Result A Cause
+of_numbers f Unset b = Err UnsetRegister
+of_numbers f (Number lo hi) b = of_number (f (range lo hi)) b
+of_numbers f (Record lo hi) Unset = Err UnsetRegister
+of_numbers f (Record lo hi) b = Err PointerUse
+of_numbers f (Stack offset) Unset = Err UnsetRegister
+of_numbers f (Stack offset) b = Err PointerUse
+
+-- a move copies in 64 bits what is set; in 32 bits there is no pointer
+abbrev pub moved : Width → AbstractValue → Result AbstractValue Cause
+moved w Unset = Err UnsetRegister
+moved w (Number lo hi) = Ok (number (input w (range lo hi)))
+moved Bits64 (Record lo hi) = Ok (Record lo hi)
+moved Bits64 (Stack offset) = Ok (Stack offset)
+moved Bits32 (Record lo hi) = Err PointerUse
+moved Bits32 (Stack offset) = Err PointerUse
+
+-- how far a number may move a pointer, at least and at most: a constant counts as a signed number
+abbrev pub least_distance : Range → ℤ
+least_distance r = if is_constant r then cast_signed w64 r.lo else pos r.lo
+
+abbrev pub greatest_distance : Range → ℤ
+greatest_distance r = if is_constant r then cast_signed w64 r.hi else pos r.hi
+
+-- a distance is at most 2^64 either way, so no sum with it wraps in 128 bits
+abbrev pub IsShort : ℤ → Type 0
+IsShort z = (negsuc (2 ^ 64) ≤ℤ z) × (z ≤ℤ pos (2 ^ 64))
+
+-- a place in a record, or its end
+abbrev pub is_place : ℕ → ℤ → Bool
+is_place record_length z = int_le (pos 0) z && int_le z (pos record_length)
+
+-- a pointer into a record, which does not leave it
+abbrev pub record_pointer : ℕ → ℤ → ℤ → Result AbstractValue Cause
+record_pointer record_length lo hi =
+    if is_place record_length lo && is_place record_length hi then Ok (Record (unsigned_abs lo) (unsigned_abs hi)) else Err OutOfRange
+
+-- a pointer into a stack frame of 512 bytes, which does not leave it
+abbrev pub stack_pointer : ℤ → Result AbstractValue Cause
+stack_pointer offset =
+    if int_le (negsuc 511) offset && int_le offset (pos 0) then Ok (Stack offset) else Err OutOfRange
+
+-- a stack pointer has one offset, so only a constant moves it
+abbrev pub stack_moved : Bool → ℤ → Result AbstractValue Cause
+stack_moved is_known offset = if is_known then stack_pointer offset else Err PointerUse
+
+-- the number that arithmetic on two numbers gives
+abbrev pub number_result : Width → Operation → Range → Range → AbstractValue
+number_result w operation a b = number (computed_range w operation a b)
+
+-- a sum in 64 bits, where the left side may be a pointer
+abbrev pub added : ℕ → AbstractValue → AbstractValue → Result AbstractValue Cause
+added record_length (Record lo hi) (Number c d) =
+    record_pointer record_length (pos lo +ℤ least_distance (range c d)) (pos hi +ℤ greatest_distance (range c d))
+added record_length (Stack offset) (Number c d) =
+    stack_moved (is_constant (range c d)) (offset +ℤ least_distance (range c d))
+added record_length a b = of_numbers (number_result Bits64 operations.Add) a b
+
+-- a difference in 64 bits, where the left side may be a pointer
+abbrev pub subtracted : ℕ → AbstractValue → AbstractValue → Result AbstractValue Cause
+subtracted record_length (Record lo hi) (Number c d) =
+    record_pointer record_length (pos lo -ℤ greatest_distance (range c d)) (pos hi -ℤ least_distance (range c d))
+subtracted record_length (Stack offset) (Number c d) =
+    stack_moved (is_constant (range c d)) (offset -ℤ least_distance (range c d))
+subtracted record_length a b = of_numbers (number_result Bits64 operations.Subtract) a b
+
+-- what an arithmetic instruction makes of its destination and its operand, in a record of this length
+abbrev pub arithmetic : Width → Operation → ℕ → AbstractValue → AbstractValue → Result AbstractValue Cause
+arithmetic w operations.Move record_length a b = moved w b
+arithmetic Bits64 operations.Add record_length a b = added record_length a b
+arithmetic Bits64 operations.Subtract record_length a b = subtracted record_length a b
+arithmetic w operation record_length a b = of_numbers (number_result w operation) a b
+
+-- a function of one number is exact for a constant of the width, and else not known
+abbrev pub exact : Width → (ℕ → ℕ) → Range → AbstractValue
+exact w f r = number (if is_constant r then constant (f r.lo) else everything w)
+
+abbrev pub negation : Width → AbstractValue → Result AbstractValue Cause
+negation w = of_number (λ r. exact w (negated w) (input w r))
+
+abbrev pub sign_extension : Extension → AbstractValue → Result AbstractValue Cause
+sign_extension e = of_number (λ r. exact (extension_width e) (sign_extended e) (input (extension_width e) r))
+
+-- a swap takes its input whole
+abbrev pub swap_result : ByteOrder → SwapBits → AbstractValue → Result AbstractValue Cause
+swap_result order bits = of_number (exact Bits64 (swapped order bits))

@@ -1,0 +1,183 @@
+//! What arithmetic instructions make of values (RFC 9669, sections 4.1 and 4.2).
+ghost use Rattle.std.specs.Prelude.{◌≡◌};
+ghost use Rattle.bpf_isa.specs.Encoding.{extension_width};
+ghost use Rattle.bpf_isa.specs.declared.instruction.Width.TheVariants.{Bits64};
+ghost use Rattle.bpf_isa.specs.declared.instruction.Operation.TheVariants.{Add, Subtract};
+ghost use Rattle.abstract_values.specs.Values.{of_number, of_numbers, number, number_result, moved, added, subtracted, arithmetic, negation, sign_extension, swap_result};
+
+use crate::cause::Cause;
+use crate::pointer::{lower_record, lower_stack, raise_record, raise_stack};
+use crate::range::Range;
+use crate::range_rules::{all_numbers, compute_range, constant_range, input_range, is_one_number};
+use crate::value::AbstractValue;
+use bpf_isa::{ByteOrder, Extension, Operation, SwapBits, Width};
+
+/// The range of a value that must be a number.
+pub(crate) fn number_of(value: AbstractValue) -> Result<Range, Cause>
+    ensures { result ≡ of_number (λ r. r) value }
+{
+    match value {
+        AbstractValue::Unset => Err(Cause::UnsetRegister),
+        AbstractValue::Number { lo, hi } => Ok(Range { lo, hi }),
+        AbstractValue::Record { .. } | AbstractValue::Stack { .. } => Err(Cause::PointerUse),
+    }
+}
+
+/// The ranges of two values that must be numbers. An unset one comes before a pointer.
+pub(crate) fn numbers_of(left: AbstractValue, right: AbstractValue) -> Result<(Range, Range), Cause>
+    ensures { result ≡ of_numbers (λ a b. (a, b)) left right }
+{
+    if matches!(left, AbstractValue::Unset) || matches!(right, AbstractValue::Unset) {
+        return Err(Cause::UnsetRegister);
+    }
+    let left = number_of(left)?;
+    let right = number_of(right)?;
+    Ok((left, right))
+}
+
+pub(crate) fn value_of(range: Range) -> AbstractValue
+    ensures { result ≡ number range }
+{
+    AbstractValue::Number {
+        lo: range.lo,
+        hi: range.hi,
+    }
+}
+
+/// Arithmetic on two numbers.
+fn compute(
+    width: Width,
+    operation: Operation,
+    left: AbstractValue,
+    right: AbstractValue,
+) -> Result<AbstractValue, Cause>
+    ensures { result ≡ of_numbers (number_result width operation) left right }
+{
+    let (left, right) = numbers_of(left, right)?;
+    Ok(value_of(compute_range(width, operation, left, right)))
+}
+
+/// What a move copies.
+fn copy(width: Width, value: AbstractValue) -> Result<AbstractValue, Cause>
+    ensures { result ≡ moved width value }
+{
+    match value {
+        AbstractValue::Unset => Err(Cause::UnsetRegister),
+        AbstractValue::Number { lo, hi } => Ok(value_of(input_range(width, Range { lo, hi }))),
+        AbstractValue::Record { .. } | AbstractValue::Stack { .. } => match width {
+            Width::Bits32 => Err(Cause::PointerUse),
+            Width::Bits64 => Ok(value),
+        },
+    }
+}
+
+/// A sum in 64 bits, where the left side may be a pointer.
+fn add(
+    record_length: u16,
+    left: AbstractValue,
+    right: AbstractValue,
+) -> Result<AbstractValue, Cause>
+    ensures { result ≡ added record_length left right }
+{
+    if let AbstractValue::Number { lo: low, hi: high } = right {
+        let range = Range { lo: low, hi: high };
+        match left {
+            AbstractValue::Record { lo, hi } => return raise_record(record_length, lo, hi, range),
+            AbstractValue::Stack { offset } => return raise_stack(offset, range),
+            AbstractValue::Unset | AbstractValue::Number { .. } => {}
+        }
+    }
+    compute(Width::Bits64, Operation::Add, left, right)
+}
+
+/// A difference in 64 bits, where the left side may be a pointer.
+fn subtract(
+    record_length: u16,
+    left: AbstractValue,
+    right: AbstractValue,
+) -> Result<AbstractValue, Cause>
+    ensures { result ≡ subtracted record_length left right }
+{
+    if let AbstractValue::Number { lo: low, hi: high } = right {
+        let range = Range { lo: low, hi: high };
+        match left {
+            AbstractValue::Record { lo, hi } => return lower_record(record_length, lo, hi, range),
+            AbstractValue::Stack { offset } => return lower_stack(offset, range),
+            AbstractValue::Unset | AbstractValue::Number { .. } => {}
+        }
+    }
+    compute(Width::Bits64, Operation::Subtract, left, right)
+}
+
+/// What an arithmetic instruction makes of its destination and its operand, for a record of so many
+/// bytes. A move does not look at the destination.
+pub fn alu(
+    width: Width,
+    operation: Operation,
+    record_length: u16,
+    destination: AbstractValue,
+    operand: AbstractValue,
+) -> Result<AbstractValue, Cause>
+    ensures { result ≡ arithmetic width operation record_length destination operand }
+{
+    match operation {
+        Operation::Move => copy(width, operand),
+        Operation::Add => match width {
+            Width::Bits32 => compute(width, operation, destination, operand),
+            Width::Bits64 => add(record_length, destination, operand),
+        },
+        Operation::Subtract => match width {
+            Width::Bits32 => compute(width, operation, destination, operand),
+            Width::Bits64 => subtract(record_length, destination, operand),
+        },
+        _ => compute(width, operation, destination, operand),
+    }
+}
+
+/// The width of a sign-extending move.
+fn width_of_extension(extension: Extension) -> Width
+    ensures { result ≡ extension_width extension }
+{
+    match extension {
+        Extension::From8To32 | Extension::From16To32 => Width::Bits32,
+        Extension::From8To64 | Extension::From16To64 | Extension::From32To64 => Width::Bits64,
+    }
+}
+
+/// What a sign-extending move makes of its source.
+pub fn move_signed(extension: Extension, source: AbstractValue) -> Result<AbstractValue, Cause>
+    ensures { result ≡ sign_extension extension source }
+{
+    let width = width_of_extension(extension);
+    let range = input_range(width, number_of(source)?);
+    if is_one_number(range) {
+        return Ok(value_of(constant_range(bpf_arithmetic::extend_sign(extension, range.lo))));
+    }
+    Ok(value_of(all_numbers(width)))
+}
+
+/// What a negation makes of its destination.
+pub fn negate(width: Width, destination: AbstractValue) -> Result<AbstractValue, Cause>
+    ensures { result ≡ negation width destination }
+{
+    let range = input_range(width, number_of(destination)?);
+    if is_one_number(range) {
+        return Ok(value_of(constant_range(bpf_arithmetic::negate(width, range.lo))));
+    }
+    Ok(value_of(all_numbers(width)))
+}
+
+/// What a change of the byte order makes of its destination.
+pub fn swap(
+    order: ByteOrder,
+    bits: SwapBits,
+    destination: AbstractValue,
+) -> Result<AbstractValue, Cause>
+    ensures { result ≡ swap_result order bits destination }
+{
+    let range = number_of(destination)?;
+    if is_one_number(range) {
+        return Ok(value_of(constant_range(bpf_arithmetic::swap(order, bits, range.lo))));
+    }
+    Ok(value_of(all_numbers(Width::Bits64)))
+}

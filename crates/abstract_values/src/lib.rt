@@ -1,0 +1,25 @@
+//! What is known of a register's value in every run that comes to a place, and how arithmetic, a
+//! branch and the meeting of two ways change it. All functions are pure, and none takes memory.
+#![tactic(auto)]
+
+mod arithmetic;
+mod branch;
+mod cause;
+mod hull;
+mod laws;
+mod pointer;
+mod range;
+mod range_rules;
+#[cfg(test)]
+mod tests;
+mod value;
+
+pub use arithmetic::{alu, move_signed, negate, swap};
+pub use branch::{Sides, narrow};
+pub use cause::Cause;
+pub use hull::join;
+pub use laws::{
+    alu_describes, join_describes, move_signed_describes, narrow_describes, negate_describes,
+    swap_describes,
+};
+pub use value::AbstractValue;
