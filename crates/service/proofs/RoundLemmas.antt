@@ -12,7 +12,8 @@ use Rattle.service.specs.declared.serve_error.ServeError.{ServeError}
 use Rattle.service.specs.declared.serve_error.ServeError.TheVariants as errors
 use Rattle.service.specs.Ends.{TakesFront}
 use Rattle.service.specs.Served.{Served, Settled, Finishes}
-use Rattle.service.specs.Rounds.{Advances, Rounds, IsMeant, Begins, Serves, IsServed, Turns}
+use Rattle.service.specs.Serves.{IsMeant, Begins, Serves}
+use Rattle.service.specs.Rounds.{Advances, Rounds, IsServed, Turns}
 use Rattle.service.proofs.KnownLemmas.{appends_more, consumes_more}
 use Rattle.service.proofs.Serving.{served_more}
 

@@ -1,6 +1,7 @@
 ghost use Rattle.std.specs.Prelude.{◌≡◌, ◌<◌, ℕ, List, [], Option, length};
 ghost use Rattle.service.specs.Served.{IsOneLine};
-ghost use Rattle.service.specs.Rounds.{Advances, Rounds, Turns, IsServed, Serves, CountsReads, CountsWrites, IsNoWrite};
+ghost use Rattle.service.specs.Serves.{Serves, CountsReads, CountsWrites};
+ghost use Rattle.service.specs.Rounds.{Advances, Rounds, Turns, IsServed, IsNoWrite};
 
 use crate::ending::{execute_read, finish};
 use crate::ends::{Input, Output};
