@@ -1,1 +1,6 @@
+pub mod Blanks
+pub mod Bytes
+pub mod Digits
+pub mod Gathering
+pub mod Parts
 pub mod Placing

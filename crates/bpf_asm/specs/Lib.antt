@@ -1,2 +1,6 @@
 pub mod Writing
 pub mod Listing
+pub mod Lexing
+pub mod Words
+pub mod Statements
+pub mod Said
