@@ -3,4 +3,5 @@ pub mod Listing
 pub mod Lexing
 pub mod Words
 pub mod Statements
+pub mod Assembly
 pub mod Said

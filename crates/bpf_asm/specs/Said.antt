@@ -1,5 +1,5 @@
 -- What the code's values stand for, where texts are lent.
-use Rattle.std.specs.Prelude.{ℕ, List, [], Option, Some, None, Result, Ok, Err}
+use Rattle.std.specs.Prelude.{◌≡◌, ℕ, List, [], Option, Some, None, Result, Ok, Err}
 use Rattle.std.specs.Borrow.{Bor}
 use Rattle.bpf_isa.specs.declared.register.Register.{Register}
 use Rattle.bpf_asm.specs.declared.numeral.Numeral.{Numeral as CodeNumeral}
@@ -7,6 +7,13 @@ use Rattle.bpf_asm.specs.declared.argument.Argument.{Argument as CodeArgument}
 use Rattle.bpf_asm.specs.declared.argument.Argument.TheVariants as argument_forms
 use Rattle.bpf_asm.specs.declared.arguments.Arguments.{Arguments as CodeArguments}
 use Rattle.bpf_asm.specs.declared.arguments.Arguments.TheVariants as argument_counts
+use Rattle.bpf_asm.specs.declared.errors.Cause.{Cause}
+use Rattle.bpf_asm.specs.declared.item.Item.{Item as CodeItem}
+use Rattle.bpf_asm.specs.declared.item.Item.TheVariants as items
+use Rattle.bpf_isa.specs.declared.instruction.Instruction.{Instruction}
+use Rattle.bpf_isa.specs.Encoding.{spelling}
+use Rattle.bpf_asm.specs.Assembly.{place, units}
+use Rattle.bpf_asm.specs.Statements.{Item, Blank, Labelled, Plain, Goes}
 use Rattle.bpf_asm.specs.Lexing.{parts, Numeral, Argument, Held, Counted, Addressed, Named, Arguments, Zero, One, Two, Three, More}
 
 abbrev pub said_numeral : CodeNumeral → Numeral
@@ -32,3 +39,24 @@ said_place (base, offset) = (base, said_numeral offset)
 abbrev pub parts_behind : ℕ → Option (Bor (List ℕ)) → List (List ℕ)
 parts_behind separator None = []
 parts_behind separator (Some rest) = parts separator rest.now
+
+abbrev pub said_item : CodeItem → Item
+said_item items.Blank = Blank
+said_item (items.Label name) = Labelled name.now
+said_item (items.Plain i) = Plain i
+said_item (items.Goes jumping name) = Goes jumping name.now
+
+abbrev pub said_line : Result CodeItem Cause → Result Item Cause
+said_line (Ok item) = Ok (said_item item)
+said_line (Err e) = Err e
+
+-- the bytes of an instruction that a line has, if it has one
+abbrev pub said_bytes : Result (Option Instruction) Cause → Result (List ℕ) Cause
+said_bytes (Ok None) = Ok []
+said_bytes (Ok (Some i)) = Ok (spelling i)
+said_bytes (Err cause) = Err cause
+
+-- so many units, and these places of labels, are those of some lines
+pub record IsRead (before : List Item) (n : ℕ) (places : List ℕ → Option ℕ) : Type 0 where
+  pub total : n ≡ units before
+  pub found : (name : List ℕ) → places name ≡ place name before

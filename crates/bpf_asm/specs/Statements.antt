@@ -1,5 +1,6 @@
 -- The instruction that a word and its arguments say.
-use Rattle.std.specs.Prelude.{ℕ, zero, suc, ◌+◌, ◌*◌, ◌-◌, ◌^◌, ◌==◌, nat_lt, nat_le, Bool, true, false, if◌then◌else◌, List, [], ◌∷◌, ℤ, pos, negsuc, Option, Some, None, option_map, Result, Ok, Err}
+use Rattle.std.specs.List.{position_or_len}
+use Rattle.std.specs.Prelude.{length, take, drop, slice_index, ℕ, zero, suc, ◌+◌, ◌*◌, ◌-◌, ◌^◌, ◌==◌, nat_lt, nat_le, Bool, true, false, if◌then◌else◌, List, [], ◌∷◌, ℤ, pos, negsuc, Option, Some, None, option_map, Result, Ok, Err}
 use Rattle.bpf_isa.specs.declared.register.Register.{Register}
 use Rattle.bpf_isa.specs.declared.instruction.Width.{Width}
 use Rattle.bpf_isa.specs.declared.instruction.Operation.{Operation}
@@ -16,8 +17,13 @@ use Rattle.bpf_isa.specs.declared.instruction.Instruction.TheVariants.{Alu, Move
 use Rattle.bpf_asm.specs.declared.numeral.Base.{Base}
 use Rattle.bpf_asm.specs.declared.numeral.Base.TheVariants.{Ten, Sixteen}
 use Rattle.bpf_asm.specs.declared.errors.Cause.{Cause}
-use Rattle.bpf_asm.specs.declared.errors.Cause.TheVariants.{Syntax, NumberRange}
-use Rattle.bpf_asm.specs.Lexing.{Numeral, Argument, Held, Counted, Addressed, Named, Arguments, Zero, One, Two, Three, More}
+use Rattle.bpf_asm.specs.declared.errors.Cause.TheVariants.{Syntax, UnknownName, NumberRange}
+use Rattle.bpf_asm.specs.declared.word.Word.{Word}
+use Rattle.bpf_asm.specs.declared.word.Word.TheVariants.{Arithmetic, Extend, Negation, Swapping, JumpNear, JumpFar, LocalCall, Branching, HelperCall, Return, Loading, LoadingSigned, Storing, StoringRegister, WideLoad}
+use Rattle.bpf_asm.specs.declared.item.Jumping.{Jumping}
+use Rattle.bpf_asm.specs.declared.item.Jumping.TheVariants.{Near, Far, Call, Branch}
+use Rattle.bpf_asm.specs.Lexing.{Numeral, Argument, Held, Counted, Addressed, Named, Arguments, Zero, One, Two, Three, More, arguments, is_word, is_name, is_empty, is_blank, said_part}
+use Rattle.bpf_asm.specs.Words.{word}
 
 -- ---- numbers
 
@@ -131,3 +137,74 @@ register_store size _ = Err Syntax
 abbrev pub wide_load : Arguments → Result Instruction Cause
 wide_load (Two (Held destination) (Counted n)) = in_range (option_map (Wide destination) (wide_of n))
 wide_load _ = Err Syntax
+
+-- ---- what a line says
+
+pub data Item : Type 0 where
+  Blank : Item
+  Labelled : List ℕ → Item
+  Plain : Instruction → Item
+  -- it goes to the label of this name
+  Goes : Jumping → List ℕ → Item
+
+abbrev pub plain : Result Instruction Cause → Result Item Cause
+plain (Ok i) = Ok (Plain i)
+plain (Err e) = Err e
+
+abbrev pub goes : Jumping → Arguments → Result Item Cause
+goes jumping (One (Named name)) = Ok (Goes jumping name)
+goes jumping _ = Err Syntax
+
+abbrev pub branch_to : Width → Comparison → Register → List ℕ → Result Operand Cause → Result Item Cause
+branch_to width comparison left name (Ok right) = Ok (Goes (Branch width comparison left right) name)
+branch_to width comparison left name (Err e) = Err e
+
+abbrev pub branch : Width → Comparison → Arguments → Result Item Cause
+branch width comparison (Three (Held left) right (Named name)) = branch_to width comparison left name (operand right)
+branch width comparison _ = Err Syntax
+
+abbrev pub statement : Word → Arguments → Result Item Cause
+statement (Arithmetic width operation) a = plain (arithmetic width operation a)
+statement (Extend extension) a = plain (in_form (option_map (extension_to extension) (register_pair a)))
+statement (Negation width) a = plain (in_form (option_map (Negate width) (one_register a)))
+statement (Swapping order bits) a = plain (in_form (option_map (Swap order bits) (one_register a)))
+statement JumpNear a = goes Near a
+statement JumpFar a = goes Far a
+statement LocalCall a = goes Call a
+statement (Branching width comparison) a = branch width comparison a
+statement HelperCall a = plain (helper_call a)
+statement Return a = plain (return_alone a)
+statement (Loading size) a = plain (load size a)
+statement (LoadingSigned size) a = plain (signed_load size a)
+statement (Storing size) a = plain (store size a)
+statement (StoringRegister size) a = plain (register_store size a)
+statement WideLoad a = plain (wide_load a)
+
+abbrev pub with_word : Option Word → Arguments → Result Item Cause
+with_word None a = Err UnknownName
+with_word (Some w) a = statement w a
+
+abbrev pub with_arguments : Option Word → Option Arguments → Result Item Cause
+with_arguments w None = Err Syntax
+with_arguments w (Some a) = with_word w a
+
+-- a word and what stands behind it
+abbrev pub word_line : List ℕ → List ℕ → Result Item Cause
+word_line text rest = if is_word text then with_arguments (word text) (arguments rest) else Err Syntax
+
+abbrev pub label_line : List ℕ → Result Item Cause
+label_line name = if is_name name then Ok (Labelled name) else Err Syntax
+
+-- the last byte is `:`
+abbrev pub ends_in_colon : List ℕ → Bool
+ends_in_colon text = slice_index text (length text - 1) == 58
+
+abbrev pub said : List ℕ → Result Item Cause
+said text =
+    if is_empty text then Ok Blank
+    else (if ends_in_colon text then label_line (take (length text - 1) text)
+    else word_line (take (position_or_len is_blank text) text) (drop (position_or_len is_blank text) text))
+
+-- what a line says, or its first fault
+abbrev pub item : List ℕ → Result Item Cause
+item line = said (said_part line)
