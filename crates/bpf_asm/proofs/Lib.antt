@@ -1,5 +1,6 @@
 pub mod Blanks
 pub mod Bytes
+pub mod CodeOfLines
 pub mod Digits
 pub mod Gathering
 pub mod Lines

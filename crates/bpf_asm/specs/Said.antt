@@ -1,5 +1,5 @@
 -- What the code's values stand for, where texts are lent.
-use Rattle.std.specs.Prelude.{◌≡◌, ℕ, List, [], Option, Some, None, Result, Ok, Err}
+use Rattle.std.specs.Prelude.{◌≡◌, ◌+◌, ◌++◌, ℕ, List, [], Option, Some, None, Result, Ok, Err}
 use Rattle.std.specs.Borrow.{Bor}
 use Rattle.bpf_isa.specs.declared.register.Register.{Register}
 use Rattle.bpf_asm.specs.declared.numeral.Numeral.{Numeral as CodeNumeral}
@@ -10,9 +10,7 @@ use Rattle.bpf_asm.specs.declared.arguments.Arguments.TheVariants as argument_co
 use Rattle.bpf_asm.specs.declared.errors.Cause.{Cause}
 use Rattle.bpf_asm.specs.declared.item.Item.{Item as CodeItem}
 use Rattle.bpf_asm.specs.declared.item.Item.TheVariants as items
-use Rattle.bpf_isa.specs.declared.instruction.Instruction.{Instruction}
-use Rattle.bpf_isa.specs.Encoding.{spelling}
-use Rattle.bpf_asm.specs.Assembly.{place, units}
+use Rattle.bpf_asm.specs.Assembly.{place, units, item_bytes, item_units}
 use Rattle.bpf_asm.specs.Statements.{Item, Blank, Labelled, Plain, Goes}
 use Rattle.bpf_asm.specs.Lexing.{parts, Numeral, Argument, Held, Counted, Addressed, Named, Arguments, Zero, One, Two, Three, More}
 
@@ -50,13 +48,14 @@ abbrev pub said_line : Result CodeItem Cause → Result Item Cause
 said_line (Ok item) = Ok (said_item item)
 said_line (Err e) = Err e
 
--- the bytes of an instruction that a line has, if it has one
-abbrev pub said_bytes : Result (Option Instruction) Cause → Result (List ℕ) Cause
-said_bytes (Ok None) = Ok []
-said_bytes (Ok (Some i)) = Ok (spelling i)
-said_bytes (Err cause) = Err cause
-
 -- so many units, and these places of labels, are those of some lines
 pub record IsRead (before : List Item) (n : ℕ) (places : List ℕ → Option ℕ) : Type 0 where
   pub total : n ≡ units before
   pub found : (name : List ℕ) → places name ≡ place name before
+
+-- the code of a line at a pc is written behind other code, and ends before this next unit
+pub record IsWritten (all : List Item) (pc : ℕ) (i : Item) (old new : List ℕ) (next : ℕ) : Type 0 where
+  pub bytes : List ℕ
+  pub spelled : item_bytes all pc i ≡ Ok bytes
+  pub written : new ≡ old ++ bytes
+  pub ends : next ≡ pc + item_units i

@@ -1,4 +1,5 @@
-ghost use Rattle.std.specs.Prelude.{◌≡◌, ◌^◌};
+ghost use Rattle.std.specs.Prelude.{◌≡◌, ◌^◌, IfSome};
+ghost use Rattle.bpf_isa.specs.Encoding.{units_of};
 ghost use Rattle.bpf_asm.specs.Assembly.{distance, jump_to as jump_to_of};
 
 use crate::item::Jumping;
@@ -42,7 +43,8 @@ fn far(from: usize, to: usize) -> Option<i32>
 
 /// The instruction that goes to a unit, before this next one.
 pub(crate) fn jump_to(jumping: Jumping, next: usize, to: usize) -> Option<Instruction>
-    ensures { result ≡ jump_to_of jumping next to }
+    ensures exact { result ≡ jump_to_of jumping next to }
+    ensures one { IfSome result (λ i. units_of i ≡ 1) }
 {
     match jumping {
         Jumping::Near => {

@@ -3,6 +3,8 @@
 
 mod argument;
 mod arguments;
+mod assembler;
+mod coding;
 mod decoding;
 mod disassembler;
 mod distance;
@@ -22,5 +24,6 @@ mod word;
 mod words;
 mod writing;
 
+pub use assembler::assemble;
 pub use disassembler::disassemble;
-pub use errors::DisassembleError;
+pub use errors::{AssembleError, Cause, DisassembleError};
