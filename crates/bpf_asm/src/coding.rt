@@ -30,11 +30,7 @@ fn resolved(jumping: Jumping, next: usize, place: Option<usize>) -> Result<Instr
 
 /// Writes an instruction at the end of a code, and gives the unit behind it.
 #[tactic(auto, using(crate::proofs::CodeOfLines::units_few))]
-fn put_instruction(
-    code: &mut Vec<u8>,
-    pc: usize,
-    instruction: Instruction,
-) -> Result<usize, Cause>
+fn put_instruction(code: &mut Vec<u8>, pc: usize, instruction: Instruction) -> Result<usize, Cause>
     requires { pc < 2 ^ 63 }
     ensures { MatchResult result
         (λ next. (code.new.items ≡ code.old.items ++ spelling instruction) × (next ≡ pc + units_of instruction))

@@ -35,7 +35,7 @@ pub enum Cause {
 #[derive(Clone, Copy, Debug, PartialEq, Eq, Error)]
 #[error("line {line}: {cause}")]
 pub struct AssembleError {
-    /// The line, counted from 1. Where there is no memory it is 0.
+    /// The line, counted from 1. Where there is no memory it says nothing.
     pub line: usize,
     pub cause: Cause,
 }

@@ -39,10 +39,10 @@ fn admit_label<'a>(
 ) -> Result<(), Cause>
     ensures admits { MatchResult result
         (λ _. (before : List SaidItem) → IsRead before units (λ q. hash.get_by (λ k. bytes_eq q k.now) labels.old)
-            → (admitted before (Labelled name.now) ≡ Ok (Labelled name.now))
-            × IsRead (before ++ (Labelled name.now ∷ [])) units (λ q. hash.get_by (λ k. bytes_eq q k.now) labels.new))
+        → (admitted before (Labelled name.now) ≡ Ok (Labelled name.now))
+        × IsRead (before ++ (Labelled name.now ∷ [])) units (λ q. hash.get_by (λ k. bytes_eq q k.now) labels.new))
         (λ cause. (before : List SaidItem) → IsRead before units (λ q. hash.get_by (λ k. bytes_eq q k.now) labels.old)
-            → unless_memory cause (admitted before (Labelled name.now) ≡ Err cause)) }
+        → unless_memory cause (admitted before (Labelled name.now) ≡ Err cause)) }
 {
     if place_of(labels, name).is_some() {
         return Err(Cause::DoubleLabel);
@@ -75,10 +75,10 @@ pub(crate) fn admit<'a>(
     ensures small { IfOk result (λ n. n ≤ 4096) }
     ensures admits { MatchResult result
         (λ n. (before : List SaidItem) → IsRead before units (λ q. hash.get_by (λ k. bytes_eq q k.now) labels.old)
-            → (admitted before (said_item item.entry) ≡ Ok (said_item item.entry))
-            × IsRead (before ++ (said_item item.entry ∷ [])) n (λ q. hash.get_by (λ k. bytes_eq q k.now) labels.new))
+        → (admitted before (said_item item.entry) ≡ Ok (said_item item.entry))
+        × IsRead (before ++ (said_item item.entry ∷ [])) n (λ q. hash.get_by (λ k. bytes_eq q k.now) labels.new))
         (λ cause. (before : List SaidItem) → IsRead before units (λ q. hash.get_by (λ k. bytes_eq q k.now) labels.old)
-            → unless_memory cause (admitted before (said_item item.entry) ≡ Err cause)) }
+        → unless_memory cause (admitted before (said_item item.entry) ≡ Err cause)) }
 {
     match item {
         Item::Blank => Ok(units),

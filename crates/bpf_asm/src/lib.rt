@@ -20,6 +20,8 @@ mod part;
 mod placed;
 mod statement;
 mod targets;
+#[cfg(test)]
+mod tests;
 mod word;
 mod words;
 mod writing;

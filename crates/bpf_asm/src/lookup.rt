@@ -3,9 +3,7 @@ ghost use Rattle.bpf_asm.specs.Lexing.{same_bytes};
 ghost use Rattle.bpf_asm.specs.Words.{accesses, changes, comparisons, flows, is_short, looked, operations, stem, width_of, word as word_of_text};
 
 use crate::word::Word;
-use bpf_isa::{
-    ByteOrder, Comparison, Extension, Operation, SignedSize, Size, SwapBits, Width,
-};
+use bpf_isa::{ByteOrder, Comparison, Extension, Operation, SignedSize, Size, SwapBits, Width};
 
 /// Whether a text is this one.
 fn is_text(text: &[u8], expected: &str) -> bool

@@ -31,10 +31,10 @@ fn admitted<'a>(
     ensures small { IfOk result (λ found. found.1 ≤ 4096) }
     ensures admits { MatchResult result
         (λ found. (before : List SaidItem) → IsRead before units (λ q. hash.get_by (λ k. bytes_eq q k.now) labels.old)
-            → (checked before (item line.now) ≡ Ok (said_item found.0))
-            × IsRead (before ++ (said_item found.0 ∷ [])) found.1 (λ q. hash.get_by (λ k. bytes_eq q k.now) labels.new))
+        → (checked before (item line.now) ≡ Ok (said_item found.0))
+        × IsRead (before ++ (said_item found.0 ∷ [])) found.1 (λ q. hash.get_by (λ k. bytes_eq q k.now) labels.new))
         (λ cause. (before : List SaidItem) → IsRead before units (λ q. hash.get_by (λ k. bytes_eq q k.now) labels.old)
-            → unless_memory cause (checked before (item line.now) ≡ Err cause)) }
+        → unless_memory cause (checked before (item line.now) ≡ Err cause)) }
 {
     let item = match item_in(line) {
         Ok(item) => item,
@@ -50,7 +50,7 @@ fn admitted<'a>(
 pub(crate) fn read_lines(alloc: Global, text: &[u8]) -> Result<Parsed<'_>, AssembleError>
     ensures { MatchResult result
         (λ p. (items_of text.now ≡ Ok (map said_item p.items.items))
-            × IsRead (map said_item p.items.items) p.units (λ q. hash.get_by (λ k. bytes_eq q k.now) p.labels))
+        × IsRead (map said_item p.items.items) p.units (λ q. hash.get_by (λ k. bytes_eq q k.now) p.labels))
         (λ e. Faults e (items_of text.now)) }
 {
     let mut items = Vec::new(alloc);

@@ -21,9 +21,7 @@ use crate::arguments::Arguments;
 use crate::errors::Cause;
 use crate::item::{Item, Jumping};
 use crate::numeral::{immediate, offset, wide};
-use bpf_isa::{
-    Comparison, Instruction, Operand, Operation, Register, SignedSize, Size, Width,
-};
+use bpf_isa::{Comparison, Instruction, Operand, Operation, Register, SignedSize, Size, Width};
 
 /// A register or a number.
 fn operand(argument: Argument) -> Result<Operand, Cause>
@@ -257,8 +255,5 @@ pub(crate) fn branch(
         return Err(Cause::Syntax);
     };
     let right = operand(second)?;
-    Ok(Item::Goes(
-        Jumping::Branch(width, comparison, left, right),
-        name,
-    ))
+    Ok(Item::Goes(Jumping::Branch(width, comparison, left, right), name))
 }

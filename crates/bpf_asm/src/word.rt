@@ -1,6 +1,4 @@
-use bpf_isa::{
-    ByteOrder, Comparison, Extension, Operation, SignedSize, Size, SwapBits, Width,
-};
+use bpf_isa::{ByteOrder, Comparison, Extension, Operation, SignedSize, Size, SwapBits, Width};
 
 /// The word of a statement, which says what its arguments have to be.
 #[derive(Clone, Copy, Debug, PartialEq, Eq)]

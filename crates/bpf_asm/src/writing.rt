@@ -116,7 +116,9 @@ fn put_word(text: &mut String, instruction: Instruction) -> Result<(), AllocErro
 {
     match instruction {
         Instruction::Alu {
-            width, operation, ..
+            width,
+            operation,
+            ..
         } => put_both(text, word_of_operation(operation), mark_of_width(width)),
         Instruction::MoveSigned { extension, .. } => put(text, word_of_extension(extension)),
         Instruction::Negate { width, .. } => put_both(text, "neg", mark_of_width(width)),
@@ -125,7 +127,9 @@ fn put_word(text: &mut String, instruction: Instruction) -> Result<(), AllocErro
         }
         Instruction::Jump { distance } => put(text, word_of_jump(distance)),
         Instruction::Branch {
-            width, comparison, ..
+            width,
+            comparison,
+            ..
         } => put_both(text, word_of_comparison(comparison), mark_of_width(width)),
         Instruction::CallHelper { .. } => put(text, "call"),
         Instruction::CallLocal { .. } => put(text, "calllocal"),
