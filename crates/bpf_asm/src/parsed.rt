@@ -1,7 +1,7 @@
 ghost use Rattle.std.specs.Prelude.{◌≡◌, ◌≤◌, ◌++◌, ◌∷◌, ℕ, List, [], map, Ok, Err, IfOk, MatchResult};
 ghost use Rattle.std.specs.Str.{bytes_eq};
 ghost use Rattle.std.specs.HashMap as hash;
-ghost use Rattle.bpf_asm.specs.Assembly.{checked, items as items_of, unless_memory, Faults};
+ghost use Rattle.bpf_asm.specs.Assembly.{checked, items as items_of, unless_memory, place, Faults};
 ghost use Rattle.bpf_asm.specs.Said.{said_item, IsRead};
 ghost use Rattle.bpf_asm.specs.Statements.{item, Item as SaidItem};
 
@@ -18,7 +18,6 @@ use std::collections::HashMap;
 pub(crate) struct Parsed<'a> {
     pub(crate) items: Vec<Item<'a>>,
     pub(crate) labels: HashMap<&'a [u8], usize>,
-    pub(crate) units: usize,
 }
 
 /// What a line says behind some lines, with the units of all code so far.
@@ -50,7 +49,7 @@ fn admitted<'a>(
 pub(crate) fn read_lines(alloc: Global, text: &[u8]) -> Result<Parsed<'_>, AssembleError>
     ensures { MatchResult result
         (λ p. (items_of text.now ≡ Ok (map said_item p.items.items))
-        × IsRead (map said_item p.items.items) p.units (λ q. hash.get_by (λ k. bytes_eq q k.now) p.labels))
+        × ((q : List ℕ) → hash.get_by (λ k. bytes_eq q k.now) p.labels ≡ place q (map said_item p.items.items)))
         (λ e. Faults e (items_of text.now)) }
 {
     let mut items = Vec::new(alloc);
@@ -73,9 +72,5 @@ pub(crate) fn read_lines(alloc: Global, text: &[u8]) -> Result<Parsed<'_>, Assem
         }
         left = behind;
     }
-    Ok(Parsed {
-        items,
-        labels,
-        units,
-    })
+    Ok(Parsed { items, labels })
 }

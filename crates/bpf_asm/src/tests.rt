@@ -40,6 +40,8 @@ fn assert_line(rt: &impl Abort, alloc: Global, line: &str) -> Result<(), Fail> {
     let expected = with_line_ends(alloc, listing)?;
     let found = disassemble(alloc, &code)?;
     assert_eq!(rt; found.as_str(), expected.as_str(), "at {line}");
+    let again = assemble(alloc, found.as_str())?;
+    assert_eq!(rt; again.as_slice(), code.as_slice(), "at {line}");
     Ok(())
 }
 
