@@ -1,12 +1,12 @@
 -- Arguments between commas.
-use Rattle.std.proofs.Common.{◌≡◌, ◌≢◌, ◌≤◌, ◌<◌, ℕ, Bool, true, false, List, [], ◌∷◌, take, drop, refl, sym, ap, ◌∙◌, inl, inr, arith}
-use Rattle.std.specs.Prelude.{length, ◌==◌, ◌+◌, Option, Some, None, option_map, is_some}
+use Rattle.std.proofs.Common.{◌≡◌, ◌≢◌, ℕ, Bool, true, false, List, [], ◌∷◌, refl, sym, ap, ◌∙◌, inl, inr, arith}
+use Rattle.std.specs.Prelude.{length, ◌==◌, Option, Some, None, option_map, is_some}
 use Rattle.std.specs.List.{position_or_len}
 use Rattle.std.proofs.lemmas.Bool.{cases_lt}
 use Rattle.std.specs.Borrow.{Bor}
 use Rattle.std.proofs.lemmas.Bool.Decides.{nat_tests}
 use Rattle.bpf_asm.specs.Said.{parts_behind}
-use Rattle.bpf_asm.specs.Lexing.{is_empty, arguments, Argument, argument, trimmed, all_arguments, with_argument, parts, gathered, Arguments, More}
+use Rattle.bpf_asm.specs.Lexing.{is_empty, arguments, Argument, argument, trimmed, all_arguments, with_argument, parts, gathered, More}
 use Rattle.bpf_asm.proofs.Parts.{split_none, split_first}
 
 with_some : (first : Option Argument) (rest : Option (List Argument)) → with_argument first rest ≢ Some []

@@ -1,14 +1,13 @@
 -- Lines, one behind another.
-use Rattle.std.proofs.Common.{◌≡◌, ◌≤◌, ◌<◌, ◌+◌, ℕ, zero, suc, Bool, true, false, List, [], ◌∷◌, ◌++◌, refl, sym, ap, subst, ◌∙◌, inl, inr, add-zero, zero-add, add_assoc, arith}
+use Rattle.std.proofs.Common.{◌≡◌, ◌+◌, ℕ, true, false, List, [], ◌∷◌, ◌++◌, refl, sym, ap, subst, ◌∙◌, inl, inr, add-zero, arith}
 use Rattle.std.specs.Prelude.{nat_lt, Option, Some, None, Result, Ok, Err, if◌then◌else◌, is_some}
 use Rattle.std.specs.Str.{bytes_eq}
 use Rattle.std.proofs.lemmas.Bool.{cases_Bool}
-use Rattle.std.proofs.lemmas.Bool.Decides.{nat_tests}
 use Rattle.std.proofs.lemmas.Slice.Eq.{bytes_eq-Decides}
 use Rattle.bpf_asm.specs.declared.errors.Cause.{Cause}
 use Rattle.bpf_asm.specs.declared.errors.Cause.TheVariants.{TooLong, DoubleLabel}
-use Rattle.bpf_asm.specs.Lexing.{same_bytes, is_none}
-use Rattle.bpf_asm.specs.Statements.{Item, Blank, Labelled, Plain, Goes}
+use Rattle.bpf_asm.specs.Lexing.{same_bytes}
+use Rattle.bpf_asm.specs.Statements.{Item, Labelled}
 use Rattle.bpf_asm.specs.Assembly.{item_units, units, is_label, place_from, place, fitting, admitted}
 use Rattle.bpf_asm.specs.Said.{IsRead}
 use Rattle.bpf_asm.proofs.Bytes.{same_bytes-pointwise}

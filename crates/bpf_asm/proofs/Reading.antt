@@ -1,9 +1,8 @@
 -- The lines of a text, one after another.
-use Rattle.std.proofs.Common.{◌≡◌, ◌≤◌, ◌<◌, ◌+◌, ℕ, suc, List, [], ◌∷◌, ◌++◌, map, length, refl, sym, ap, ◌∙◌, arith}
+use Rattle.std.proofs.Common.{◌≡◌, ◌+◌, ℕ, suc, List, [], ◌∷◌, ◌++◌, length, ap}
 use Rattle.std.specs.Prelude.{Option, Some, None, Result, Ok, Err}
 use Rattle.std.specs.Borrow.{Bor}
 use Rattle.bpf_asm.specs.declared.errors.Cause.{Cause}
-use Rattle.bpf_asm.specs.declared.errors.AssembleError.{AssembleError}
 use Rattle.bpf_asm.specs.Statements.{Item, item}
 use Rattle.bpf_asm.specs.Assembly.{checked, after_line, items_from}
 

@@ -1,5 +1,5 @@
 -- The code that a text means, line by line, or its first fault.
-use Rattle.std.specs.Prelude.{ℕ, ◌+◌, ◌-◌, ◌*◌, ◌^◌, ◌≡◌, ◌==◌, nat_le, nat_lt, Bool, false, true, if◌then◌else◌, List, [], ◌∷◌, ◌++◌, length, ℤ, Option, Some, None, option_map, Result, Ok, Err, ⊤}
+use Rattle.std.specs.Prelude.{ℕ, ◌+◌, ◌-◌, ◌^◌, ◌≡◌, nat_le, nat_lt, Bool, false, true, if◌then◌else◌, List, [], ◌∷◌, ◌++◌, length, ℤ, Option, Some, None, option_map, Result, Ok, Err, ⊤}
 use Rattle.bpf_isa.specs.declared.instruction.Distance.TheVariants.{Near, Far}
 use Rattle.bpf_isa.specs.declared.instruction.Instruction.{Instruction}
 use Rattle.bpf_isa.specs.declared.instruction.Instruction.TheVariants as instructions

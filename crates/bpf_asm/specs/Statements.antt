@@ -10,8 +10,6 @@ use Rattle.bpf_isa.specs.declared.instruction.Operand.TheVariants.{Immediate, So
 use Rattle.bpf_isa.specs.declared.instruction.Size.{Size}
 use Rattle.bpf_isa.specs.declared.instruction.SignedSize.{SignedSize}
 use Rattle.bpf_isa.specs.declared.instruction.Extension.{Extension}
-use Rattle.bpf_isa.specs.declared.instruction.ByteOrder.{ByteOrder}
-use Rattle.bpf_isa.specs.declared.instruction.SwapBits.{SwapBits}
 use Rattle.bpf_isa.specs.declared.instruction.Instruction.{Instruction}
 use Rattle.bpf_isa.specs.declared.instruction.Instruction.TheVariants.{Alu, MoveSigned, Negate, Swap, CallHelper, Exit, Load, LoadSigned, Store, StoreRegister, Wide}
 use Rattle.bpf_asm.specs.declared.numeral.Base.{Base}
@@ -22,7 +20,7 @@ use Rattle.bpf_asm.specs.declared.word.Word.{Word}
 use Rattle.bpf_asm.specs.declared.word.Word.TheVariants.{Arithmetic, Extend, Negation, Swapping, JumpNear, JumpFar, LocalCall, Branching, HelperCall, Return, Loading, LoadingSigned, Storing, StoringRegister, WideLoad}
 use Rattle.bpf_asm.specs.declared.item.Jumping.{Jumping}
 use Rattle.bpf_asm.specs.declared.item.Jumping.TheVariants.{Near, Far, Call, Branch}
-use Rattle.bpf_asm.specs.Lexing.{Numeral, Argument, Held, Counted, Addressed, Named, Arguments, Zero, One, Two, Three, More, arguments, is_word, is_name, is_empty, is_blank, said_part}
+use Rattle.bpf_asm.specs.Lexing.{Numeral, Argument, Held, Counted, Addressed, Named, Arguments, Zero, One, Two, Three, arguments, is_word, is_name, is_empty, is_blank, said_part}
 use Rattle.bpf_asm.specs.Words.{word}
 
 -- ---- numbers

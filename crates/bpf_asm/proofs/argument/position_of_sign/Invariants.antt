@@ -1,5 +1,4 @@
 use Rattle.std.proofs.Common.{◌≡◌, ℕ, ◌<◌, false, get_or}
-use Rattle.std.specs.Prelude.{◌==◌}
 use Rattle.bpf_asm.specs.Lexing.{is_sign}
 use Rattle.bpf_asm.proofs.argument.position_of_sign.Given as goal
 

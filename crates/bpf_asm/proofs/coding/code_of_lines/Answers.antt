@@ -1,4 +1,4 @@
-use Rattle.std.proofs.Common.{◌≡◌, ◌+◌, List, sym, ap, ◌∙◌, arith, map, drop}
+use Rattle.std.proofs.Common.{◌+◌, List, sym, ap, ◌∙◌, arith, map, drop}
 use Rattle.bpf_asm.specs.Assembly.{code_from}
 use Rattle.bpf_asm.specs.Statements.{Item}
 use Rattle.bpf_asm.specs.Said.{said_item}

@@ -1,4 +1,4 @@
-use Rattle.std.proofs.Common.{◌≡◌, ◌+◌, sym, ap, ◌∙◌, arith}
+use Rattle.std.proofs.Common.{sym, ap, ◌∙◌, arith}
 use Rattle.bpf_isa.specs.Encoding.{spelling}
 use Rattle.bpf_asm.specs.Assembly.{spelled}
 use Rattle.bpf_asm.proofs.CodeOfLines.{goes_bytes, unless}

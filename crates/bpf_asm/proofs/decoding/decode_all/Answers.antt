@@ -1,11 +1,10 @@
-use Rattle.std.proofs.Common.{◌≡◌, ◌≤◌, ◌<◌, ◌+◌, ◌-◌, ◌*◌, ◌/◌, ℕ, Bool, false, length, get_or, sym, ap, ◌∙◌, arith}
+use Rattle.std.proofs.Common.{◌≡◌, ◌≤◌, ◌+◌, ◌-◌, Bool, length, sym, ap, ◌∙◌, arith}
 use Rattle.std.specs.Prelude.{Ok, ◌||◌, ◌==◌}
 use Rattle.std.proofs.lemmas.Grind.{common_steps}
-use Rattle.std.proofs.lemmas.Bool.Decides.{nat_tests}
 use Rattle.bpf_isa.specs.Reading.{decoded}
 use Rattle.bpf_asm.specs.declared.placed.Placed.{Placed}
-use Rattle.bpf_asm.specs.Listing.{placed_from, instructions, is_start}
-use Rattle.bpf_asm.proofs.Placing.{after, after_one, start_more, units_some}
+use Rattle.bpf_asm.specs.Listing.{is_start}
+use Rattle.bpf_asm.proofs.Placing.{after_one, start_more, units_some}
 use Rattle.bpf_asm.proofs.decoding.decode_all.Goals as goal
 
 pub loop-pc-preserved : goal.loop-pc-preserved

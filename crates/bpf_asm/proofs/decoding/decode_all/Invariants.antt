@@ -1,4 +1,4 @@
-use Rattle.std.proofs.Common.{◌≡◌, ◌≤◌, ◌-◌, ◌*◌, ◌/◌, ℕ, Bool, false, length, get_or}
+use Rattle.std.proofs.Common.{◌≡◌, ◌≤◌, ◌-◌, ◌*◌, ◌/◌, ℕ, false, length, get_or}
 use Rattle.bpf_asm.specs.Listing.{placed_from, instructions, is_start}
 use Rattle.bpf_asm.proofs.Placing.{after}
 use Rattle.bpf_asm.proofs.decoding.decode_all.Given as goal

@@ -1,6 +1,6 @@
-use Rattle.std.proofs.Common.{◌≡◌, ◌+◌, refl, sym, ◌∙◌, arith}
+use Rattle.std.proofs.Common.{refl, sym, ◌∙◌, arith}
 use Rattle.bpf_asm.specs.Statements.{Item, Blank, Plain, Goes}
-use Rattle.bpf_asm.proofs.Lines.{read_plain, fits, fits_not}
+use Rattle.bpf_asm.proofs.Lines.{read_plain, fits}
 use Rattle.bpf_asm.proofs.labels.admit.Goals as goal
 
 pub returns-in-Blank-clause-admits : goal.returns-in-Blank-clause-admits

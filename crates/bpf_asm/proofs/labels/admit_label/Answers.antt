@@ -1,4 +1,4 @@
-use Rattle.std.proofs.Common.{◌≡◌, sym, ◌∙◌}
+use Rattle.std.proofs.Common.{sym, ◌∙◌}
 use Rattle.bpf_asm.proofs.Lines.{label_new, read_label, some_none}
 use Rattle.bpf_asm.proofs.labels.admit_label.Goals as goal
 

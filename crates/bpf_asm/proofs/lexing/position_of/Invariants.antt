@@ -1,6 +1,5 @@
 use Rattle.std.proofs.Common.{◌≡◌, ℕ, ◌<◌, false, get_or}
 use Rattle.std.specs.Prelude.{◌==◌}
-use Rattle.bpf_asm.specs.Lexing.{is_blank}
 use Rattle.bpf_asm.proofs.lexing.position_of.Given as goal
 
 abbrev pub invariant-loop-at : goal.invariant-loop-at

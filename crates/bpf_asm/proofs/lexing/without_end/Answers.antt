@@ -1,4 +1,4 @@
-use Rattle.std.proofs.Common.{◌≡◌, ◌+◌, ◌-◌, ◌<◌, ℕ, List, length, take, refl, subst, sym, ◌∙◌, ap, arith}
+use Rattle.std.proofs.Common.{◌≡◌, ◌+◌, ◌-◌, ℕ, take, refl, subst, sym, ◌∙◌, ap, arith}
 use Rattle.bpf_asm.specs.Lexing.{without_end}
 use Rattle.bpf_asm.proofs.Blanks.{end_less, end_stays}
 use Rattle.bpf_asm.proofs.lexing.without_end.Goals as goal

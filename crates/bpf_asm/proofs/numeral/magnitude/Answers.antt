@@ -1,7 +1,6 @@
-use Rattle.std.proofs.Common.{◌≡◌, ◌≤◌, ◌<◌, ◌+◌, ◌*◌, ◌^◌, ℕ, Bool, drop, get_or, length, sym, ap, ◌∙◌, subst, arith}
-use Rattle.std.specs.Prelude.{nat_lt, if◌then◌else◌, Option, Some, None}
+use Rattle.std.proofs.Common.{◌≡◌, ◌≤◌, ◌+◌, ◌*◌, ◌^◌, ℕ, get_or, sym, ap, ◌∙◌, subst, arith}
 use Rattle.std.proofs.lemmas.Bool.Decides.{nat_tests}
-use Rattle.bpf_asm.specs.Statements.{base_number, digits_from, digit_value, magnitude}
+use Rattle.bpf_asm.specs.Statements.{digits_from, digit_value, magnitude}
 use Rattle.bpf_asm.specs.Said.{said_numeral}
 use Rattle.bpf_asm.proofs.Digits.{digits_end, digits_great, too_great, just_right}
 use Rattle.bpf_asm.proofs.numeral.magnitude.Goals as goal

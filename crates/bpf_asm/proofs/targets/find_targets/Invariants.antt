@@ -1,4 +1,4 @@
-use Rattle.std.proofs.Common.{◌≡◌, ℕ, Bool, false, length, take, drop, get_or}
+use Rattle.std.proofs.Common.{◌≡◌, ℕ, false, length, take, drop, get_or}
 use Rattle.bpf_asm.specs.Listing.{first_out, is_target}
 use Rattle.bpf_asm.proofs.targets.find_targets.Given as goal
 
