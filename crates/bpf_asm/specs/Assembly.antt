@@ -1,0 +1,122 @@
+-- The code that a text means, line by line, or its first fault.
+use Rattle.std.specs.Prelude.{ℕ, ◌+◌, ◌-◌, ◌^◌, ◌≡◌, nat_le, nat_lt, Bool, false, true, if◌then◌else◌, List, [], ◌∷◌, ◌++◌, length, ℤ, Option, Some, None, option_map, Result, Ok, Err, ⊤}
+use Rattle.bpf_isa.specs.declared.instruction.Distance.TheVariants.{Near, Far}
+use Rattle.bpf_isa.specs.declared.instruction.Instruction.{Instruction}
+use Rattle.bpf_isa.specs.declared.instruction.Instruction.TheVariants as instructions
+use Rattle.bpf_isa.specs.Encoding.{spelling, units_of}
+use Rattle.bpf_asm.specs.declared.errors.Cause.{Cause}
+use Rattle.bpf_asm.specs.declared.errors.Cause.TheVariants.{DoubleLabel, UnknownLabel, TooLong, OutOfMemory}
+use Rattle.bpf_asm.specs.declared.errors.AssembleError.{AssembleError}
+use Rattle.bpf_asm.specs.declared.item.Jumping.{Jumping}
+use Rattle.bpf_asm.specs.declared.item.Jumping.TheVariants as jumpings
+use Rattle.bpf_asm.specs.Lexing.{parts, same_bytes, is_none}
+use Rattle.bpf_asm.specs.Statements.{Item, Blank, Labelled, Plain, Goes, item, in_range, signed_below}
+
+-- ---- lines
+
+abbrev pub item_units : Item → ℕ
+item_units Blank = 0
+item_units (Labelled name) = 0
+item_units (Plain i) = units_of i
+item_units (Goes jumping name) = 1
+
+-- the units of some lines' code
+abbrev pub units : List Item → ℕ
+units [] = 0
+units (i ∷ items) = item_units i + units items
+
+abbrev pub is_label : List ℕ → Item → Bool
+is_label name (Labelled other) = same_bytes other name
+is_label name _ = false
+
+-- the unit at which a label stands, in lines whose code begins at a pc
+abbrev pub place_from : ℕ → List ℕ → List Item → Option ℕ
+place_from pc name [] = None
+place_from pc name (i ∷ items) = if is_label name i then Some pc else place_from (pc + item_units i) name items
+
+abbrev pub place : List ℕ → List Item → Option ℕ
+place name items = place_from 0 name items
+
+-- a statement behind some lines, if the code is not too long with it
+abbrev pub fitting : List Item → Item → Result Item Cause
+fitting before i = if nat_lt 4096 (units before + item_units i) then Err TooLong else Ok i
+
+-- a line behind some lines, unless that is a fault
+abbrev pub admitted : List Item → Item → Result Item Cause
+admitted before Blank = Ok Blank
+admitted before (Labelled name) = if is_none (place name before) then Ok (Labelled name) else Err DoubleLabel
+admitted before (Plain i) = fitting before (Plain i)
+admitted before (Goes jumping name) = fitting before (Goes jumping name)
+
+abbrev pub checked : List Item → Result Item Cause → Result Item Cause
+checked before (Ok i) = admitted before i
+checked before (Err cause) = Err cause
+
+-- goes on behind a line, or tells its fault
+abbrev pub after_line : List Item → Result Item Cause → (Item → Result (List Item) AssembleError) → Result (List Item) AssembleError
+after_line before (Ok i) go = go i
+after_line before (Err cause) go = Err (record { line = length before + 1; cause = cause })
+
+-- what the lines say, behind those before them; or the first line that is faulty
+abbrev pub items_from : List Item → List (List ℕ) → Result (List Item) AssembleError
+items_from before [] = Ok before
+items_from before (line ∷ lines) =
+    after_line before (checked before (item line)) (λ i. items_from (before ++ (i ∷ [])) lines)
+
+abbrev pub items : List ℕ → Result (List Item) AssembleError
+items text = items_from [] (parts 10 text)
+
+-- ---- code
+
+-- how far it is from a unit to another, if that is from -limit to limit - 1
+abbrev pub distance : ℕ → ℕ → ℕ → Option ℤ
+distance limit from to = if nat_le from to then signed_below limit false (to - from) else signed_below limit true (from - to)
+
+-- the instruction that goes to a unit, before this next one
+abbrev pub jump_to : Jumping → ℕ → ℕ → Option Instruction
+jump_to jumpings.Near next to = option_map (λ n. instructions.Jump (Near n)) (distance (2 ^ 15) next to)
+jump_to jumpings.Far next to = option_map (λ n. instructions.Jump (Far n)) (distance (2 ^ 31) next to)
+jump_to jumpings.Call next to = option_map instructions.CallLocal (distance (2 ^ 31) next to)
+jump_to (jumpings.Branch width comparison left right) next to =
+    option_map (instructions.Branch width comparison left right) (distance (2 ^ 15) next to)
+
+abbrev pub resolved : Jumping → ℕ → Option ℕ → Result Instruction Cause
+resolved jumping next None = Err UnknownLabel
+resolved jumping next (Some to) = in_range (jump_to jumping next to)
+
+abbrev pub spelled : Result Instruction Cause → Result (List ℕ) Cause
+spelled (Ok i) = Ok (spelling i)
+spelled (Err cause) = Err cause
+
+-- the bytes of a line whose code begins at a pc
+abbrev pub item_bytes : List Item → ℕ → Item → Result (List ℕ) Cause
+item_bytes all pc Blank = Ok []
+item_bytes all pc (Labelled name) = Ok []
+item_bytes all pc (Plain i) = Ok (spelling i)
+item_bytes all pc (Goes jumping name) = spelled (resolved jumping (pc + 1) (place name all))
+
+abbrev pub bytes_first : ℕ → Result (List ℕ) Cause → Result (List ℕ) AssembleError → Result (List ℕ) AssembleError
+bytes_first line (Ok bytes) (Ok code) = Ok (bytes ++ code)
+bytes_first line (Ok bytes) (Err e) = Err e
+bytes_first line (Err cause) code = Err (record { line = line; cause = cause })
+
+-- the code of lines from a line and a pc on
+abbrev pub code_from : List Item → ℕ → ℕ → List Item → Result (List ℕ) AssembleError
+code_from all line pc [] = Ok []
+code_from all line pc (i ∷ lines) = bytes_first line (item_bytes all pc i) (code_from all (line + 1) (pc + item_units i) lines)
+
+abbrev pub coded : Result (List Item) AssembleError → Result (List ℕ) AssembleError
+coded (Ok all) = code_from all 1 0 all
+coded (Err e) = Err e
+
+-- the code that a text means, or its first fault
+abbrev pub assembled : List ℕ → Result (List ℕ) AssembleError
+assembled text = coded (items text)
+
+abbrev pub unless_memory : Cause → Type 0 → Type 0
+unless_memory OutOfMemory P = ⊤
+unless_memory _ P = P
+
+-- the fault that the definition gives, if there was memory
+abbrev pub Faults : {A : Type 0} → AssembleError → Result A AssembleError → Type 0
+Faults e is = unless_memory e.cause (is ≡ Err e)

@@ -1,0 +1,7 @@
+pub mod Writing
+pub mod Listing
+pub mod Lexing
+pub mod Words
+pub mod Statements
+pub mod Assembly
+pub mod Said
