@@ -1,28 +1,25 @@
 -- The front of an image, read: its faults and what it gives.
 use Rattle.std.proofs.Common.{◌≡◌, ℕ, ◌+◌, ◌*◌, ◌≤◌, List, length, take, Bool, true, false, Result, Ok, refl, sym}
 use Rattle.std.specs.Prelude.{nat_eq, nat_le, ◌&&◌, ◌==◌}
-use Rattle.std.specs.Bool.{Decides}
 use Rattle.std.specs.List.{starts_with}
-use Rattle.std.proofs.lemmas.Bool.{and_parts, and_from, leb-true, le-leb}
+use Rattle.std.proofs.lemmas.Bool.{and_parts, leb-true, eqb-true}
 use Rattle.std.proofs.lemmas.Bool.Decides.{Decides-eqb}
 use Rattle.std.proofs.lemmas.Slice.Eq.{slice_eq-Decides}
 use Rattle.bpf_image.specs.declared.image_error.ImageError.{ImageError}
 use Rattle.bpf_image.specs.declared.image_error.ImageError.TheVariants.{Magic, Length, RecordLength, CodeLength}
-use Rattle.bpf_image.specs.Format.{magic, record_field, units_field, HasMagic, IsWhole}
+use Rattle.bpf_image.specs.Format.{magic, record_field, units_field, HasMagic, HasCounts, IsWhole}
 use Rattle.bpf_image.specs.Reading.{tested, from_code, from_units, from_record_length, from_length, header_of}
 
 -- ---- the tests
 
-magic_decides : (bytes : List ℕ) → Decides (starts_with nat_eq bytes magic) (HasMagic bytes)
-magic_decides bytes =
-    let same = slice_eq-Decides Decides-eqb magic (take 4 bytes) (starts_with nat_eq bytes magic) refl in
-    (λ test. sym (same.0 test), λ has. same.1 (sym has))
+magic_there : (bytes : List ℕ) → starts_with nat_eq bytes magic ≡ true → HasMagic bytes
+magic_there bytes test =
+    sym ((slice_eq-Decides Decides-eqb magic (take 4 bytes) (starts_with nat_eq bytes magic) refl).0 test)
 
-within_decides : (low high n : ℕ) → Decides (nat_le low n && nat_le n high) ((low ≤ n) × (n ≤ high))
-within_decides low high n = (
-  λ test. (leb-true low n (and_parts _ _ test).0, leb-true n high (and_parts _ _ test).1),
-  λ within. and_from _ _ (le-leb low n within.0) (le-leb n high within.1),
-)
+within : (low high n : ℕ) → (nat_le low n && nat_le n high) ≡ true → (low ≤ n) × (n ≤ high)
+within low high n test =
+    let parts = and_parts _ _ test in
+    (leb-true low n parts.0, leb-true n high parts.1)
 
 -- ---- what a tested result says
 
@@ -41,4 +38,9 @@ header_whole bytes n h =
     let fourth = ok_parts (nat_le 1 (units_field bytes) && nat_le (units_field bytes) 4096) CodeLength (from_code bytes) n third.1 in
     let fifth = ok_parts (length bytes == 8 + 8 * units_field bytes) Length (Ok (record_field bytes)) n fourth.1 in
     let same : n ≡ record_field bytes = (let both : Ok (record_field bytes) ≡ Ok n = fifth.1 in cc) in
-    (((((magic_decides bytes).0 first.0, leb-true 8 (length bytes) second.0), (within_decides 16 256 (record_field bytes)).0 third.0, (within_decides 1 4096 (units_field bytes)).0 fourth.0), (Decides-eqb (length bytes) (8 + 8 * units_field bytes)).0 fifth.0), same)
+    let counts : HasCounts bytes = (
+      (magic_there bytes first.0, leb-true 8 (length bytes) second.0),
+      within 16 256 (record_field bytes) third.0,
+      within 1 4096 (units_field bytes) fourth.0,
+    ) in
+    ((counts, eqb-true (length bytes) (8 + 8 * units_field bytes) fifth.0), same)

@@ -7,7 +7,15 @@ use Rattle.bpf_isa.specs.declared.instruction.Width.{Width}
 use Rattle.bpf_isa.specs.declared.instruction.Width.TheVariants.{Bits32, Bits64}
 use Rattle.bpf_isa.specs.declared.instruction.Operation.{Operation}
 use Rattle.bpf_isa.specs.declared.instruction.Operation.TheVariants.{Add, Subtract, Multiply, Divide, DivideSigned, Or, And, ShiftLeft, ShiftRight, Modulo, ModuloSigned, Xor, Move, ShiftRightSigned}
-use Rattle.bpf_model.specs.Arithmetic.{modulus, width_bits, low, signed, unsigned, shift_count, computed, calculated, negated}
+use Rattle.bpf_isa.specs.declared.instruction.Extension.{Extension}
+use Rattle.bpf_isa.specs.declared.instruction.Extension.TheVariants.{From8To32, From16To32, From8To64, From16To64, From32To64}
+use Rattle.bpf_isa.specs.declared.instruction.ByteOrder.{ByteOrder}
+use Rattle.bpf_isa.specs.declared.instruction.ByteOrder.TheVariants.{Little, Big, Reversed}
+use Rattle.bpf_isa.specs.declared.instruction.SwapBits.{SwapBits}
+use Rattle.bpf_isa.specs.declared.instruction.SwapBits.TheVariants.{Low16, Low32, Low64}
+use Rattle.bpf_isa.specs.Encoding.{extension_width, swap_bits}
+use Rattle.std.proofs.lemmas.Bool.Decides.{nat_tests}
+use Rattle.bpf_model.specs.Arithmetic.{sign_extended, swapped, modulus, width_bits, low, signed, unsigned, shift_count, computed, calculated, negated}
 
 low_fits : (w : Width) (x : ℕ) → low w x < modulus w
 low_fits Bits32 x = omega arith
@@ -59,6 +67,24 @@ calculated_fits w operation x y = computed_fits w operation (low w x) (low w y) 
 
 pub negated_fits : (w : Width) (x : ℕ) → negated w x < modulus w
 negated_fits w x = low_fits w (modulus w - low w x)
+
+pub extended_fits : (extension : Extension) (x : ℕ) → sign_extended extension x < modulus (extension_width extension)
+extended_fits From8To32 x = grind (arith, nat_tests)
+extended_fits From16To32 x = grind (arith, nat_tests)
+extended_fits From8To64 x = grind (arith, nat_tests)
+extended_fits From16To64 x = grind (arith, nat_tests)
+extended_fits From32To64 x = grind (arith, nat_tests)
+
+pub swapped_fits : (order : ByteOrder) (bits : SwapBits) (x : ℕ) → swapped order bits x < 2 ^ swap_bits bits
+swapped_fits Little Low16 x = omega arith
+swapped_fits Little Low32 x = omega arith
+swapped_fits Little Low64 x = omega arith
+swapped_fits Big Low16 x = omega arith
+swapped_fits Big Low32 x = omega arith
+swapped_fits Big Low64 x = omega arith
+swapped_fits Reversed Low16 x = omega arith
+swapped_fits Reversed Low32 x = omega arith
+swapped_fits Reversed Low64 x = omega arith
 
 -- a count and its low bits shift as far
 pub same_count : (w : Width) (y : ℕ) → shift_count w (low w y) ≡ shift_count w (low w (y % width_bits w))

@@ -4,10 +4,11 @@ use Rattle.bpf_isa.specs.declared.instruction.Width.{Width}
 use Rattle.bpf_isa.specs.declared.instruction.Width.TheVariants.{Bits32, Bits64}
 use Rattle.bpf_isa.specs.declared.instruction.Operation.{Operation}
 use Rattle.bpf_isa.specs.declared.instruction.Operation.TheVariants.{Divide, DivideSigned, ShiftLeft, ShiftRight, Modulo, ModuloSigned, ShiftRightSigned}
+use Rattle.bpf_isa.specs.declared.instruction.Extension.{Extension}
 use Rattle.bpf_isa.specs.declared.instruction.ByteOrder.{ByteOrder}
 use Rattle.bpf_isa.specs.declared.instruction.SwapBits.{SwapBits}
-use Rattle.bpf_isa.specs.Encoding.{swap_bits}
-use Rattle.bpf_model.specs.Arithmetic.{width_bits, modulus, low, calculated, negated, swapped}
+use Rattle.bpf_isa.specs.Encoding.{extension_width, swap_bits}
+use Rattle.bpf_model.specs.Arithmetic.{width_bits, modulus, low, calculated, negated, sign_extended, swapped}
 
 -- a quotient by zero is 0, and a remainder by zero the dividend; zero in the low bits is enough
 abbrev pub DivisionByZero : Type 0
@@ -34,7 +35,10 @@ LeastByMinusOne =
 -- results lie in their width, so those of 32 bits have a zero upper half
 abbrev pub ResultsFit : Type 0
 ResultsFit =
-    (w : Width) → ((operation : Operation) (x y : ℕ) → calculated w operation x y < modulus w) × ((x : ℕ) → negated w x < modulus w)
+    ((w : Width) (operation : Operation) (x y : ℕ) → calculated w operation x y < modulus w)
+    × ((w : Width) (x : ℕ) → negated w x < modulus w)
+    × ((extension : Extension) (x : ℕ) → sign_extended extension x < modulus (extension_width extension))
+    × ((order : ByteOrder) (bits : SwapBits) (x : ℕ) → swapped order bits x < 2 ^ swap_bits bits)
 
 -- a swap done twice is the low part
 abbrev pub SwapTwice : Type 0
