@@ -12,4 +12,7 @@ pub enum Cause {
     /// An access, or a pointer, may lie outside the record or the stack frame.
     #[error("an access may be out of range")]
     OutOfRange = 11,
+    /// A stack byte is read that may not be set.
+    #[error("an unset stack byte is read")]
+    UnsetStackByte = 12,
 }

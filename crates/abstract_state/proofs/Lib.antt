@@ -1,0 +1,5 @@
+pub mod Zipped
+pub mod Bytes
+pub mod Joined
+pub mod Loads
+pub mod Stores

@@ -1,0 +1,174 @@
+-- A load that the rules allow gives a number that they describe.
+use Rattle.std.proofs.Common.{◌≡◌, ℕ, zero, suc, ◌+◌, ◌-◌, ◌*◌, ◌/◌, ◌%◌, ◌^◌, ◌<◌, ◌≤◌, Bool, true, false, eqb, List, Option, Some, Result, Ok, Err, get_or, refl, sym, subst, ap, ◌∙◌, arith, inl, inr}
+use Rattle.std.specs.Prelude.{ℤ, pos, negsuc, ◌+ℤ◌, ◌≤ℤ◌, int_le, unsigned_abs, ◌&&◌, FitsSigned}
+use Rattle.std.specs.Int.{w16}
+use Rattle.std.proofs.lemmas.Int.{ints}
+use Rattle.std.proofs.lemmas.Bool.{cases_Bool, and_parts, and_from, le-leb, eqb-true}
+use Rattle.std.proofs.Math.Nat.{mod-eq_of_lt, add-mod_left}
+use Rattle.std.proofs.Common.{pow-suc}
+use Rattle.bpf_isa.specs.declared.instruction.Size.{Size}
+use Rattle.bpf_isa.specs.declared.instruction.Size.TheVariants.{Byte, Half, Word, Double}
+use Rattle.bpf_model.specs.State.{Partial, record_base, joined_bytes, number_at, address_at}
+use Rattle.bpf_model.specs.Step.{size_bytes}
+use Rattle.abstract_values.specs.declared.cause.Cause.{Cause}
+use Rattle.abstract_values.specs.declared.cause.Cause.TheVariants.{OutOfRange, UnsetStackByte}
+use Rattle.abstract_values.specs.declared.value.AbstractValue.{AbstractValue}
+use Rattle.abstract_values.specs.declared.value.AbstractValue.TheVariants.{Unset, Number, Record, Stack}
+use Rattle.abstract_values.specs.Described.{Describes}
+use Rattle.abstract_state.specs.declared.state.AbstractState.{AbstractState}
+use Rattle.abstract_state.specs.Memory.{is_in_record, is_in_frame, frame_index, is_slot, is_spilled, are_set, any_of_size, frame_value, frame_loaded, loaded}
+use Rattle.abstract_state.specs.Described.{IsByteAt, DescribesParts, IsAllowed}
+
+abbrev ok : AbstractValue → Result AbstractValue Cause
+ok x = Ok x
+
+abbrev failed : Cause → Result AbstractValue Cause
+failed cause = Err cause
+
+pub at_most : (a b : ℤ) → int_le a b ≡ true → a ≤ℤ b
+at_most a b test = grind (arith, ints)
+
+-- an address at a signed distance from another, where it does not wrap
+pub address_is : (x a : ℕ) (z : ℤ) → a < 2 ^ 64 → FitsSigned w16 z → pos a ≡ pos x +ℤ z → address_at x z ≡ a
+address_is x a (pos m) lt fits h =
+    let there : x + m ≡ a = omega (arith, ints, h) in
+    rw there (mod-eq_of_lt lt)
+address_is x a (negsuc m) lt fits h =
+    let there : x + (2 ^ 64 - suc m) ≡ 2 ^ 64 + a = omega (arith, ints, h, fits.sfits) in
+    rw there (add-mod_left (2 ^ 64) a ∙ mod-eq_of_lt lt)
+
+-- bytes that are all there make a number of their size
+number_there : (m : Partial) (a size : ℕ) → ((k : ℕ) → k < size → IsByteAt m (a + k)) → (n : ℕ) × (number_at m a size ≡ Some n) × (n < 256 ^ size)
+number_there m a zero set = (0, refl, omega arith)
+number_there m a (suc size) set =
+    let here = set 0 (omega arith) in
+    let base : a + 0 ≡ a = omega arith in
+    let at_a : m a ≡ Some here.0 = (rw base at here.1) in
+    let rest = number_there m (a + 1) size (λ k lt. let next = set (k + 1) (omega (arith, lt)) in let place : (a + 1) + k ≡ a + (k + 1) = omega arith in (next.0, rw place next.1, next.2)) in
+    let joined : joined_bytes (m a) (number_at m (a + 1) size) ≡ Some (here.0 + 256 * rest.0) = rw (at_a, rest.1) refl in
+    (here.0 + 256 * rest.0, joined, omega (arith, pow-suc 256 size, rest.2, here.2))
+
+-- the greatest number of a size
+any_described : (l top : ℕ) (size : Size) (n : ℕ) → n < 256 ^ size_bytes size → Describes l top (any_of_size (size_bytes size)) (Some n)
+any_described l top Byte n lt = (n, refl, omega arith, omega (arith, lt), omega (arith, lt))
+any_described l top Half n lt = (n, refl, omega arith, omega (arith, lt), omega (arith, lt))
+any_described l top Word n lt = (n, refl, omega arith, omega (arith, lt), omega (arith, lt))
+any_described l top Double n lt = (n, refl, omega arith, omega (arith, lt), omega (arith, lt))
+
+-- what a load gives
+record Gives (l top : ℕ) (memory : Partial) (a size : ℕ) (v : AbstractValue) : Type 0 where
+  number : ℕ
+  allowed : IsAllowed l top a size
+  there : number_at memory a size ≡ Some number
+  described : Describes l top v (Some number)
+
+-- a load from the record
+record_gives : (l top : ℕ) (memory : Partial) (size : Size) (place : ℕ) → ((k : ℕ) → k < l → IsByteAt memory (record_base + k)) → place + size_bytes size ≤ l → Gives l top memory (record_base + place) (size_bytes size) (any_of_size (size_bytes size))
+record_gives l top memory size place set inside =
+    let n = number_there memory (record_base + place) (size_bytes size) (λ k lt. let b = set (place + k) (omega (arith, inside, lt)) in let same : (record_base + place) + k ≡ record_base + (place + k) = omega arith in (b.0, rw same b.1, b.2)) in
+    record { number = n.0; allowed = inl (and_from _ _ (le-leb record_base (record_base + place) (omega arith)) (le-leb ((record_base + place) + size_bytes size) (record_base + l) (omega (arith, inside)))); there = n.1; described = any_described l top size n.0 n.2 }
+
+pub record PlaceIn (l lo hi n size : ℕ) (z : ℤ) : Type 0 where
+  pub place : ℕ
+  pub is : pos place ≡ pos n +ℤ z
+  pub inside : place + size ≤ l
+
+pub place_in : (l lo hi n size : ℕ) (z : ℤ) → lo ≤ n → n ≤ hi → is_in_record l lo hi z size ≡ true → PlaceIn l lo hi n size z
+place_in l lo hi n size (pos m) low high test =
+    let parts = and_parts (int_le (pos 0) (pos lo +ℤ pos m)) (int_le (pos (hi + size) +ℤ pos m) (pos l)) test in
+    let ends = at_most (pos (hi + size) +ℤ pos m) (pos l) parts.1 in
+    record { place = n + m; is = omega (arith, ints); inside = omega (arith, ints, ends, high) }
+place_in l lo hi n size (negsuc m) low high test =
+    let parts = and_parts (int_le (pos 0) (pos lo +ℤ negsuc m)) (int_le (pos (hi + size) +ℤ negsuc m) (pos l)) test in
+    let begins = at_most (pos 0) (pos lo +ℤ negsuc m) parts.0 in
+    let ends = at_most (pos (hi + size) +ℤ negsuc m) (pos l) parts.1 in
+    let enough : suc m ≤ n = omega (arith, ints, begins, low) in
+    record { place = n - suc m; is = omega (arith, ints, enough); inside = omega (arith, ints, ends, high, enough) }
+
+-- flags that are all set
+each_set : (flags : List Bool) (k n i : ℕ) → are_set flags k n ≡ true → i < n → get_or flags (k + i) false ≡ true
+each_set flags k zero i test lt = absurd (omega (arith, lt))
+each_set flags k (suc n) zero test lt =
+    let same : k + 0 ≡ k = omega arith in
+    rw same ((and_parts (get_or flags k false) (are_set flags (k + 1) n) test).0)
+each_set flags k (suc n) (suc i) test lt =
+    let same : k + suc i ≡ (k + 1) + i = omega arith in
+    rw same (each_set flags (k + 1) n i ((and_parts (get_or flags k false) (are_set flags (k + 1) n) test).1) (omega (arith, lt)))
+
+-- a spilled value describes a number that is there
+spilled_number : (l top : ℕ) (v : AbstractValue) (x : Option ℕ) → is_spilled v ≡ true → Describes l top v x → (n : ℕ) × (x ≡ Some n)
+spilled_number l top Unset x h d = absurd cc
+spilled_number l top (Number lo hi) x h d = (d.0, d.1)
+spilled_number l top (Record lo hi) x h d = (record_base + d.0, d.1)
+spilled_number l top (Stack offset) x h d = (d.0, d.1)
+
+-- a load from set bytes of the frame
+frame_gives : (l top : ℕ) (s : AbstractState) (registers memory : Partial) (size : Size) (k : ℕ) → 512 ≤ top → DescribesParts l top s registers memory → k + size_bytes size ≤ 512 → are_set s.bytes_set k (size_bytes size) ≡ true → Gives l top memory (top - 512 + k) (size_bytes size) (frame_value s k (size_bytes size))
+frame_gives l top s registers memory size k low d inside set =
+    let allowed : IsAllowed l top (top - 512 + k) (size_bytes size) = inr (omega arith, omega (arith, inside, low)) in
+    elim (cases_Bool (is_slot k (size_bytes size) && is_spilled (get_or s.slots (k / 8) Unset))) [
+      | inl is ↦
+          let both = and_parts (is_slot k (size_bytes size)) (is_spilled (get_or s.slots (k / 8) Unset)) is in
+          let whole = and_parts (eqb (size_bytes size) 8) (eqb (k % 8) 0) both.0 in
+          let eight : size_bytes size ≡ 8 = eqb-true (size_bytes size) 8 whole.0 in
+          let aligned : top - 512 + 8 * (k / 8) ≡ top - 512 + k = omega (arith, eqb-true (k % 8) 0 whole.1) in
+          let kept = d.spilled (k / 8) in
+          let n = spilled_number l top (get_or s.slots (k / 8) Unset) (number_at memory (top - 512 + 8 * (k / 8)) 8) both.1 kept in
+          let described : Describes l top (get_or s.slots (k / 8) Unset) (Some n.0) = subst (λ x. Describes l top (get_or s.slots (k / 8) Unset) x) n.1 kept in
+          let here : number_at memory (top - 512 + k) (size_bytes size) ≡ Some n.0 = ap (λ z. number_at memory (top - 512 + k) z) eight ∙ ap (λ a. number_at memory a 8) (sym aligned) ∙ n.1 in
+          rw is (record { number = n.0; allowed = allowed; there = here; described = described })
+      | inr not_is ↦
+          let n = number_there memory (top - 512 + k) (size_bytes size) (λ i lt. let b = d.stack_set (k + i) (each_set s.bytes_set k (size_bytes size) i set lt) in let same : (top - 512 + k) + i ≡ top - 512 + (k + i) = omega arith in (b.0, rw same b.1, b.2)) in
+          rw not_is (record { number = n.0; allowed = allowed; there = n.1; described = any_described l top size n.0 n.2 })
+    ]
+
+pub natural : (u : ℤ) → pos 0 ≤ℤ u → pos (unsigned_abs u) ≡ u
+natural (pos n) h = refl
+natural (negsuc n) h = absurd (omega (arith, ints, h))
+
+record_load : (l top lo hi : ℕ) (s : AbstractState) (registers memory : Partial) (v : AbstractValue) (z : ℤ) (size : Size) (x : ℕ) → l < 2 ^ 16 → FitsSigned w16 z → loaded l s (Record lo hi) z (size_bytes size) ≡ ok v → DescribesParts l top s registers memory → Describes l top (Record lo hi) (Some x) → Gives l top memory (address_at x z) (size_bytes size) v
+record_load l top lo hi s registers memory v z size x short fits h d q =
+    elim (cases_Bool (is_in_record l lo hi z (size_bytes size))) [
+      | inl is ↦
+          let value : any_of_size (size_bytes size) ≡ v = (let e : ok (any_of_size (size_bytes size)) ≡ ok v = (rw is at h) in cc) in
+          let x-is : x ≡ record_base + q.0 = (let e : Some x ≡ Some (record_base + q.0) = q.1 in cc) in
+          let at = place_in l lo hi q.0 (size_bytes size) z q.2 q.3 is in
+          let moved : pos (record_base + at.place) ≡ pos x +ℤ z = omega (arith, ints, at.is, x-is) in
+          let address = address_is x (record_base + at.place) z (omega (arith, at.inside, short)) fits moved in
+          rw address (subst (λ w. Gives l top memory (record_base + at.place) (size_bytes size) w) value (record_gives l top memory size at.place d.record_set at.inside))
+      | inr not_is ↦ absurd (let e : failed OutOfRange ≡ ok v = (rw not_is at h) in cc)
+    ]
+
+frame_load : (l top : ℕ) (offset : ℤ) (s : AbstractState) (registers memory : Partial) (v : AbstractValue) (z : ℤ) (size : Size) (x : ℕ) → 512 ≤ top → top < 2 ^ 64 → FitsSigned w16 z → loaded l s (Stack offset) z (size_bytes size) ≡ ok v → DescribesParts l top s registers memory → Describes l top (Stack offset) (Some x) → Gives l top memory (address_at x z) (size_bytes size) v
+frame_load l top offset s registers memory v z size x low high fits h d q =
+    let place = offset +ℤ z in
+    elim (cases_Bool (is_in_frame place (size_bytes size))) [
+      | inl is ↦
+          let loads : frame_loaded s (frame_index place) (size_bytes size) ≡ ok v = (rw is at h) in
+          elim (cases_Bool (are_set s.bytes_set (frame_index place) (size_bytes size))) [
+            | inl set ↦
+                let value : frame_value s (frame_index place) (size_bytes size) ≡ v = (let e : ok (frame_value s (frame_index place) (size_bytes size)) ≡ ok v = (rw set at loads) in cc) in
+                let both = and_parts (int_le (negsuc 511) place) (int_le (place +ℤ pos (size_bytes size)) (pos 0)) is in
+                let begins = at_most (negsuc 511) place both.0 in
+                let ends = at_most (place +ℤ pos (size_bytes size)) (pos 0) both.1 in
+                let index = natural (pos 512 +ℤ place) (omega (arith, ints, begins)) in
+                let inside : frame_index place + size_bytes size ≤ 512 = omega (arith, ints, index, ends) in
+                let x-is : x ≡ q.0 = (let e : Some x ≡ Some q.0 = q.1 in cc) in
+                let moved : pos (top - 512 + frame_index place) ≡ pos x +ℤ z = omega (arith, ints, index, q.2, x-is, low) in
+                let address = address_is x (top - 512 + frame_index place) z (omega (arith, inside, low, high)) fits moved in
+                rw address (subst (λ w. Gives l top memory (top - 512 + frame_index place) (size_bytes size) w) value (frame_gives l top s registers memory size (frame_index place) low d inside set))
+            | inr not_set ↦ absurd (let e : failed UnsetStackByte ≡ ok v = (rw not_set at loads) in cc)
+          ]
+      | inr not_is ↦ absurd (let e : failed OutOfRange ≡ ok v = (rw not_is at h) in cc)
+    ]
+
+gives_parts : (l top : ℕ) (memory : Partial) (a size : ℕ) (v : AbstractValue) → Gives l top memory a size v → (n : ℕ) × IsAllowed l top a size × (number_at memory a size ≡ Some n) × Describes l top v (Some n)
+gives_parts l top memory a size v g = (g.number, g.allowed, g.there, g.described)
+
+pub load_describes : (l top : ℕ) (s : AbstractState) (registers memory : Partial) (base v : AbstractValue) (z : ℤ) (size : Size) (x : ℕ) → l < 2 ^ 16 → 512 ≤ top → top < 2 ^ 64 → FitsSigned w16 z → loaded l s base z (size_bytes size) ≡ ok v → DescribesParts l top s registers memory → Describes l top base (Some x) → (n : ℕ) × IsAllowed l top (address_at x z) (size_bytes size) × (number_at memory (address_at x z) (size_bytes size) ≡ Some n) × Describes l top v (Some n)
+load_describes l top s registers memory Unset v z size x short low high fits h d q = absurd cc
+load_describes l top s registers memory (Number lo hi) v z size x short low high fits h d q = absurd cc
+load_describes l top s registers memory (Record lo hi) v z size x short low high fits h d q =
+    gives_parts l top memory (address_at x z) (size_bytes size) v (record_load l top lo hi s registers memory v z size x short fits h d q)
+load_describes l top s registers memory (Stack offset) v z size x short low high fits h d q =
+    gives_parts l top memory (address_at x z) (size_bytes size) v (frame_load l top offset s registers memory v z size x low high fits h d q)

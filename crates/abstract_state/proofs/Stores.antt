@@ -1,0 +1,222 @@
+-- A store that the rules allow leaves a memory that they describe.
+use Rattle.std.proofs.Common.{◌≡◌, ◌≢◌, ℕ, zero, suc, ◌+◌, ◌-◌, ◌*◌, ◌/◌, ◌%◌, ◌^◌, ◌<◌, ◌≤◌, Bool, true, false, eqb, cond, List, [], ◌∷◌, Option, Some, Result, Ok, Err, get_or, set, refl, sym, subst, ap, ◌∙◌, arith, inl, inr, ◌⊎◌}
+use Rattle.std.specs.Prelude.{ℤ, pos, negsuc, ◌+ℤ◌, int_le, ◌&&◌, FitsSigned}
+use Rattle.std.specs.Int.{w16}
+use Rattle.std.proofs.lemmas.Int.{ints}
+use Rattle.std.proofs.lemmas.Bool.{cases_Bool, cases_eq, cases_lt, and_parts, and_from, le-leb, eqb-true}
+use Rattle.std.proofs.Math.Nat.{mod-eq_of_lt}
+use Rattle.bpf_isa.specs.declared.instruction.Size.{Size}
+use Rattle.bpf_isa.specs.declared.instruction.Size.TheVariants.{Byte, Half, Word, Double}
+use Rattle.bpf_model.specs.State.{Partial, record_base, number_at, address_at}
+use Rattle.bpf_model.specs.Step.{size_bytes}
+use Rattle.abstract_values.specs.declared.cause.Cause.{Cause}
+use Rattle.abstract_values.specs.declared.cause.Cause.TheVariants.{OutOfRange, PointerUse}
+use Rattle.abstract_values.specs.declared.value.AbstractValue.{AbstractValue}
+use Rattle.abstract_values.specs.declared.value.AbstractValue.TheVariants.{Unset, Number, Record, Stack}
+use Rattle.abstract_values.specs.Described.{Describes}
+use Rattle.abstract_state.specs.declared.state.AbstractState.{AbstractState}
+use Rattle.abstract_state.specs.Memory.{is_in_record, is_in_frame, frame_index, is_slot, set_from, spills_ended, frame_stored, is_pointer, may_store, stored_through}
+use Rattle.abstract_state.specs.Described.{IsByteAt, DescribesParts, IsAllowed, IsStored}
+use Rattle.abstract_state.proofs.Loads.{at_most, address_is, natural, place_in}
+
+abbrev ok : AbstractState → Result AbstractState Cause
+ok s = Ok s
+
+abbrev failed : Cause → Result AbstractState Cause
+failed cause = Err cause
+
+size_some : (size : Size) → (1 ≤ size_bytes size) × (size_bytes size ≤ 8)
+size_some Byte = (omega arith, omega arith)
+size_some Half = (omega arith, omega arith)
+size_some Word = (omega arith, omega arith)
+size_some Double = (omega arith, omega arith)
+
+-- memories that agree on some bytes have one number there
+number_same : (m n : Partial) (a size : ℕ) → ((i : ℕ) → i < size → m (a + i) ≡ n (a + i)) → number_at m a size ≡ number_at n a size
+number_same m n a zero same = refl
+number_same m n a (suc size) same =
+    let base : a + 0 ≡ a = omega arith in
+    let head = same 0 (omega arith) in
+    let first : m a ≡ n a = (rw base at head) in
+    let rest = number_same m n (a + 1) size (λ i lt. let place : a + (i + 1) ≡ (a + 1) + i = omega arith in let next = same (i + 1) (omega (arith, lt)) in (rw place at next)) in
+    rw (first, rest) refl
+
+set_other : {A : Type 0} (xs : List A) (i j : ℕ) (v d : A) → j ≢ i → get_or (set xs i v) j d ≡ get_or xs j d
+set_other [] i j v d other = refl
+set_other (x ∷ xs) zero zero v d other = absurd (other refl)
+set_other (x ∷ xs) zero (suc j) v d other = refl
+set_other (x ∷ xs) (suc i) zero v d other = refl
+set_other (x ∷ xs) (suc i) (suc j) v d other = set_other xs i j v d (λ e. other (ap suc e))
+
+set_described : (l top : ℕ) (xs : List AbstractValue) (i : ℕ) (v : AbstractValue) (x : Option ℕ) → Describes l top v x → Describes l top (get_or (set xs i v) i Unset) x
+set_described l top [] i v x d = tt
+set_described l top (y ∷ ys) zero v x d = d
+set_described l top (y ∷ ys) (suc i) v x d = set_described l top ys i v x d
+
+-- a flag apart from those that were set
+flags_other : (flags : List Bool) (k n i : ℕ) → (i < k) ⊎ (k + n ≤ i) → get_or (set_from flags k n) i false ≡ get_or flags i false
+flags_other flags k zero i apart = refl
+flags_other flags k (suc n) i (inl lt) =
+    flags_other (set flags k true) (k + 1) n i (inl (omega (arith, lt))) ∙ set_other flags k i true false (λ e. omega (arith, lt, e))
+flags_other flags k (suc n) i (inr ge) =
+    flags_other (set flags k true) (k + 1) n i (inr (omega (arith, ge))) ∙ set_other flags k i true false (λ e. omega (arith, ge, e))
+
+-- where a byte lies beside a store
+beside : (i k n : ℕ) → ((k ≤ i) × (i < k + n)) ⊎ ((i < k) ⊎ (k + n ≤ i))
+beside i k n =
+    elim (cases_lt i k) [
+      | inl lt ↦ inr (inl lt)
+      | inr ge ↦ elim (cases_lt i (k + n)) [ inl lt ↦ inl (ge, lt) | inr past ↦ inr (inr past) ]
+    ]
+
+-- a byte stays a byte
+byte_stays : (before after : Partial) (a size n p : ℕ) → IsStored before after a size n → IsByteAt before p → IsByteAt after p
+byte_stays before after a size n p stored b =
+    elim (beside p a size) [
+      | inl inside ↦
+          let new = stored.inside (p - a) (omega (arith, inside.0, inside.1)) in
+          let same : a + (p - a) ≡ p = omega (arith, inside.0) in
+          subst (λ q. IsByteAt after q) same new
+      | inr apart ↦ (b.0, stored.outside p apart ∙ b.1, b.2)
+    ]
+
+-- the number of a slot apart from a store stays
+slot_stays : (before after : Partial) (a size n base : ℕ) → IsStored before after a size n → (base + 8 ≤ a) ⊎ (a + size ≤ base) → number_at before base 8 ≡ number_at after base 8
+slot_stays before after a size n base stored (inl below) =
+    number_same before after base 8 (λ i lt. sym (stored.outside (base + i) (inl (omega (arith, below, lt)))))
+slot_stays before after a size n base stored (inr above) =
+    number_same before after base 8 (λ i lt. sym (stored.outside (base + i) (inr (omega (arith, above)))))
+
+apart : (k size j : ℕ) → 1 ≤ size → size ≤ 8 → j ≢ k / 8 → j ≢ (k + size - 1) / 8 → (8 * j + 8 ≤ k) ⊎ (k + size ≤ 8 * j)
+apart k size j some few first last =
+    elim (cases_lt j (k / 8)) [
+      | inl lt ↦ inl (omega (arith, lt))
+      | inr ge ↦ inr (omega (arith, ge, first, last, some, few))
+    ]
+
+moved_up : (base k size j : ℕ) → (8 * j + 8 ≤ k) ⊎ (k + size ≤ 8 * j) → (base + 8 * j + 8 ≤ base + k) ⊎ (base + k + size ≤ base + 8 * j)
+moved_up base k size j (inl below) = inl (omega (arith, below))
+moved_up base k size j (inr above) = inr (omega (arith, above))
+
+-- a whole slot is spilled
+spilled_whole : (l top : ℕ) (slots : List AbstractValue) (before after : Partial) (k n j : ℕ) (v : AbstractValue) → 512 ≤ top → n < 2 ^ 64 → 8 * (k / 8) ≡ k → IsStored before after (top - 512 + k) 8 n → Describes l top v (Some n) → Describes l top (get_or slots j Unset) (number_at before (top - 512 + 8 * j) 8) → Describes l top (get_or (set slots (k / 8) v) j Unset) (number_at after (top - 512 + 8 * j) 8)
+spilled_whole l top slots before after k n j v low lt whole stored new old =
+    elim (cases_eq j (k / 8)) [
+      | inl same ↦
+          let low_bits : n % 256 ^ 8 ≡ n = mod-eq_of_lt (omega (arith, lt)) in
+          let here : number_at after (top - 512 + k) 8 ≡ Some n = stored.number ∙ ap Some low_bits in
+          let place : top - 512 + k ≡ top - 512 + 8 * (k / 8) = omega (arith, whole) in
+          let there : Some n ≡ number_at after (top - 512 + 8 * (k / 8)) 8 = sym here ∙ ap (λ a. number_at after a 8) place in
+          let described = set_described l top slots (k / 8) v (number_at after (top - 512 + 8 * (k / 8)) 8) (subst (λ x. Describes l top v x) there new) in
+          subst (λ i. Describes l top (get_or (set slots (k / 8) v) i Unset) (number_at after (top - 512 + 8 * i) 8)) (sym same) described
+      | inr other ↦
+          let far = apart k 8 j (omega arith) (omega arith) other (λ e. other (omega (arith, e, whole))) in
+          let stays = slot_stays before after (top - 512 + k) 8 n (top - 512 + 8 * j) stored (moved_up (top - 512) k 8 j far) in
+          let kept : Describes l top (get_or slots j Unset) (number_at after (top - 512 + 8 * j) 8) = subst (λ x. Describes l top (get_or slots j Unset) x) stays old in
+          subst (λ w. Describes l top w (number_at after (top - 512 + 8 * j) 8)) (sym (set_other slots (k / 8) j v Unset other)) kept
+    ]
+
+-- the slots that another store touches are no longer spilled
+spilled_part : (l top : ℕ) (slots : List AbstractValue) (before after : Partial) (k size n j : ℕ) → 512 ≤ top → 1 ≤ size → size ≤ 8 → IsStored before after (top - 512 + k) size n → Describes l top (get_or slots j Unset) (number_at before (top - 512 + 8 * j) 8) → Describes l top (get_or (spills_ended slots k size) j Unset) (number_at after (top - 512 + 8 * j) 8)
+spilled_part l top slots before after k size n j low some few stored old =
+    let first = k / 8 in
+    let last = (k + size - 1) / 8 in
+    let x = number_at after (top - 512 + 8 * j) 8 in
+    elim (cases_eq j last) [
+      | inl same ↦
+          subst (λ i. Describes l top (get_or (set (set slots first Unset) last Unset) i Unset) x) (sym same) (set_described l top (set slots first Unset) last Unset x tt)
+      | inr not_last ↦
+          let outer = set_other (set slots first Unset) last j Unset Unset not_last in
+          elim (cases_eq j first) [
+            | inl same ↦
+                let cleared = subst (λ i. Describes l top (get_or (set slots first Unset) i Unset) x) (sym same) (set_described l top slots first Unset x tt) in
+                subst (λ w. Describes l top w x) (sym outer) cleared
+            | inr not_first ↦
+                let far = apart k size j some few not_first not_last in
+                let stays = slot_stays before after (top - 512 + k) size n (top - 512 + 8 * j) stored (moved_up (top - 512) k size j far) in
+                let kept : Describes l top (get_or slots j Unset) x = subst (λ y. Describes l top (get_or slots j Unset) y) stays old in
+                subst (λ w. Describes l top w x) (sym (outer ∙ set_other slots first j Unset Unset not_first)) kept
+          ]
+    ]
+
+-- every slot after a store in the frame
+spilled_after : (l top : ℕ) (slots : List AbstractValue) (before after : Partial) (k size n j : ℕ) (v : AbstractValue) → 512 ≤ top → n < 2 ^ 64 → 1 ≤ size → size ≤ 8 → IsStored before after (top - 512 + k) size n → Describes l top v (Some n) → Describes l top (get_or slots j Unset) (number_at before (top - 512 + 8 * j) 8) → Describes l top (get_or (cond (is_slot k size) (set slots (k / 8) v) (spills_ended slots k size)) j Unset) (number_at after (top - 512 + 8 * j) 8)
+spilled_after l top slots before after k size n j v low lt some few stored new old =
+    elim (cases_Bool (is_slot k size)) [
+      | inl is ↦
+          let whole = and_parts (eqb size 8) (eqb (k % 8) 0) is in
+          let eight : size ≡ 8 = eqb-true size 8 whole.0 in
+          let aligned : 8 * (k / 8) ≡ k = omega (arith, eqb-true (k % 8) 0 whole.1) in
+          let stored_8 : IsStored before after (top - 512 + k) 8 n = subst (λ z. IsStored before after (top - 512 + k) z n) eight stored in
+          rw is (spilled_whole l top slots before after k n j v low lt aligned stored_8 new old)
+      | inr not_is ↦ rw not_is (spilled_part l top slots before after k size n j low some few stored old)
+    ]
+
+frame_described : (l top : ℕ) (s : AbstractState) (registers before after : Partial) (k size n : ℕ) (v : AbstractValue) → 512 ≤ top → n < 2 ^ 64 → 1 ≤ size → size ≤ 8 → DescribesParts l top s registers before → IsStored before after (top - 512 + k) size n → Describes l top v (Some n) → DescribesParts l top (frame_stored s k size v) registers after
+frame_described l top s registers before after k size n v low lt some few d stored new =
+    record { values = d.values; record_set = λ i inside. byte_stays before after (top - 512 + k) size n (record_base + i) stored (d.record_set i inside); stack_set = λ i h. elim (beside i k size) [ inl inside ↦ (let b = stored.inside (i - k) (omega (arith, inside.0, inside.1)) in let same : top - 512 + k + (i - k) ≡ top - 512 + i = omega (arith, inside.0) in subst (λ p. IsByteAt after p) same b) | inr out ↦ byte_stays before after (top - 512 + k) size n (top - 512 + i) stored (d.stack_set i (sym (flags_other s.bytes_set k size i out) ∙ h)) ]; spilled = λ j. spilled_after l top s.slots before after k size n j v low lt some few stored new (d.spilled j) }
+
+-- a store in the record leaves the frame as it was
+record_described : (l top : ℕ) (s : AbstractState) (registers before after : Partial) (place size n : ℕ) → l < 2 ^ 16 → record_base + 2 ^ 17 ≤ top → place + size ≤ l → DescribesParts l top s registers before → IsStored before after (record_base + place) size n → DescribesParts l top s registers after
+record_described l top s registers before after place size n short high inside d stored =
+    record { values = d.values; record_set = λ i lt. byte_stays before after (record_base + place) size n (record_base + i) stored (d.record_set i lt); stack_set = λ i h. byte_stays before after (record_base + place) size n (top - 512 + i) stored (d.stack_set i h); spilled = λ j. subst (λ x. Describes l top (get_or s.slots j Unset) x) (slot_stays before after (record_base + place) size n (top - 512 + 8 * j) stored (inr (omega (arith, inside, short, high)))) (d.spilled j) }
+
+-- what a store leads to
+abbrev Leaves : ℕ → ℕ → AbstractState → Partial → Partial → ℕ → ℕ → Type 0
+Leaves l top s registers after a size = IsAllowed l top a size × DescribesParts l top s registers after
+
+record_store : (l top lo hi : ℕ) (s t : AbstractState) (registers before after : Partial) (v : AbstractValue) (z : ℤ) (size : Size) (x n : ℕ) → l < 2 ^ 16 → record_base + 2 ^ 17 ≤ top → FitsSigned w16 z → stored_through l s (Record lo hi) z (size_bytes size) v ≡ ok t → DescribesParts l top s registers before → Describes l top (Record lo hi) (Some x) → IsStored before after (address_at x z) (size_bytes size) n → Leaves l top t registers after (address_at x z) (size_bytes size)
+record_store l top lo hi s t registers before after v z size x n short high fits h d q stored =
+    elim (cases_Bool (is_pointer v)) [
+      | inl is ↦ absurd (let e : failed PointerUse ≡ ok t = (rw is at h) in cc)
+      | inr no_pointer ↦
+          let tests : cond (is_in_record l lo hi z (size_bytes size)) (ok s) (failed OutOfRange) ≡ ok t = (rw no_pointer at h) in
+          elim (cases_Bool (is_in_record l lo hi z (size_bytes size))) [
+            | inl is ↦
+                let same : s ≡ t = (let e : ok s ≡ ok t = (rw is at tests) in cc) in
+                let x-is : x ≡ record_base + q.0 = (let e : Some x ≡ Some (record_base + q.0) = q.1 in cc) in
+                let at = place_in l lo hi q.0 (size_bytes size) z q.2 q.3 is in
+                let moved : pos (record_base + at.place) ≡ pos x +ℤ z = omega (arith, ints, at.is, x-is) in
+                let address = address_is x (record_base + at.place) z (omega (arith, at.inside, short)) fits moved in
+                let here : IsStored before after (record_base + at.place) (size_bytes size) n = subst (λ a. IsStored before after a (size_bytes size) n) address stored in
+                let allowed : IsAllowed l top (record_base + at.place) (size_bytes size) = inl (and_from _ _ (le-leb record_base (record_base + at.place) (omega arith)) (le-leb ((record_base + at.place) + size_bytes size) (record_base + l) (omega (arith, at.inside)))) in
+                let described = record_described l top s registers before after at.place (size_bytes size) n short high at.inside d here in
+                rw address (allowed, subst (λ w. DescribesParts l top w registers after) same described)
+            | inr not_is ↦ absurd (let e : failed OutOfRange ≡ ok t = (rw not_is at tests) in cc)
+          ]
+    ]
+
+frame_store : (l top : ℕ) (offset : ℤ) (s t : AbstractState) (registers before after : Partial) (v : AbstractValue) (z : ℤ) (size : Size) (x n : ℕ) → 512 ≤ top → top < 2 ^ 64 → FitsSigned w16 z → n < 2 ^ 64 → stored_through l s (Stack offset) z (size_bytes size) v ≡ ok t → DescribesParts l top s registers before → Describes l top (Stack offset) (Some x) → Describes l top v (Some n) → IsStored before after (address_at x z) (size_bytes size) n → Leaves l top t registers after (address_at x z) (size_bytes size)
+frame_store l top offset s t registers before after v z size x n low high fits lt h d q new stored =
+    let place = offset +ℤ z in
+    let k = frame_index (offset +ℤ z) in
+    elim (cases_Bool (may_store v (is_in_frame place (size_bytes size) && is_slot k (size_bytes size)))) [
+      | inl may ↦
+          let tests : cond (is_in_frame place (size_bytes size)) (ok (frame_stored s k (size_bytes size) v)) (failed OutOfRange) ≡ ok t = (rw may at h) in
+          elim (cases_Bool (is_in_frame place (size_bytes size))) [
+            | inl is ↦
+                let same : frame_stored s k (size_bytes size) v ≡ t = (let e : ok (frame_stored s k (size_bytes size) v) ≡ ok t = (rw is at tests) in cc) in
+                let both = and_parts (int_le (negsuc 511) place) (int_le (place +ℤ pos (size_bytes size)) (pos 0)) is in
+                let begins = at_most (negsuc 511) place both.0 in
+                let ends = at_most (place +ℤ pos (size_bytes size)) (pos 0) both.1 in
+                let index = natural (pos 512 +ℤ place) (omega (arith, ints, begins)) in
+                let inside : k + size_bytes size ≤ 512 = omega (arith, ints, index, ends) in
+                let x-is : x ≡ q.0 = (let e : Some x ≡ Some q.0 = q.1 in cc) in
+                let moved : pos (top - 512 + k) ≡ pos x +ℤ z = omega (arith, ints, index, q.2, x-is, low) in
+                let address = address_is x (top - 512 + k) z (omega (arith, inside, low, high)) fits moved in
+                let here : IsStored before after (top - 512 + k) (size_bytes size) n = subst (λ a. IsStored before after a (size_bytes size) n) address stored in
+                let allowed : IsAllowed l top (top - 512 + k) (size_bytes size) = inr (omega arith, omega (arith, inside, low)) in
+                let described = frame_described l top s registers before after k (size_bytes size) n v low lt (size_some size).0 (size_some size).1 d here new in
+                rw address (allowed, subst (λ w. DescribesParts l top w registers after) same described)
+            | inr not_is ↦ absurd (let e : failed OutOfRange ≡ ok t = (rw not_is at tests) in cc)
+          ]
+      | inr may_not ↦ absurd (let e : failed PointerUse ≡ ok t = (rw may_not at h) in cc)
+    ]
+
+pub store_describes : (l top : ℕ) (s t : AbstractState) (registers before after : Partial) (base v : AbstractValue) (z : ℤ) (size : Size) (x n : ℕ) → l < 2 ^ 16 → record_base + 2 ^ 17 ≤ top → top < 2 ^ 64 → FitsSigned w16 z → n < 2 ^ 64 → stored_through l s base z (size_bytes size) v ≡ ok t → DescribesParts l top s registers before → Describes l top base (Some x) → Describes l top v (Some n) → IsStored before after (address_at x z) (size_bytes size) n → IsAllowed l top (address_at x z) (size_bytes size) × DescribesParts l top t registers after
+store_describes l top s t registers before after Unset v z size x n short high below fits lt h d q new stored = absurd cc
+store_describes l top s t registers before after (Number lo hi) v z size x n short high below fits lt h d q new stored = absurd cc
+store_describes l top s t registers before after (Record lo hi) v z size x n short high below fits lt h d q new stored =
+    record_store l top lo hi s t registers before after v z size x n short high fits h d q stored
+store_describes l top s t registers before after (Stack offset) v z size x n short high below fits lt h d q new stored =
+    frame_store l top offset s t registers before after v z size x n (omega (arith, high)) below fits lt h d q new stored

@@ -1,0 +1,29 @@
+-- What is known of a state describes it.
+use Rattle.std.specs.Prelude.{◌≡◌, ℕ, ◌+◌, ◌-◌, ◌*◌, ◌%◌, ◌^◌, ◌<◌, ◌≤◌, ◌⊎◌, Some, true, false, slice_index_or}
+use Rattle.bpf_model.specs.State.{Partial, record_base, in_record, number_at}
+use Rattle.abstract_values.specs.declared.value.AbstractValue.TheVariants.{Unset}
+use Rattle.abstract_values.specs.Described.{Describes}
+use Rattle.abstract_state.specs.declared.state.AbstractState.{AbstractState}
+
+-- a byte is there
+abbrev pub IsByteAt : Partial → ℕ → Type 0
+IsByteAt memory a = (b : ℕ) × (memory a ≡ Some b) × (b < 256)
+
+-- registers and memory of a run, in the frame below a top, are described: the record's bytes and the bytes
+-- known to be set are there, and the number in each slot is described as a register is
+pub record DescribesParts (record_length top : ℕ) (a : AbstractState) (registers memory : Partial) : Type 0 where
+  pub values : (r : ℕ) → Describes record_length top (slice_index_or a.registers r Unset) (registers r)
+  pub record_set : (k : ℕ) → k < record_length → IsByteAt memory (record_base + k)
+  pub stack_set : (k : ℕ) → slice_index_or a.bytes_set k false ≡ true → IsByteAt memory (top - 512 + k)
+  pub spilled : (j : ℕ) → Describes record_length top (slice_index_or a.slots j Unset) (number_at memory (top - 512 + 8 * j) 8)
+
+-- so many bytes from an address lie in the record or in the frame below a top
+abbrev pub IsAllowed : ℕ → ℕ → ℕ → ℕ → Type 0
+IsAllowed record_length top a size =
+    (in_record record_length a size ≡ true) ⊎ ((top - 512 ≤ a) × (a + size ≤ top))
+
+-- a memory after so many low bytes of a number were stored from an address on
+pub record IsStored (before after : Partial) (a size n : ℕ) : Type 0 where
+  pub outside : (p : ℕ) → (p < a) ⊎ (a + size ≤ p) → after p ≡ before p
+  pub inside : (i : ℕ) → i < size → IsByteAt after (a + i)
+  pub number : number_at after a size ≡ Some (n % 256 ^ size)

@@ -1,0 +1,4 @@
+pub mod States
+pub mod Memory
+pub mod Described
+pub mod Laws

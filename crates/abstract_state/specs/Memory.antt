@@ -1,0 +1,117 @@
+-- What loads and stores ask of what is known, and what is known after them.
+use Rattle.std.specs.Prelude.{ℕ, zero, suc, ◌+◌, ◌-◌, ◌*◌, ◌/◌, ◌%◌, ◌^◌, ◌==◌, ◌&&◌, Bool, true, false, if◌then◌else◌, ℤ, pos, negsuc, ◌+ℤ◌, int_le, unsigned_abs, List, Result, Ok, Err, slice_index_or, slice_set}
+use Rattle.bpf_isa.specs.declared.instruction.Size.{Size}
+use Rattle.bpf_isa.specs.declared.instruction.Size.TheVariants.{Byte, Half, Word}
+use Rattle.bpf_isa.specs.declared.instruction.SignedSize.{SignedSize}
+use Rattle.bpf_isa.specs.declared.instruction.SignedSize.TheVariants.{SignedByte, SignedHalf, SignedWord}
+use Rattle.bpf_model.specs.Step.{size_bytes}
+use Rattle.abstract_values.specs.declared.cause.Cause.{Cause}
+use Rattle.abstract_values.specs.declared.cause.Cause.TheVariants.{UnsetRegister, PointerUse, OutOfRange, UnsetStackByte}
+use Rattle.abstract_values.specs.declared.value.AbstractValue.{AbstractValue}
+use Rattle.abstract_values.specs.declared.value.AbstractValue.TheVariants.{Unset, Number, Record, Stack}
+use Rattle.abstract_state.specs.declared.state.AbstractState.{AbstractState}
+
+-- the bytes from lo + offset to hi + offset + size lie in a record of this length
+abbrev pub is_in_record : ℕ → ℕ → ℕ → ℤ → ℕ → Bool
+is_in_record record_length lo hi offset size =
+    int_le (pos 0) (pos lo +ℤ offset) && int_le (pos (hi + size) +ℤ offset) (pos record_length)
+
+-- the bytes at a distance from the top of a frame lie in its 512
+abbrev pub is_in_frame : ℤ → ℕ → Bool
+is_in_frame place size = int_le (negsuc 511) place && int_le (place +ℤ pos size) (pos 0)
+
+-- which byte of the frame is at a distance from its top, counted from the lowest
+abbrev pub frame_index : ℤ → ℕ
+frame_index place = unsigned_abs (pos 512 +ℤ place)
+
+-- bytes that make a whole slot
+abbrev pub is_slot : ℕ → ℕ → Bool
+is_slot k size = size == 8 && k % 8 == 0
+
+abbrev pub is_spilled : AbstractValue → Bool
+is_spilled Unset = false
+is_spilled (Number lo hi) = true
+is_spilled (Record lo hi) = true
+is_spilled (Stack offset) = true
+
+-- so many bytes from byte k are all set
+abbrev pub are_set : List Bool → ℕ → ℕ → Bool
+are_set flags k zero = true
+are_set flags k (suc n) = slice_index_or flags k false && are_set flags (k + 1) n
+
+-- any number of so many bytes
+abbrev pub any_of_size : ℕ → AbstractValue
+any_of_size size = Number 0 (2 ^ (8 * size) - 1)
+
+-- what set bytes hold: what was spilled to them, if they are a slot
+abbrev pub frame_value : AbstractState → ℕ → ℕ → AbstractValue
+frame_value s k size =
+    if is_slot k size && is_spilled (slice_index_or s.slots (k / 8) Unset) then slice_index_or s.slots (k / 8) Unset else any_of_size size
+
+abbrev pub frame_loaded : AbstractState → ℕ → ℕ → Result AbstractValue Cause
+frame_loaded s k size = if are_set s.bytes_set k size then Ok (frame_value s k size) else Err UnsetStackByte
+
+-- what a load of so many bytes through a value gives
+abbrev pub loaded : ℕ → AbstractState → AbstractValue → ℤ → ℕ → Result AbstractValue Cause
+loaded record_length s Unset offset size = Err UnsetRegister
+loaded record_length s (Number lo hi) offset size = Err PointerUse
+loaded record_length s (Record lo hi) offset size =
+    if is_in_record record_length lo hi offset size then Ok (any_of_size size) else Err OutOfRange
+loaded record_length s (Stack top) offset size =
+    if is_in_frame (top +ℤ offset) size then frame_loaded s (frame_index (top +ℤ offset)) size else Err OutOfRange
+
+abbrev pub plain_size : SignedSize → Size
+plain_size SignedByte = Byte
+plain_size SignedHalf = Half
+plain_size SignedWord = Word
+
+-- a sign-extending load gives any number, where the load is allowed
+abbrev pub any_number_where : Result AbstractValue Cause → Result AbstractValue Cause
+any_number_where (Ok v) = Ok (Number 0 (2 ^ 64 - 1))
+any_number_where (Err cause) = Err cause
+
+abbrev pub loaded_signed : ℕ → AbstractState → AbstractValue → ℤ → SignedSize → Result AbstractValue Cause
+loaded_signed record_length s base offset size =
+    any_number_where (loaded record_length s base offset (size_bytes (plain_size size)))
+
+-- so many bytes from byte k become set
+abbrev pub set_from : List Bool → ℕ → ℕ → List Bool
+set_from flags k zero = flags
+set_from flags k (suc n) = set_from (slice_set flags k true) (k + 1) n
+
+-- what was spilled is no longer known in the slots that the bytes touch, two at most
+abbrev pub spills_ended : List AbstractValue → ℕ → ℕ → List AbstractValue
+spills_ended slots k size = slice_set (slice_set slots (k / 8) Unset) ((k + size - 1) / 8) Unset
+
+-- bytes of the frame are written; a slot that is written as a whole keeps the value
+abbrev pub frame_stored : AbstractState → ℕ → ℕ → AbstractValue → AbstractState
+frame_stored s k size v =
+    record s { bytes_set = set_from s.bytes_set k size; slots = if is_slot k size then slice_set s.slots (k / 8) v else spills_ended s.slots k size }
+
+abbrev pub is_pointer : AbstractValue → Bool
+is_pointer Unset = false
+is_pointer (Number lo hi) = false
+is_pointer (Record lo hi) = true
+is_pointer (Stack offset) = true
+
+-- a pointer is stored nowhere but to a whole slot of the frame
+abbrev pub may_store : AbstractValue → Bool → Bool
+may_store v whole = if is_pointer v then whole else true
+
+-- what is known after a store at a distance from the top of the frame
+abbrev pub stored_in_frame : AbstractState → ℤ → ℕ → AbstractValue → Result AbstractState Cause
+stored_in_frame s place size v =
+    if may_store v (is_in_frame place size && is_slot (frame_index place) size) then (if is_in_frame place size then Ok (frame_stored s (frame_index place) size v) else Err OutOfRange) else Err PointerUse
+
+-- what is known after a store of a value, which is set, through a base
+abbrev pub stored_through : ℕ → AbstractState → AbstractValue → ℤ → ℕ → AbstractValue → Result AbstractState Cause
+stored_through record_length s Unset offset size v = Err UnsetRegister
+stored_through record_length s (Number lo hi) offset size v = Err PointerUse
+stored_through record_length s (Record lo hi) offset size v =
+    if is_pointer v then Err PointerUse else (if is_in_record record_length lo hi offset size then Ok s else Err OutOfRange)
+stored_through record_length s (Stack top) offset size v = stored_in_frame s (top +ℤ offset) size v
+
+-- an answer of the code and the state that it leaves
+abbrev pub stored_answer : Result (Unit {0}) Cause → AbstractState → Result AbstractState Cause
+stored_answer (Ok done) s = Ok s
+stored_answer (Err cause) s = Err cause

@@ -1,0 +1,190 @@
+//! Loads and stores through what is known of their base (RFC 9669, section 5).
+ghost use Rattle.std.specs.Prelude.{◌≡◌, ◌≤◌, ◌<◌, ◌+◌, ◌+ℤ◌, if◌then◌else◌, Some, None, IfErr, IfSome, negsuc, ◌≤ℤ◌};
+ghost use Rattle.bpf_model.specs.Step.{size_bytes};
+ghost use Rattle.abstract_state.specs.Memory.{is_in_record, is_in_frame, frame_index, is_pointer, loaded, loaded_signed, stored_in_frame, stored_through, stored_answer};
+
+use crate::stack::{any_number, is_whole_slot, load_frame, store_frame};
+use crate::state::AbstractState;
+use abstract_values::{AbstractValue, Cause};
+use bpf_isa::{SignedSize, Size};
+
+/// How many bytes a size is.
+fn bytes_of(size: Size) -> usize
+    ensures bytes { result ≡ size_bytes size }
+    ensures some { 1 ≤ result }
+    ensures few { result ≤ 8 }
+{
+    match size {
+        Size::Byte => 1,
+        Size::Half => 2,
+        Size::Word => 4,
+        Size::Double => 8,
+    }
+}
+
+/// Whether bytes at an offset from a range of places lie in a record.
+fn is_inside_record(record_length: u16, lo: u16, hi: u16, offset: i16, bytes: usize) -> bool
+    requires few { bytes ≤ 8 }
+    ensures { result ≡ is_in_record record_length lo hi offset bytes }
+{
+    let offset = i64::from(offset);
+    let first = i64::from(lo) + offset;
+    let end = i64::from(hi) + bytes as i64 + offset;
+    let begins_inside = 0 <= first;
+    let ends_inside = end <= i64::from(record_length);
+    begins_inside && ends_inside
+}
+
+/// Whether bytes at an offset from a place lie in the frame.
+fn is_inside_frame(top: i16, offset: i16, bytes: usize) -> bool
+    requires { bytes ≤ 8 }
+    ensures { result ≡ is_in_frame (top +ℤ offset) bytes }
+{
+    let place = i64::from(top) + i64::from(offset);
+    let begins_inside = -512 <= place;
+    let ends_inside = place + bytes as i64 <= 0;
+    begins_inside && ends_inside
+}
+
+/// Which byte of the frame stands at an offset from a place, from the lowest.
+fn frame_byte(top: i16, offset: i16) -> usize
+    requires { negsuc 511 ≤ℤ (top +ℤ offset) }
+    ensures { result ≡ frame_index (top +ℤ offset) }
+{
+    let place = i64::from(top) + i64::from(offset);
+    (512 + place) as usize
+}
+
+/// The first byte of the frame at an offset from a place, if so many bytes lie in the frame.
+fn find_in_frame(top: i16, offset: i16, bytes: usize) -> Option<usize>
+    requires { bytes ≤ 8 }
+    ensures found { result ≡ (if is_in_frame (top +ℤ offset) bytes then Some (frame_index (top +ℤ offset)) else None) }
+    ensures inside { IfSome result (λ first. first + bytes ≤ 512) }
+{
+    if is_inside_frame(top, offset, bytes) {
+        Some(frame_byte(top, offset))
+    } else {
+        None
+    }
+}
+
+/// What a load through a value gives, in a record of so many bytes.
+pub fn load(
+    record_length: u16,
+    state: &AbstractState,
+    base: AbstractValue,
+    offset: i16,
+    size: Size,
+) -> Result<AbstractValue, Cause>
+    ensures { result ≡ loaded record_length state.now base offset (size_bytes size) }
+{
+    let bytes = bytes_of(size);
+    match base {
+        AbstractValue::Unset => Err(Cause::UnsetRegister),
+        AbstractValue::Number { .. } => Err(Cause::PointerUse),
+        AbstractValue::Record { lo, hi } => {
+            if is_inside_record(record_length, lo, hi, offset, bytes) {
+                Ok(any_number(bytes))
+            } else {
+                Err(Cause::OutOfRange)
+            }
+        }
+        AbstractValue::Stack { offset: top } => match find_in_frame(top, offset, bytes) {
+            None => Err(Cause::OutOfRange),
+            Some(first) => load_frame(state, first, bytes),
+        },
+    }
+}
+
+/// What a sign-extending load through a value gives.
+pub fn load_signed(
+    record_length: u16,
+    state: &AbstractState,
+    base: AbstractValue,
+    offset: i16,
+    size: SignedSize,
+) -> Result<AbstractValue, Cause>
+    ensures { result ≡ loaded_signed record_length state.now base offset size }
+{
+    let size = match size {
+        SignedSize::SignedByte => Size::Byte,
+        SignedSize::SignedHalf => Size::Half,
+        SignedSize::SignedWord => Size::Word,
+    };
+    load(record_length, state, base, offset, size)?;
+    Ok(AbstractValue::Number {
+        lo: 0,
+        hi: u64::MAX,
+    })
+}
+
+fn is_address(value: AbstractValue) -> bool
+    ensures { result ≡ is_pointer value }
+{
+    matches!(
+        value,
+        AbstractValue::Record { .. } | AbstractValue::Stack { .. }
+    )
+}
+
+/// Stores a value in the frame, if it may stand there.
+fn store_in_frame(
+    state: &mut AbstractState,
+    top: i16,
+    offset: i16,
+    bytes: usize,
+    value: AbstractValue,
+) -> Result<(), Cause>
+    requires some { 1 ≤ bytes }
+    requires few { bytes ≤ 8 }
+    ensures stored { stored_in_frame state.old (top +ℤ offset) bytes value ≡ stored_answer result state.new }
+    ensures unchanged { IfErr result (λ cause. state.new ≡ state.old) }
+{
+    match find_in_frame(top, offset, bytes) {
+        None => {
+            if is_address(value) {
+                Err(Cause::PointerUse)
+            } else {
+                Err(Cause::OutOfRange)
+            }
+        }
+        Some(first) => {
+            if is_address(value) && !is_whole_slot(first, bytes) {
+                return Err(Cause::PointerUse);
+            }
+            store_frame(state, first, bytes, value);
+            Ok(())
+        }
+    }
+}
+
+/// What is known after a store of a value through another; it changes nothing where it is refused. The
+/// stored value must be set.
+pub fn store(
+    record_length: u16,
+    state: &mut AbstractState,
+    base: AbstractValue,
+    offset: i16,
+    size: Size,
+    value: AbstractValue,
+) -> Result<(), Cause>
+    ensures stored { stored_through record_length state.old base offset (size_bytes size) value ≡ stored_answer result state.new }
+    ensures unchanged { IfErr result (λ cause. state.new ≡ state.old) }
+{
+    let bytes = bytes_of(size);
+    match base {
+        AbstractValue::Unset => Err(Cause::UnsetRegister),
+        AbstractValue::Number { .. } => Err(Cause::PointerUse),
+        AbstractValue::Record { lo, hi } => {
+            if is_address(value) {
+                return Err(Cause::PointerUse);
+            }
+            if is_inside_record(record_length, lo, hi, offset, bytes) {
+                Ok(())
+            } else {
+                Err(Cause::OutOfRange)
+            }
+        }
+        AbstractValue::Stack { offset: top } => store_in_frame(state, top, offset, bytes, value),
+    }
+}

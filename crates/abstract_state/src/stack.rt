@@ -1,0 +1,98 @@
+//! The bytes and slots of the frame.
+ghost use Rattle.std.specs.Prelude.{◌≡◌, ◌+◌, ◌*◌, ◌-◌, ◌^◌, ◌<◌, ◌≤◌};
+ghost use Rattle.abstract_state.specs.Memory.{is_slot, is_spilled, are_set, any_of_size, frame_value, frame_loaded, set_from, spills_ended, frame_stored};
+
+use crate::state::AbstractState;
+use abstract_values::{AbstractValue, Cause};
+
+/// Whether so many bytes from byte `first` are all set.
+fn are_bytes_set(flags: &[bool; 512], first: usize, bytes: usize) -> bool
+    requires inside { first + bytes ≤ 512 }
+    ensures { result ≡ are_set flags.now first bytes }
+{
+    for i in 0..bytes {
+        if !flags[first + i] {
+            return false;
+        }
+    }
+    true
+}
+
+/// Sets so many bytes from byte `first`.
+fn set_bytes(flags: &mut [bool; 512], first: usize, bytes: usize)
+    requires inside { first + bytes ≤ 512 }
+    ensures { flags.new ≡ set_from flags.old first bytes }
+{
+    for i in 0..bytes {
+        flags[first + i] = true;
+    }
+}
+
+/// Whether bytes are a whole slot.
+pub(crate) fn is_whole_slot(first: usize, bytes: usize) -> bool
+    ensures { result ≡ is_slot first bytes }
+{
+    bytes == 8 && first.is_multiple_of(8)
+}
+
+/// Any number of so many bytes.
+pub(crate) fn any_number(bytes: usize) -> AbstractValue
+    requires some { 1 ≤ bytes }
+    requires few { bytes ≤ 8 }
+    ensures { result ≡ any_of_size bytes }
+{
+    AbstractValue::Number {
+        lo: 0,
+        hi: u64::MAX >> (64 - 8 * bytes),
+    }
+}
+
+/// What is read from bytes of the frame.
+pub(crate) fn load_frame(
+    state: &AbstractState,
+    first: usize,
+    bytes: usize,
+) -> Result<AbstractValue, Cause>
+    requires inside { first + bytes ≤ 512 }
+    requires some { 1 ≤ bytes }
+    requires few { bytes ≤ 8 }
+    ensures { result ≡ frame_loaded state.now first bytes }
+{
+    if !are_bytes_set(&state.bytes_set, first, bytes) {
+        return Err(Cause::UnsetStackByte);
+    }
+    let spilled = state.slots[first / 8];
+    if is_whole_slot(first, bytes) && !matches!(spilled, AbstractValue::Unset) {
+        return Ok(spilled);
+    }
+    Ok(any_number(bytes))
+}
+
+/// Ends what is known of the slots that bytes touch.
+fn end_spills(slots: &mut [AbstractValue; 64], first: usize, bytes: usize)
+    requires inside { first + bytes ≤ 512 }
+    requires some { 1 ≤ bytes }
+    ensures { slots.new ≡ spills_ended slots.old first bytes }
+{
+    slots[first / 8] = AbstractValue::Unset;
+    slots[(first + bytes - 1) / 8] = AbstractValue::Unset;
+}
+
+/// Writes a value to bytes of the frame.
+pub(crate) fn store_frame(
+    state: &mut AbstractState,
+    first: usize,
+    bytes: usize,
+    value: AbstractValue,
+)
+    requires inside { first + bytes ≤ 512 }
+    requires some { 1 ≤ bytes }
+    ensures { state.new ≡ frame_stored state.old first bytes value }
+{
+    set_bytes(&mut state.bytes_set, first, bytes);
+    if is_whole_slot(first, bytes) {
+        state.slots[first / 8] = value;
+    } else {
+        end_spills(&mut state.slots, first, bytes);
+    }
+}

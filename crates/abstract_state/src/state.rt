@@ -1,0 +1,53 @@
+ghost use Rattle.std.specs.Prelude.{◌≡◌};
+
+use abstract_values::AbstractValue;
+use bpf_isa::Register;
+
+/// What is known of all registers and of the stack of a frame at a place.
+#[derive(Clone, Copy, Debug, PartialEq, Eq)]
+pub struct AbstractState {
+    /// R0 to R10, by number.
+    pub registers: [AbstractValue; 11],
+    /// Which stack bytes are set, from the lowest.
+    pub bytes_set: [bool; 512],
+    /// What was spilled to each aligned slot of eight bytes, from the lowest; `Unset` where nothing was.
+    pub slots: [AbstractValue; 64],
+}
+
+impl AbstractState {
+    ghost use Rattle.abstract_state.specs.States.{register, with_register, entry_state};
+
+    /// What is known where a program begins, of a record of so many bytes.
+    pub fn entry(record_length: u16) -> AbstractState
+        ensures { result ≡ entry_state record_length }
+    {
+        let unset = AbstractValue::Unset;
+        let record = AbstractValue::Record { lo: 0, hi: 0 };
+        let length = AbstractValue::Number {
+            lo: u64::from(record_length),
+            hi: u64::from(record_length),
+        };
+        let stack = AbstractValue::Stack { offset: 0 };
+        AbstractState {
+            registers: [
+                unset, record, length, unset, unset, unset, unset, unset, unset, unset, stack,
+            ],
+            bytes_set: [false; 512],
+            slots: [AbstractValue::Unset; 64],
+        }
+    }
+
+    /// What is known of a register.
+    pub fn register(&self, name: Register) -> AbstractValue
+        ensures { result ≡ register self.now name }
+    {
+        self.registers[name.number() as usize]
+    }
+
+    /// Sets what is known of a register.
+    pub fn set_register(&mut self, name: Register, value: AbstractValue)
+        ensures { self.new ≡ with_register self.old name value }
+    {
+        self.registers[name.number() as usize] = value;
+    }
+}
