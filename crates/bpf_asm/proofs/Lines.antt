@@ -14,11 +14,11 @@ use Rattle.bpf_asm.proofs.Bytes.{same_bytes-pointwise}
 
 -- ---- one line more
 
-units_more : (xs : List Item) (i : Item) → units (xs ++ (i ∷ [])) ≡ units xs + item_units i
+pub units_more : (xs : List Item) (i : Item) → units (xs ++ (i ∷ [])) ≡ units xs + item_units i
 units_more [] i = omega arith
 units_more (x ∷ xs) i = omega (arith, units_more xs i)
 
-place_other : (pc : ℕ) (q : List ℕ) (xs : List Item) (i : Item) → is_label q i ≡ false → place_from pc q (xs ++ (i ∷ [])) ≡ place_from pc q xs
+pub place_other : (pc : ℕ) (q : List ℕ) (xs : List Item) (i : Item) → is_label q i ≡ false → place_from pc q (xs ++ (i ∷ [])) ≡ place_from pc q xs
 place_other pc q [] i other = simp other
 place_other pc q (x ∷ xs) i other = elim (cases_Bool (is_label q x)) [
   | inl here ↦ simp here

@@ -5,3 +5,4 @@ pub mod Words
 pub mod Statements
 pub mod Assembly
 pub mod Said
+pub mod Laws

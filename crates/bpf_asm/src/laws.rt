@@ -1,0 +1,15 @@
+//! The law of both directions. The function does nothing: its contract is the law.
+ghost use Rattle.bpf_asm.specs.Laws.{ProgramHasText, TextMeansCode};
+
+use bpf_isa::decoded_is_code;
+
+/// Assembling the disassembly gives the code again.
+pub fn disassembly_assembles(code: &[u8])
+    // Each code of at most 4,096 units that decodes to its end, and whose jumps and local calls go to
+    // instructions, has a text, which means the code.
+    ensures program { ProgramHasText code.now }
+    // No other code has a text.
+    ensures text { TextMeansCode code.now }
+{
+    decoded_is_code(code);
+}
