@@ -5,10 +5,10 @@ use bpf_isa::decoded_is_code;
 
 /// Assembling the disassembly gives the code again.
 pub fn disassembly_assembles(code: &[u8])
-    // Each code of at most 4,096 units that decodes to its end, and whose jumps and local calls go to
-    // instructions, has a text, which means the code.
+    // Code of at most 4,096 units that decodes to its end, and whose jumps and local calls go to starts of
+    // instructions, has a text, and the text means the code.
     ensures program { ProgramHasText code.now }
-    // No other code has a text.
+    // What has a text is such a code, and its text means it.
     ensures text { TextMeansCode code.now }
 {
     decoded_is_code(code);
