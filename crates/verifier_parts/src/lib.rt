@@ -1,0 +1,11 @@
+//! The verifier's rules over one instruction: what it asks of what is known before it, and what is known
+//! on each way behind it. Every step of a run follows one of these ways. No call takes memory.
+#![tactic(auto)]
+
+mod laws;
+mod onward;
+mod rules;
+
+pub use laws::step_describes;
+pub use onward::Onward;
+pub use rules::step_over;
