@@ -1,5 +1,5 @@
 -- How the code's answers are read as ways.
-use Rattle.std.specs.Prelude.{ℕ, ◌+◌, pos, [], ◌∷◌, Result, Ok, Err}
+use Rattle.std.specs.Prelude.{ℕ, ◌+◌, [], ◌∷◌, Result, Ok, Err}
 use Rattle.bpf_isa.specs.declared.instruction.Instruction.{Instruction}
 use Rattle.bpf_isa.specs.declared.instruction.Instruction.TheVariants.{Jump, Branch}
 use Rattle.bpf_isa.specs.Encoding.{units_of}
@@ -10,6 +10,11 @@ use Rattle.abstract_state.specs.declared.state.AbstractState.{AbstractState}
 use Rattle.verifier_parts.specs.declared.onward.Onward.{Onward}
 use Rattle.verifier_parts.specs.declared.onward.Onward.TheVariants.{Ends, Next, Jumps, Splits}
 use Rattle.verifier_parts.specs.Rules.{Ways, onward, target, branch_ways}
+
+-- the ways onward from a pc behind a write or a store
+abbrev pub written_answer : ℕ → Result (Unit {0}) Cause → AbstractState → Result Ways Cause
+written_answer pc (Ok done) s = Ok (onward pc s)
+written_answer pc (Err cause) s = Err cause
 
 -- where a jump at a pc goes
 abbrev pub jump_ways : ℕ → Instruction → AbstractState → Ways

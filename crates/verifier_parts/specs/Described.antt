@@ -1,5 +1,5 @@
 -- What is known of a state describes it, and the ways onward describe what a step leads to.
-use Rattle.std.specs.Prelude.{◌≡◌, ℕ, List, [], ◌∷◌, ◌⊎◌, ℤ, ⊤}
+use Rattle.std.specs.Prelude.{◌≡◌, ℕ, [], ◌∷◌, ◌⊎◌, ℤ, ⊤}
 use Rattle.bpf_model.specs.State.{State, frame_top}
 use Rattle.bpf_model.specs.Step.{Next, Goes, Exits, Traps}
 use Rattle.abstract_state.specs.declared.state.AbstractState.{AbstractState}

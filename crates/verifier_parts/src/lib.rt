@@ -2,10 +2,14 @@
 //! on each way behind it. Every step of a run follows one of these ways. No call takes memory.
 #![tactic(auto)]
 
-mod laws;
+mod access;
+mod arithmetic;
+mod branches;
 mod onward;
+mod reading;
 mod rules;
+mod writing;
 
-pub use laws::step_describes;
 pub use onward::Onward;
 pub use rules::step_over;
+pub use writing::take_side;
