@@ -5,11 +5,13 @@
 mod access;
 mod arithmetic;
 mod branches;
+mod laws;
 mod onward;
 mod reading;
 mod rules;
 mod writing;
 
+pub use laws::step_describes;
 pub use onward::Onward;
 pub use rules::step_over;
 pub use writing::take_side;
