@@ -9,6 +9,8 @@ mod laws;
 mod onward;
 mod reading;
 mod rules;
+#[cfg(test)]
+mod tests;
 mod writing;
 
 pub use laws::step_describes;
