@@ -41,14 +41,14 @@ number_same m n a (suc size) same =
     let rest = number_same m n (a + 1) size (λ i lt. let place : a + (i + 1) ≡ (a + 1) + i = omega arith in let next = same (i + 1) (omega (arith, lt)) in (rw place at next)) in
     rw (first, rest) refl
 
-set_other : {A : Type 0} (xs : List A) (i j : ℕ) (v d : A) → j ≢ i → get_or (set xs i v) j d ≡ get_or xs j d
+pub set_other : {A : Type 0} (xs : List A) (i j : ℕ) (v d : A) → j ≢ i → get_or (set xs i v) j d ≡ get_or xs j d
 set_other [] i j v d other = refl
 set_other (x ∷ xs) zero zero v d other = absurd (other refl)
 set_other (x ∷ xs) zero (suc j) v d other = refl
 set_other (x ∷ xs) (suc i) zero v d other = refl
 set_other (x ∷ xs) (suc i) (suc j) v d other = set_other xs i j v d (λ e. other (ap suc e))
 
-set_described : (l top : ℕ) (xs : List AbstractValue) (i : ℕ) (v : AbstractValue) (x : Option ℕ) → Describes l top v x → Describes l top (get_or (set xs i v) i Unset) x
+pub set_described : (l top : ℕ) (xs : List AbstractValue) (i : ℕ) (v : AbstractValue) (x : Option ℕ) → Describes l top v x → Describes l top (get_or (set xs i v) i Unset) x
 set_described l top [] i v x d = tt
 set_described l top (y ∷ ys) zero v x d = d
 set_described l top (y ∷ ys) (suc i) v x d = set_described l top ys i v x d

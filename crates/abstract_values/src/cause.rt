@@ -1,11 +1,29 @@
 use thiserror::Error;
 
-/// Which rule a program breaks. The numbers are part of the script language.
+/// Which of the verifier's rules a program breaks. The numbers are part of the script language.
 #[derive(Clone, Copy, Debug, PartialEq, Eq, Error)]
 pub enum Cause {
+    /// No instruction stands there, or one that the verifier does not know yet.
+    #[error("no known instruction")]
+    BadInstruction = 1,
+    /// A jump goes to no instruction, or out of its function.
+    #[error("a jump goes to no instruction of its function")]
+    JumpOut = 2,
+    /// A jump goes back, or to itself.
+    #[error("a jump goes back")]
+    JumpBack = 3,
+    /// The last instruction of a function goes on behind its end.
+    #[error("the last instruction is no exit")]
+    FallsOff = 5,
+    /// Some walk through the code counts more instructions than a run may have.
+    #[error("a run may be too long")]
+    TooLong = 7,
     /// A register is read of which nothing is known.
     #[error("an unset register is read")]
     UnsetRegister = 8,
+    /// R10 is written.
+    #[error("r10 is written")]
+    FrameRegister = 9,
     /// A pointer is used where only a number may be, or a number where only a pointer may be.
     #[error("a pointer is used as a number, or a number as a pointer")]
     PointerUse = 10,
@@ -15,4 +33,10 @@ pub enum Cause {
     /// A stack byte is read that may not be set.
     #[error("an unset stack byte is read")]
     UnsetStackByte = 12,
+    /// The result of a function is a pointer.
+    #[error("the result is a pointer")]
+    ResultNotNumber = 15,
+    /// There was no memory for what is known of the program.
+    #[error("out of memory")]
+    OutOfMemory = 16,
 }

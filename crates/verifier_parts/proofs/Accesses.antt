@@ -1,0 +1,87 @@
+-- A load or a store that the rules allow does not trap, and leaves what they describe.
+use Rattle.std.proofs.Common.{◌≡◌, ℕ, ◌+◌, ◌-◌, ◌^◌, ◌<◌, ◌≤◌, [], true, Some, Result, Ok, Err, refl, ap, subst, ◌∙◌, arith, inl, inr}
+use Rattle.std.specs.Prelude.{ℤ, pos, ◌+ℤ◌, FitsSigned}
+use Rattle.std.specs.Int.{w16}
+use Rattle.std.proofs.lemmas.Bool.{or_left, or_right, and_from, le-leb}
+use Rattle.bpf_isa.specs.declared.register.Register.{Register}
+use Rattle.bpf_isa.specs.declared.instruction.Size.{Size}
+use Rattle.bpf_isa.specs.declared.instruction.SignedSize.{SignedSize}
+use Rattle.bpf_isa.specs.declared.instruction.SignedSize.TheVariants.{SignedByte, SignedHalf, SignedWord}
+use Rattle.bpf_isa.specs.declared.instruction.Extension.TheVariants.{From8To64, From16To64, From32To64}
+use Rattle.bpf_model.specs.Arithmetic.{sign_extended}
+use Rattle.bpf_model.specs.State.{State, stored_all, in_frame, may_access, address_at}
+use Rattle.bpf_model.specs.Step.{Goes, size_bytes, plain_size, load_extension, low_bytes, load, store, put}
+use Rattle.bpf_model.proofs.ArithmeticFacts.{extended_fits}
+use Rattle.abstract_values.specs.declared.cause.Cause.{Cause}
+use Rattle.abstract_values.specs.declared.value.AbstractValue.{AbstractValue}
+use Rattle.abstract_values.specs.declared.value.AbstractValue.TheVariants.{Number}
+use Rattle.abstract_values.specs.Described.{Describes}
+use Rattle.abstract_state.specs.declared.state.AbstractState.{AbstractState}
+use Rattle.abstract_state.specs.Memory.{loaded, loaded_signed, any_number_where, stored_through}
+use Rattle.abstract_state.specs.Memory as rules
+use Rattle.abstract_state.specs.Described.{IsAllowed}
+use Rattle.abstract_state.proofs.Loads.{load_describes}
+use Rattle.abstract_state.proofs.Stores.{store_describes}
+use Rattle.verifier_parts.specs.Rules.{Ways, onward, written, behind_store}
+use Rattle.verifier_parts.specs.Described.{DescribesState, Follows}
+use Rattle.verifier_parts.proofs.Parts.{ok, bind_ok, writes_from}
+use Rattle.verifier_parts.proofs.Known.{top}
+use Rattle.verifier_parts.proofs.Stored.{stored_number}
+use Rattle.verifier_parts.proofs.Writes.{put_follows}
+
+-- an access in the record or in the only frame
+allowed : (l : ℕ) (s : State) (a size : ℕ) → s.callers ≡ [] → IsAllowed l top a size → may_access l s a size ≡ true
+allowed l s a size none (inl within) = or_left _ _ within
+allowed l s a size none (inr inside) =
+    let here : in_frame 0 a size ≡ true = and_from _ _ (le-leb _ _ inside.0) (le-leb _ _ inside.1) in
+    rw none (or_right _ _ (or_left _ _ here))
+
+-- a plain load
+pub load_follows : (l pc : ℕ) (b : AbstractValue) (z : ℤ) (a : AbstractState) (s : State) (d : Register) (size : Size) (x : ℕ) (ws : Ways) → l ≤ 256 → FitsSigned w16 z → s.pc ≡ pos pc → DescribesState l a s → Describes l top b (Some x) → written (pc + 1) a d (loaded l a b z (size_bytes size)) ≡ ok ws → Follows l (load l s (address_at x z) size (put s 1 d)) ws
+load_follows l pc b z a s d size x ws short fits at described base h =
+    let w = writes_from (pc + 1) a d (loaded l a b z (size_bytes size)) ws h in
+    let n = load_describes l top a s.registers s.memory b w.value z size x (omega (arith, short)) (omega arith) (omega arith) fits w.from described.parts base in
+    let may = allowed l s (address_at x z) (size_bytes size) described.no_callers n.1 in
+    rw (may, n.2) (put_follows l pc 1 a s d (ok w.value) n.0 ws at described (subst (λ r. written (pc + 1) a d r ≡ ok ws) w.from h) (λ v e. let same : w.value ≡ v = cc in subst (λ u. Describes l top u (Some n.0)) same n.3))
+
+-- both crates name the same plain size
+plain_same : (size : SignedSize) → size_bytes (plain_size size) ≡ size_bytes (rules.plain_size size)
+plain_same SignedByte = refl
+plain_same SignedHalf = refl
+plain_same SignedWord = refl
+
+any_number : (l n : ℕ) → n < 2 ^ 64 → Describes l top (Number 0 (2 ^ 64 - 1)) (Some n)
+any_number l n lt = (n, refl, omega arith, omega (arith, lt), lt)
+
+-- what a sign-extending load leaves has 64 bits
+extended_64 : (size : SignedSize) (n : ℕ) → sign_extended (load_extension size) n < 2 ^ 64
+extended_64 SignedByte n = extended_fits From8To64 n
+extended_64 SignedHalf n = extended_fits From16To64 n
+extended_64 SignedWord n = extended_fits From32To64 n
+
+-- a sign-extending load is a plain one of any number
+any_from : (r : Result AbstractValue Cause) (v : AbstractValue) → any_number_where r ≡ ok v → (u : AbstractValue) × (r ≡ ok u) × (Number 0 (2 ^ 64 - 1) ≡ v)
+any_from (Ok u) v h = (u, refl, cc)
+any_from (Err cause) v h = absurd cc
+
+pub load_extended_follows : (l pc : ℕ) (b : AbstractValue) (z : ℤ) (a : AbstractState) (s : State) (d : Register) (size : SignedSize) (x : ℕ) (ws : Ways) → l ≤ 256 → FitsSigned w16 z → s.pc ≡ pos pc → DescribesState l a s → Describes l top b (Some x) → written (pc + 1) a d (loaded_signed l a b z size) ≡ ok ws → Follows l (load l s (address_at x z) (plain_size size) (λ n. put s 1 d (sign_extended (load_extension size) n))) ws
+load_extended_follows l pc b z a s d size x ws short fits at described base h =
+    let w = writes_from (pc + 1) a d (loaded_signed l a b z size) ws h in
+    let u = any_from (loaded l a b z (size_bytes (rules.plain_size size))) w.value w.from in
+    let from : loaded l a b z (size_bytes (plain_size size)) ≡ ok u.0 = ap (λ k. loaded l a b z k) (plain_same size) ∙ u.1 in
+    let n = load_describes l top a s.registers s.memory b u.0 z (plain_size size) x (omega (arith, short)) (omega arith) (omega arith) fits from described.parts base in
+    let may = allowed l s (address_at x z) (size_bytes (plain_size size)) described.no_callers n.1 in
+    let m = sign_extended (load_extension size) n.0 in
+    rw (may, n.2) (put_follows l pc 1 a s d (ok w.value) m ws at described (subst (λ r. written (pc + 1) a d r ≡ ok ws) w.from h) (λ v e. let same : Number 0 (2 ^ 64 - 1) ≡ v = (let f : w.value ≡ v = cc in u.2 ∙ f) in subst (λ t. Describes l top t (Some m)) same (any_number l m (extended_64 size n.0))))
+
+-- a store
+pub store_follows : (l pc : ℕ) (b v : AbstractValue) (z : ℤ) (a : AbstractState) (s : State) (size : Size) (x n : ℕ) (ws : Ways) → l ≤ 256 → FitsSigned w16 z → n < 2 ^ 64 → s.pc ≡ pos pc → DescribesState l a s → Describes l top b (Some x) → Describes l top v (Some n) → behind_store (pc + 1) (stored_through l a b z (size_bytes size) v) ≡ ok ws → Follows l (store l s (address_at x z) size n) ws
+store_follows l pc b v z a s size x n ws short fits lt at described base value h =
+    let parts = bind_ok (stored_through l a b z (size_bytes size) v) (λ t. ok (onward (pc + 1) t)) ws h in
+    let t = parts.0 in
+    let ways : onward (pc + 1) t ≡ ws = (let e : ok (onward (pc + 1) t) ≡ ok ws = parts.2 in cc) in
+    let after = stored_all s.memory (address_at x z) (low_bytes size n) in
+    let left = store_describes l top a t s.registers s.memory after b v z size x n (omega (arith, short)) (omega arith) (omega arith) fits lt parts.1 described.parts base value (stored_number s.memory (address_at x z) size n) in
+    let may = allowed l s (address_at x z) (size_bytes size) described.no_callers left.0 in
+    let moved : s.pc +ℤ pos 1 ≡ pos (pc + 1) = ap (λ y. y +ℤ pos 1) at in
+    rw may (subst (λ u. Follows l (Goes (record s { pc = s.pc +ℤ pos 1; memory = after })) u) ways ((pos (pc + 1), t), inl refl, moved, record { parts = left.1; no_callers = described.no_callers }))

@@ -1,0 +1,4 @@
+pub mod Rules
+pub mod Answers
+pub mod Described
+pub mod Laws
