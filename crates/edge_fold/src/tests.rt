@@ -32,7 +32,7 @@ fn loader(alloc: Global, place: u8) -> Result<Verified, Fail>
     let Ok(image) = Image::new(16, code.to_vec(alloc)?) else {
         return Err(Fail::from("no image"));
     };
-    match verify(image) {
+    match verify(alloc, image) {
         Ok(program) => Ok(program),
         Err(_) => Err(Fail::from("refused")),
     }

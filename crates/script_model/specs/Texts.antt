@@ -1,8 +1,8 @@
 -- The lines that are written.
 use Rattle.std.specs.Prelude.{ℕ, List, [], ◌∷◌, ◌++◌, codes}
 use Rattle.std.specs.Fmt.{decimal}
-use Rattle.verifier.specs.declared.refusal.Cause.{Cause}
-use Rattle.verifier.specs.declared.refusal.Cause.TheVariants.{BadInstruction, FallsOff, UnsetRegister, FrameRegister, PointerUse, OutOfRange, UnsetStackByte, ResultNotNumber}
+use Rattle.abstract_values.specs.declared.cause.Cause.{Cause}
+use Rattle.abstract_values.specs.declared.cause.Cause.TheVariants.{BadInstruction, JumpOut, JumpBack, FallsOff, TooLong, UnsetRegister, FrameRegister, PointerUse, OutOfRange, UnsetStackByte, ResultNotNumber, OutOfMemory}
 use Rattle.verifier.specs.declared.refusal.Refusal.{Refusal}
 use Rattle.script_model.specs.declared.fault.Fault.{Fault}
 use Rattle.script_model.specs.declared.fault.Fault.TheVariants as faults
@@ -24,13 +24,17 @@ fault_number faults.OpenBlock = 10
 
 abbrev pub cause_number : Cause → ℕ
 cause_number BadInstruction = 1
+cause_number JumpOut = 2
+cause_number JumpBack = 3
 cause_number FallsOff = 5
+cause_number TooLong = 7
 cause_number UnsetRegister = 8
 cause_number FrameRegister = 9
 cause_number PointerUse = 10
 cause_number OutOfRange = 11
 cause_number UnsetStackByte = 12
 cause_number ResultNotNumber = 15
+cause_number OutOfMemory = 16
 
 abbrev pub graph_text : ℕ → List ℕ
 graph_text n = codes "graph " ++ decimal n ++ newline

@@ -23,7 +23,7 @@ use script_model::Fault;
 use service_parts::{BatchLine, Command, Line, batch_line, command_line, is_plain_line};
 use std::alloc::Global;
 use std::marker::Model;
-use verifier::verify;
+use verifier::{Cause, verify};
 use versions::{PublishError, Publisher, Store, StoreError};
 
 /// The greatest length of a line, in bytes, its end left out.
@@ -224,8 +224,11 @@ impl Session {
     fn judge(&mut self, text: &mut Vec<u8>, name: &[u8], image: Image) -> Result<(), SessionError>
         ensures { OnOk result (Executes (judged (verdict image) name.now image self.old) (Ok None) text.old.items text.new.items self.new) }
     {
-        match verify(image) {
+        match verify(self.alloc, image) {
             Err((_, refusal)) => {
+                if matches!(refusal.cause, Cause::OutOfMemory) {
+                    return Err(SessionError::OutOfMemory);
+                }
                 put_refused(text, name, refusal)?;
                 Ok(())
             }

@@ -104,13 +104,17 @@ fn number_of_cause(cause: Cause) -> u64
 {
     match cause {
         Cause::BadInstruction => 1,
+        Cause::JumpOut => 2,
+        Cause::JumpBack => 3,
         Cause::FallsOff => 5,
+        Cause::TooLong => 7,
         Cause::UnsetRegister => 8,
         Cause::FrameRegister => 9,
         Cause::PointerUse => 10,
         Cause::OutOfRange => 11,
         Cause::UnsetStackByte => 12,
         Cause::ResultNotNumber => 15,
+        Cause::OutOfMemory => 16,
     }
 }
 

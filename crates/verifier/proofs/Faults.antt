@@ -1,7 +1,7 @@
 -- The first fault of a pass, as a loop over the pcs finds it.
 use Rattle.std.proofs.Common.{◌≡◌, ℕ, zero, suc, ◌+◌, ◌<◌, Option, Some, None, refl, arith, inl, inr}
 use Rattle.std.proofs.lemmas.Bool.{cases_eq}
-use Rattle.verifier.specs.declared.refusal.Cause.{Cause}
+use Rattle.abstract_values.specs.declared.cause.Cause.{Cause}
 use Rattle.verifier.specs.declared.refusal.Refusal.{Refusal}
 use Rattle.verifier.specs.Verdict.{fault_after, first_fault}
 

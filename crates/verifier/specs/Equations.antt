@@ -1,30 +1,14 @@
 -- What is known at each pc, as equations: at pc 0 it is the entry state, and at any other pc the join
 -- of what comes by the walked ways into it. A pc with no such way is not walked.
-use Rattle.std.specs.Prelude.{◌≡◌, ℕ, zero, suc, ◌<◌, ◌==◌, min, max, if◌then◌else◌, pos, List, [], ◌∷◌, Option, Some, None, Result, Ok, Err}
+use Rattle.std.specs.Prelude.{◌≡◌, ℕ, zero, suc, ◌<◌, ◌==◌, if◌then◌else◌, pos, [], ◌∷◌, Option, Some, None, Result, Ok, Err}
 use Rattle.std.specs.Ordering.{int_eq}
 use Rattle.bpf_isa.specs.declared.instruction.Instruction.{Instruction}
 use Rattle.bpf_image.specs.Program.{Program, units}
-use Rattle.verifier.specs.declared.refusal.Cause.{Cause}
-use Rattle.verifier.specs.declared.value.AbstractValue.{AbstractValue}
-use Rattle.verifier.specs.declared.value.AbstractValue.TheVariants.{Unset, Number, Record, Stack}
-use Rattle.verifier.specs.declared.state.AbstractState.{AbstractState}
+use Rattle.abstract_values.specs.declared.cause.Cause.{Cause}
+use Rattle.abstract_state.specs.declared.state.AbstractState.{AbstractState}
+use Rattle.abstract_state.specs.States.{entry_state, joined_state}
+use Rattle.verifier_parts.specs.Rules.{Ways, transfer}
 use Rattle.verifier.specs.Listing.{instruction_at}
-use Rattle.verifier.specs.Rules.{Ways, transfer}
-
--- the least value that says no more than either
-abbrev pub joined : AbstractValue → AbstractValue → AbstractValue
-joined (Number a b) (Number c d) = Number (min a c) (max b d)
-joined (Record a b) (Record c d) = Record (min a c) (max b d)
-joined (Stack a) (Stack b) = if int_eq a b then Stack a else Unset
-joined _ _ = Unset
-
-abbrev pub joined_values : List AbstractValue → List AbstractValue → List AbstractValue
-joined_values [] ys = []
-joined_values (x ∷ xs) [] = []
-joined_values (x ∷ xs) (y ∷ ys) = joined x y ∷ joined_values xs ys
-
-abbrev pub joined_state : AbstractState → AbstractState → AbstractState
-joined_state s t = record { registers = joined_values s.registers t.registers }
 
 -- what is known by one way more
 abbrev pub joined_with : Option AbstractState → AbstractState → Option AbstractState
@@ -35,11 +19,6 @@ joined_with (Some s) t = Some (joined_state s t)
 abbrev pub joined_ways : Option AbstractState → Ways → ℕ → Option AbstractState
 joined_ways known [] q = known
 joined_ways known (w ∷ ws) q = joined_ways (if int_eq w.0 (pos q) then joined_with known w.1 else known) ws q
-
--- at entry R1 is the record's address, R2 its length, and R10 the top of the frame
-abbrev pub entry_state : ℕ → AbstractState
-entry_state record_length =
-    record { registers = Unset ∷ Record 0 0 ∷ Number record_length record_length ∷ Unset ∷ Unset ∷ Unset ∷ Unset ∷ Unset ∷ Unset ∷ Unset ∷ Stack (pos 0) ∷ [] }
 
 -- what is known at each pc, where it is walked
 abbrev pub Assignment : Type 0

@@ -1,9 +1,7 @@
 pub mod Listing
-pub mod Rules
-pub mod Answers
 pub mod Equations
 pub mod Walks
 pub mod Verdict
-pub mod Described
 pub mod Sound
 pub mod Laws
+pub mod Tables

@@ -1,26 +1,30 @@
 -- A program that was accepted never goes wrong: every state that a run of it reaches is described by
 -- what is known at its pc, no step traps, and the run exits within the bound.
-use Rattle.std.specs.Prelude.{◌≡◌, ℕ, ◌+◌, ◌-◌, ◌<◌, ◌≤◌, pos, List, length, Some, slice_index}
+use Rattle.std.specs.Prelude.{◌≡◌, ℕ, ◌+◌, ◌<◌, ◌≤◌, pos, List, length, Some, slice_index}
 use Rattle.bpf_image.specs.Program.{Program, units, IsImage}
 use Rattle.graph_model.specs.Graph.{Graph}
 use Rattle.bpf_model.specs.State.{State, start}
 use Rattle.bpf_model.specs.Step.{Next, Goes, Exits, Traps}
 use Rattle.bpf_model.specs.Run.{after}
-use Rattle.verifier.specs.declared.state.AbstractState.{AbstractState}
+use Rattle.bpf_isa.specs.declared.instruction.Instruction.{Instruction}
+use Rattle.abstract_state.specs.declared.state.AbstractState.{AbstractState}
+use Rattle.verifier_parts.specs.Described.{DescribesState}
+use Rattle.verifier.specs.Listing.{instruction_at}
 use Rattle.verifier.specs.Equations.{assigned}
-use Rattle.verifier.specs.Walks.{longest, longest_from, IsLongest}
+use Rattle.verifier.specs.Walks.{longest, count_from, IsLongest}
 use Rattle.verifier.specs.Verdict.{Accepted, verdict}
-use Rattle.verifier.specs.Described.{DescribesState}
 
--- after k steps the run stands at a walked pc, as known there, and a walk from there fits in the bound
+-- after k steps the run stands at an instruction, as known there, and a walk from there fits in the bound
 pub record Stands (p : Program) (k : ℕ) (s : State) : Type 0 where
   pub place : ℕ
   pub pc : s.pc ≡ pos place
   pub inside : place < units p
+  pub instruction : Instruction
+  pub found : instruction_at p place ≡ Some instruction
   pub abstract_state : AbstractState
   pub walked : assigned p place ≡ Some abstract_state
   pub described : DescribesState p.record_length abstract_state s
-  pub steps : k + longest_from p (units p - place) place ≤ longest p
+  pub steps : k + count_from p place ≤ longest p
 
 -- after so many steps a run stands at a place that is described, or it has exited: it has not trapped
 abbrev pub IsFine : Program → ℕ → Next → Type 0

@@ -1,15 +1,17 @@
 -- The verifier's answer: the first broken rule by pass, pc and cause, or the bound of a program that
 -- breaks none.
-use Rattle.std.specs.Prelude.{ℕ, zero, suc, ◌+◌, ◌==◌, if◌then◌else◌, Option, Some, None, Result, Ok, Err}
+use Rattle.std.specs.Prelude.{◌≡◌, ℕ, zero, suc, ◌+◌, ◌==◌, nat_lt, nat_le, if◌then◌else◌, Bool, true, false, ℤ, pos, negsuc, Option, Some, None, Result, Ok, Err, ⊤}
 use Rattle.bpf_isa.specs.declared.instruction.Instruction.{Instruction}
+use Rattle.bpf_isa.specs.declared.instruction.Instruction.TheVariants.{Jump, Branch, Exit}
 use Rattle.bpf_isa.specs.Encoding.{units_of}
+use Rattle.bpf_model.specs.Step.{units_over}
 use Rattle.bpf_image.specs.Program.{Program, units}
-use Rattle.verifier.specs.declared.refusal.Cause.{Cause}
-use Rattle.verifier.specs.declared.refusal.Cause.TheVariants.{BadInstruction, FallsOff}
+use Rattle.abstract_values.specs.declared.cause.Cause.{Cause}
+use Rattle.abstract_values.specs.declared.cause.Cause.TheVariants.{BadInstruction, JumpOut, JumpBack, FallsOff, TooLong, OutOfMemory}
+use Rattle.abstract_state.specs.declared.state.AbstractState.{AbstractState}
+use Rattle.verifier_parts.specs.Rules.{Ways, target, transfer}
 use Rattle.verifier.specs.declared.refusal.Refusal.{Refusal}
-use Rattle.verifier.specs.declared.state.AbstractState.{AbstractState}
-use Rattle.verifier.specs.Listing.{instruction_at, is_start, is_exit}
-use Rattle.verifier.specs.Rules.{Ways, transfer}
+use Rattle.verifier.specs.Listing.{instruction_at, is_start}
 use Rattle.verifier.specs.Equations.{assigned}
 use Rattle.verifier.specs.Walks.{longest}
 
@@ -23,7 +25,8 @@ abbrev pub first_fault : (ℕ → Option Cause) → ℕ → Option Refusal
 first_fault fault zero = None
 first_fault fault (suc n) = fault_after (first_fault fault n) (fault n) n
 
--- first pass: each instruction is one that is known
+-- ---- first pass: each instruction is one that is known
+
 abbrev pub unknown_cause : Option Instruction → Option Cause
 unknown_cause None = Some BadInstruction
 unknown_cause (Some i) = None
@@ -31,16 +34,51 @@ unknown_cause (Some i) = None
 abbrev pub decoding_fault : Program → ℕ → Option Cause
 decoding_fault p pc = if is_start p pc then unknown_cause (instruction_at p pc) else None
 
--- second pass: the last instruction is an exit
-abbrev pub ending_cause : Option Instruction → ℕ → ℕ → Option Cause
-ending_cause None pc end = None
-ending_cause (Some i) pc end =
-    if is_exit i then None else (if pc + units_of i == end then Some FallsOff else None)
+-- ---- second pass: where jumps land, and what stands last
+
+abbrev pub is_there : Option Instruction → Bool
+is_there None = false
+is_there (Some i) = true
+
+-- a jump lands on an instruction, and behind itself
+abbrev pub landing_cause : Program → ℕ → ℤ → Option Cause
+landing_cause p pc (pos q) =
+    if is_there (instruction_at p q) then (if nat_le q pc then Some JumpBack else None) else Some JumpOut
+landing_cause p pc (negsuc n) = Some JumpOut
+
+-- the last instruction does not go on behind the end
+abbrev pub falling_cause : ℕ → ℕ → Option Cause
+falling_cause next end = if next == end then Some FallsOff else None
+
+abbrev pub or_else : Option Cause → Option Cause → Option Cause
+or_else (Some cause) other = Some cause
+or_else None other = other
+
+abbrev pub flow_cause : Program → ℕ → Instruction → Option Cause
+flow_cause p pc Exit = None
+flow_cause p pc (Jump distance) = landing_cause p pc (target pc (units_over distance))
+flow_cause p pc (Branch width comparison left right distance) =
+    or_else (landing_cause p pc (target pc distance)) (falling_cause (pc + 1) (units p))
+flow_cause p pc i = falling_cause (pc + units_of i) (units p)
+
+abbrev pub flow_at : Program → ℕ → Option Instruction → Option Cause
+flow_at p pc None = None
+flow_at p pc (Some i) = flow_cause p pc i
 
 abbrev pub flow_fault : Program → ℕ → Option Cause
-flow_fault p pc = if is_start p pc then ending_cause (instruction_at p pc) pc (units p) else None
+flow_fault p pc = flow_at p pc (instruction_at p pc)
 
--- third pass: at each walked pc the instruction's rules hold of what is known there
+-- ---- third pass: no walk counts too much
+
+-- the greatest count that a run may have
+abbrev pub most_counted : ℕ
+most_counted = 1000000
+
+abbrev pub length_fault : Program → Option Refusal
+length_fault p = if nat_lt most_counted (longest p) then Some (record { cause = TooLong; pc = 0 }) else None
+
+-- ---- fourth pass: at each walked pc the instruction's rules hold of what is known there
+
 abbrev pub broken : Result Ways Cause → Option Cause
 broken (Ok ws) = None
 broken (Err cause) = Some cause
@@ -52,6 +90,8 @@ rule_cause p pc (Some i) None = None
 
 abbrev pub rule_fault : Program → ℕ → Option Cause
 rule_fault p pc = rule_cause p pc (instruction_at p pc) (assigned p pc)
+
+-- ---- the answer
 
 pub data Verdict : Type 0 where
   -- with the greatest number of instructions that a run counts, and the greatest number of frames
@@ -67,4 +107,14 @@ unfoldable pub verdict : Program → Verdict
 verdict p =
     unless_refused (first_fault (decoding_fault p) (units p))
     (unless_refused (first_fault (flow_fault p) (units p))
-    (unless_refused (first_fault (rule_fault p) (units p)) (Accepted (longest p) 1)))
+    (unless_refused (length_fault p)
+    (unless_refused (first_fault (rule_fault p) (units p)) (Accepted (longest p) 1))))
+
+-- what is true of a cause that does not tell of memory
+abbrev pub unless_memory : Cause → Type 0 → Type 0
+unless_memory OutOfMemory P = ⊤
+unless_memory _ P = P
+
+-- a refusal is the one that the rules give, if there was memory
+abbrev pub Refuses : Refusal → Verdict → Type 0
+Refuses r v = unless_memory r.cause (v ≡ Refused r)

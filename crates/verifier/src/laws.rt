@@ -1,4 +1,4 @@
-ghost use Rattle.verifier.specs.Laws.{AssignedSolves, OneSolution, JoinDescribes};
+ghost use Rattle.verifier.specs.Laws.{AssignedSolves, OneSolution};
 
 /// What is known at each pc solves the equations of the abstract pass.
 pub fn assigned_solves()
@@ -8,9 +8,4 @@ pub fn assigned_solves()
 /// The equations have no other solution.
 pub fn one_solution()
     ensures { OneSolution }
-{}
-
-/// A join describes all that its two sides describe.
-pub fn join_describes()
-    ensures { JoinDescribes }
 {}

@@ -1,17 +1,20 @@
 //! The verifier: which programs are accepted, by rules over their instructions and by what is known
-//! of every register at each of them, and how many instructions a run of an accepted one takes.
+//! of every register and stack byte at each of them, and how many instructions a run of an accepted one
+//! takes.
 #![tactic(auto)]
 
+mod flow;
 mod laws;
-mod passes;
+mod lengths;
+mod listing;
 mod refusal;
-mod rules;
-mod state;
+mod states;
 #[cfg(test)]
 mod tests;
-mod value;
 mod verified;
+mod walking;
 
-pub use laws::{assigned_solves, join_describes, one_solution};
-pub use refusal::{Cause, Refusal};
+pub use abstract_values::Cause;
+pub use laws::{assigned_solves, one_solution};
+pub use refusal::Refusal;
 pub use verified::{Verified, verify};
