@@ -1,26 +1,31 @@
-ghost use Rattle.std.specs.Prelude.{◌≡◌, ◌≤◌, ◌<◌, Option, Some, None, Ok, [], OnOk, IfOk, IsSome, IfSome, MatchOption, true, false, is_some, length, List, ℕ, option_map};
+ghost use Rattle.std.specs.Prelude.{◌≡◌, ◌≤◌, ◌<◌, Option, Some, None, Ok, [], OnOk, IfOk, IfSome, IfNone, MatchOption, true, false, is_some, length, List, ℕ, option_map};
+ghost use Rattle.std.specs.List.{list_all};
 ghost use Rattle.graph_model.specs.declared.edit.Edit.TheVariants.{Insert};
 ghost use Rattle.graph_model.specs.Past.{Past, opening};
-ghost use Rattle.script_model.specs.Session.{new_session, OpenBatch, Session as ScriptSession};
+ghost use Rattle.script_model.specs.Session.{new_session, opened_at, OpenBatch, Session as ScriptSession};
 ghost use Rattle.graph_model.specs.Edits.{AreEditsBelow};
-ghost use Rattle.script_model.specs.Execution.{execute, placed, run_program, perform, inside_batch, one_edit, end_batch, make_graph, begin_batch, load_code, judged, take_pin, is_code, is_vertex_count};
+ghost use Rattle.script_model.specs.Execution.{Answer, tested, execute, placed, run_program, perform, inside_batch, one_edit, end_batch, make_graph, begin_batch, program_tests, load_code, offered, begin_program, inside_program, after_assembly, judged, take_pin, is_code, is_vertex_count};
+ghost use Rattle.bpf_asm.specs.Assembly.{assembled};
 ghost use Rattle.bpf_image.specs.Program.{IsRecordLength};
 ghost use Rattle.verifier.specs.Verdict.{verdict};
-ghost use Rattle.script_model.specs.Lexing.{words};
+ghost use Rattle.script_model.specs.Lexing.{is_plain};
 ghost use Rattle.script_model.specs.Parsing.{batch_line};
 ghost use Rattle.service_parts.specs.Said.{said_batch_line, cut_batch_line, said_command, said_line};
-ghost use Rattle.service.specs.Executed.{Executes, HasGraph, answer_to};
+ghost use Rattle.service.specs.Executed.{Executes, HasGraph, answer_to, unless_fault};
 
+use crate::block::Block;
 use crate::frontier::are_below;
 use crate::kept::{BegunBatch, NamedPin, NamedProgram};
 use crate::names::{find_pin, find_program};
+use crate::program::{BegunProgram, put_unassembled};
 use crate::run::{Run, map_kept};
 use crate::stop::{SessionError, Stop};
 use crate::texts::{put_batch, put_graph, put_image, put_pin, put_program, put_refused};
+use bpf_asm::assemble;
 use bpf_image::Image;
 use graph_model::{Batch, Edit};
 use script_model::Fault;
-use service_parts::{BatchLine, Command, Line, batch_line, command_line, is_plain_line};
+use service_parts::{BatchLine, Command, Line, batch_line, command_line, is_end, is_plain_line};
 use std::alloc::Global;
 use std::marker::Model;
 use verifier::verify;
@@ -39,22 +44,24 @@ pub struct Session {
     publisher: Option<Publisher>,
     programs: Vec<NamedProgram>,
     pins: Vec<NamedPin>,
-    block: Option<BegunBatch>,
+    block: Option<Block>,
 }
 
 impl Model for Session {
     ghost use Rattle.std.specs.Prelude.{◌≡◌};
     ghost use Rattle.script_model.specs.Session.{Session as ScriptSession};
-    ghost use Rattle.service.specs.Kept.{session_of, AreEdits, ArePins, IsSmall};
+    ghost use Rattle.service.specs.Kept.{session_of, IsBlock, ArePins, IsSmall};
 
     ghost Value = { ScriptSession };
 
     ghost view = { λ s. session_of s.publisher s.programs.items s.pins.items s.block };
 
-    ghost invariant = { λ s. AreEdits s.publisher s.block × ArePins s.publisher s.pins.items × IsSmall s.publisher };
+    ghost invariant = { λ s. IsBlock s.publisher s.block × ArePins s.publisher s.pins.items × IsSmall s.publisher };
 }
 
 impl Session {
+    ghost use Rattle.service.specs.Kept.{open_batch, open_program, IsOpenBatch, IsOpenProgram};
+
     /// The session before the first line.
     pub fn new(alloc: Global) -> Session
         ensures { result ≡ new_session }
@@ -98,87 +105,116 @@ impl Session {
             let fault = Fault::Order;
             return Some(Stop { fault, line });
         }
-        self.block = Some(BegunBatch {
+        self.block = Some(Block::Batch(BegunBatch {
             line,
             edits: Vec::new(self.alloc),
-        });
+        }));
         None
     }
 
-    /// Adds an edit to the batch that is open.
-    fn insert(&mut self, source: u64, target: u64, line: u64) -> Result<Option<Stop>, SessionError>
-        requires { IsSome self.old.block }
+    /// Adds an edit to a batch that is open, and keeps it open.
+    fn insert(
+        &mut self,
+        mut begun: BegunBatch,
+        source: u64,
+        target: u64,
+        line: u64,
+    ) -> Result<Option<Stop>, SessionError>
+        requires { IsOpenBatch self.old.past begun }
         ensures graph { HasGraph self.old }
-        ensures answer { (begun : OpenBatch) → self.old.block ≡ Some begun → (past : Past) → self.old.past ≡ Some past
-            → Executes (one_edit (Insert source target) past begun self.old line) result [] [] self.new }
+        ensures answer { (past : Past) → self.old.past ≡ Some past
+            → Executes (one_edit (Insert source target) past (open_batch begun) self.old line) result [] [] self.new }
     {
         let Some(publisher) = &self.publisher else {
             unreachable!()
         };
         let vertices = publisher.vertex_count();
-        let Some(mut block) = self.block.take() else {
-            unreachable!()
-        };
-        let answer = block.insert(vertices, source, target, line);
-        self.block = Some(block);
+        let answer = begun.insert(vertices, source, target, line);
+        self.block = Some(Block::Batch(begun));
         answer
     }
 
-    /// Ends the batch that is open, and publishes it.
-    fn end_batch(&mut self, text: &mut Vec<u8>, line: u64) -> Result<Option<Stop>, SessionError>
-        requires { IsSome self.old.block }
+    /// Publishes a batch whose end has come.
+    fn end_batch(
+        &mut self,
+        text: &mut Vec<u8>,
+        begun: BegunBatch,
+        line: u64,
+    ) -> Result<Option<Stop>, SessionError>
+        requires batch { IsOpenBatch self.old.past begun }
+        requires closed { self.old.block ≡ None }
         ensures graph { HasGraph self.old }
-        ensures answer { (begun : OpenBatch) → self.old.block ≡ Some begun → (past : Past) → self.old.past ≡ Some past
-            → Executes (end_batch past begun self.old line) result text.old.items text.new.items self.new }
+        ensures answer { (past : Past) → self.old.past ≡ Some past
+            → Executes (end_batch past (open_batch begun) self.old line) result text.old.items text.new.items self.new }
     {
-        let Some(block) = self.block.take() else {
-            unreachable!()
-        };
         let Some(mut publisher) = self.publisher.take() else {
             unreachable!()
         };
-        let answer = publish(self.alloc, &mut publisher, block.edits, text, line);
+        let answer = publish(self.alloc, &mut publisher, begun.edits, text, line);
         self.publisher = Some(publisher);
         answer
     }
 
-    /// Executes what a line inside the batch that is open says.
+    /// Executes what a line inside a batch says.
     fn batch_said(
         &mut self,
         text: &mut Vec<u8>,
+        begun: BegunBatch,
         said: BatchLine,
         line: u64,
     ) -> Result<Option<Stop>, SessionError>
-        requires { IsSome self.old.block }
+        requires batch { IsOpenBatch self.old.past begun }
+        requires closed { self.old.block ≡ None }
         ensures { (words : List (List ℕ)) → Some (said_batch_line said) ≡ option_map cut_batch_line (batch_line words)
-            → (begun : OpenBatch) → self.old.block ≡ Some begun
-            → Executes (inside_batch words begun self.old line) result text.old.items text.new.items self.new }
+            → Executes (inside_batch words (open_batch begun) self.old line) result text.old.items text.new.items self.new }
     {
         match said {
-            BatchLine::Insert { source, target } => self.insert(source, target, line),
-            BatchLine::End => self.end_batch(text, line),
+            BatchLine::Insert { source, target } => self.insert(begun, source, target, line),
+            BatchLine::End => self.end_batch(text, begun, line),
         }
     }
 
-    /// Executes a line inside the batch that is open, where it says something.
+    /// Executes a line inside a batch, where it says something.
     fn batch_line(
         &mut self,
         text: &mut Vec<u8>,
+        begun: BegunBatch,
         said: Option<BatchLine>,
         line: u64,
     ) -> Result<Option<Stop>, SessionError>
-        requires { IsSome self.old.block }
+        requires batch { IsOpenBatch self.old.past begun }
+        requires closed { self.old.block ≡ None }
         ensures { (words : List (List ℕ)) → option_map said_batch_line said ≡ option_map cut_batch_line (batch_line words)
-            → (begun : OpenBatch) → self.old.block ≡ Some begun
-            → Executes (inside_batch words begun self.old line) result text.old.items text.new.items self.new }
+            → Executes (inside_batch words (open_batch begun) self.old line) result text.old.items text.new.items self.new }
     {
         match said {
             None => {
                 let fault = Fault::Words;
                 Ok(Some(Stop { fault, line }))
             }
-            Some(said) => self.batch_said(text, said, line),
+            Some(said) => self.batch_said(text, begun, said, line),
         }
+    }
+
+    /// What is wrong with a new program's name and record length.
+    fn program_fault(&self, name: &[u8], record_length: u64) -> Option<Fault>
+        ensures answer { (line : ℕ) (answer : Answer)
+            → tested (program_tests name.now record_length self.now) line answer ≡ unless_fault result line answer }
+        ensures length { IfNone result (IsRecordLength record_length) }
+    {
+        if self.publisher.is_none() {
+            return Some(Fault::Order);
+        }
+        if record_length < 16 || record_length > 256 {
+            return Some(Fault::Range);
+        }
+        if find_program(&self.programs, name).is_some() {
+            return Some(Fault::Name);
+        }
+        if self.programs.len() >= MOST_KEPT {
+            return Some(Fault::TooMany);
+        }
+        None
     }
 
     /// Loads a program, and keeps it where it is accepted.
@@ -192,31 +228,86 @@ impl Session {
     ) -> Result<Option<Stop>, SessionError>
         ensures { Executes (load_code name.now (record { code = code.items; record_length = record_length }) self.old line) result text.old.items text.new.items self.new }
     {
-        if self.publisher.is_none() {
-            let fault = Fault::Order;
+        if let Some(fault) = self.program_fault(name, record_length) {
             return Ok(Some(Stop { fault, line }));
         }
-        if record_length < 16 || record_length > 256 {
-            let fault = Fault::Range;
+        self.offer(text, name, record_length as u16, code)?;
+        Ok(None)
+    }
+
+    /// Begins a program in assembler text.
+    fn program(
+        &mut self,
+        name: &[u8],
+        record_length: u64,
+        line: u64,
+    ) -> Result<Option<Stop>, SessionError>
+        ensures { Executes (begin_program name.now record_length self.old line) result [] [] self.new }
+    {
+        if let Some(fault) = self.program_fault(name, record_length) {
             return Ok(Some(Stop { fault, line }));
         }
-        if find_program(&self.programs, name).is_some() {
-            let fault = Fault::Name;
-            return Ok(Some(Stop { fault, line }));
+        let name = Vec::from_slice(self.alloc, name)?;
+        self.block = Some(Block::Program(BegunProgram {
+            line,
+            name,
+            record_length: record_length as u16,
+            lines: 0,
+            text: Vec::new(self.alloc),
+        }));
+        Ok(None)
+    }
+
+    /// Executes a line inside a program: the end, or one more line for the assembler.
+    fn program_line(
+        &mut self,
+        text: &mut Vec<u8>,
+        mut begun: BegunProgram,
+        bytes: &[u8],
+        line: u64,
+    ) -> Result<Option<Stop>, SessionError>
+        requires program { IsOpenProgram begun }
+        requires plain { list_all is_plain bytes.now ≡ true }
+        requires closed { self.old.block ≡ None }
+        ensures { Executes (inside_program bytes.now (open_program begun) self.old line) result text.old.items text.new.items self.new }
+    {
+        if is_end(bytes) {
+            self.end_program(text, &begun)?;
+            return Ok(None);
         }
-        if self.programs.len() >= MOST_KEPT {
-            let fault = Fault::TooMany;
-            return Ok(Some(Stop { fault, line }));
+        let stop = begun.add(bytes, line)?;
+        self.block = Some(Block::Program(begun));
+        Ok(stop)
+    }
+
+    /// Assembles a program whose end has come, and keeps it where it is accepted.
+    fn end_program(&mut self, text: &mut Vec<u8>, begun: &BegunProgram) -> Result<(), SessionError>
+        requires { IsOpenProgram begun.now }
+        ensures { OnOk result (Executes (after_assembly (assembled begun.now.text.items) (open_program begun.now) self.old) (Ok None) text.old.items text.new.items self.new) }
+    {
+        match assemble(self.alloc, begun.text()) {
+            Ok(code) => self.offer(text, &begun.name, begun.record_length, code),
+            Err(error) => put_unassembled(text, &begun.name, error),
         }
-        match image_of(record_length as u16, code) {
+    }
+
+    /// Has code judged as a program of this name, where it has an image.
+    fn offer(
+        &mut self,
+        text: &mut Vec<u8>,
+        name: &[u8],
+        record_length: u16,
+        code: Vec<u8>,
+    ) -> Result<(), SessionError>
+        requires { IsRecordLength record_length }
+        ensures { OnOk result (Executes (offered name.now (record { code = code.items; record_length = record_length }) self.old) (Ok None) text.old.items text.new.items self.new) }
+    {
+        match image_of(record_length, code) {
             None => {
                 put_image(text, name)?;
-                Ok(None)
+                Ok(())
             }
-            Some(image) => {
-                self.judge(text, name, image)?;
-                Ok(None)
-            }
+            Some(image) => self.judge(text, name, image),
         }
     }
 
@@ -311,6 +402,10 @@ impl Session {
                 record_length,
                 code,
             } => self.code(text, name, record_length, code, line),
+            Command::Program {
+                name,
+                record_length,
+            } => self.program(name, record_length, line),
             Command::Pin { name } => self.pin(text, name, line),
             Command::Run {
                 program,
@@ -357,13 +452,16 @@ impl Session {
         bytes: &[u8],
         line: u64,
     ) -> Result<Option<Stop>, SessionError>
-        ensures { Executes (placed self.old.block (words bytes.now) self.old line) result text.old.items text.new.items self.new }
+        requires { list_all is_plain bytes.now ≡ true }
+        ensures { Executes (placed self.old.block bytes.now self.old line) result text.old.items text.new.items self.new }
     {
-        if self.block.is_some() {
-            self.batch_line(text, batch_line(bytes), line)
-        } else {
-            let said = command_line(self.alloc, bytes)?;
-            self.outside_line(text, said, line)
+        match self.block.take() {
+            None => {
+                let said = command_line(self.alloc, bytes)?;
+                self.outside_line(text, said, line)
+            }
+            Some(Block::Batch(begun)) => self.batch_line(text, begun, batch_line(bytes), line),
+            Some(Block::Program(begun)) => self.program_line(text, begun, bytes, line),
         }
     }
 
@@ -389,13 +487,13 @@ impl Session {
         self.placed_line(text, bytes, line)
     }
 
-    /// The line that opened the batch whose end has not come.
+    /// The line that opened the block whose end has not come.
     pub fn open_line(&self) -> Option<u64>
-        ensures { result ≡ option_map (λ begun. begun.line) self.now.block }
+        ensures { result ≡ option_map opened_at self.now.block }
     {
         match &self.block {
             None => None,
-            Some(block) => Some(block.line),
+            Some(block) => Some(block.line()),
         }
     }
 }
