@@ -80,7 +80,7 @@ fn faults_of_programs(rt: HostRuntime) -> Result<(), Fail> {
         ),
         // A fault of a line comes in place of what the assembler would say.
         ("graph 4\nprogram p 16\nfoo\nexit\x7f\nend", 2, 4),
-        ("graph 4\nprogram p 16\nfoo", 10, 2),
+        ("graph 4\nprogram p 16\nexit", 10, 2),
         ("graph 4\n\nprogram p 16\nexit\n", 10, 3),
         ("graph 4\nprogram p 16", 10, 2),
         ("graph 4\nprogram p 16\nend x\nend end\n", 10, 2),
