@@ -14,6 +14,7 @@ fn programs_in_text(rt: HostRuntime) -> Result<(), Fail> {
         ("ldxw r0, [r1+12]\nexit\n", "program p bound 2 frames 1\n"),
         ("ldxw r0, [r1+13]\nexit\n", "refused p cause 11 pc 0\n"),
         ("exit\n", "refused p cause 8 pc 0\n"),
+        ("mov r0, r1\nexit\n", "refused p cause 15 pc 1\n"),
         ("mov r11, 1\n", "assembler p error 1 line 1\n"),
         ("mov r0, 7\njmp x\n", "assembler p error 2 line 2\n"),
         ("x:\nmov r0, 7\nx:\nexit\n", "assembler p error 3 line 3\n"),
