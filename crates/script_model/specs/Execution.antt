@@ -1,11 +1,13 @@
 -- What a line does to a session, and what is written for it.
-use Rattle.std.specs.Prelude.{ℕ, ◌+◌, ◌*◌, ◌==◌, ◌&&◌, not, nat_le, nat_lt, if◌then◌else◌, Bool, true, false, List, [], ◌∷◌, ◌++◌, length, Option, Some, None}
+use Rattle.std.specs.Prelude.{ℕ, ◌+◌, ◌*◌, ◌==◌, ◌&&◌, not, nat_le, nat_lt, if◌then◌else◌, Bool, true, false, List, [], ◌∷◌, ◌++◌, length, Option, Some, None, Result, Ok, Err}
 use Rattle.std.specs.List.{list_all, flat_map, filter_map}
 use Rattle.graph_model.specs.declared.edit.Edit.{Edit}
 use Rattle.graph_model.specs.declared.entry.Entry.{Entry}
 use Rattle.graph_model.specs.Graph.{Graph, degree, numbers_below, edge_count}
 use Rattle.graph_model.specs.Edits.{source_of, target_of, added, removed}
 use Rattle.graph_model.specs.Past.{Past, opening, longer, graph_of, number_of}
+use Rattle.bpf_asm.specs.declared.errors.AssembleError.{AssembleError}
+use Rattle.bpf_asm.specs.Assembly.{assembled}
 use Rattle.bpf_image.specs.Program.{Program, units}
 use Rattle.bpf_model.specs.declared.reduction.Reduction.{Reduction}
 use Rattle.bpf_model.specs.EdgeMap.{numbers_of, reduced}
@@ -14,9 +16,9 @@ use Rattle.verifier.specs.Verdict.{Verdict, Accepted, Refused, verdict}
 use Rattle.script_model.specs.declared.fault.Fault.{Fault}
 use Rattle.script_model.specs.declared.fault.Fault.TheVariants as faults
 use Rattle.script_model.specs.Lexing.{is_plain, words, same_bytes}
-use Rattle.script_model.specs.Session.{KeptProgram, KeptPin, OpenBatch, Session}
-use Rattle.script_model.specs.Parsing.{Command, MakeGraph, BeginBatch, LoadCode, TakePin, RunProgram, command, BatchLine, OneEdit, EndBatch, batch_line}
-use Rattle.script_model.specs.Texts.{graph_text, batch_text, program_text, refused_text, image_text, pin_text, run_text, row_text}
+use Rattle.script_model.specs.Session.{KeptProgram, KeptPin, OpenBatch, OpenProgram, Block, BatchBlock, ProgramBlock, Session}
+use Rattle.script_model.specs.Parsing.{Command, MakeGraph, BeginBatch, LoadCode, BeginProgram, TakePin, RunProgram, command, BatchLine, OneEdit, EndBatch, batch_line, is_end}
+use Rattle.script_model.specs.Texts.{newline, graph_text, batch_text, program_text, refused_text, image_text, assembler_text, pin_text, run_text, row_text}
 
 -- a line is executed, with what is written and the session after it, or it has a fault, at a line
 pub data Answer : Type 0 where
@@ -56,7 +58,7 @@ make_graph n s line =
 
 abbrev pub begin_batch : Session → ℕ → Answer
 begin_batch s line =
-    needing s.past faults.Order line (λ past. Says [] (record s { block = Some (record { line = line; edits = [] }) }))
+    needing s.past faults.Order line (λ past. Says [] (record s { block = Some (BatchBlock (record { line = line; edits = [] })) }))
 
 -- the greatest number of edits in a batch
 abbrev pub most_edits : ℕ
@@ -65,7 +67,7 @@ most_edits = 65536
 abbrev pub one_edit : Edit → Past → OpenBatch → Session → ℕ → Answer
 one_edit e past begun s line =
     tested ((not (nat_lt (source_of e) past.vertex_count && nat_lt (target_of e) past.vertex_count), faults.Range) ∷ (nat_le most_edits (length begun.edits), faults.TooMany) ∷ []) line
-    (Says [] (record s { block = Some (record { line = begun.line; edits = begun.edits ++ e ∷ [] }) }))
+    (Says [] (record s { block = Some (BatchBlock (record { line = begun.line; edits = begun.edits ++ e ∷ [] })) }))
 
 -- the greatest number of published batches
 abbrev pub most_batches : ℕ
@@ -106,10 +108,45 @@ judged (Accepted bound frames) name p s =
     Says (program_text name bound frames) (record s { programs = s.programs ++ record { name = name; program = p } ∷ [] })
 judged (Refused refusal) name p s = Says (refused_text name refusal) s
 
+-- code for a program of this name: it is judged, or it has no image
+abbrev pub offered : List ℕ → Program → Session → Answer
+offered name p s = if is_code p then judged (verdict p) name p s else Says (image_text name) s
+
+-- the tests of a program's name and record length
+abbrev pub program_tests : List ℕ → ℕ → Session → List (Bool × Fault)
+program_tests name record_length s =
+    (not (is_there s.past), faults.Order) ∷ (not (is_record_length record_length), faults.Range) ∷ (is_there (kept_program name s.programs), faults.Name) ∷ (nat_le most_kept (length s.programs), faults.TooMany) ∷ []
+
 abbrev pub load_code : List ℕ → Program → Session → ℕ → Answer
-load_code name p s line =
-    tested ((not (is_there s.past), faults.Order) ∷ (not (is_record_length p.record_length), faults.Range) ∷ (is_there (kept_program name s.programs), faults.Name) ∷ (nat_le most_kept (length s.programs), faults.TooMany) ∷ []) line
-    (if is_code p then judged (verdict p) name p s else Says (image_text name) s)
+load_code name p s line = tested (program_tests name p.record_length s) line (offered name p s)
+
+abbrev pub begin_program : List ℕ → ℕ → Session → ℕ → Answer
+begin_program name record_length s line =
+    tested (program_tests name record_length s) line
+    (Says [] (record s { block = Some (ProgramBlock (record { line = line; name = name; record_length = record_length; lines = 0; text = [] })) }))
+
+-- the greatest number of lines in a program
+abbrev pub most_lines : ℕ
+most_lines = 65536
+
+-- a line for the assembler
+abbrev pub one_line : List ℕ → OpenProgram → Session → ℕ → Answer
+one_line bytes begun s line =
+    tested ((nat_le most_lines begun.lines, faults.TooMany) ∷ []) line
+    (Says [] (record s { block = Some (ProgramBlock (record begun { lines = begun.lines + 1; text = begun.text ++ (bytes ++ newline) })) }))
+
+-- what the assembler made of a program's lines
+abbrev pub after_assembly : Result (List ℕ) AssembleError → OpenProgram → Session → Answer
+after_assembly (Ok code) begun s = offered begun.name (record { code = code; record_length = begun.record_length }) s
+after_assembly (Err e) begun s = Says (assembler_text begun.name e) s
+
+abbrev pub end_program : OpenProgram → Session → Answer
+end_program begun s = after_assembly (assembled begun.text) begun (record s { block = None })
+
+-- a line inside a program
+abbrev pub inside_program : List ℕ → OpenProgram → Session → ℕ → Answer
+inside_program bytes begun s line =
+    if is_end (words bytes) then end_program begun s else one_line bytes begun s line
 
 abbrev pub take_pin : List ℕ → Session → ℕ → Answer
 take_pin name s line =
@@ -161,6 +198,7 @@ perform (MakeGraph n) s line = make_graph n s line
 perform BeginBatch s line = begin_batch s line
 perform (LoadCode name record_length code) s line =
     load_code name (record { code = code; record_length = record_length }) s line
+perform (BeginProgram name record_length) s line = begin_program name record_length s line
 perform (TakePin name) s line = take_pin name s line
 perform (RunProgram program pin reduction argument frontier) s line =
     run_program program pin reduction argument frontier s line
@@ -175,9 +213,10 @@ outside [] s line = Says [] s
 outside (word ∷ operands) s line =
     if is_comment word then Says [] s else needing (command word operands) faults.Words line (λ c. perform c s line)
 
-abbrev pub placed : Option OpenBatch → List (List ℕ) → Session → ℕ → Answer
-placed None ws s line = outside ws s line
-placed (Some begun) ws s line = inside_batch ws begun s line
+abbrev pub placed : Option Block → List ℕ → Session → ℕ → Answer
+placed None bytes s line = outside (words bytes) s line
+placed (Some (BatchBlock begun)) bytes s line = inside_batch (words bytes) begun s line
+placed (Some (ProgramBlock begun)) bytes s line = inside_program bytes begun s line
 
 -- the greatest length of a line
 abbrev pub most_bytes : ℕ
@@ -187,4 +226,4 @@ most_bytes = 70000
 unfoldable pub execute : Session → ℕ → List ℕ → Answer
 execute s line bytes =
     tested ((nat_lt most_bytes (length bytes), faults.LongLine) ∷ (not (list_all is_plain bytes), faults.Words) ∷ []) line
-    (placed s.block (words bytes) s line)
+    (placed s.block bytes s line)

@@ -1,5 +1,5 @@
 -- What the words of a line say, before anything is known of names and graphs.
-use Rattle.std.specs.Prelude.{ℕ, if◌then◌else◌, List, [], ◌∷◌, Option, Some, None, codes}
+use Rattle.std.specs.Prelude.{ℕ, if◌then◌else◌, Bool, false, List, [], ◌∷◌, Option, Some, None, codes}
 use Rattle.graph_model.specs.declared.edit.Edit.{Edit}
 use Rattle.graph_model.specs.declared.edit.Edit.TheVariants.{Insert}
 use Rattle.bpf_model.specs.declared.reduction.Reduction.{Reduction}
@@ -13,6 +13,8 @@ pub data Command : Type 0 where
   BeginBatch : Command
   -- a program's name, record length and code
   LoadCode : (name : List ℕ) (record_length : ℕ) (code : List ℕ) → Command
+  -- a program in assembler text begins, with its name and record length
+  BeginProgram : (name : List ℕ) (record_length : ℕ) → Command
   -- a name for the last version
   TakePin : (name : List ℕ) → Command
   -- a program mapped over the edges of a pin
@@ -55,6 +57,11 @@ code_command (name ∷ length ∷ digits ∷ []) =
     named name (given (number length) (λ record_length. given (hex digits) (λ code. Some (LoadCode name record_length code))))
 code_command _ = None
 
+abbrev pub program_command : List (List ℕ) → Option Command
+program_command (name ∷ length ∷ []) =
+    named name (given (number length) (λ record_length. Some (BeginProgram name record_length)))
+program_command _ = None
+
 abbrev pub pin_command : List (List ℕ) → Option Command
 pin_command (name ∷ []) = named name (Some (TakePin name))
 pin_command _ = None
@@ -71,7 +78,13 @@ command word operands =
     else (if same_bytes word (codes "batch") then batch_command operands
     else (if same_bytes word (codes "code") then code_command operands
     else (if same_bytes word (codes "pin") then pin_command operands
-    else (if same_bytes word (codes "run") then run_command operands else None))))
+    else (if same_bytes word (codes "run") then run_command operands
+    else (if same_bytes word (codes "program") then program_command operands else None)))))
+
+-- a block ends at a line whose only word is `end`
+abbrev pub is_end : List (List ℕ) → Bool
+is_end (word ∷ []) = same_bytes word (codes "end")
+is_end _ = false
 
 -- a line of a batch: an edit, or its end
 pub data BatchLine : Type 0 where
@@ -84,7 +97,7 @@ edit_of None v = None
 edit_of (Some u) None = None
 
 abbrev pub batch_line : List (List ℕ) → Option BatchLine
-batch_line (word ∷ []) = if same_bytes word (codes "end") then Some EndBatch else None
+batch_line (word ∷ []) = if is_end (word ∷ []) then Some EndBatch else None
 batch_line (sign ∷ source ∷ target ∷ []) =
     if same_bytes sign (codes "+") then edit_of (number source) (number target) else None
 batch_line _ = None

@@ -5,7 +5,7 @@ use Rattle.script_model.specs.declared.ending.Ending.TheVariants as endings
 use Rattle.script_model.specs.declared.fault.Fault.{Fault}
 use Rattle.script_model.specs.declared.fault.Fault.TheVariants as faults
 use Rattle.script_model.specs.Lexing.{script_lines}
-use Rattle.script_model.specs.Session.{OpenBatch, Session, new_session}
+use Rattle.script_model.specs.Session.{Block, opened_at, Session, new_session}
 use Rattle.script_model.specs.Texts.{fault_text}
 use Rattle.script_model.specs.Execution.{Answer, Says, Fails, execute}
 
@@ -21,10 +21,10 @@ after_text text o = record { text = text ++ o.text; ending = o.ending }
 abbrev pub faulted : Fault → ℕ → Outcome
 faulted fault line = record { text = fault_text fault line; ending = endings.Fault }
 
--- the end of the input: a batch that is still open is a fault of the line that opened it
-abbrev pub finished : Option OpenBatch → Outcome
+-- the end of the input: a block that is still open is a fault of the line that opened it
+abbrev pub finished : Option Block → Outcome
 finished None = record { text = []; ending = endings.Complete }
-finished (Some begun) = faulted faults.OpenBlock begun.line
+finished (Some block) = faulted faults.OpenBlock (opened_at block)
 
 -- goes on after a line that was executed
 abbrev pub continued : Answer → (List ℕ → Session → Outcome) → Outcome

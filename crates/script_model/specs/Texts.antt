@@ -4,6 +4,9 @@ use Rattle.std.specs.Fmt.{decimal}
 use Rattle.abstract_values.specs.declared.cause.Cause.{Cause}
 use Rattle.abstract_values.specs.declared.cause.Cause.TheVariants.{BadInstruction, JumpOut, JumpBack, FallsOff, TooLong, UnsetRegister, FrameRegister, PointerUse, OutOfRange, UnsetStackByte, ResultNotNumber, OutOfMemory}
 use Rattle.verifier.specs.declared.refusal.Refusal.{Refusal}
+use Rattle.bpf_asm.specs.declared.errors.Cause.{Cause as TextCause}
+use Rattle.bpf_asm.specs.declared.errors.Cause.TheVariants.{Syntax, UnknownName, DoubleLabel, UnknownLabel, NumberRange, TooLong, OutOfMemory}
+use Rattle.bpf_asm.specs.declared.errors.AssembleError.{AssembleError}
 use Rattle.script_model.specs.declared.fault.Fault.{Fault}
 use Rattle.script_model.specs.declared.fault.Fault.TheVariants as faults
 
@@ -36,6 +39,16 @@ cause_number UnsetStackByte = 12
 cause_number ResultNotNumber = 15
 cause_number OutOfMemory = 16
 
+-- the number of what is wrong with a program's text
+abbrev pub text_cause_number : TextCause → ℕ
+text_cause_number Syntax = 1
+text_cause_number UnknownName = 2
+text_cause_number DoubleLabel = 3
+text_cause_number UnknownLabel = 4
+text_cause_number NumberRange = 5
+text_cause_number TooLong = 6
+text_cause_number OutOfMemory = 7
+
 abbrev pub graph_text : ℕ → List ℕ
 graph_text n = codes "graph " ++ decimal n ++ newline
 
@@ -54,6 +67,11 @@ refused_text name refusal =
 -- the image error of a code length that is not allowed
 abbrev pub image_text : List ℕ → List ℕ
 image_text name = codes "image " ++ name ++ codes " error 4" ++ newline
+
+-- what is wrong with a program's text, at a line of its block
+abbrev pub assembler_text : List ℕ → AssembleError → List ℕ
+assembler_text name e =
+    codes "assembler " ++ name ++ codes " error " ++ decimal (text_cause_number e.cause) ++ codes " line " ++ decimal e.line ++ newline
 
 abbrev pub pin_text : List ℕ → ℕ → ℕ → List ℕ
 pin_text name number edges =

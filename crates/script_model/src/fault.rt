@@ -16,7 +16,7 @@ pub enum Fault {
     ArgumentLength = 6,
     /// A frontier that is not strictly ascending.
     Frontier = 7,
-    /// The 65,537th edit of a batch, or a 257th program or pin.
+    /// The 65,537th edit of a batch or line of a program, or a 257th program or pin.
     TooMany = 8,
     /// A batch where 4,096 are published already.
     LogFull = 9,

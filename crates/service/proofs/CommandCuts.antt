@@ -7,9 +7,9 @@ use Rattle.bpf_image.specs.Program.{Program}
 use Rattle.graph_model.specs.Past.{Past}
 use Rattle.bpf_model.specs.declared.reduction.Reduction.{Reduction}
 use Rattle.script_model.specs.Session.{Session}
-use Rattle.script_model.specs.Parsing.{Command, MakeGraph, BeginBatch, LoadCode, TakePin, RunProgram, command}
+use Rattle.script_model.specs.Parsing.{Command, MakeGraph, BeginBatch, LoadCode, BeginProgram, TakePin, RunProgram, command}
 use Rattle.script_model.specs.declared.fault.Fault.TheVariants.{Words}
-use Rattle.script_model.specs.Execution.{is_vertex_count, is_record_length, make_graph, load_code, run_program, perform, is_comment, needing, outside}
+use Rattle.script_model.specs.Execution.{is_vertex_count, is_record_length, make_graph, load_code, begin_program, run_program, perform, is_comment, needing, outside}
 use Rattle.service_parts.specs.Said.{cut, cut_command, Saying, Nothing, NoCommand, Commands, found_command, saying, cut_saying}
 use Rattle.service.specs.Executed.{answer_to}
 use Rattle.service.specs.Kept.{IsSmall}
@@ -51,6 +51,16 @@ load_code-cut name n code s line =
       | inr small ↦ rw (cut_same n (omega arith)) refl
     ]
 
+begin_program-cut : (name : List ℕ) (record_length : ℕ) (s : Session) (line : ℕ) → begin_program name (cut record_length) s line ≡ begin_program name record_length s line
+begin_program-cut name n s line =
+    elim (cases_lt 256 n) [
+      | inl big ↦
+          let first : is_record_length (cut n) ≡ false = above (leb 16 (cut n)) (cut n) 256 (omega arith) in
+          let second : is_record_length n ≡ false = above (leb 16 n) n 256 big in
+          rw (first, second) refl
+      | inr small ↦ rw (cut_same n (omega arith)) refl
+    ]
+
 below-cut : (limit : ℕ) (vs : List ℕ) → limit ≤ 1048576 → list_all (λ v. nat_lt v limit) (map cut vs) ≡ list_all (λ v. nat_lt v limit) vs
 below-cut limit [] small = refl
 below-cut limit (v ∷ vs) small = rw (ltb-cut v limit small, below-cut limit vs small) refl
@@ -77,6 +87,7 @@ pub perform-cut : (c : Command) (s : Session) (line : ℕ) → IsSmall s.past �
 perform-cut (MakeGraph n) s line small = make_graph-cut n s line
 perform-cut BeginBatch s line small = refl
 perform-cut (LoadCode name record_length code) s line small = load_code-cut name record_length code s line
+perform-cut (BeginProgram name record_length) s line small = begin_program-cut name record_length s line
 perform-cut (TakePin name) s line small = refl
 perform-cut (RunProgram program pin reduction argument frontier) s line small =
     run_at program pin reduction argument frontier s line s.past refl small

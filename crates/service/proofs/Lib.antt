@@ -4,7 +4,7 @@ pub mod CommandCuts
 pub mod FrontierLemmas
 pub mod PinLemmas
 pub mod RunLemmas
-pub mod PlaceLemmas
+pub mod ProgramLemmas
 pub mod Serving
 pub mod KnownLemmas
 pub mod RoundLemmas

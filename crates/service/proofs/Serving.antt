@@ -10,7 +10,7 @@ use Rattle.script_model.specs.declared.ending.Ending.TheVariants as endings
 use Rattle.script_model.specs.declared.fault.Fault.{Fault}
 use Rattle.script_model.specs.declared.fault.Fault.TheVariants as faults
 use Rattle.script_model.specs.Lexing.{is_newline, without_last_empty, script_lines}
-use Rattle.script_model.specs.Session.{Session, OpenBatch, new_session}
+use Rattle.script_model.specs.Session.{Session, Block, opened_at, new_session}
 use Rattle.script_model.specs.Texts.{fault_text}
 use Rattle.script_model.specs.Execution.{Says, Fails, execute, most_bytes}
 use Rattle.script_model.specs.Script.{Outcome, after_text, faulted, finished, follow, meaning}
@@ -143,14 +143,14 @@ served_last_fault read said left n s fault at h one some fails =
     at_end read said left n s h ∙ lines ∙ ap (λ (o : Outcome). after_text said o) goes
 
 -- what is open, by its line
-pub closed : (block : Option OpenBatch) → None ≡ option_map (λ (begun : OpenBatch). begun.line) block → finished block ≡ record { text = []; ending = endings.Complete }
+pub closed : (block : Option Block) → None ≡ option_map opened_at block → finished block ≡ record { text = []; ending = endings.Complete }
 closed None h = refl
 closed (Some begun) h = absurd cc
 
-pub still_open : (block : Option OpenBatch) (line : ℕ) → Some line ≡ option_map (λ (begun : OpenBatch). begun.line) block → finished block ≡ faulted faults.OpenBlock line
+pub still_open : (block : Option Block) (line : ℕ) → Some line ≡ option_map opened_at block → finished block ≡ faulted faults.OpenBlock line
 still_open None line h = absurd cc
 still_open (Some begun) line h =
-    let same : line ≡ begun.line = cc in
+    let same : line ≡ opened_at begun = cc in
     ap (λ (l : ℕ). faulted faults.OpenBlock l) (sym same)
 
 -- the ends of a script

@@ -2,7 +2,7 @@ ghost use Rattle.std.specs.Prelude.{◌≡◌, ◌≤◌, length, [], Some};
 ghost use Rattle.graph_model.specs.declared.edit.Edit.TheVariants.{Insert};
 ghost use Rattle.graph_model.specs.Edits.{AreEditsBelow};
 ghost use Rattle.graph_model.specs.Past.{Past};
-ghost use Rattle.script_model.specs.Session.{Session};
+ghost use Rattle.script_model.specs.Session.{Session, BatchBlock};
 ghost use Rattle.script_model.specs.Execution.{one_edit};
 ghost use Rattle.service.specs.Executed.{Executes};
 
@@ -52,7 +52,7 @@ impl BegunBatch {
         ensures below { AreEditsBelow vertices self.old.edits.items → AreEditsBelow vertices self.new.edits.items }
         ensures short { length self.old.edits.items ≤ 65536 → length self.new.edits.items ≤ 65536 }
         ensures answer { (past : Past) → past.vertex_count ≡ vertices → (s : Session)
-            → Executes (one_edit (Insert source target) past (open_batch self.old) s line) result [] [] (record s { block = Some (open_batch self.new) }) }
+            → Executes (one_edit (Insert source target) past (open_batch self.old) s line) result [] [] (record s { block = Some (BatchBlock (open_batch self.new)) }) }
     {
         if source >= u64::from(vertices) || target >= u64::from(vertices) {
             let fault = Fault::Range;

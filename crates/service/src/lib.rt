@@ -1,6 +1,7 @@
 //! The service: it reads a script, executes its lines, and writes what they say.
 #![tactic(auto)]
 
+mod block;
 mod ending;
 mod ends;
 mod exit;
@@ -8,6 +9,7 @@ mod frontier;
 mod kept;
 mod lines;
 mod names;
+mod program;
 mod run;
 mod serve_error;
 mod session;

@@ -4,6 +4,7 @@ use std::alloc::Global;
 use std::test::Fail;
 
 mod ends;
+mod programs;
 
 /// The program that exits with the target of its edge.
 const TARGET: &str = "code t 16 61100400000000009500000000000000";
@@ -182,28 +183,35 @@ fn too_many(rt: HostRuntime) -> Result<(), Fail> {
 
 #[test]
 fn too_many_names(rt: HostRuntime) -> Result<(), Fail> {
-    for command in ["pin p", "code p"] {
+    for (command, behind, last) in [
+        ("pin p", "", "fault 8 line 258\n"),
+        (
+            "code p",
+            " 16 b7000000000000009500000000000000",
+            "fault 8 line 258\n",
+        ),
+        (
+            "program p",
+            " 16\nmov r0, 0\nexit\nend",
+            "fault 8 line 1026\n",
+        ),
+    ] {
         let mut script = format!(in rt.alloc(); "graph 1\n")?;
         for number in 0..257 {
-            let words = if command == "pin p" {
-                ""
-            } else {
-                " 16 b7000000000000009500000000000000"
-            };
-            script = format!(in rt.alloc(); "{script}{command}{number}{words}\n")?;
+            script = format!(in rt.alloc(); "{script}{command}{number}{behind}\n")?;
         }
         let (text, _) = served(rt.alloc(), script.as_bytes())?;
-        assert!(rt; text.ends_with(b"fault 8 line 258\n"), "{command}");
+        assert!(rt; text.ends_with(last.as_bytes()), "{command}");
     }
     Ok(())
 }
 
 /// A script that says something at most of its lines, and what it says.
 const SCRIPT: &str =
-    "graph 4\nbatch A\n+ 0 1\n+ 0 2\n+ 1 2\nend\ncode t 16 61100400000000009500000000000000\npin a\nrun t a sum -\nrun t a min - 1\nlist";
+    "graph 4\nbatch A\n+ 0 1\n+ 0 2\n+ 1 2\nend\ncode t 16 61100400000000009500000000000000\npin a\nrun t a sum -\nrun t a min - 1\nprogram s 16\nmov r0 7\nend\nlist";
 
 const SAID: &str =
-    "graph 4\nbatch A version 1 added 3 removed 0\nprogram t bound 2 frames 1\npin a version 1 edges 3\nrun t a edges 3 total 5\nrow 0 3\nrow 1 2\nrun t a edges 1 total 2\nrow 1 2\nfault 2 line 11\n";
+    "graph 4\nbatch A version 1 added 3 removed 0\nprogram t bound 2 frames 1\npin a version 1 edges 3\nrun t a edges 3 total 5\nrow 0 3\nrow 1 2\nrun t a edges 1 total 2\nrow 1 2\nassembler s error 1 line 1\nfault 2 line 14\n";
 
 #[test]
 fn parts_of_any_size(rt: HostRuntime) -> Result<(), Fail> {

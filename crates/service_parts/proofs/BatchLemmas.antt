@@ -2,7 +2,7 @@
 use Rattle.std.proofs.Common.{◌≡◌, ◌≢◌, ℕ, true, false, List, [], ◌∷◌, refl, sym, subst}
 use Rattle.std.specs.Prelude.{Some, None, codes}
 use Rattle.script_model.specs.Lexing.{same_bytes}
-use Rattle.script_model.specs.Parsing.{batch_line}
+use Rattle.script_model.specs.Parsing.{batch_line, is_end, EndBatch}
 use Rattle.service_parts.specs.Reading.{first_number, edit_behind}
 use Rattle.service_parts.proofs.NumberLemmas.{first_of}
 use Rattle.service_parts.proofs.WordLemmas.{same_bytes-true}
@@ -28,13 +28,14 @@ plus_at (a ∷ b ∷ c ∷ rest) = refl
 pub batch_line-plus : (sign : List ℕ) (rest : List (List ℕ)) → same_bytes sign (codes "+") ≡ true → batch_line (sign ∷ rest) ≡ edit_behind rest
 batch_line-plus sign rest plus = subst (λ (word : List ℕ). batch_line (word ∷ rest) ≡ edit_behind rest) (sym (same_bytes-true sign (codes "+") plus)) (plus_at rest)
 
-pub batch_line-long : (word : List ℕ) (rest : List (List ℕ)) → same_bytes word (codes "+") ≡ false → rest ≢ [] → batch_line (word ∷ rest) ≡ None
-batch_line-long word [] other some = absurd (some refl)
-batch_line-long word (a ∷ []) other some = refl
-batch_line-long word (a ∷ b ∷ []) other some = simp other
-batch_line-long word (a ∷ b ∷ c ∷ rest) other some = refl
+-- an end
+pub batch_line-end : (line : List (List ℕ)) → is_end line ≡ true → batch_line line ≡ Some EndBatch
+batch_line-end [] end = absurd cc
+batch_line-end (word ∷ []) end = simp end
+batch_line-end (word ∷ a ∷ line) end = absurd cc
 
-pub batch_line-other : (word : List ℕ) (rest : List (List ℕ)) → same_bytes word (codes "+") ≡ false → same_bytes word (codes "end") ≡ false → batch_line (word ∷ rest) ≡ None
+-- neither
+pub batch_line-other : (word : List ℕ) (rest : List (List ℕ)) → same_bytes word (codes "+") ≡ false → is_end (word ∷ rest) ≡ false → batch_line (word ∷ rest) ≡ None
 batch_line-other word [] other end = simp end
 batch_line-other word (a ∷ []) other end = refl
 batch_line-other word (a ∷ b ∷ []) other end = simp other

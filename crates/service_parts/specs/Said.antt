@@ -2,7 +2,7 @@
 use Rattle.std.specs.Prelude.{ℕ, ◌-◌, ◌^◌, min, if◌then◌else◌, List, [], ◌∷◌, map, Option, Some, None}
 use Rattle.graph_model.specs.declared.edit.Edit.{Edit}
 use Rattle.graph_model.specs.declared.edit.Edit.TheVariants.{Insert, Remove}
-use Rattle.script_model.specs.Parsing.{Command, MakeGraph, BeginBatch, LoadCode, TakePin, RunProgram, command, BatchLine, OneEdit, EndBatch}
+use Rattle.script_model.specs.Parsing.{Command, MakeGraph, BeginBatch, LoadCode, BeginProgram, TakePin, RunProgram, command, BatchLine, OneEdit, EndBatch}
 use Rattle.script_model.specs.Execution.{is_comment}
 use Rattle.service_parts.specs.declared.line.BatchLine.{BatchLine as CodeBatchLine}
 use Rattle.service_parts.specs.declared.line.BatchLine.TheVariants as batch_lines
@@ -26,6 +26,7 @@ abbrev pub cut_command : Command → Command
 cut_command (MakeGraph n) = MakeGraph (cut n)
 cut_command BeginBatch = BeginBatch
 cut_command (LoadCode name record_length code) = LoadCode name (cut record_length) code
+cut_command (BeginProgram name record_length) = BeginProgram name (cut record_length)
 cut_command (TakePin name) = TakePin name
 cut_command (RunProgram program pin reduction argument frontier) =
     RunProgram program pin reduction argument (map cut frontier)
@@ -39,6 +40,7 @@ abbrev pub said_command : CodeCommand → Command
 said_command (commands.Graph n) = MakeGraph n
 said_command commands.Batch = BeginBatch
 said_command (commands.Code name record_length code) = LoadCode name.now record_length code.items
+said_command (commands.Program name record_length) = BeginProgram name.now record_length
 said_command (commands.Pin name) = TakePin name.now
 said_command (commands.Run program pin reduction argument frontier) =
     RunProgram program.now pin.now reduction argument.items frontier.items

@@ -4,6 +4,7 @@ ghost use Rattle.script_model.specs.Parsing.{batch_line as batch_line_of};
 ghost use Rattle.service_parts.specs.Said.{said_batch_line, cut_batch_line};
 ghost use Rattle.service_parts.specs.Reading.{edit_behind};
 
+use crate::ends::is_end;
 use crate::line::BatchLine;
 use crate::numbers::next_number;
 use crate::words::{has_no_word, is_word, next_word};
@@ -28,7 +29,7 @@ pub fn batch_line(line: &[u8]) -> Option<BatchLine>
     if is_word(sign, "+") {
         return insertion(rest);
     }
-    if is_word(sign, "end") && has_no_word(rest) {
+    if is_end(line) {
         return Some(BatchLine::End);
     }
     None

@@ -1,6 +1,6 @@
 ghost use Rattle.std.specs.Prelude.{◌≡◌, List, Option, Some, None, option_map, IfOk, MatchOption};
 ghost use Rattle.script_model.specs.Lexing.{words};
-ghost use Rattle.script_model.specs.Parsing.{graph_command, batch_command, code_command, pin_command, run_command, reduction_of as reduction_word, command as command_of};
+ghost use Rattle.script_model.specs.Parsing.{graph_command, batch_command, code_command, program_command, pin_command, run_command, reduction_of as reduction_word, command as command_of};
 ghost use Rattle.script_model.specs.Execution.{is_comment as is_comment_word};
 ghost use Rattle.service_parts.specs.Said.{said_command, cut_command, saying, said_line, cut_saying};
 ghost use Rattle.service_parts.specs.Reading.{loaded, run_of};
@@ -59,6 +59,20 @@ fn pin(operands: &[u8]) -> Option<Command<'_>>
         return None;
     }
     Some(Command::Pin { name })
+}
+
+fn program(operands: &[u8]) -> Option<Command<'_>>
+    ensures { option_map said_command result ≡ option_map cut_command (program_command (words operands.now)) }
+{
+    let (name, rest) = next_word(operands)?;
+    let (record_length, rest) = next_number(rest)?;
+    if !is_name(name) || !has_no_word(rest) {
+        return None;
+    }
+    Some(Command::Program {
+        name,
+        record_length,
+    })
 }
 
 fn code_words(operands: &[u8]) -> Option<CodeWords<'_>>
@@ -174,6 +188,9 @@ fn command<'a>(
     }
     if is_word(word, "run") {
         return run(alloc, operands);
+    }
+    if is_word(word, "program") {
+        return Ok(program(operands));
     }
     Ok(None)
 }

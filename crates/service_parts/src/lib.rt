@@ -3,6 +3,7 @@
 
 mod batches;
 mod commands;
+mod ends;
 mod hex;
 mod line;
 mod names;
@@ -13,5 +14,6 @@ mod words;
 
 pub use batches::batch_line;
 pub use commands::command_line;
+pub use ends::is_end;
 pub use line::{BatchLine, Command, Line};
 pub use words::is_plain_line;

@@ -24,6 +24,11 @@ pub enum Command<'a> {
         record_length: u64,
         code: Vec<u8>,
     },
+    /// A program in assembler text begins, with its name and record length.
+    Program {
+        name: &'a [u8],
+        record_length: u64,
+    },
     /// A name for the last version.
     Pin {
         name: &'a [u8],

@@ -43,6 +43,23 @@ fn batches(rt: HostRuntime) {
 }
 
 #[test]
+fn ends(rt: HostRuntime) {
+    let cases: [(&[u8], bool); 8] = [
+        (b"end", true),
+        (b"\t end ", true),
+        (b"end x", false),
+        (b"end end", false),
+        (b"end;", false),
+        (b"ends", false),
+        (b"# end", false),
+        (b"", false),
+    ];
+    for (line, expected) in &cases {
+        assert_eq!(rt; is_end(line), *expected);
+    }
+}
+
+#[test]
 fn plain(rt: HostRuntime) {
     assert!(rt; is_plain_line(b"run t a sum -\t~ !"));
     assert!(rt; is_plain_line(b""));
@@ -53,7 +70,7 @@ fn plain(rt: HostRuntime) {
 
 #[test]
 fn unknown(rt: HostRuntime) -> Result<(), Fail> {
-    let lines: [&[u8]; 15] = [
+    let lines: [&[u8]; 20] = [
         b"graph",
         b"graph 4 5",
         b"graph x",
@@ -63,6 +80,11 @@ fn unknown(rt: HostRuntime) -> Result<(), Fail> {
         b"code t 16 0g",
         b"code t 16",
         b"code t x -",
+        b"program p",
+        b"program p 16 -",
+        b"program p sixteen",
+        b"program p.q 16",
+        b"programs p 16",
         b"pin abcdefghijklmnopqrstuvwxyz_-01234",
         b"pin a.b",
         b"run t a med -",
@@ -91,6 +113,16 @@ fn small_commands(rt: HostRuntime) -> Result<(), Fail> {
     assert!(rt; matches!(&graph, Line::Command(Command::Graph { vertices: 4 })));
     let batch = command_line(rt.alloc(), b"batch A")?;
     assert!(rt; matches!(&batch, Line::Command(Command::Batch)));
+    let program = command_line(rt.alloc(), b"program p\t0016 ")?;
+    assert!(rt;
+        matches!(
+            &program,
+            Line::Command(Command::Program {
+                name: b"p",
+                record_length: 16
+            })
+        )
+    );
     let pin = command_line(rt.alloc(), b" pin  Az09_-")?;
     assert!(rt; matches!(&pin, Line::Command(Command::Pin { name: b"Az09_-" })));
     let longest = command_line(rt.alloc(), b"pin abcdefghijklmnopqrstuvwxyz012345")?;

@@ -10,7 +10,7 @@ use Rattle.script_model.specs.Session.{OpenBatch, Session}
 use Rattle.script_model.specs.Texts.{batch_text}
 use Rattle.script_model.specs.Execution.{most_batches, end_batch, entry_of}
 use Rattle.service.specs.Executed.{Executes}
-use Rattle.service.proofs.session.publish.Goals as goal
+use Rattle.service.proofs.session.batches.publish.Goals as goal
 
 -- a batch that there is room for
 published : (past next : Past) (begun : OpenBatch) (edits : List Edit) (s : Session) (line number gained lost : ℕ) (old new : List ℕ) → leb most_batches (number_of past) ≡ false → begun.edits ≡ edits → next ≡ longer past (entry_of edits) → number ≡ number_of past + 1 → gained ≡ added edits (graph_of past) → lost ≡ removed edits (graph_of past) → new ≡ old ++ batch_text number gained lost → Executes (end_batch past begun s line) (Ok None) old new (record s { past = Some next; block = None })
