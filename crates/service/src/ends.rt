@@ -51,7 +51,10 @@ pub struct StdInput<R: Read> {
 
 impl<R: Read> StdInput<R> {
     /// The input that the reader gives, with no failure yet.
-    pub fn new(reader: R) -> StdInput<R> {
+    pub fn new(reader: R) -> StdInput<R>
+        ensures unread { result.reader ≡ reader }
+        ensures no_failure { result.failures ≡ 0 }
+    {
         StdInput {
             reader,
             failures: 0,
@@ -85,7 +88,10 @@ pub struct StdOutput<W: Write> {
 
 impl<W: Write> StdOutput<W> {
     /// The output that the writer takes, with no failure yet.
-    pub fn new(writer: W) -> StdOutput<W> {
+    pub fn new(writer: W) -> StdOutput<W>
+        ensures unwritten { result.writer ≡ writer }
+        ensures no_failure { result.failures ≡ 0 }
+    {
         StdOutput {
             writer,
             failures: 0,

@@ -35,7 +35,7 @@ joined_append known (x ∷ xs) ys q = joined_append (cond (int_eq x.0 (pos q)) (
 
 way_left : (w : ℤ × AbstractState) (xs ys : Ways) → IsWay w xs → IsWay w (xs ++ ys)
 way_left w [] ys m = absurd m
-way_left w (x ∷ xs) ys m = elim m [ | inl same ↦ inl same | inr rest ↦ inr (way_left w xs ys rest) ]
+way_left w (x ∷ xs) ys m = elim m [ inl same ↦ inl same | inr rest ↦ inr (way_left w xs ys rest) ]
 
 way_right : (w : ℤ × AbstractState) (xs ys : Ways) → IsWay w ys → IsWay w (xs ++ ys)
 way_right w [] ys m = m

@@ -32,4 +32,3 @@ more_counts p counts pc n lt is known q le =
       | inl same ↦ rw same (get_or-set_same counts pc n 0 lt ∙ is)
       | inr other ↦ get_or-set_other counts pc q n 0 other ∙ known q (omega (arith, le, other))
     ]
-

@@ -61,10 +61,10 @@ both_none None b h = (refl, h)
 both_none (Some c) b h = absurd cc
 
 one_ahead : (p : Program) (pc : ℕ) (z x : ℤ) → Ahead p pc x → IsOneOf z (x ∷ []) → Ahead p pc z
-one_ahead p pc z x h m = elim m [ | inl same ↦ rw same h | inr none ↦ absurd none ]
+one_ahead p pc z x h m = elim m [ inl same ↦ rw same h | inr none ↦ absurd none ]
 
 two_ahead : (p : Program) (pc : ℕ) (z x y : ℤ) → Ahead p pc x → Ahead p pc y → IsOneOf z (x ∷ y ∷ []) → Ahead p pc z
-two_ahead p pc z x y h k m = elim m [ | inl same ↦ rw same h | inr rest ↦ one_ahead p pc z y k rest ]
+two_ahead p pc z x y h k m = elim m [ inl same ↦ rw same h | inr rest ↦ one_ahead p pc z y k rest ]
 
 -- an instruction is one clause here
 cause_ahead : (p : Program) (pc : ℕ) (i : Instruction) (z : ℤ) → first_fault (decoding_fault p) (units p) ≡ None → instruction_at p pc ≡ Some i → flow_cause p pc i ≡ None → IsOneOf z (next_pcs i pc) → Ahead p pc z

@@ -48,7 +48,7 @@ visited p pc i states after box ws lt passed walked here found goes size gone =
       fine = rw (add-one, walked.fine, fault) refl;
       same_length = size ∙ walked.same_length;
       come_to = λ q le below. (
-        let other : get_or (set states pc None) q None ≡ get_or states q None = get_or-set_other states pc q None None (λ same. absurd (omega (arith, same, le))) in
-        let before : state_at (set states pc None) q ≡ come p pc q = ap boxed_state other ∙ walked.come_to q (omega (arith, le)) below in
-        gone q ∙ rw (before, add-one, ways) refl);
+          let other : get_or (set states pc None) q None ≡ get_or states q None = get_or-set_other states pc q None None (λ same. absurd (omega (arith, same, le))) in
+          let before : state_at (set states pc None) q ≡ come p pc q = ap boxed_state other ∙ walked.come_to q (omega (arith, le)) below in
+          gone q ∙ rw (before, add-one, ways) refl);
     }

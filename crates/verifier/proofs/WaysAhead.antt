@@ -26,7 +26,7 @@ AllLead ws zs = (w : ℤ × AbstractState) → IsWay w ws → IsOneOf w.0 zs
 one_leads : (z : ℤ) (s : AbstractState) (ws : Ways) → (z, s) ∷ [] ≡ ws → AllLead ws (z ∷ [])
 one_leads z s ws same w m =
     let one : IsWay w ((z, s) ∷ []) = subst (λ (x : Ways). IsWay w x) (sym same) m in
-    elim one [ | inl is ↦ inl (ap (λ (x : ℤ × AbstractState). x.0) is) | inr none ↦ absurd none ]
+    elim one [ inl is ↦ inl (ap (λ (x : ℤ × AbstractState). x.0) is) | inr none ↦ absurd none ]
 
 written_leads : (pc : ℕ) (s : AbstractState) (d : Register) (r : Result AbstractValue Cause) (ws : Ways) → written pc s d r ≡ ok ws → AllLead ws (pos pc ∷ [])
 written_leads pc s d r ws h =
@@ -50,14 +50,14 @@ returned_leads (Stack offset) ws h w m = absurd cc
 side_leads : (s : AbstractState) (left : Register) (right : Operand) (z : ℤ) (values : Option (AbstractValue × AbstractValue)) (w : ℤ × AbstractState) → IsWay w (side_way s left right z values) → w.0 ≡ z
 side_leads s left right z None w m = absurd m
 side_leads s left right z (Some values) w m =
-    elim m [ | inl is ↦ ap (λ (x : ℤ × AbstractState). x.0) is | inr none ↦ absurd none ]
+    elim m [ inl is ↦ ap (λ (x : ℤ × AbstractState). x.0) is | inr none ↦ absurd none ]
 
 either_way : (w : ℤ × AbstractState) (xs ys : Ways) → IsWay w (xs ++ ys) → IsWay w xs ⊎ IsWay w ys
 either_way w [] ys m = inr m
 either_way w (x ∷ xs) ys m =
     elim m [
       | inl is ↦ inl (inl is)
-      | inr rest ↦ elim (either_way w xs ys rest) [ | inl left ↦ inl (inr left) | inr right ↦ inr right ]
+      | inr rest ↦ elim (either_way w xs ys rest) [ inl left ↦ inl (inr left) | inr right ↦ inr right ]
     ]
 
 branch_leads : (pc : ℕ) (z : ℤ) (s : AbstractState) (left : Register) (right : Operand) (sides : Sides) (ws : Ways) → branch_ways pc z s left right sides ≡ ws → AllLead ws (target pc z ∷ pos (pc + 1) ∷ [])

@@ -38,11 +38,7 @@ fn join_at(states: &mut Vec<Option<Box<AbstractState>>>, pc: usize, state: Box<A
 }
 
 /// One way more comes to a place.
-pub fn arrive(
-    states: &mut Vec<Option<Box<AbstractState>>>,
-    place: i64,
-    state: Box<AbstractState>,
-)
+pub fn arrive(states: &mut Vec<Option<Box<AbstractState>>>, place: i64, state: Box<AbstractState>)
     requires { LeadInside (length states.old.items) ((place, state.value) ∷ []) }
     ensures arrived { (q : ℕ) → state_at states.new.items q ≡ joined_ways (state_at states.old.items q) ((place, state.value) ∷ []) q }
     ensures same_length { length states.new.items ≡ length states.old.items }

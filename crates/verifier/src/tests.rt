@@ -234,7 +234,13 @@ fn branches(rt: HostRuntime) -> Result<(), Fail> {
         ),
         // A side that no number takes is not walked, whatever stands there.
         (
-            &[zero, 0x5500_0100_0000_0000, EXIT, 0x0f99_0000_0000_0000, EXIT][..],
+            &[
+                zero,
+                0x5500_0100_0000_0000,
+                EXIT,
+                0x0f99_0000_0000_0000,
+                EXIT,
+            ][..],
             Ok(4),
         ),
     ];

@@ -112,11 +112,7 @@ fn visit(
 }
 
 /// Goes over all walked pcs, and finds the first broken rule.
-pub fn walk(
-    alloc: Global,
-    image: &Image,
-    listing: &[Option<Instruction>],
-) -> Result<(), Refusal>
+pub fn walk(alloc: Global, image: &Image, listing: &[Option<Instruction>]) -> Result<(), Refusal>
     requires listing { listing.now ≡ listed image.now (units image.now) }
     requires decodes { first_fault (decoding_fault image.now) (units image.now) ≡ None }
     requires flow { first_fault (flow_fault image.now) (units image.now) ≡ None }
