@@ -1,0 +1,69 @@
+#!/usr/bin/env python3
+"""Compiles programs.c to BPF, and natively, and writes the vectors of the tests. See README.md."""
+import pathlib
+import subprocess
+import tempfile
+
+# Each program and its record length; then those that are refused, with the cause and the pc that docs/BPF.md gives.
+LENGTHS = {
+    "pair_hash": 16, "short_hash": 16, "weight": 24, "even_degree": 16, "clamp": 20, "signed_parts": 16,
+    "unsigned_parts": 17, "bits_set": 16, "swapped": 16, "chosen": 17, "signed_argument": 24, "signed_sums": 16,
+    "over_stack": 16, "middle": 21, "many_values": 24, "written_record": 20,
+}
+REFUSED = {"any_byte": (24, 11, 1), "stack_table": (16, 10, 12), "loop": (20, 3, 10)}
+HEAD = '''\
+//! Vectors from outside, which `compiled/make.py` wrote. Clang 19 made the bytes of each program out of
+//! `compiled/programs.c`, and the numbers are those of the same C as native code.
+
+/// Of each program: its name, its `code` line and what that writes, and then its runs and what they write, with
+/// a bar between. A stroke stands for a line end.
+pub const LINES: &str = "\\
+'''
+
+
+def longest(code):
+    """The greatest number of instructions of a way from the start to an exit. Jumps only go forward."""
+    units = [code[at:at + 8] for at in range(0, len(code), 8)]
+    count = [0] * (len(units) + 1)
+    for pc in reversed(range(len(units))):
+        opcode = units[pc][0]
+        offset = int.from_bytes(units[pc][2:4], "little", signed=True)
+        if opcode == 0x95:
+            onward = []
+        elif opcode == 0x05:
+            onward = [pc + 1 + offset]
+        elif opcode & 7 in (5, 6):
+            onward = [pc + 1, pc + 1 + offset]
+        else:
+            onward = [pc + (2 if opcode == 0x18 else 1)]
+        count[pc] = 1 + max([count[to] for to in onward], default=0)
+    return count[0]
+
+
+def main():
+    here = pathlib.Path(__file__).parent
+    with tempfile.TemporaryDirectory() as folder:
+        compiled, native = f"{folder}/programs.o", f"{folder}/native"
+        subprocess.run(["clang-19", "-O2", "-target", "bpf", "-mcpu=v4", "-fno-strict-aliasing", "-ffunction-sections", "-c",
+                        here / "programs.c", "-o", compiled], check=True)
+        subprocess.run(["clang-19", "-O1", "-fwrapv", "-fno-strict-aliasing", here / "native.c", "-o", native], check=True)
+        written = subprocess.run([native], check=True, capture_output=True, text=True).stdout
+
+        def code(name):
+            part = f"{folder}/{name}"
+            subprocess.run(["llvm-objcopy-19", "-O", "binary", f"--only-section=.text.{name}", compiled, part], check=True)
+            return pathlib.Path(part).read_bytes()
+
+        lines = []
+        for name, length in LENGTHS.items():
+            program = code(name)
+            runs = [line.split("|")[1:] for line in written.splitlines() if line.split("|")[0] == name]
+            lines.append(f"{name}|code {name} {length} {program.hex()}|program {name} bound {longest(program)} frames 1|"
+                         + "/".join(run[0] for run in runs) + "|" + "".join(run[1] for run in runs))
+        for name, (length, cause, pc) in REFUSED.items():
+            lines.append(f"{name}|code {name} {length} {code(name).hex()}|refused {name} cause {cause} pc {pc}||")
+    vectors = here.parent / "crates/service/src/tests/compiled/vectors.rt"
+    vectors.write_text(HEAD + "\n".join(lines) + '";\n')
+
+
+main()

@@ -1,0 +1,209 @@
+// Small programs over the record of an edge, compiled to BPF by clang, and natively for the numbers that
+// they give. Each takes the record's address and its length.
+
+typedef unsigned char u8;
+typedef unsigned short u16;
+typedef unsigned int u32;
+typedef unsigned long long u64;
+typedef signed char s8;
+typedef short s16;
+typedef int s32;
+typedef long long s64;
+
+struct edge {
+    u32 source, target, place, degree;
+    u8 argument[];
+};
+
+// A hash of the two vertices: multiplications, shifts, exclusive ors and wide constants.
+u64 pair_hash(struct edge *e, u64 length)
+{
+    u64 x = ((u64)e->source << 32 | e->target) + 0x9e3779b97f4a7c15ULL;
+    x = (x ^ (x >> 30)) * 0xbf58476d1ce4e5b9ULL;
+    x = (x ^ (x >> 27)) * 0x94d049bb133111ebULL;
+    return x ^ (x >> 31);
+}
+
+// A hash of 32 bits, with rotations.
+u64 short_hash(struct edge *e, u64 length)
+{
+    u32 h = 0x2a;
+    u32 k = e->source * 0xcc9e2d51u;
+    h ^= (k << 15 | k >> 17) * 0x1b873593u;
+    h = (h << 13 | h >> 19) * 5 + 0xe6546b64u;
+    k = e->target * 0xcc9e2d51u;
+    h ^= (k << 15 | k >> 17) * 0x1b873593u;
+    h = (h ^ h >> 16) * 0x85ebca6bu;
+    return h ^ h >> 13;
+}
+
+// The weight of an edge: the first argument byte chooses one of the next eight by the target's remainder.
+u64 weight(struct edge *e, u64 length)
+{
+    u32 kinds = e->argument[0];
+    if (kinds > 8)
+        kinds = 8;
+    u32 kind = e->target % 7;
+    if (kind >= kinds)
+        return 1;
+    return (u64)e->argument[1 + kind] * e->degree;
+}
+
+// The target, where the source's degree is even; else 0.
+u64 even_degree(struct edge *e, u64 length)
+{
+    return (e->degree & 1) == 0 && e->source != e->target ? e->target : 0;
+}
+
+// The distance of the two vertices, between two bounds of two bytes.
+u64 clamp(struct edge *e, u64 length)
+{
+    u32 low = e->argument[0] | e->argument[1] << 8;
+    u32 high = e->argument[2] | e->argument[3] << 8;
+    u32 distance = e->source > e->target ? e->source - e->target : e->target - e->source;
+    if (distance < low)
+        return low;
+    return distance > high ? high : distance;
+}
+
+// Division and remainder with a sign, in 32 and in 64 bits.
+u64 signed_parts(struct edge *e, u64 length)
+{
+    s32 difference = (s32)e->source - (s32)e->target;
+    s64 wide = (s64)difference * 1000003;
+    return (u64)(difference / 7) * 5 + (u64)(difference % 5) + (u64)(wide / -11) + (u64)(wide % 13);
+}
+
+// Division and remainder without a sign, by constants and by a byte.
+u64 unsigned_parts(struct edge *e, u64 length)
+{
+    u64 both = (u64)e->target << 20 | e->source;
+    u32 divisor = e->argument[0];
+    if (divisor == 0)
+        return both / 1000 + both % 77;
+    return both / divisor * 3 + e->target % divisor;
+}
+
+// How many bits are set in the two vertices.
+u64 bits_set(struct edge *e, u64 length)
+{
+    u64 x = (u64)e->source << 32 | e->target;
+    x = x - (x >> 1 & 0x5555555555555555ULL);
+    x = (x & 0x3333333333333333ULL) + (x >> 2 & 0x3333333333333333ULL);
+    x = (x + (x >> 4)) & 0x0f0f0f0f0f0f0f0fULL;
+    return x * 0x0101010101010101ULL >> 56;
+}
+
+// Bytes in reverse order, of 16, 32 and 64 bits.
+u64 swapped(struct edge *e, u64 length)
+{
+    u64 x = (u64)e->source << 17 ^ e->target;
+    return __builtin_bswap64(x) ^ __builtin_bswap32(e->target) ^ __builtin_bswap16(e->source);
+}
+
+// What the first argument byte chooses.
+u64 chosen(struct edge *e, u64 length)
+{
+    switch (e->argument[0]) {
+    case 0: return e->source + (u64)e->target;
+    case 1: return e->source ^ e->target;
+    case 2: return e->source | e->target;
+    case 3: return (u64)e->source * e->target;
+    case 7: return ~(u64)e->place;
+    case 200: return -(u64)e->degree;
+    default: return e->argument[0];
+    }
+}
+
+// Numbers with a sign: of a byte, of two and of four of the argument.
+u64 signed_argument(struct edge *e, u64 length)
+{
+    s8 byte = (s8)e->argument[0];
+    s16 half = (s16)(e->argument[2] | e->argument[3] << 8);
+    s32 word = *(s32 *)&e->argument[4];
+    s64 score = (s64)byte * e->target + half;
+    if (score < word)
+        score = word;
+    return (u64)(score >> 3);
+}
+
+// Sign extensions of numbers that were computed.
+u64 signed_sums(struct edge *e, u64 length)
+{
+    s8 byte = (s8)(e->source + e->target);
+    s16 half = (s16)(e->source * e->target);
+    s64 word = (s32)(e->source * 0x9e3779b1u);
+    return (u64)(byte * (s64)half + (word >> 5));
+}
+
+// Sums that go over the stack.
+u64 over_stack(struct edge *e, u64 length)
+{
+    volatile u64 parts[4];
+    volatile u32 low = e->place;
+    volatile u8 byte = (u8)e->degree;
+    parts[0] = e->source;
+    parts[1] = parts[0] * 3 + e->target;
+    parts[2] = parts[1] ^ parts[0];
+    parts[3] = parts[2] - low;
+    return parts[3] * 31 + parts[2] + byte;
+}
+
+// The middle one of five argument bytes, each with something of the edge: more values than registers.
+u64 middle(struct edge *e, u64 length)
+{
+    u32 a = e->argument[0] ^ e->source, b = e->argument[1] ^ e->target, c = e->argument[2] + e->place;
+    u32 d = e->argument[3] * e->degree, f = e->argument[4], t;
+#define ORDER(x, y) if (x > y) { t = x; x = y; y = t; }
+    ORDER(a, b) ORDER(c, d) ORDER(a, c) ORDER(b, d) ORDER(b, f) ORDER(c, f) ORDER(b, c)
+#undef ORDER
+    return c;
+}
+
+// The sum of ten products of eleven values that are all alive at once.
+u64 many_values(struct edge *e, u64 length)
+{
+    u64 a = e->argument[0], b = e->argument[1], c = e->argument[2], d = e->argument[3], f = e->argument[4];
+    u64 g = e->argument[5], h = e->argument[6], i = e->argument[7];
+    u64 s = e->source, t = e->target, p = e->place, n = e->degree;
+    u64 x = a * t + b, y = c * s + d, z = f * p + g, w = h * n + i;
+    __asm__ volatile("" : "+r"(a), "+r"(b), "+r"(c), "+r"(d), "+r"(f), "+r"(g));
+    return x * a + y * b + z * c + w * d + (x ^ y) * f + (z ^ w) * g + (x & w) * h + (y | z) * i + s * t + p * n;
+}
+
+// A part of the record is written, and read again.
+u64 written_record(struct edge *e, u64 length)
+{
+    volatile struct edge *v = e;
+    v->place = e->source * 7;
+    v->argument[1] = (u8)(v->place >> 3);
+    *(volatile u16 *)&v->argument[2] = (u16)(e->target + 1);
+    return (u64)v->place << 24 | (u64)*(volatile u32 *)&v->argument[0];
+}
+
+// ---- refused
+
+// The argument byte at the target: it may lie behind the record.
+u64 any_byte(struct edge *e, u64 length)
+{
+    return e->argument[e->target];
+}
+
+// A byte of the stack at a place that is not known.
+u64 stack_table(struct edge *e, u64 length)
+{
+    volatile u8 table[8];
+    table[0] = 3; table[1] = 1; table[2] = 4; table[3] = 1;
+    table[4] = 5; table[5] = 9; table[6] = 2; table[7] = 6;
+    return table[e->target & 7];
+}
+
+// A loop that the compiler leaves as one.
+u64 loop(struct edge *e, u64 length)
+{
+    u64 sum = 0;
+#pragma clang loop unroll(disable) vectorize(disable)
+    for (u32 i = 0; i < 4; i++)
+        sum = sum * 31 + e->argument[i];
+    return sum;
+}

@@ -1,0 +1,50 @@
+use crate::Ending;
+use crate::tests::served;
+use std::alloc::{AllocError, Global};
+use std::process::Abort;
+use std::test::Fail;
+use vectors::LINES;
+
+mod vectors;
+
+/// The graph over which the native code ran, and what its lines write.
+const GRAPH: &str = "graph 70000\nbatch A\n+ 0 1\n+ 0 255\n+ 0 65535\n+ 0 69999\n+ 255 0\n+ 255 4660\n+ 255 65535\n+ 4660 255\n+ 69999 1\n+ 69999 69999\nend\npin a\n";
+
+const GRAPH_SAID: &str =
+    "graph 70000\nbatch A version 1 added 10 removed 0\npin a version 1 edges 10\n";
+
+/// A text whose lines end where these parts do.
+fn with_line_ends(alloc: Global, parts: &str) -> Result<String, AllocError> {
+    let mut text = String::new(alloc);
+    for part in parts.split('/') {
+        if !part.is_empty() {
+            text.push_str(part)?;
+            text.push_str("\n")?;
+        }
+    }
+    Ok(text)
+}
+
+/// One line of the vectors: the script of its parts writes what the line says.
+fn assert_line(rt: &impl Abort, alloc: Global, line: &str) -> Result<(), Fail> {
+    let (name, parts) = line.split_once('|').ok_or("no name")?;
+    let (code, parts) = parts.split_once('|').ok_or("no code")?;
+    let (said, parts) = parts.split_once('|').ok_or("no answer")?;
+    let (runs, written) = parts.split_once('|').ok_or("no runs")?;
+    let runs = with_line_ends(alloc, runs)?;
+    let written = with_line_ends(alloc, written)?;
+    let script = format!(in alloc; "{GRAPH}{code}\n{runs}")?;
+    let wanted = format!(in alloc; "{GRAPH_SAID}{said}\n{written}")?;
+    let (text, ending) = served(alloc, script.as_bytes())?;
+    assert_eq!(rt; text.as_slice(), wanted.as_bytes(), "{name}");
+    assert_eq!(rt; ending, Ending::Complete, "{name}");
+    Ok(())
+}
+
+#[test]
+fn compiled_programs(rt: HostRuntime) -> Result<(), Fail> {
+    for line in LINES.lines() {
+        assert_line(&rt, rt.alloc(), line)?;
+    }
+    Ok(())
+}
