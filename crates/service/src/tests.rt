@@ -3,6 +3,7 @@ use crate::{Ending, ServeError, serve};
 use std::alloc::Global;
 use std::test::Fail;
 
+mod checked;
 mod compiled;
 mod ends;
 mod programs;

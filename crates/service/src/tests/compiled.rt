@@ -8,7 +8,8 @@ use vectors::LINES;
 mod vectors;
 
 /// The graph over which the native code ran, and what its lines write.
-const GRAPH: &str = "graph 70000\nbatch A\n+ 0 1\n+ 0 255\n+ 0 65535\n+ 0 69999\n+ 255 0\n+ 255 4660\n+ 255 65535\n+ 4660 255\n+ 69999 1\n+ 69999 69999\nend\npin a\n";
+const GRAPH: &str =
+    "graph 70000\nbatch A\n+ 0 1\n+ 0 255\n+ 0 65535\n+ 0 69999\n+ 255 0\n+ 255 4660\n+ 255 65535\n+ 4660 255\n+ 69999 1\n+ 69999 69999\nend\npin a\n";
 
 const GRAPH_SAID: &str =
     "graph 70000\nbatch A version 1 added 10 removed 0\npin a version 1 edges 10\n";
