@@ -56,7 +56,7 @@ fn numbers_of_programs(rt: HostRuntime) -> Result<(), Fail> {
 
 /// What a row of six parts says.
 fn assert_accepted(rt: &impl Abort, alloc: Global, row: &str) -> Result<(), Fail> {
-    let (_, parts) = row.split_once('|').ok_or("no length")?;
+    let (source, parts) = row.split_once('|').ok_or("no length")?;
     let (length, parts) = parts.split_once('|').ok_or("no bytes")?;
     let (code, parts) = parts.split_once('|').ok_or("no bound")?;
     let (bound, parts) = parts.split_once('|').ok_or("no argument")?;
@@ -64,6 +64,9 @@ fn assert_accepted(rt: &impl Abort, alloc: Global, row: &str) -> Result<(), Fail
     let rows = with_line_ends(alloc, rows)?;
     let script = format!(in alloc; "code p {length} {code}\nrun p a sum {argument}\n")?;
     let wanted = format!(in alloc; "program p bound {bound} frames 1\nrun p a edges 6 {rows}")?;
+    assert_said(rt, alloc, script.as_str(), wanted.as_str(), row)?;
+    let source = with_line_ends(alloc, source)?;
+    let script = format!(in alloc; "program p {length}\n{source}end\nrun p a sum {argument}\n")?;
     assert_said(rt, alloc, script.as_str(), wanted.as_str(), row)
 }
 
@@ -77,12 +80,19 @@ fn accepted_programs(rt: HostRuntime) -> Result<(), Fail> {
 
 /// What a row of five parts says.
 fn assert_refused(rt: &impl Abort, alloc: Global, row: &str) -> Result<(), Fail> {
-    let (_, parts) = row.split_once('|').ok_or("no length")?;
+    let (source, parts) = row.split_once('|').ok_or("no length")?;
     let (length, parts) = parts.split_once('|').ok_or("no bytes")?;
     let (code, parts) = parts.split_once('|').ok_or("no cause")?;
     let (cause, pc) = parts.split_once('|').ok_or("no pc")?;
     let script = format!(in alloc; "code p {length} {code}\n")?;
     let wanted = format!(in alloc; "refused p cause {cause} pc {pc}\n")?;
+    assert_said(rt, alloc, script.as_str(), wanted.as_str(), row)?;
+    // A row in brackets has no text.
+    if source.starts_with('(') {
+        return Ok(());
+    }
+    let source = with_line_ends(alloc, source)?;
+    let script = format!(in alloc; "program p {length}\n{source}end\n")?;
     assert_said(rt, alloc, script.as_str(), wanted.as_str(), row)
 }
 
