@@ -11,7 +11,7 @@ const MOVE_SEVEN: u64 = 0xb700_0000_0700_0000;
 
 const EXIT: u64 = 0x9500_0000_0000_0000;
 
-/// Loads of a word and of a byte from the record: r0, and r3, and r0 by r1.
+/// Loads the record's first byte to r3.
 const LOAD_FIRST: u64 = 0x7113_0000_0000_0000;
 
 /// Verifies a program of these units, and sees that the program comes back whole.
