@@ -7,4 +7,5 @@ pub mod RunLemmas
 pub mod ProgramLemmas
 pub mod Serving
 pub mod KnownLemmas
+pub mod LineLemmas
 pub mod RoundLemmas

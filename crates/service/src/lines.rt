@@ -4,6 +4,7 @@ ghost use Rattle.service.specs.Served.{IsOneLine, IsLine, Steps, Goes};
 use crate::session::Session;
 use crate::stop::SessionError;
 use crate::texts::put_fault;
+use memchr::memchr;
 
 /// What came of the first line of some bytes.
 #[derive(Clone, Copy, Debug, PartialEq, Eq)]
@@ -20,12 +21,7 @@ pub enum Step {
 fn line_end(bytes: &[u8]) -> Option<usize>
     ensures { MatchOption result (IsOneLine bytes.now) (λ k. IsLine bytes.now k) }
 {
-    for (k, byte) in bytes.iter().enumerate() {
-        if *byte == b'\n' {
-            return Some(k);
-        }
-    }
-    None
+    memchr(b'\n', bytes)
 }
 
 /// Executes the first line of some bytes, if it is whole.

@@ -1,4 +1,5 @@
 pub mod BatchLemmas
+pub mod BlankLemmas
 pub mod CommandLemmas
 pub mod HexLemmas
 pub mod NumberLemmas

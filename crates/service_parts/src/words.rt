@@ -2,12 +2,25 @@ ghost use Rattle.std.specs.Prelude.{◌≡◌, ◌↔◌, ℕ, ◌<◌, ◌≤�
 ghost use Rattle.std.specs.List.{list_all, position_or_len};
 ghost use Rattle.script_model.specs.Lexing.{is_blank as is_blank_byte, is_plain, words, same_bytes};
 
+use memchr::memchr2;
+
+/// Whether a byte is printable ASCII or a tab.
+fn is_plain_byte(byte: u8) -> bool
+    ensures { result ≡ is_plain byte }
+{
+    (byte >= b' ' && byte <= b'~') || byte == b'\t'
+}
+
 /// Whether every byte is printable ASCII or a tab.
+// Without an early end, so that many bytes are tested at a time.
 pub fn is_plain_line(line: &[u8]) -> bool
     ensures { result ≡ list_all is_plain line.now }
 {
-    line.iter()
-        .all(|byte| (*byte >= b' ' && *byte <= b'~') || *byte == b'\t')
+    let mut plain = true;
+    for byte in line {
+        plain &= is_plain_byte(*byte);
+    }
+    plain
 }
 
 /// Whether a byte separates words.
@@ -34,12 +47,7 @@ pub(crate) fn without_blanks(line: &[u8]) -> &[u8]
 fn word_length(line: &[u8]) -> usize
     ensures { result ≡ position_or_len is_blank_byte line.now }
 {
-    for (at, byte) in line.iter().enumerate() {
-        if is_blank(*byte) {
-            return at;
-        }
-    }
-    line.len()
+    memchr2(b' ', b'\t', line).unwrap_or(line.len())
 }
 
 /// The line's first word, and what stands behind it.
