@@ -9,7 +9,7 @@ use Rattle.std.proofs.Common.{pow-suc}
 use Rattle.bpf_isa.specs.declared.instruction.Size.{Size}
 use Rattle.bpf_isa.specs.declared.instruction.Size.TheVariants.{Byte, Half, Word, Double}
 use Rattle.bpf_model.specs.State.{Partial, record_base, joined_bytes, number_at, address_at}
-use Rattle.bpf_model.specs.Step.{size_bytes}
+use Rattle.bpf_isa.specs.Sizes.{size_bytes}
 use Rattle.abstract_values.specs.declared.cause.Cause.{Cause}
 use Rattle.abstract_values.specs.declared.cause.Cause.TheVariants.{OutOfRange, UnsetStackByte}
 use Rattle.abstract_values.specs.declared.value.AbstractValue.{AbstractValue}

@@ -8,7 +8,7 @@ use Rattle.std.proofs.Math.Nat.{mod-eq_of_lt}
 use Rattle.bpf_isa.specs.declared.instruction.Size.{Size}
 use Rattle.bpf_isa.specs.declared.instruction.Size.TheVariants.{Byte, Half, Word, Double}
 use Rattle.bpf_model.specs.State.{Partial, record_base, number_at, address_at}
-use Rattle.bpf_model.specs.Step.{size_bytes}
+use Rattle.bpf_isa.specs.Sizes.{size_bytes}
 use Rattle.abstract_values.specs.declared.cause.Cause.{Cause}
 use Rattle.abstract_values.specs.declared.cause.Cause.TheVariants.{OutOfRange, PointerUse}
 use Rattle.abstract_values.specs.declared.value.AbstractValue.{AbstractValue}

@@ -3,7 +3,7 @@ use Rattle.std.specs.Prelude.{◌≡◌, ℕ, ◌+◌, ◌<◌, ◌≤◌, ◌^�
 use Rattle.std.specs.Int.{w16}
 use Rattle.bpf_isa.specs.declared.instruction.Size.{Size}
 use Rattle.bpf_model.specs.State.{Partial, record_base, number_at, address_at}
-use Rattle.bpf_model.specs.Step.{size_bytes}
+use Rattle.bpf_isa.specs.Sizes.{size_bytes}
 use Rattle.abstract_values.specs.declared.value.AbstractValue.{AbstractValue}
 use Rattle.abstract_values.specs.Described.{Describes}
 use Rattle.abstract_state.specs.declared.state.AbstractState.{AbstractState}

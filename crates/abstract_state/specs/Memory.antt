@@ -4,7 +4,7 @@ use Rattle.bpf_isa.specs.declared.instruction.Size.{Size}
 use Rattle.bpf_isa.specs.declared.instruction.Size.TheVariants.{Byte, Half, Word}
 use Rattle.bpf_isa.specs.declared.instruction.SignedSize.{SignedSize}
 use Rattle.bpf_isa.specs.declared.instruction.SignedSize.TheVariants.{SignedByte, SignedHalf, SignedWord}
-use Rattle.bpf_model.specs.Step.{size_bytes}
+use Rattle.bpf_isa.specs.Sizes.{size_bytes, plain_size}
 use Rattle.abstract_values.specs.declared.cause.Cause.{Cause}
 use Rattle.abstract_values.specs.declared.cause.Cause.TheVariants.{UnsetRegister, PointerUse, OutOfRange, UnsetStackByte}
 use Rattle.abstract_values.specs.declared.value.AbstractValue.{AbstractValue}
@@ -59,11 +59,6 @@ loaded record_length s (Record lo hi) offset size =
     if is_in_record record_length lo hi offset size then Ok (any_of_size size) else Err OutOfRange
 loaded record_length s (Stack top) offset size =
     if is_in_frame (top +ℤ offset) size then frame_loaded s (frame_index (top +ℤ offset)) size else Err OutOfRange
-
-abbrev pub plain_size : SignedSize → Size
-plain_size SignedByte = Byte
-plain_size SignedHalf = Half
-plain_size SignedWord = Word
 
 -- a sign-extending load gives any number, where the load is allowed
 abbrev pub any_number_where : Result AbstractValue Cause → Result AbstractValue Cause

@@ -1,26 +1,12 @@
 //! Loads and stores through what is known of their base (RFC 9669, section 5).
 ghost use Rattle.std.specs.Prelude.{◌≡◌, ◌≤◌, ◌<◌, ◌+◌, ◌+ℤ◌, if◌then◌else◌, Some, None, IfErr, IfSome, negsuc, ◌≤ℤ◌};
-ghost use Rattle.bpf_model.specs.Step.{size_bytes};
+ghost use Rattle.bpf_isa.specs.Sizes.{size_bytes};
 ghost use Rattle.abstract_state.specs.Memory.{is_in_record, is_in_frame, frame_index, is_pointer, loaded, loaded_signed, stored_in_frame, stored_through, stored_answer};
 
 use crate::stack::{any_number, is_whole_slot, load_frame, store_frame};
 use crate::state::AbstractState;
 use abstract_values::{AbstractValue, Cause};
 use bpf_isa::{SignedSize, Size};
-
-/// How many bytes a size is.
-fn bytes_of(size: Size) -> usize
-    ensures bytes { result ≡ size_bytes size }
-    ensures some { 1 ≤ result }
-    ensures few { result ≤ 8 }
-{
-    match size {
-        Size::Byte => 1,
-        Size::Half => 2,
-        Size::Word => 4,
-        Size::Double => 8,
-    }
-}
 
 /// Whether bytes at an offset from a range of places lie in a record.
 fn is_inside_record(record_length: u16, lo: u16, hi: u16, offset: i16, bytes: usize) -> bool
@@ -78,7 +64,7 @@ pub fn load(
 ) -> Result<AbstractValue, Cause>
     ensures { result ≡ loaded record_length state.now base offset (size_bytes size) }
 {
-    let bytes = bytes_of(size);
+    let bytes = usize::from(size.bytes());
     match base {
         AbstractValue::Unset => Err(Cause::UnsetRegister),
         AbstractValue::Number { .. } => Err(Cause::PointerUse),
@@ -106,12 +92,7 @@ pub fn load_signed(
 ) -> Result<AbstractValue, Cause>
     ensures { result ≡ loaded_signed record_length state.now base offset size }
 {
-    let size = match size {
-        SignedSize::SignedByte => Size::Byte,
-        SignedSize::SignedHalf => Size::Half,
-        SignedSize::SignedWord => Size::Word,
-    };
-    load(record_length, state, base, offset, size)?;
+    load(record_length, state, base, offset, size.plain())?;
     Ok(AbstractValue::Number {
         lo: 0,
         hi: u64::MAX,
@@ -171,7 +152,7 @@ pub fn store(
     ensures stored { stored_through record_length state.old base offset (size_bytes size) value ≡ stored_answer result state.new }
     ensures unchanged { IfErr result (λ cause. state.new ≡ state.old) }
 {
-    let bytes = bytes_of(size);
+    let bytes = usize::from(size.bytes());
     match base {
         AbstractValue::Unset => Err(Cause::UnsetRegister),
         AbstractValue::Number { .. } => Err(Cause::PointerUse),

@@ -1,6 +1,5 @@
 //! What arithmetic instructions make of values (RFC 9669, sections 4.1 and 4.2).
 ghost use Rattle.std.specs.Prelude.{◌≡◌};
-ghost use Rattle.bpf_isa.specs.Encoding.{extension_width};
 ghost use Rattle.bpf_isa.specs.declared.instruction.Width.TheVariants.{Bits64};
 ghost use Rattle.bpf_isa.specs.declared.instruction.Operation.TheVariants.{Add, Subtract};
 ghost use Rattle.abstract_values.specs.Values.{of_number, of_numbers, number, number_result, moved, added, subtracted, arithmetic, negation, sign_extension, swap_result};
@@ -134,21 +133,11 @@ pub fn alu(
     }
 }
 
-/// The width of a sign-extending move.
-fn width_of_extension(extension: Extension) -> Width
-    ensures { result ≡ extension_width extension }
-{
-    match extension {
-        Extension::From8To32 | Extension::From16To32 => Width::Bits32,
-        Extension::From8To64 | Extension::From16To64 | Extension::From32To64 => Width::Bits64,
-    }
-}
-
 /// What a sign-extending move makes of its source.
 pub fn move_signed(extension: Extension, source: AbstractValue) -> Result<AbstractValue, Cause>
     ensures { result ≡ sign_extension extension source }
 {
-    let width = width_of_extension(extension);
+    let width = extension.width();
     let range = input_range(width, number_of(source)?);
     if is_one_number(range) {
         return Ok(value_of(constant_range(bpf_arithmetic::extend_sign(extension, range.lo))));

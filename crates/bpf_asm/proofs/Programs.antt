@@ -7,13 +7,13 @@ use Rattle.std.proofs.lemmas.Bool.Decides.{nat_tests}
 use Rattle.bpf_isa.specs.declared.instruction.Instruction.{Instruction}
 use Rattle.bpf_isa.specs.declared.decode_error.DecodeError.{DecodeError}
 use Rattle.bpf_isa.specs.Encoding.{IsCodeAt, units_of}
-use Rattle.bpf_isa.specs.Reading.{decoded}
+use Rattle.bpf_isa.specs.Reading.{decoded, units_in}
 use Rattle.bpf_asm.specs.declared.errors.DisassembleError.{DisassembleError}
 use Rattle.bpf_asm.specs.declared.errors.DisassembleError.TheVariants.{TooLong}
 use Rattle.bpf_asm.specs.declared.placed.Placed.{Placed}
 use Rattle.bpf_asm.specs.declared.placed.Target.{Target}
 use Rattle.bpf_asm.specs.declared.placed.Target.TheVariants.{Nowhere, Before, At}
-use Rattle.bpf_asm.specs.Listing.{units_in, placed_first, placed_from, instructions, is_start, target, jumps_out, first_out, listing, unless_out, listed, disassembled}
+use Rattle.bpf_asm.specs.Listing.{placed_first, placed_from, instructions, is_start, target, jumps_out, first_out, listing, unless_out, listed, disassembled}
 use Rattle.bpf_asm.specs.Laws.{StandFrom, LandsIn, IsProgram}
 use Rattle.bpf_asm.proofs.Placing.{units_some}
 use Rattle.bpf_asm.proofs.LabelPlaces.{stand_end}

@@ -1,5 +1,6 @@
 -- What stands on a line: a word and its arguments, each of one of four forms.
 use Rattle.std.specs.Prelude.{ℕ, ◌-◌, ◌==◌, ◌&&◌, ◌||◌, not, nat_le, Bool, true, false, if◌then◌else◌, List, [], ◌∷◌, length, take, drop, slice_index, Option, Some, None, option_map}
+use Rattle.std.specs.Option.{option_or}
 use Rattle.std.specs.List.{slice_split, list_all, position_or_len}
 use Rattle.bpf_isa.specs.declared.register.Register.{Register}
 use Rattle.bpf_isa.specs.declared.register.Register.TheVariants.{R10}
@@ -146,10 +147,6 @@ pub data Argument : Type 0 where
   Addressed : (base : Register) (offset : Numeral) → Argument
   Named : List ℕ → Argument
 
-abbrev pub first_of : Option Argument → Option Argument → Option Argument
-first_of None other = other
-first_of (Some argument) other = Some argument
-
 abbrev pub addressed : Register × Numeral → Argument
 addressed (base, offset) = Addressed base offset
 
@@ -159,7 +156,7 @@ name text = if is_name text then Some text else None
 -- the form that a text has
 abbrev pub argument : List ℕ → Option Argument
 argument text =
-    first_of (option_map Held (register_named text)) (first_of (option_map Counted (number text)) (first_of (option_map addressed (memory text)) (option_map Named (name text))))
+    option_or (option_map Held (register_named text)) (option_or (option_map Counted (number text)) (option_or (option_map addressed (memory text)) (option_map Named (name text))))
 
 abbrev pub with_argument : Option Argument → Option (List Argument) → Option (List Argument)
 with_argument None others = None

@@ -3,7 +3,7 @@ use Rattle.std.specs.Prelude.{ℕ, zero, suc, ◌+◌, ◌*◌, ◌≡◌, ◌==
 use Rattle.std.specs.List.{flat_map, list_any}
 use Rattle.bpf_isa.specs.declared.instruction.Instruction.{Instruction}
 use Rattle.bpf_isa.specs.declared.decode_error.DecodeError.{DecodeError}
-use Rattle.bpf_isa.specs.Reading.{decoded}
+use Rattle.bpf_isa.specs.Reading.{decoded, units_in}
 use Rattle.bpf_asm.specs.declared.placed.Placed.{Placed}
 use Rattle.bpf_asm.specs.declared.placed.Target.{Target}
 use Rattle.bpf_asm.specs.declared.placed.Target.TheVariants.{Nowhere, Before, At}
@@ -12,10 +12,6 @@ use Rattle.bpf_asm.specs.declared.errors.DisassembleError.TheVariants.{BadCode, 
 use Rattle.bpf_asm.specs.Writing.{target_of, label_text, statement_text}
 
 -- ---- the instructions, one behind another
-
-abbrev pub units_in : Result (Instruction × ℕ) DecodeError → ℕ
-units_in (Ok found) = found.1
-units_in (Err e) = 1
 
 -- the instruction at a pc before those that follow it
 abbrev pub placed_first : ℕ → Result (Instruction × ℕ) DecodeError → Result (List Placed) DisassembleError → Result (List Placed) DisassembleError

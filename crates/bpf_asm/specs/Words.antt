@@ -1,5 +1,6 @@
 -- The words of statements.
 use Rattle.std.specs.Prelude.{ℕ, ◌-◌, nat_le, ◌&&◌, if◌then◌else◌, Bool, List, [], ◌∷◌, length, take, drop, codes, Option, Some, None, option_map}
+use Rattle.std.specs.Option.{option_or}
 use Rattle.bpf_isa.specs.declared.instruction.Width.{Width}
 use Rattle.bpf_isa.specs.declared.instruction.Width.TheVariants.{Bits32, Bits64}
 use Rattle.bpf_isa.specs.declared.instruction.Operation.{Operation}
@@ -49,11 +50,7 @@ width_of text = if is_short text then Bits32 else Bits64
 abbrev pub stem : List ℕ → List ℕ
 stem text = if is_short text then take (length text - 2) text else text
 
-abbrev pub or_else : {A : Type 0} → Option A → Option A → Option A
-or_else None other = other
-or_else (Some x) other = Some x
-
 -- the word that a text is
 abbrev pub word : List ℕ → Option statement_words.Word
 word text =
-    or_else (option_map (Arithmetic (width_of text)) (looked operations (stem text))) (or_else (looked accesses text) (or_else (option_map (Branching (width_of text)) (looked comparisons (stem text))) (or_else (looked flows text) (looked changes text))))
+    option_or (option_map (Arithmetic (width_of text)) (looked operations (stem text))) (option_or (looked accesses text) (option_or (option_map (Branching (width_of text)) (looked comparisons (stem text))) (option_or (looked flows text) (looked changes text))))

@@ -10,25 +10,25 @@ use thiserror::Error;
 pub enum Cause {
     /// The line is not a word with arguments or a label, or they are not those of its word.
     #[error("the line is not a statement or a label")]
-    Syntax,
+    Syntax = 1,
     /// No statement has this word.
     #[error("no statement has this word")]
-    UnknownName,
+    UnknownName = 2,
     /// The label stands on a line before.
     #[error("the label was defined before")]
-    DoubleLabel,
+    DoubleLabel = 3,
     /// No line has the label to which the statement goes.
     #[error("no line has this label")]
-    UnknownLabel,
+    UnknownLabel = 4,
     /// A number or a distance is outside its range.
     #[error("a number is outside its range")]
-    NumberRange,
+    NumberRange = 5,
     /// The code has more than 4,096 units with this line.
     #[error("the code has more than 4096 units")]
-    TooLong,
+    TooLong = 6,
     /// There is no memory for the code.
     #[error("out of memory")]
-    OutOfMemory,
+    OutOfMemory = 7,
 }
 
 /// Why a text means no code.

@@ -1,3 +1,4 @@
 pub mod Encoding
 pub mod DecodeErrors
 pub mod Reading
+pub mod Sizes

@@ -5,17 +5,17 @@ use thiserror::Error;
 pub enum DecodeError {
     /// Fewer than 8 bytes are left, or fewer than 16 for an instruction of two units.
     #[error("the code ends inside the instruction")]
-    Truncated,
+    Truncated = 1,
     /// No instruction has this opcode with what the field beside it chooses.
     #[error("no instruction has this opcode")]
-    UnknownOpcode,
+    UnknownOpcode = 2,
     /// A field that the instruction does not use is not zero.
     #[error("a field that is not used is not zero")]
-    UnusedField,
+    UnusedField = 3,
     /// A register field that the instruction uses is above 10.
     #[error("a register above r10")]
-    BadRegister,
+    BadRegister = 4,
     /// The second unit of a wide instruction has more than an immediate.
     #[error("the second unit of a wide instruction has more than an immediate")]
-    BadWide,
+    BadWide = 5,
 }

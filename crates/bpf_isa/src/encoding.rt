@@ -122,15 +122,6 @@ fn bits_of_signed_size(size: SignedSize) -> u8
     }
 }
 
-fn width_of_extension(extension: Extension) -> Width
-    ensures { result ≡ extension_width extension }
-{
-    match extension {
-        Extension::From8To32 | Extension::From16To32 => Width::Bits32,
-        Extension::From8To64 | Extension::From16To64 | Extension::From32To64 => Width::Bits64,
-    }
-}
-
 fn bits_of_extension(extension: Extension) -> u16
     ensures { result ≡ extension_bits extension }
 {
@@ -227,9 +218,7 @@ fn opcode_of(instruction: Instruction) -> u8
             operand,
             ..
         } => { 16 * code_of_operation(operation) + bit_of_operand(operand) + class_of_alu(width) }
-        Instruction::MoveSigned { extension, .. } => {
-            0xb8 + class_of_alu(width_of_extension(extension))
-        }
+        Instruction::MoveSigned { extension, .. } => { 0xb8 + class_of_alu(extension.width()) }
         Instruction::Negate { width, .. } => 0x80 + class_of_alu(width),
         Instruction::Swap { order, .. } => opcode_of_swap(order),
         Instruction::Jump { distance } => opcode_of_jump(distance),

@@ -1,5 +1,6 @@
-ghost use Rattle.std.specs.Prelude.{◌≡◌};
-ghost use Rattle.bpf_isa.specs.Encoding.{units_of};
+ghost use Rattle.std.specs.Prelude.{◌≡◌, ◌≤◌};
+ghost use Rattle.bpf_isa.specs.Encoding.{extension_width, units_of};
+ghost use Rattle.bpf_isa.specs.Sizes.{plain_size, size_bytes};
 
 use crate::register::Register;
 
@@ -76,6 +77,22 @@ pub enum Size {
     Double,
 }
 
+impl Size {
+    /// How many bytes it is.
+    pub fn bytes(self) -> u8
+        ensures value { result ≡ size_bytes self }
+        ensures some { 1 ≤ result }
+        ensures limit { result ≤ 8 }
+    {
+        match self {
+            Size::Byte => 1,
+            Size::Half => 2,
+            Size::Word => 4,
+            Size::Double => 8,
+        }
+    }
+}
+
 /// How many bytes a sign-extending load reads (RFC 9669, section 5.2).
 #[derive(Clone, Copy, Debug, PartialEq, Eq)]
 pub enum SignedSize {
@@ -87,6 +104,19 @@ pub enum SignedSize {
     SignedWord,
 }
 
+impl SignedSize {
+    /// The plain size of as many bytes.
+    pub fn plain(self) -> Size
+        ensures { result ≡ plain_size self }
+    {
+        match self {
+            SignedSize::SignedByte => Size::Byte,
+            SignedSize::SignedHalf => Size::Half,
+            SignedSize::SignedWord => Size::Word,
+        }
+    }
+}
+
 /// Which low bits a sign-extending move takes, and how wide its result is (RFC 9669, section 4.1).
 #[derive(Clone, Copy, Debug, PartialEq, Eq)]
 pub enum Extension {
@@ -95,6 +125,18 @@ pub enum Extension {
     From8To64,
     From16To64,
     From32To64,
+}
+
+impl Extension {
+    /// How wide the result is.
+    pub fn width(self) -> Width
+        ensures { result ≡ extension_width self }
+    {
+        match self {
+            Extension::From8To32 | Extension::From16To32 => Width::Bits32,
+            Extension::From8To64 | Extension::From16To64 | Extension::From32To64 => Width::Bits64,
+        }
+    }
 }
 
 /// Which byte order a swap gives, on a little-endian host (RFC 9669, section 4.2).

@@ -1,24 +1,8 @@
 ghost use Rattle.std.specs.Prelude.{◌≡◌, ◌+◌, ◌^◌, ◌<◌, ◌≤◌, nat_le, ◌&&◌, length};
 ghost use Rattle.bpf_model.specs.State.{may_access, number_at};
-ghost use Rattle.bpf_model.specs.Step.{size_bytes};
 ghost use Rattle.bpf_machine.specs.Seen.{seen};
 
 use crate::machine::{FRAME_BASE, FRAME_BYTES, Machine, RECORD_BASE};
-use bpf_isa::Size;
-
-/// How many bytes an access of a size has (RFC 9669, section 5).
-pub fn bytes_of(size: Size) -> u64
-    ensures value { result ≡ size_bytes size }
-    ensures some { 1 ≤ result }
-    ensures limit { result ≤ 8 }
-{
-    match size {
-        Size::Byte => 1,
-        Size::Half => 2,
-        Size::Word => 4,
-        Size::Double => 8,
-    }
-}
 
 /// Whether so many bytes from an address lie wholly in a region.
 pub fn lies_within(base: u64, room: u64, address: u64, size: u64) -> bool

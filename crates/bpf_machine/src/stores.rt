@@ -4,7 +4,7 @@ ghost use Rattle.bpf_model.specs.Step.{store};
 ghost use Rattle.bpf_machine.specs.Seen.{memory_of, seen, answer, Keeps};
 
 use crate::machine::{FRAME_BASE, FRAME_BYTES, Frame, Machine, RECORD_BASE};
-use crate::memory::{bytes_of, lies_within};
+use crate::memory::lies_within;
 use crate::turn::Turn;
 use bpf_isa::Size;
 use bpf_model::TrapKind;
@@ -68,7 +68,7 @@ pub fn store_to(
         ≡ answer result (seen machine.new bytes.new) }
     ensures kept { Keeps result bytes.old bytes.new }
 {
-    let count = bytes_of(size);
+    let count = u64::from(size.bytes());
     let spelled = value.to_le_bytes();
     let low = &spelled[..count as usize];
     if lies_within(RECORD_BASE, bytes.len() as u64, address, count) {

@@ -1,5 +1,5 @@
 -- A program mapped over edges: one run for each edge, each on a record of its own.
-use Rattle.std.specs.Prelude.{◌≡◌, ℕ, ◌+◌, ◌-◌, ◌^◌, ◌%◌, min, max, List, [], ◌∷◌, ◌++◌, map, sum, Option, Some, None}
+use Rattle.std.specs.Prelude.{ℕ, ◌+◌, ◌-◌, ◌^◌, ◌%◌, min, max, List, [], ◌∷◌, ◌++◌, sum, Option, Some, None}
 use Rattle.std.specs.Int.{w32, to_le_bytes}
 use Rattle.bpf_image.specs.Program.{Program}
 use Rattle.graph_model.specs.Graph.{Graph, neighbours, degree}
@@ -34,10 +34,6 @@ numbers_from p steps g argument source place (target ∷ targets) =
 -- the exit numbers of a vertex's edges, targets ascending
 abbrev pub numbers_of : Program → ℕ → Graph → List ℕ → ℕ → List (Option ℕ)
 numbers_of p steps g argument source = numbers_from p steps g argument source 0 (neighbours g source)
-
--- numbers that are all there
-abbrev pub AreNumbers : List (Option ℕ) → List ℕ → Type 0
-AreNumbers found numbers = found ≡ map Some numbers
 
 abbrev pub least : List ℕ → ℕ
 least [] = 2 ^ 64 - 1

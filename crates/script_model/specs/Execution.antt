@@ -1,5 +1,5 @@
 -- What a line does to a session, and what is written for it.
-use Rattle.std.specs.Prelude.{ℕ, ◌+◌, ◌*◌, ◌==◌, ◌&&◌, not, nat_le, nat_lt, if◌then◌else◌, Bool, true, false, List, [], ◌∷◌, ◌++◌, length, Option, Some, None, Result, Ok, Err}
+use Rattle.std.specs.Prelude.{ℕ, ◌+◌, ◌*◌, ◌==◌, ◌&&◌, not, nat_le, nat_lt, if◌then◌else◌, Bool, true, false, List, [], ◌∷◌, ◌++◌, length, Option, Some, None, Result, Ok, Err, is_some}
 use Rattle.std.specs.List.{list_all, flat_map, filter_map}
 use Rattle.graph_model.specs.declared.edit.Edit.{Edit}
 use Rattle.graph_model.specs.declared.entry.Entry.{Entry}
@@ -43,10 +43,6 @@ abbrev pub kept_pin : List ℕ → List KeptPin → Option Past
 kept_pin name [] = None
 kept_pin name (kept ∷ others) = if same_bytes kept.name name then Some kept.past else kept_pin name others
 
-abbrev pub is_there : {A : Type 0} → Option A → Bool
-is_there None = false
-is_there (Some x) = true
-
 -- ---- graph and batches
 
 abbrev pub is_vertex_count : ℕ → Bool
@@ -54,7 +50,7 @@ is_vertex_count n = nat_le 1 n && nat_le n 1048576
 
 abbrev pub make_graph : ℕ → Session → ℕ → Answer
 make_graph n s line =
-    tested ((is_there s.past, faults.Order) ∷ (not (is_vertex_count n), faults.Range) ∷ []) line (Says (graph_text n) (record s { past = Some (opening n) }))
+    tested ((is_some s.past, faults.Order) ∷ (not (is_vertex_count n), faults.Range) ∷ []) line (Says (graph_text n) (record s { past = Some (opening n) }))
 
 abbrev pub begin_batch : Session → ℕ → Answer
 begin_batch s line =
@@ -115,7 +111,7 @@ offered name p s = if is_code p then judged (verdict p) name p s else Says (imag
 -- the tests of a program's name and record length
 abbrev pub program_tests : List ℕ → ℕ → Session → List (Bool × Fault)
 program_tests name record_length s =
-    (not (is_there s.past), faults.Order) ∷ (not (is_record_length record_length), faults.Range) ∷ (is_there (kept_program name s.programs), faults.Name) ∷ (nat_le most_kept (length s.programs), faults.TooMany) ∷ []
+    (not (is_some s.past), faults.Order) ∷ (not (is_record_length record_length), faults.Range) ∷ (is_some (kept_program name s.programs), faults.Name) ∷ (nat_le most_kept (length s.programs), faults.TooMany) ∷ []
 
 abbrev pub load_code : List ℕ → Program → Session → ℕ → Answer
 load_code name p s line = tested (program_tests name p.record_length s) line (offered name p s)
@@ -151,7 +147,7 @@ inside_program bytes begun s line =
 abbrev pub take_pin : List ℕ → Session → ℕ → Answer
 take_pin name s line =
     needing s.past faults.Order line (λ past.
-    tested ((is_there (kept_pin name s.pins), faults.Name) ∷ (nat_le most_kept (length s.pins), faults.TooMany) ∷ []) line
+    tested ((is_some (kept_pin name s.pins), faults.Name) ∷ (nat_le most_kept (length s.pins), faults.TooMany) ∷ []) line
     (Says (pin_text name (number_of past) (edge_count (graph_of past))) (record s { pins = s.pins ++ record { name = name; past = past } ∷ [] })))
 
 -- ---- runs

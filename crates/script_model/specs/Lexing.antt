@@ -1,21 +1,15 @@
 -- Bytes as lines, words, numbers, names and hexadecimal digits.
 use Rattle.std.specs.Prelude.{ℕ, ◌+◌, ◌*◌, ◌-◌, ◌==◌, ◌&&◌, ◌||◌, not, nat_le, Bool, true, false, if◌then◌else◌, List, [], ◌∷◌, length, filter, Option, Some, None}
 use Rattle.std.specs.List.{slice_split, list_all}
+-- blanks and digits are those of the assembler's text: spaces and tabs, and decimal digits
+pub use Rattle.bpf_asm.specs.Lexing.{is_blank, is_digit, is_empty, same_bytes}
 
 abbrev pub is_newline : ℕ → Bool
 is_newline b = b == 10
 
--- words are separated by spaces and tabs
-abbrev pub is_blank : ℕ → Bool
-is_blank b = (b == 32) || (b == 9)
-
 -- a byte that a line may have: printable ASCII, or a tab
 abbrev pub is_plain : ℕ → Bool
 is_plain b = (nat_le 32 b && nat_le b 126) || (b == 9)
-
-abbrev pub is_empty : {A : Type 0} → List A → Bool
-is_empty [] = true
-is_empty (x ∷ xs) = false
 
 -- what stands behind the last line end is a line too, unless it is empty
 abbrev pub without_last_empty : List (List ℕ) → List (List ℕ)
@@ -29,9 +23,6 @@ script_lines bytes = without_last_empty (slice_split is_newline bytes)
 -- the words of a line
 abbrev pub words : List ℕ → List (List ℕ)
 words line = filter (λ word. not (is_empty word)) (slice_split is_blank line)
-
-abbrev pub is_digit : ℕ → Bool
-is_digit b = nat_le 48 b && nat_le b 57
 
 -- the number that decimal digits spell, after a number that they go on from
 abbrev pub digits_from : ℕ → List ℕ → ℕ
@@ -83,8 +74,3 @@ is_dash (b ∷ c ∷ bytes) = false
 abbrev pub hex : List ℕ → Option (List ℕ)
 hex word = if is_dash word then Some [] else hex_pairs word
 
-abbrev pub same_bytes : List ℕ → List ℕ → Bool
-same_bytes [] [] = true
-same_bytes [] (b ∷ bs) = false
-same_bytes (a ∷ as') [] = false
-same_bytes (a ∷ as') (b ∷ bs) = (a == b) && same_bytes as' bs

@@ -1,4 +1,3 @@
-pub mod NameLemmas
 pub mod Cuts
 pub mod CommandCuts
 pub mod FrontierLemmas

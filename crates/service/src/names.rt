@@ -12,15 +12,7 @@ use versions::Pin;
 fn is_same(a: &[u8], b: &[u8]) -> bool
     ensures { result ≡ same_bytes a.now b.now }
 {
-    if a.len() != b.len() {
-        return false;
-    }
-    for i in 0..a.len() {
-        if a[i] != b[i] {
-            return false;
-        }
-    }
-    true
+    a == b
 }
 
 /// The program of this name.

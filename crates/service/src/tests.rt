@@ -1,6 +1,6 @@
 use crate::tests::ends::{Parts, Written};
 use crate::{Ending, ServeError, serve};
-use std::alloc::Global;
+use std::alloc::{AllocError, Global};
 use std::test::Fail;
 
 mod checked;
@@ -17,6 +17,18 @@ fn served(alloc: Global, script: &[u8]) -> Result<(Vec<u8>, Ending), Fail> {
     let mut output = Written::new(alloc, usize::MAX, None);
     let ending = serve(alloc, &mut input, &mut output)?;
     Ok((output.bytes, ending))
+}
+
+/// A text whose lines end where these parts do.
+fn with_line_ends(alloc: Global, parts: &str) -> Result<String, AllocError> {
+    let mut text = String::new(alloc);
+    for part in parts.split('/') {
+        if !part.is_empty() {
+            text.push_str(part)?;
+            text.push_str("\n")?;
+        }
+    }
+    Ok(text)
 }
 
 #[test]

@@ -1,6 +1,7 @@
 -- Where the second pass has no fault, every way leads behind its pc, to an instruction inside the code.
 use Rattle.std.proofs.Common.{◌≡◌, ◌≢◌, ℕ, ◌+◌, ◌<◌, ◌≤◌, [], ◌∷◌, true, false, leb, eqb, Option, Some, None, refl, sym, ◌∙◌, arith, inl, inr}
-use Rattle.std.specs.Prelude.{ℤ, pos, negsuc}
+use Rattle.std.specs.Option.{option_or}
+use Rattle.std.specs.Prelude.{ℤ, pos, negsuc, is_some}
 use Rattle.std.proofs.lemmas.Bool.{cases_Bool, leb-false, eq-eqb}
 use Rattle.bpf_isa.specs.declared.instruction.Instruction.{Instruction}
 use Rattle.bpf_isa.specs.declared.instruction.Instruction.TheVariants.{Alu, MoveSigned, Negate, Swap, Jump, Branch, CallHelper, CallLocal, Exit, Load, LoadSigned, Store, StoreRegister, Wide}
@@ -12,7 +13,7 @@ use Rattle.abstract_values.specs.declared.cause.Cause.TheVariants.{JumpOut, Jump
 use Rattle.verifier_parts.specs.Rules.{target}
 use Rattle.verifier.specs.Listing.{instruction_at, start_from}
 use Rattle.verifier.specs.Walks.{next_pcs, IsOneOf}
-use Rattle.verifier.specs.Verdict.{first_fault, decoding_fault, flow_fault, flow_cause, landing_cause, falling_cause, or_else, is_there}
+use Rattle.verifier.specs.Verdict.{first_fault, decoding_fault, flow_fault, flow_cause, landing_cause, falling_cause}
 use Rattle.verifier.proofs.Faults.{NoFault-first}
 use Rattle.verifier.proofs.Listed.{inside, units_inside, next_starts, stands_at}
 
@@ -27,13 +28,13 @@ pub record Ahead (p : Program) (pc : ℕ) (z : ℤ) : Type 0 where
   pub instruction : Instruction
   pub found : instruction_at p place ≡ Some instruction
 
-there : (o : Option Instruction) → is_there o ≡ true → (i : Instruction) × (o ≡ Some i)
+there : (o : Option Instruction) → is_some o ≡ true → (i : Instruction) × (o ≡ Some i)
 there None h = absurd cc
 there (Some i) h = (i, refl)
 
 landing_ahead : (p : Program) (pc : ℕ) (z : ℤ) → landing_cause p pc z ≡ None → Ahead p pc z
 landing_ahead p pc (pos q) h =
-    elim (cases_Bool (is_there (instruction_at p q))) [
+    elim (cases_Bool (is_some (instruction_at p q))) [
       | inl is ↦
           let found = there (instruction_at p q) is in
           elim (cases_Bool (leb q pc)) [
@@ -56,7 +57,7 @@ falling_ahead p pc i u fine found size some h =
           record { place = pc + u; is = refl; behind = omega (arith, some); instruction = found.0; found = found.1 }
     ]
 
-both_none : (a b : Option Cause) → or_else a b ≡ None → (a ≡ None) × (b ≡ None)
+both_none : (a b : Option Cause) → option_or a b ≡ None → (a ≡ None) × (b ≡ None)
 both_none None b h = (refl, h)
 both_none (Some c) b h = absurd cc
 

@@ -1,6 +1,7 @@
 -- The verifier's answer: the first broken rule by pass, pc and cause, or the bound of a program that
 -- breaks none.
-use Rattle.std.specs.Prelude.{◌≡◌, ℕ, zero, suc, ◌+◌, ◌==◌, nat_lt, nat_le, if◌then◌else◌, Bool, true, false, ℤ, pos, negsuc, Option, Some, None, Result, Ok, Err, ⊤}
+use Rattle.std.specs.Prelude.{◌≡◌, ℕ, zero, suc, ◌+◌, ◌==◌, nat_lt, nat_le, if◌then◌else◌, Bool, true, false, ℤ, pos, negsuc, Option, Some, None, Result, Ok, Err, ⊤, is_some}
+use Rattle.std.specs.Option.{option_or}
 use Rattle.bpf_isa.specs.declared.instruction.Instruction.{Instruction}
 use Rattle.bpf_isa.specs.declared.instruction.Instruction.TheVariants.{Jump, Branch, Exit}
 use Rattle.bpf_isa.specs.Encoding.{units_of}
@@ -36,29 +37,21 @@ decoding_fault p pc = if is_start p pc then unknown_cause (instruction_at p pc) 
 
 -- ---- second pass: where jumps land, and what stands last
 
-abbrev pub is_there : Option Instruction → Bool
-is_there None = false
-is_there (Some i) = true
-
 -- a jump lands on an instruction, and behind itself
 abbrev pub landing_cause : Program → ℕ → ℤ → Option Cause
 landing_cause p pc (pos q) =
-    if is_there (instruction_at p q) then (if nat_le q pc then Some JumpBack else None) else Some JumpOut
+    if is_some (instruction_at p q) then (if nat_le q pc then Some JumpBack else None) else Some JumpOut
 landing_cause p pc (negsuc n) = Some JumpOut
 
 -- the last instruction does not go on behind the end
 abbrev pub falling_cause : ℕ → ℕ → Option Cause
 falling_cause next end = if next == end then Some FallsOff else None
 
-abbrev pub or_else : Option Cause → Option Cause → Option Cause
-or_else (Some cause) other = Some cause
-or_else None other = other
-
 abbrev pub flow_cause : Program → ℕ → Instruction → Option Cause
 flow_cause p pc Exit = None
 flow_cause p pc (Jump distance) = landing_cause p pc (target pc (units_over distance))
 flow_cause p pc (Branch width comparison left right distance) =
-    or_else (landing_cause p pc (target pc distance)) (falling_cause (pc + 1) (units p))
+    option_or (landing_cause p pc (target pc distance)) (falling_cause (pc + 1) (units p))
 flow_cause p pc i = falling_cause (pc + units_of i) (units p)
 
 abbrev pub flow_at : Program → ℕ → Option Instruction → Option Cause

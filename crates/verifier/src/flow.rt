@@ -4,7 +4,7 @@ ghost use Rattle.bpf_model.specs.Step.{units_over};
 ghost use Rattle.bpf_image.specs.Program.{units};
 ghost use Rattle.verifier_parts.specs.Rules.{target as target_pc};
 ghost use Rattle.verifier.specs.Listing.{instruction_at, listed};
-ghost use Rattle.verifier.specs.Verdict.{first_fault, flow_fault, flow_cause, flow_at, landing_cause, falling_cause, is_there, or_else};
+ghost use Rattle.verifier.specs.Verdict.{first_fault, flow_fault, flow_cause, flow_at, landing_cause, falling_cause};
 
 use crate::refusal::Refusal;
 use abstract_values::Cause;

@@ -10,7 +10,8 @@ use Rattle.bpf_isa.specs.declared.instruction.SignedSize.TheVariants.{SignedByte
 use Rattle.bpf_isa.specs.declared.instruction.Extension.TheVariants.{From8To64, From16To64, From32To64}
 use Rattle.bpf_model.specs.Arithmetic.{sign_extended}
 use Rattle.bpf_model.specs.State.{State, stored_all, in_frame, may_access, address_at}
-use Rattle.bpf_model.specs.Step.{Goes, size_bytes, plain_size, load_extension, low_bytes, load, store, put}
+use Rattle.bpf_model.specs.Step.{Goes, load_extension, low_bytes, load, store, put}
+use Rattle.bpf_isa.specs.Sizes.{size_bytes, plain_size}
 use Rattle.bpf_model.proofs.ArithmeticFacts.{extended_fits}
 use Rattle.abstract_values.specs.declared.cause.Cause.{Cause}
 use Rattle.abstract_values.specs.declared.value.AbstractValue.{AbstractValue}
@@ -44,12 +45,6 @@ load_follows l pc b z a s d size x ws short fits at described base h =
     let may = allowed l s (address_at x z) (size_bytes size) described.no_callers n.1 in
     rw (may, n.2) (put_follows l pc 1 a s d (ok w.value) n.0 ws at described (subst (λ r. written (pc + 1) a d r ≡ ok ws) w.from h) (λ v e. let same : w.value ≡ v = cc in subst (λ u. Describes l top u (Some n.0)) same n.3))
 
--- both crates name the same plain size
-plain_same : (size : SignedSize) → size_bytes (plain_size size) ≡ size_bytes (rules.plain_size size)
-plain_same SignedByte = refl
-plain_same SignedHalf = refl
-plain_same SignedWord = refl
-
 any_number : (l n : ℕ) → n < 2 ^ 64 → Describes l top (Number 0 (2 ^ 64 - 1)) (Some n)
 any_number l n lt = (n, refl, omega arith, omega (arith, lt), lt)
 
@@ -67,9 +62,8 @@ any_from (Err cause) v h = absurd cc
 pub load_extended_follows : (l pc : ℕ) (b : AbstractValue) (z : ℤ) (a : AbstractState) (s : State) (d : Register) (size : SignedSize) (x : ℕ) (ws : Ways) → l ≤ 256 → FitsSigned w16 z → s.pc ≡ pos pc → DescribesState l a s → Describes l top b (Some x) → written (pc + 1) a d (loaded_signed l a b z size) ≡ ok ws → Follows l (load l s (address_at x z) (plain_size size) (λ n. put s 1 d (sign_extended (load_extension size) n))) ws
 load_extended_follows l pc b z a s d size x ws short fits at described base h =
     let w = writes_from (pc + 1) a d (loaded_signed l a b z size) ws h in
-    let u = any_from (loaded l a b z (size_bytes (rules.plain_size size))) w.value w.from in
-    let from : loaded l a b z (size_bytes (plain_size size)) ≡ ok u.0 = ap (λ k. loaded l a b z k) (plain_same size) ∙ u.1 in
-    let n = load_describes l top a s.registers s.memory b u.0 z (plain_size size) x (omega (arith, short)) (omega arith) (omega arith) fits from described.parts base in
+    let u = any_from (loaded l a b z (size_bytes (plain_size size))) w.value w.from in
+    let n = load_describes l top a s.registers s.memory b u.0 z (plain_size size) x (omega (arith, short)) (omega arith) (omega arith) fits u.1 described.parts base in
     let may = allowed l s (address_at x z) (size_bytes (plain_size size)) described.no_callers n.1 in
     let m = sign_extended (load_extension size) n.0 in
     rw (may, n.2) (put_follows l pc 1 a s d (ok w.value) m ws at described (subst (λ r. written (pc + 1) a d r ≡ ok ws) w.from h) (λ v e. let same : Number 0 (2 ^ 64 - 1) ≡ v = (let f : w.value ≡ v = cc in u.2 ∙ f) in subst (λ t. Describes l top t (Some m)) same (any_number l m (extended_64 size n.0))))

@@ -7,7 +7,8 @@ use Rattle.bpf_isa.specs.Encoding.{InstructionFits}
 use Rattle.bpf_model.specs.declared.trap.TrapKind.TheVariants.{UnsetResult}
 use Rattle.bpf_model.specs.Arithmetic.{low, computed, calculated, negated, sign_extended, swapped}
 use Rattle.bpf_model.specs.State.{State}
-use Rattle.bpf_model.specs.Step.{Exits, reading, extended, size_bytes, units_over, jump, effect}
+use Rattle.bpf_model.specs.Step.{Exits, reading, extended, units_over, jump, effect}
+use Rattle.bpf_isa.specs.Sizes.{size_bytes}
 use Rattle.abstract_values.specs.declared.value.AbstractValue.{AbstractValue}
 use Rattle.abstract_values.specs.declared.value.AbstractValue.TheVariants.{Unset, Number, Record, Stack}
 use Rattle.abstract_values.specs.Values.{arithmetic, negation, sign_extension, swap_result}

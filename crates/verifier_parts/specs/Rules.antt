@@ -12,7 +12,8 @@ use Rattle.bpf_isa.specs.declared.instruction.Instruction.{Instruction}
 use Rattle.bpf_isa.specs.declared.instruction.Instruction.TheVariants.{Alu, MoveSigned, Negate, Swap, Jump, Branch, CallHelper, CallLocal, Exit, Load, LoadSigned, Store, StoreRegister, Wide}
 use Rattle.bpf_isa.specs.Encoding.{number_of}
 use Rattle.bpf_model.specs.Arithmetic.{low}
-use Rattle.bpf_model.specs.Step.{extended, size_bytes, units_over}
+use Rattle.bpf_model.specs.Step.{extended, units_over}
+use Rattle.bpf_isa.specs.Sizes.{size_bytes}
 use Rattle.abstract_values.specs.declared.cause.Cause.{Cause}
 use Rattle.abstract_values.specs.declared.cause.Cause.TheVariants.{BadInstruction, UnsetRegister, FrameRegister, ResultNotNumber}
 use Rattle.abstract_values.specs.declared.branch.Sides.{Sides}

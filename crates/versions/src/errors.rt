@@ -10,10 +10,10 @@ use thiserror::Error;
 pub enum StoreError {
     /// The number of vertices is not from 1 to 1,048,576.
     #[error("the number of vertices is not from 1 to 1048576")]
-    VertexCount,
+    VertexCount = 1,
     /// There is no memory for the first version.
     #[error("out of memory")]
-    OutOfMemory,
+    OutOfMemory = 2,
 }
 
 impl From<AllocError> for StoreError {
@@ -35,12 +35,12 @@ impl<T: Drop> From<AllocFailed<T>> for StoreError {
 /// Why a batch was not published.
 #[derive(Clone, Copy, Debug, PartialEq, Eq, Error)]
 pub enum PublishError {
-    /// 4,096 batches were published, and there is room for no more.
-    #[error("4096 batches were published, and there is room for no more")]
-    LogFull,
     /// There is no memory for the next version.
     #[error("out of memory")]
-    OutOfMemory,
+    OutOfMemory = 1,
+    /// 4,096 batches were published, and there is room for no more.
+    #[error("4096 batches were published, and there is room for no more")]
+    LogFull = 2,
 }
 
 impl From<AllocError> for PublishError {
@@ -64,5 +64,5 @@ impl<T: Drop> From<AllocFailed<T>> for PublishError {
 pub enum PinError {
     /// The version cannot have one owner more.
     #[error("the version cannot have one owner more")]
-    NoShare,
+    NoShare = 2,
 }

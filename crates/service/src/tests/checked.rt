@@ -1,6 +1,6 @@
 use crate::Ending;
-use crate::tests::served;
-use std::alloc::{AllocError, Global};
+use crate::tests::{served, with_line_ends};
+use std::alloc::Global;
 use std::process::Abort;
 use std::test::Fail;
 use vectors::{ACCEPTED, CONSTANTS, REFUSED};
@@ -26,18 +26,6 @@ fn assert_said(
     assert_eq!(rt; text.as_slice(), wanted.as_bytes(), "{row}");
     assert_eq!(rt; ending, Ending::Complete, "{row}");
     Ok(())
-}
-
-/// A text whose lines end where these parts do.
-fn with_line_ends(alloc: Global, parts: &str) -> Result<String, AllocError> {
-    let mut text = String::new(alloc);
-    for part in parts.split('/') {
-        if !part.is_empty() {
-            text.push_str(part)?;
-            text.push_str("\n")?;
-        }
-    }
-    Ok(text)
 }
 
 #[test]

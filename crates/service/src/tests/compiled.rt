@@ -1,6 +1,6 @@
 use crate::Ending;
-use crate::tests::served;
-use std::alloc::{AllocError, Global};
+use crate::tests::{served, with_line_ends};
+use std::alloc::Global;
 use std::process::Abort;
 use std::test::Fail;
 use vectors::LINES;
@@ -13,18 +13,6 @@ const GRAPH: &str =
 
 const GRAPH_SAID: &str =
     "graph 70000\nbatch A version 1 added 10 removed 0\npin a version 1 edges 10\n";
-
-/// A text whose lines end where these parts do.
-fn with_line_ends(alloc: Global, parts: &str) -> Result<String, AllocError> {
-    let mut text = String::new(alloc);
-    for part in parts.split('/') {
-        if !part.is_empty() {
-            text.push_str(part)?;
-            text.push_str("\n")?;
-        }
-    }
-    Ok(text)
-}
 
 /// One line of the vectors: the script of its parts writes what the line says.
 fn assert_line(rt: &impl Abort, alloc: Global, line: &str) -> Result<(), Fail> {

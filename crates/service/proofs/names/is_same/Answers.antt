@@ -1,5 +1,6 @@
-use Rattle.service.proofs.NameLemmas.{other_length}
+use Rattle.std.proofs.Common.{◌∙◌}
+use Rattle.service_parts.proofs.WordLemmas.{same_bytes-pointwise}
 use Rattle.service.proofs.names.is_same.Goals as goal
 
-pub returns-then-a-b : goal.returns-then-a-b
-returns-then-a-b c = other_length c.args.a.now c.args.b.now c.if-a-b.true
+pub returns : goal.returns
+returns c = c.eq.ensures ∙ same_bytes-pointwise c.args.a.now c.args.b.now
