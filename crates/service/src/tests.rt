@@ -72,6 +72,10 @@ fn texts(rt: HostRuntime) -> Result<(), Fail> {
             "graph 1\nrefused t cause 11 pc 0\nrefused t cause 12 pc 0\nimage t error 4\n",
         ),
         (
+            "graph 1\ncode t 16 95\ncode t 16 950000000000000000",
+            "graph 1\nimage t error 4\nimage t error 4\n",
+        ),
+        (
             "graph 1\ncode t 16 61100400000000009500000000000000\npin a\nrun t a min -\nrun t a max -\nrun t a sum -",
             "graph 1\nprogram t bound 2 frames 1\npin a version 0 edges 0\nrun t a edges 0 total 18446744073709551615\nrun t a edges 0 total 0\nrun t a edges 0 total 0\n",
         ),
@@ -98,13 +102,19 @@ fn faults(rt: HostRuntime) -> Result<(), Fail> {
         ("graph 4\nbatch A\n\nend", 2, 3),
         ("graph 4\nbatch A\n- 0 1", 2, 3),
         ("graph 4\nend", 2, 2),
+        // Commands that are not there yet are unknown before the graph is missed.
         ("list t a -", 2, 1),
+        ("home 0", 2, 1),
+        ("batch B", 2, 1),
         ("pin a", 3, 1),
         ("graph 4\ngraph 0", 3, 2),
         ("graph 0", 4, 1),
         ("graph 1048577", 4, 1),
         ("graph 99999999999999999999999999", 4, 1),
         ("graph 4\nbatch A\n+ 0 4", 4, 3),
+        ("graph 4\nbatch A\n+ 0 99999999999999999999", 4, 3),
+        ("graph 4\nbatch A\n# none", 2, 3),
+        ("# a comment\r", 2, 1),
         ("graph 4\ncode t 15 -", 4, 2),
         ("graph 4\nrun t a sum - 4", 4, 2),
         ("graph 4\nrun t a sum -", 5, 2),
@@ -127,6 +137,23 @@ fn faults(rt: HostRuntime) -> Result<(), Fail> {
         let (text, ending) = served(rt.alloc(), script.as_bytes())?;
         let last = format!(in rt.alloc(); "fault {number} line {line}\n")?;
         assert!(rt; text.ends_with(last.as_bytes()), "{script}");
+        assert_eq!(rt; ending, Ending::Fault, "{script}");
+    }
+    Ok(())
+}
+
+#[test]
+fn texts_before_a_fault(rt: HostRuntime) -> Result<(), Fail> {
+    for (script, wanted) in [
+        ("pin a", "fault 3 line 1\n"),
+        ("graph 4\nbatch A\n+ 0 1", "graph 4\nfault 10 line 2\n"),
+        (
+            "graph 4\nbatch A\n+ 0 1\n+ 0 4\nend",
+            "graph 4\nfault 4 line 4\n",
+        ),
+    ] {
+        let (text, ending) = served(rt.alloc(), script.as_bytes())?;
+        assert_eq!(rt; text.as_slice(), wanted.as_bytes(), "{script}");
         assert_eq!(rt; ending, Ending::Fault, "{script}");
     }
     Ok(())
@@ -166,6 +193,13 @@ fn long_lines(rt: HostRuntime) -> Result<(), Fail> {
     script.extend_from_slice(b"\ngraph 4\n")?;
     let (text, _) = served(rt.alloc(), &script)?;
     assert_eq!(rt; text.as_slice(), b"fault 1 line 1\n".as_slice());
+    // A byte that no line may have says nothing of a line that is too long.
+    let mut bad = vec![in rt.alloc(); 0x80; 70_000]?;
+    let (text, _) = served(rt.alloc(), &bad)?;
+    assert_eq!(rt; text.as_slice(), b"fault 2 line 1\n".as_slice());
+    bad.push(0x80)?;
+    let (text, _) = served(rt.alloc(), &bad)?;
+    assert_eq!(rt; text.as_slice(), b"fault 1 line 1\n".as_slice());
     let endless = vec![in rt.alloc(); b'x'; 1_000_000]?;
     let (text, ending) = served(rt.alloc(), &endless)?;
     assert_eq!(rt; text.as_slice(), b"fault 1 line 1\n".as_slice());
@@ -175,19 +209,35 @@ fn long_lines(rt: HostRuntime) -> Result<(), Fail> {
 
 #[test]
 fn too_many(rt: HostRuntime) -> Result<(), Fail> {
-    for (begin, each, count, last) in [
+    for (begin, each, count, end, last) in [
         (
             "graph 1\nbatch A\n",
             "+ 0 0\n",
-            65_537,
+            65_536,
+            "+ 0 0",
             "fault 8 line 65539\n",
         ),
-        ("graph 1\n", "batch A\nend\n", 4_097, "fault 9 line 8195\n"),
+        // A vertex outside goes before one edit too many.
+        (
+            "graph 1\nbatch A\n",
+            "+ 0 0\n",
+            65_536,
+            "+ 0 1",
+            "fault 4 line 65539\n",
+        ),
+        (
+            "graph 1\n",
+            "batch A\nend\n",
+            4_096,
+            "batch A\nend",
+            "fault 9 line 8195\n",
+        ),
     ] {
         let mut script = Vec::from_slice(rt.alloc(), begin.as_bytes())?;
         for _ in 0..count {
             script.extend_from_slice(each.as_bytes())?;
         }
+        script.extend_from_slice(end.as_bytes())?;
         let (text, ending) = served(rt.alloc(), &script)?;
         assert!(rt; text.ends_with(last.as_bytes()), "{last}");
         assert_eq!(rt; ending, Ending::Fault);

@@ -15,6 +15,12 @@ fn programs_in_text(rt: HostRuntime) -> Result<(), Fail> {
         ("ldxw r0, [r1+13]\nexit\n", "refused p cause 11 pc 0\n"),
         ("exit\n", "refused p cause 8 pc 0\n"),
         ("mov r0, r1\nexit\n", "refused p cause 15 pc 1\n"),
+        // A label behind the last statement is one, and so is a name that is nearly a register's.
+        ("mov r0, 7\nja out\nout:\n", "refused p cause 2 pc 1\n"),
+        (
+            "ja r11\nr11:\nmov r0, 007\nja r01\nr01:\nmov r0, -0\nexit\n",
+            "program p bound 5 frames 1\n",
+        ),
         ("mov r11, 1\n", "assembler p error 1 line 1\n"),
         ("mov r0, 7\njmp x\n", "assembler p error 2 line 2\n"),
         ("x:\nmov r0, 7\nx:\nexit\n", "assembler p error 3 line 3\n"),

@@ -1,0 +1,184 @@
+"""Scripts: what is written for a script's bytes, as docs/SCRIPT.md says."""
+import re
+import struct
+
+from assembler import Fault as TextFault
+from assembler import assemble
+from bpf import BITS_64, run
+from verifier import Refused, verify
+
+LONG_LINE, WORDS, ORDER, RANGE, NAME, ARGUMENT, FRONTIER, TOO_MANY, LOG_FULL, OPEN_BLOCK = range(1, 11)
+REDUCTIONS = {
+    "min": lambda numbers: min(numbers, default=BITS_64),
+    "max": lambda numbers: max(numbers, default=0),
+    "sum": lambda numbers: sum(numbers) & BITS_64,
+}
+
+
+class Fault(Exception):
+    """What is wrong with a line."""
+
+
+def test(is_wrong, fault):
+    if is_wrong:
+        raise Fault(fault)
+
+
+def hexadecimal(word):
+    """The bytes that a word spells, or None."""
+    if word == "-":
+        return b""
+    return bytes.fromhex(word) if re.fullmatch(r"([0-9a-fA-F]{2})+", word) else None
+
+
+def are_numbers(words):
+    return all(re.fullmatch(r"[0-9]+", word) for word in words)
+
+
+def are_names(words):
+    return all(re.fullmatch(r"[A-Za-z0-9_-]{1,32}", word) for word in words)
+
+
+def is_command(command, words):
+    """Whether these words fit the command."""
+    if command == "graph":
+        return len(words) == 1 and are_numbers(words)
+    if command == "batch":
+        return words == ["A"]
+    if command == "pin":
+        return len(words) == 1 and are_names(words)
+    if command == "program":
+        return len(words) == 2 and are_names(words[:1]) and are_numbers(words[1:])
+    if command == "code":
+        return len(words) == 3 and are_names(words[:1]) and are_numbers(words[1:2]) and hexadecimal(words[2]) is not None
+    if command != "run" or len(words) < 4:
+        return False
+    return are_names(words[:2]) and words[2] in REDUCTIONS and hexadecimal(words[3]) is not None and are_numbers(words[4:])
+
+
+class Session:
+    def __init__(self):
+        self.vertices = None
+        self.batches = 0
+        self.edges = frozenset()
+        self.programs, self.pins = {}, {}
+        self.block = None
+        self.said = []
+
+    def batch_line(self, words):
+        if words == ["end"]:
+            test(self.batches >= 4096, LOG_FULL)
+            later = self.edges | set(self.block["edits"])
+            self.batches += 1
+            self.said.append(f"batch A version {self.batches} added {len(later) - len(self.edges)} removed 0")
+            self.edges, self.block = later, None
+            return
+        test(len(words) != 3 or words[0] != "+" or not are_numbers(words[1:]), WORDS)
+        edge = (int(words[1]), int(words[2]))
+        test(max(edge) >= self.vertices, RANGE)
+        test(len(self.block["edits"]) >= 65536, TOO_MANY)
+        self.block["edits"].append(edge)
+
+    def offer(self, name, length, code):
+        """Has code judged as a program."""
+        if not code or len(code) % 8 or len(code) > 32768:
+            self.said.append(f"image {name} error 4")
+            return
+        try:
+            bound = verify(code, length)
+        except Refused as refused:
+            self.said.append(f"refused {name} cause {refused.cause} pc {refused.pc}")
+            return
+        self.programs[name] = (length, code, bound)
+        self.said.append(f"program {name} bound {bound} frames 1")
+
+    def program_line(self, line, words):
+        if words != ["end"]:
+            test(len(self.block["lines"]) >= 65536, TOO_MANY)
+            self.block["lines"].append(line)
+            return
+        block, self.block = self.block, None
+        try:
+            code = assemble("\n".join(block["lines"]))
+        except TextFault as fault:
+            self.said.append(f"assembler {block['name']} error {fault.cause} line {fault.line}")
+            return
+        self.offer(block["name"], block["length"], code)
+
+    def new_program(self, name, length):
+        test(not 16 <= length <= 256, RANGE)
+        test(name in self.programs, NAME)
+        test(len(self.programs) >= 256, TOO_MANY)
+
+    def run(self, program, pin, reducer, argument, *frontier):
+        frontier = [int(vertex) for vertex in frontier]
+        test(any(vertex >= self.vertices for vertex in frontier), RANGE)
+        test(program not in self.programs or pin not in self.pins, NAME)
+        length, code, bound = self.programs[program]
+        test(len(hexadecimal(argument)) != length - 16, ARGUMENT)
+        test(any(low >= high for low, high in zip(frontier, frontier[1:])), FRONTIER)
+        edges, numbers, rows = self.pins[pin], [], []
+        for source in frontier or range(self.vertices):
+            targets = sorted(target for start, target in edges if start == source)
+            own = []
+            for place, target in enumerate(targets):
+                record = struct.pack("<IIII", source, target, place, len(targets)) + hexadecimal(argument)
+                own.append(run(code, record, bound))
+            if own:
+                rows.append(f"row {source} {REDUCTIONS[reducer](own)}")
+            numbers += own
+        self.said.append(f"run {program} {pin} edges {len(numbers)} total {REDUCTIONS[reducer](numbers)}")
+        self.said += rows
+
+    def command(self, command, words, line_number):
+        test(not is_command(command, words), WORDS)
+        test((command == "graph") != (self.vertices is None), ORDER)
+        if command == "graph":
+            test(not 1 <= int(words[0]) <= 1048576, RANGE)
+            self.vertices = int(words[0])
+            self.said.append(f"graph {self.vertices}")
+        elif command == "batch":
+            self.block = {"line": line_number, "edits": []}
+        elif command == "code":
+            self.new_program(words[0], int(words[1]))
+            self.offer(words[0], int(words[1]), hexadecimal(words[2]))
+        elif command == "program":
+            self.new_program(words[0], int(words[1]))
+            self.block = {"line": line_number, "name": words[0], "length": int(words[1]), "lines": []}
+        elif command == "pin":
+            test(words[0] in self.pins, NAME)
+            test(len(self.pins) >= 256, TOO_MANY)
+            self.pins[words[0]] = self.edges
+            self.said.append(f"pin {words[0]} version {self.batches} edges {len(self.edges)}")
+        else:
+            self.run(*words)
+
+    def line(self, line, line_number):
+        test(len(line) > 70000, LONG_LINE)
+        test(any(not 32 <= byte <= 126 and byte != 9 for byte in line), WORDS)
+        line = line.decode()
+        words = line.replace("\t", " ").split()
+        if self.block and "edits" in self.block:
+            self.batch_line(words)
+        elif self.block:
+            self.program_line(line, words)
+        elif words and not words[0].startswith("#"):
+            self.command(words[0], words[1:], line_number)
+
+
+def serve(script):
+    """The text that is written, and the exit status."""
+    session, lines = Session(), script.split(b"\n")
+    if lines[-1] == b"":
+        lines.pop()
+    line_number = 0
+    try:
+        for line_number, line in enumerate(lines, 1):
+            session.line(line, line_number)
+        if session.block:
+            line_number = session.block["line"]
+            raise Fault(OPEN_BLOCK)
+    except Fault as fault:
+        session.said.append(f"fault {fault.args[0]} line {line_number}")
+    status = int(bool(session.said) and session.said[-1].startswith("fault "))
+    return "".join(line + "\n" for line in session.said), status

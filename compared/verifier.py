@@ -1,0 +1,341 @@
+"""The verifier: the causes by which a program is refused, and the bound of one that is accepted."""
+from bpf import FRAME_BYTES, BITS_64, NoInstruction, calculated, decode, extended, negated, signed, swapped
+
+UNSET = ("unset",)
+BAD_INSTRUCTION, JUMP_OUT, JUMP_BACK, FALLS_OFF, TOO_LONG = 1, 2, 3, 5, 7
+UNSET_REGISTER, FRAME_REGISTER, POINTER_USE, OUT_OF_RANGE, UNSET_BYTE, NOT_A_NUMBER = 8, 9, 10, 11, 12, 15
+OPPOSITES = {"eq": "ne", "gt": "le", "ge": "lt", "sgt": "sle", "sge": "slt"}
+OPPOSITES |= {second: first for first, second in OPPOSITES.items()}
+
+
+class Refused(Exception):
+    def __init__(self, cause, pc):
+        super().__init__(cause, pc)
+        self.cause, self.pc = cause, pc
+
+
+def number(lo, hi):
+    return ("number", lo, hi)
+
+
+def is_pointer(value):
+    return value[0] in ("record", "stack")
+
+
+def joined(left, right):
+    if left == right:
+        return left
+    if left[0] == right[0] and left[0] in ("number", "record"):
+        return (left[0], min(left[1], right[1]), max(left[2], right[2]))
+    return UNSET
+
+
+def of_width(bits, known):
+    """What a 32-bit instruction takes its input for."""
+    return known if known[1] < 2**bits else (0, 2**bits - 1)
+
+
+def is_constant(known):
+    return known[0] == known[1]
+
+
+def computed(bits, operation, left, right):
+    """The range of an operation on two ranges."""
+    everything = (0, 2**bits - 1)
+    left, right = of_width(bits, left), of_width(bits, right)
+    if operation == "mov":
+        return right
+    if is_constant(left) and is_constant(right):
+        return (calculated(bits, operation, left[0], right[0]),) * 2
+    (a, b), (c, d) = left, right
+    count = c % bits if c == d else None
+    fitting = lambda lo, hi: (lo, hi) if hi < 2**bits else everything
+    rules = {
+        "add": lambda: fitting(a + c, b + d),
+        "sub": lambda: (a - d, b - c) if a >= d else everything,
+        "mul": lambda: fitting(a * c, b * d),
+        "div": lambda: (a // d, b // c) if c > 0 else (0, b),
+        "mod": lambda: (0, min(b, d - 1)) if c > 0 else (0, b),
+        "and": lambda: (0, min(b, d)),
+        "or": lambda: (0, 2 ** max(b, d).bit_length() - 1),
+        "xor": lambda: (0, 2 ** max(b, d).bit_length() - 1),
+        "lsh": lambda: everything if count is None else fitting(a << count, b << count),
+        "rsh": lambda: (0, b) if count is None else (a >> count, b >> count),
+    }
+    return rules.get(operation, lambda: everything)()
+
+
+def of_one(bits, function, known):
+    """The range of a function of one number."""
+    known = of_width(bits, known)
+    return (function(known[0]),) * 2 if is_constant(known) else (0, 2**bits - 1)
+
+
+def without(known, other):
+    """A range without the one number of another, where that is an end of it."""
+    if not is_constant(other):
+        return known
+    if known[0] == other[0]:
+        return (known[0] + 1, known[1])
+    return (known[0], known[1] - 1) if known[1] == other[0] else known
+
+
+def narrowed(bits, comparison, left, right):
+    """Both ranges where a comparison holds; None where no numbers of them pass."""
+    limit = 2 ** (bits - 1) if comparison.startswith("s") else 2**bits
+    if comparison in ("set", "not set") or left[1] >= limit or right[1] >= limit:
+        return left, right
+    (a, b), (c, d) = left, right
+    both = (max(a, c), min(b, d))
+    sides = {
+        "eq": (both, both),
+        "ne": (without(left, right), without(right, left)),
+        "gt": ((max(a, c + 1), b), (c, min(d, b - 1))),
+        "ge": ((max(a, c), b), (c, min(d, b))),
+        "lt": ((a, min(b, d - 1)), (max(c, a + 1), d)),
+        "le": ((a, min(b, d)), (max(c, a), d)),
+    }
+    sides = sides[comparison[1:] if comparison.startswith("s") else comparison]
+    return None if any(lo > hi for lo, hi in sides) else sides
+
+
+class State:
+    """What is known of registers, of stack bytes and of what was spilled to slots."""
+
+    def __init__(self, registers, is_set, spilled):
+        self.registers, self.is_set, self.spilled = registers, is_set, spilled
+
+    @staticmethod
+    def entry(record_length):
+        registers = [UNSET] * 11
+        registers[1], registers[2], registers[10] = ("record", 0, 0), number(record_length, record_length), ("stack", 0)
+        return State(registers, frozenset(), {})
+
+    def copy(self):
+        return State(self.registers[:], self.is_set, dict(self.spilled))
+
+    def joined(self, other):
+        registers = [joined(left, right) for left, right in zip(self.registers, other.registers)]
+        spilled = {slot: joined(value, other.spilled.get(slot, UNSET)) for slot, value in self.spilled.items()}
+        return State(registers, self.is_set & other.is_set, {slot: value for slot, value in spilled.items() if value != UNSET})
+
+    def operand(self, operand, bits):
+        kind, value = operand
+        return self.registers[value] if kind == "register" else number(value & 2**bits - 1, value & 2**bits - 1)
+
+
+class Broken(Exception):
+    """The causes of the rules that an instruction breaks."""
+
+
+def moved(record_length, operation, pointer, known):
+    """A pointer after an addition or a subtraction of a number."""
+    lo, hi = (signed(known[0], 64),) * 2 if is_constant(known) else known
+    if pointer[0] == "stack":
+        if not is_constant(known):
+            raise Broken(POINTER_USE)
+        offset = pointer[1] + lo if operation == "add" else pointer[1] - lo
+        if not -FRAME_BYTES <= offset <= 0:
+            raise Broken(OUT_OF_RANGE)
+        return ("stack", offset)
+    lo, hi = (pointer[1] + lo, pointer[2] + hi) if operation == "add" else (pointer[1] - hi, pointer[2] - lo)
+    if lo < 0 or hi > record_length:
+        raise Broken(OUT_OF_RANGE)
+    return ("record", lo, hi)
+
+
+def arithmetic(record_length, bits, operation, left, right):
+    if operation == "mov" and is_pointer(right) and bits == 64:
+        return right
+    if operation in ("add", "sub") and bits == 64 and is_pointer(left) and right[0] == "number":
+        return moved(record_length, operation, left, right[1:])
+    if is_pointer(right) or is_pointer(left) and operation != "mov":
+        raise Broken(POINTER_USE)
+    return number(*computed(bits, operation, left[1:] if operation != "mov" else (0, 0), right[1:]))
+
+
+def read(*values):
+    if UNSET in values:
+        raise Broken(UNSET_REGISTER)
+
+
+def write(state, destination, value):
+    """The rules that come behind the reading: R10 first, and then those of the value."""
+    if destination == 10:
+        raise Broken(FRAME_REGISTER)
+    state.registers[destination] = value()
+
+
+def place_in_frame(base, offset, size):
+    """The lowest byte of an access through a stack pointer; None outside the frame."""
+    place = FRAME_BYTES + base[1] + offset
+    return place if 0 <= place and place + size <= FRAME_BYTES else None
+
+
+def is_in_record(record_length, base, offset, size):
+    return base[1] + offset >= 0 and base[2] + offset + size <= record_length
+
+
+def loaded(state, record_length, size, extends, base, offset):
+    if base[0] == "number":
+        raise Broken(POINTER_USE)
+    value = number(0, BITS_64 if extends else 2 ** (8 * size) - 1)
+    if base[0] == "record":
+        if not is_in_record(record_length, base, offset, size):
+            raise Broken(OUT_OF_RANGE)
+        return value
+    place = place_in_frame(base, offset, size)
+    if place is None:
+        raise Broken(OUT_OF_RANGE)
+    if not state.is_set.issuperset(range(place, place + size)):
+        raise Broken(UNSET_BYTE)
+    if size == 8 and place % 8 == 0:
+        return state.spilled.get(place // 8, value)
+    return value
+
+
+def store(state, record_length, size, base, offset, value):
+    place = place_in_frame(base, offset, size) if base[0] == "stack" else None
+    is_slot = place is not None and size == 8 and place % 8 == 0
+    if base[0] == "number" or is_pointer(value) and not is_slot:
+        raise Broken(POINTER_USE)
+    if base[0] == "record":
+        if not is_in_record(record_length, base, offset, size):
+            raise Broken(OUT_OF_RANGE)
+        return
+    if place is None:
+        raise Broken(OUT_OF_RANGE)
+    state.is_set |= set(range(place, place + size))
+    for slot in (place // 8, (place + size - 1) // 8):
+        state.spilled.pop(slot, None)
+    if is_slot:
+        state.spilled[place // 8] = value
+
+
+def branch_ways(state, pc, bits, comparison, left, operand, distance):
+    first, second = state.registers[left], state.operand(operand, bits)
+    read(first, second)
+    if is_pointer(first) or is_pointer(second):
+        raise Broken(POINTER_USE)
+    ways = []
+    for side, target in ((comparison, pc + 1 + distance), (OPPOSITES.get(comparison, "not set"), pc + 1)):
+        if operand == ("register", left):
+            ways.append((target, state.copy()))
+            continue
+        ranges = narrowed(bits, side, first[1:], second[1:])
+        if ranges is None:
+            continue
+        way = state.copy()
+        way.registers[left] = number(*ranges[0])
+        if operand[0] == "register":
+            way.registers[operand[1]] = number(*ranges[1])
+        ways.append((target, way))
+    return ways
+
+
+def ways_from(state, record_length, pc, instruction, units):
+    """Where a run may go on, and what is known there."""
+    kind, *parts = instruction
+    registers = state.registers
+    if kind == "exit":
+        read(registers[0])
+        if is_pointer(registers[0]):
+            raise Broken(NOT_A_NUMBER)
+        return []
+    if kind == "jump":
+        return [(pc + 1 + parts[0], state)]
+    if kind == "branch":
+        return branch_ways(state, pc, *parts)
+    if kind == "alu":
+        bits, operation, destination, operand = parts
+        left, right = registers[destination], state.operand(operand, bits)
+        read(right, *([] if operation == "mov" else [left]))
+        write(state, destination, lambda: arithmetic(record_length, bits, operation, left, right))
+    elif kind in ("neg", "swap", "extend"):
+        bits = 64 if kind == "swap" else parts[0]
+        functions = {
+            "neg": lambda n: negated(bits, n),
+            "swap": lambda n: swapped(parts[0], parts[1], n),
+            "extend": lambda n: extended(bits, parts[1], n),
+        }
+        destination = parts[1] if kind == "neg" else parts[2]
+        source = registers[parts[3] if kind == "extend" else destination]
+        read(source)
+
+        def result():
+            if is_pointer(source):
+                raise Broken(POINTER_USE)
+            return number(*of_one(bits, functions[kind], source[1:]))
+
+        write(state, destination, result)
+    elif kind == "wide":
+        write(state, parts[0], lambda: number(parts[1], parts[1]))
+    elif kind == "load":
+        size, extends, destination, base, offset = parts
+        base = registers[base]
+        read(base)
+        write(state, destination, lambda: loaded(state, record_length, size, extends, base, offset))
+    else:
+        size, base, offset, operand = parts
+        base, value = registers[base], state.operand(operand, 64)
+        read(base, value)
+        store(state, record_length, size, base, offset, value)
+    return [(pc + units, state)]
+
+
+def listed(code):
+    """The instructions by their pcs. The calls are not known yet."""
+    instructions, pc = {}, 0
+    while 8 * pc < len(code):
+        try:
+            instruction, units = decode(code, pc)
+        except NoInstruction:
+            raise Refused(BAD_INSTRUCTION, pc) from None
+        if instruction[0] in ("helper", "local"):
+            raise Refused(BAD_INSTRUCTION, pc)
+        instructions[pc] = (instruction, units)
+        pc += units
+    return instructions
+
+
+def next_pcs(pc, instruction, units):
+    kind = instruction[0]
+    if kind == "exit":
+        return []
+    if kind == "jump":
+        return [pc + 1 + instruction[1]]
+    return [pc + 1 + instruction[-1], pc + 1] if kind == "branch" else [pc + units]
+
+
+def test_flow(instructions, units_of_code):
+    for pc, (instruction, units) in instructions.items():
+        if instruction[0] in ("jump", "branch"):
+            target = pc + 1 + (instruction[1] if instruction[0] == "jump" else instruction[-1])
+            if target not in instructions:
+                raise Refused(JUMP_OUT, pc)
+            if target <= pc:
+                raise Refused(JUMP_BACK, pc)
+        if pc + units == units_of_code and instruction[0] not in ("exit", "jump"):
+            raise Refused(FALLS_OFF, pc)
+
+
+def verify(code, record_length):
+    """The bound, or the refusal as an exception."""
+    instructions = listed(code)
+    test_flow(instructions, len(code) // 8)
+    counts = {}
+    for pc, (instruction, units) in reversed(instructions.items()):
+        counts[pc] = 1 + max((counts[target] for target in next_pcs(pc, instruction, units)), default=0)
+    if counts[0] > 1_000_000:
+        raise Refused(TOO_LONG, 0)
+    states = {0: State.entry(record_length)}
+    for pc, (instruction, units) in instructions.items():
+        if pc not in states:
+            continue
+        try:
+            ways = ways_from(states.pop(pc), record_length, pc, instruction, units)
+        except Broken as broken:
+            raise Refused(broken.args[0], pc) from None
+        for target, state in ways:
+            states[target] = states[target].joined(state) if target in states else state
+    return counts[0]
