@@ -5,8 +5,8 @@
 mod arithmetic;
 mod branch;
 mod cause;
-mod hull;
-mod laws;
+mod joining;
+pub mod laws;
 mod pointer;
 mod range;
 mod range_rules;
@@ -17,9 +17,5 @@ mod value;
 pub use arithmetic::{alu, move_signed, negate, swap};
 pub use branch::{Sides, narrow};
 pub use cause::Cause;
-pub use hull::join;
-pub use laws::{
-    alu_describes, join_describes, move_signed_describes, narrow_describes, negate_describes,
-    swap_describes,
-};
+pub use joining::join;
 pub use value::AbstractValue;

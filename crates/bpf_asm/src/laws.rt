@@ -1,7 +1,7 @@
 //! The law of both directions. The function does nothing: its contract is the law.
 ghost use Rattle.bpf_asm.specs.Laws.{ProgramHasText, TextMeansCode};
 
-use bpf_isa::decoded_is_code;
+use bpf_isa::laws::decoded_is_code;
 
 /// Assembling the disassembly gives the code again.
 pub fn disassembly_assembles(code: &[u8])

@@ -7,7 +7,7 @@ mod decode;
 mod decode_error;
 mod encoding;
 mod instruction;
-mod laws;
+pub mod laws;
 mod making;
 mod register;
 mod row;
@@ -22,5 +22,4 @@ pub use instruction::{
     ByteOrder, Comparison, Distance, Extension, Instruction, Operand, Operation, SignedSize, Size,
     SwapBits, Width,
 };
-pub use laws::decoded_is_code;
 pub use register::Register;

@@ -4,7 +4,7 @@ pub mod FrontierLemmas
 pub mod PinLemmas
 pub mod RunLemmas
 pub mod ProgramLemmas
-pub mod Serving
+pub mod Following
 pub mod KnownLemmas
 pub mod LineLemmas
 pub mod RoundLemmas

@@ -15,7 +15,7 @@ use Rattle.service.specs.Served.{Served, Settled, Finishes}
 use Rattle.service.specs.Serves.{IsMeant, Begins, Serves}
 use Rattle.service.specs.Rounds.{Advances, Rounds, IsServed, Turns}
 use Rattle.service.proofs.KnownLemmas.{appends_more, consumes_more}
-use Rattle.service.proofs.Serving.{served_more}
+use Rattle.service.proofs.Following.{served_more}
 
 -- ---- a read
 

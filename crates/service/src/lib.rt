@@ -4,7 +4,7 @@
 mod block;
 mod ending;
 mod ends;
-mod exit;
+mod reporting;
 mod frontier;
 mod kept;
 mod lines;
@@ -17,11 +17,11 @@ mod stop;
 #[cfg(test)]
 mod tests;
 mod texts;
-mod whole;
-mod written;
+mod serving;
+mod writing;
 
 pub use ends::{Failure, Input, Output, StdInput, StdOutput};
-pub use exit::report;
+pub use reporting::report;
 pub use script_model::Ending;
 pub use serve_error::ServeError;
-pub use whole::serve;
+pub use serving::serve;

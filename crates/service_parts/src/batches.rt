@@ -4,7 +4,7 @@ ghost use Rattle.script_model.specs.Parsing.{batch_line as batch_line_of};
 ghost use Rattle.service_parts.specs.Said.{said_batch_line, cut_batch_line};
 ghost use Rattle.service_parts.specs.Reading.{edit_behind};
 
-use crate::ends::is_end;
+use crate::block_end::is_end;
 use crate::line::BatchLine;
 use crate::numbers::next_number;
 use crate::words::{has_no_word, is_word, next_word};

@@ -3,7 +3,7 @@
 
 mod batches;
 mod commands;
-mod ends;
+mod block_end;
 mod hex;
 mod line;
 mod names;
@@ -14,6 +14,6 @@ mod words;
 
 pub use batches::batch_line;
 pub use commands::command_line;
-pub use ends::is_end;
+pub use block_end::is_end;
 pub use line::{BatchLine, Command, Line};
 pub use words::is_plain_line;

@@ -115,7 +115,7 @@ fn fault_at(image: &Image, listing: &[Option<Instruction>], pc: usize) -> Option
 }
 
 /// The first instruction that breaks a rule of the pass.
-pub fn find_stray(image: &Image, listing: &[Option<Instruction>]) -> Option<Refusal>
+pub fn find_flow_fault(image: &Image, listing: &[Option<Instruction>]) -> Option<Refusal>
     requires { listing.now ≡ listed image.now (units image.now) }
     ensures { result ≡ first_fault (flow_fault image.now) (units image.now) }
 {

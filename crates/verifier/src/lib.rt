@@ -4,7 +4,7 @@
 #![tactic(auto)]
 
 mod flow;
-mod laws;
+pub mod laws;
 mod lengths;
 mod listing;
 mod refusal;
@@ -15,6 +15,5 @@ mod verified;
 mod walking;
 
 pub use abstract_values::Cause;
-pub use laws::{assigned_solves, one_solution};
 pub use refusal::Refusal;
 pub use verified::{Verified, verify};

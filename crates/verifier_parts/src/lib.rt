@@ -5,7 +5,7 @@
 mod access;
 mod arithmetic;
 mod branches;
-mod laws;
+pub mod laws;
 mod onward;
 mod reading;
 mod rules;
@@ -13,7 +13,6 @@ mod rules;
 mod tests;
 mod writing;
 
-pub use laws::step_describes;
 pub use onward::Onward;
 pub use rules::step_over;
 pub use writing::take_side;

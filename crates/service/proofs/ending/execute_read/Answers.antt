@@ -3,7 +3,7 @@ use Rattle.script_model.specs.Execution.{most_bytes}
 use Rattle.script_model.specs.Texts.{fault_text}
 use Rattle.script_model.specs.declared.fault.Fault.TheVariants as faults
 use Rattle.service.specs.Served.{Settled}
-use Rattle.service.proofs.Serving.{served_long}
+use Rattle.service.proofs.Following.{served_long}
 use Rattle.service.proofs.ending.execute_read.Goals as goal
 
 pub returns-clause-goes : goal.returns-clause-goes

@@ -6,7 +6,7 @@ use Rattle.script_model.specs.Execution.{Says, execute}
 use Rattle.script_model.specs.Script.{finished}
 use Rattle.service.specs.declared.stop.SessionError.{SessionError}
 use Rattle.service.specs.Served.{IsOneLine, Finishes}
-use Rattle.service.proofs.Serving.{some_left, ends_after, ends_in_fault}
+use Rattle.service.proofs.Following.{some_left, ends_after, ends_in_fault}
 use Rattle.service.proofs.ending.finish.Goals as goal
 
 closes : (r : Result Ending SessionError) (left : List ℕ) (n : ℕ) (s : Session) (t : List ℕ) (next : Session) (text middle said : List ℕ) → execute s n left ≡ Says t next → IsOneLine left → 0 < length left → middle ≡ text ++ t → OnOk r (said ≡ middle ++ (finished next.block).text) → IfOk r (λ e. e ≡ (finished next.block).ending) → Finishes r left n s text said

@@ -1,7 +1,7 @@
 use Rattle.std.proofs.Common.{ℕ, ◌+◌, List, ◌++◌, take, drop, ap, subst, ◌∙◌, arith}
 use Rattle.script_model.specs.Texts.{fault_text}
 use Rattle.service.specs.Served.{Served}
-use Rattle.service.proofs.Serving.{served_line, served_fault}
+use Rattle.service.proofs.Following.{served_line, served_fault}
 use Rattle.service.proofs.lines.execute_first.Goals as goal
 
 pub returns-in-None : goal.returns-in-None

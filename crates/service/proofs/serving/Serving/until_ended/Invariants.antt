@@ -1,7 +1,7 @@
 use Rattle.std.proofs.Common.{◌≡◌, ◌<◌, ℕ, List, [], length, Option}
 use Rattle.service.specs.Served.{IsOneLine}
 use Rattle.service.specs.Rounds.{IsServed}
-use Rattle.service.proofs.whole.Serving.until_ended.Given as goal
+use Rattle.service.proofs.serving.Serving.until_ended.Given as goal
 
 -- what was read so far is served, all that it says is written, and nothing failed
 abbrev pub invariant-loop : goal.invariant-loop

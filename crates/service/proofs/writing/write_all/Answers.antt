@@ -2,7 +2,7 @@ use Rattle.std.proofs.Common.{◌≡◌, ◌-◌, length, take, drop, sym, ◌�
 use Rattle.std.proofs.lemmas.List.{take_all, take-append-drop}
 use Rattle.std.proofs.Math.Seq.{take-add}
 use Rattle.service.proofs.KnownLemmas.{appends_more, appends_keeps}
-use Rattle.service.proofs.written.write_all.Goals as goal
+use Rattle.service.proofs.writing.write_all.Goals as goal
 
 pub loop-from-preserved : goal.loop-from-preserved
 loop-from-preserved g c =

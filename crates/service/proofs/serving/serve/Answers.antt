@@ -1,5 +1,5 @@
 use Rattle.service.proofs.RoundLemmas.{is_served_first}
-use Rattle.service.proofs.whole.serve.Goals as goal
+use Rattle.service.proofs.serving.serve.Goals as goal
 
 pub returns-clause-served : goal.returns-clause-served
 returns-clause-served g c =

@@ -9,7 +9,7 @@ use crate::lines::Progress;
 use crate::serve_error::ServeError;
 use crate::session::Session;
 use crate::stop::SessionError;
-use crate::written::write_all;
+use crate::writing::write_all;
 use script_model::{Ending, Fault};
 use std::alloc::Global;
 

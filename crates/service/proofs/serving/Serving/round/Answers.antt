@@ -1,6 +1,6 @@
 use Rattle.std.proofs.Common.{◌≡◌, take, arith}
 use Rattle.service.proofs.RoundLemmas.{round_ends, round_more}
-use Rattle.service.proofs.whole.Serving.round.Goals as goal
+use Rattle.service.proofs.serving.Serving.round.Goals as goal
 
 pub returns-then-count-eq0-clause-round : goal.returns-then-count-eq0-clause-round
 returns-then-count-eq0-clause-round g c =

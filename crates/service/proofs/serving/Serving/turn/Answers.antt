@@ -2,7 +2,7 @@ use Rattle.std.proofs.Common.{◌≡◌, true, false, sym, ap, ◌∙◌}
 use Rattle.std.specs.Prelude.{Result, Ok, Err, OnOk, OnErr, IsErrAnd, is_err}
 use Rattle.service.specs.declared.serve_error.ServeError.{ServeError}
 use Rattle.service.proofs.RoundLemmas.{turn_fails, turn_unwritten, turn_written}
-use Rattle.service.proofs.whole.Serving.turn.Goals as goal
+use Rattle.service.proofs.serving.Serving.turn.Goals as goal
 
 is_that : {A E : Type 0} (r : Result A E) (e : E) → IsErrAnd r (λ (x : E). x ≡ e) → r ≡ Err e
 is_that (Ok x) e h = absurd h

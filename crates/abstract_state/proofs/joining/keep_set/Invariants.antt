@@ -1,7 +1,7 @@
 use Rattle.std.proofs.Common.{◌≡◌, ◌++◌, length, take, drop}
 use Rattle.std.specs.Prelude.{◌&&◌}
 use Rattle.abstract_state.specs.States.{zipped}
-use Rattle.abstract_state.proofs.meeting.keep_set.Given as goal
+use Rattle.abstract_state.proofs.joining.keep_set.Given as goal
 
 abbrev pub invariant-loop-i : goal.invariant-loop-i
 invariant-loop-i l =

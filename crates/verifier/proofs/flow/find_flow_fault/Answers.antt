@@ -2,7 +2,7 @@ use Rattle.std.proofs.Common.{◌≡◌, ◌/◌, ap, sym, length, arith}
 use Rattle.bpf_image.specs.Program.{units}
 use Rattle.verifier.specs.Verdict.{flow_fault}
 use Rattle.verifier.proofs.Faults.{first_fault_none, first_fault_at, NoFault-more}
-use Rattle.verifier.proofs.flow.find_stray.Goals as goal
+use Rattle.verifier.proofs.flow.find_flow_fault.Goals as goal
 
 pub returns-in-Some : goal.returns-in-Some
 returns-in-Some c =

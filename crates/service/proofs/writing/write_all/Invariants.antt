@@ -1,6 +1,6 @@
 use Rattle.std.proofs.Common.{◌≡◌, ◌≤◌, ◌-◌, length, take}
 use Rattle.std.specs.Io.KnownBytes.{Appends}
-use Rattle.service.proofs.written.write_all.Given as goal
+use Rattle.service.proofs.writing.write_all.Given as goal
 
 -- so many bytes are written
 abbrev pub invariant-loop-from : goal.invariant-loop-from

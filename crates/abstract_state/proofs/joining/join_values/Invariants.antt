@@ -1,7 +1,7 @@
 use Rattle.std.proofs.Common.{◌≡◌, ◌++◌, length, take, drop}
 use Rattle.abstract_values.specs.Values.{joined}
 use Rattle.abstract_state.specs.States.{zipped}
-use Rattle.abstract_state.proofs.meeting.join_values.Given as goal
+use Rattle.abstract_state.proofs.joining.join_values.Given as goal
 
 abbrev pub invariant-loop-i : goal.invariant-loop-i
 invariant-loop-i l =
