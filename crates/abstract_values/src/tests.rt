@@ -435,7 +435,24 @@ fn pointers_are_not_compared(rt: HostRuntime) -> Result<(), Fail> {
 }
 
 #[test]
-fn causes_have_texts(rt: HostRuntime) -> Result<(), Fail> {
+fn causes_have_numbers_and_texts(rt: HostRuntime) -> Result<(), Fail> {
+    let rows = [
+        (Cause::BadInstruction, 1),
+        (Cause::JumpOut, 2),
+        (Cause::JumpBack, 3),
+        (Cause::FallsOff, 5),
+        (Cause::TooLong, 7),
+        (Cause::UnsetRegister, 8),
+        (Cause::FrameRegister, 9),
+        (Cause::PointerUse, 10),
+        (Cause::OutOfRange, 11),
+        (Cause::UnsetStackByte, 12),
+        (Cause::ResultNotNumber, 15),
+        (Cause::OutOfMemory, 16),
+    ];
+    for (cause, number) in rows {
+        assert_eq!(rt; cause as u8, number, "{cause:?}");
+    }
     let text = format!(in rt.alloc(); "{}", Cause::UnsetRegister)?;
     assert_eq!(rt; text.as_str(), "an unset register is read");
     Ok(())

@@ -157,14 +157,19 @@ fn longest_code(rt: HostRuntime) -> Result<(), Fail> {
     assert_eq!(rt; code.len(), 32_768);
     let listing = disassemble(rt.alloc(), &code)?;
     assert_eq!(rt; listing.as_str(), text.as_str());
-    text.push_str("exit\n")?;
-    assert_eq!(rt;
-        assemble(rt.alloc(), text.as_str()).err(),
-        Some(AssembleError {
-            line: 4097,
-            cause: Cause::TooLong,
-        })
-    );
+    // One statement more, of either kind: one that stands alone, and one that goes to a label.
+    for statement in ["exit", "ja x"] {
+        let mut longer = text.clone()?;
+        longer.push_str(statement)?;
+        assert_eq!(rt;
+            assemble(rt.alloc(), longer.as_str()).err(),
+            Some(AssembleError {
+                line: 4097,
+                cause: Cause::TooLong,
+            }),
+            "{statement}"
+        );
+    }
     Ok(())
 }
 
@@ -213,4 +218,20 @@ fn refused_memory(rt: HostRuntime) {
         Ok(text) => assert_eq!(rt; text.as_str(), "exit\n"),
         Err(error) => assert_eq!(rt; error, DisassembleError::OutOfMemory),
     }
+}
+
+#[test]
+fn errors_have_texts(rt: HostRuntime) -> Result<(), Fail> {
+    let error = AssembleError {
+        line: 4,
+        cause: Cause::UnknownName,
+    };
+    let text = format!(in rt.alloc(); "{error}")?;
+    assert_eq!(rt; text.as_str(), "line 4: no statement has this word");
+    let text = format!(in rt.alloc(); "{}", DisassembleError::JumpOut(7))?;
+    assert_eq!(rt;
+        text.as_str(),
+        "the jump at pc 7 goes where no instruction starts"
+    );
+    Ok(())
 }

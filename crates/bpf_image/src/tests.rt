@@ -47,6 +47,22 @@ fn stored_images(rt: HostRuntime) -> Result<(), Fail> {
     Ok(())
 }
 
+#[test]
+fn images_at_the_limits(rt: HostRuntime) -> Result<(), Fail> {
+    for (record_length, units) in [(16, 1), (256, 1), (16, 4096), (256, 4096)] {
+        let code = vec![in rt.alloc(); 7_u8; 8 * units]?;
+        let Ok(image) = Image::new(record_length, code) else {
+            return Err("no image".into());
+        };
+        let stored = image.store(rt.alloc())?;
+        assert_eq!(rt; stored.len(), 8 + 8 * units);
+        let loaded = Image::load(rt.alloc(), &stored)?;
+        assert_eq!(rt; loaded.record_length(), record_length);
+        assert_eq!(rt; loaded.code(), image.code());
+    }
+    Ok(())
+}
+
 /// What loading answers that gives no image.
 fn load_error(alloc: Global, bytes: &[u8]) -> Option<ImageError> {
     Image::load(alloc, bytes).err()
@@ -91,5 +107,22 @@ fn image_faults(rt: HostRuntime) -> Result<(), Fail> {
             "{place} {byte}"
         );
     }
+    Ok(())
+}
+
+#[test]
+fn errors_have_numbers_and_texts(rt: HostRuntime) -> Result<(), Fail> {
+    let rows = [
+        (ImageError::Magic, 1),
+        (ImageError::Length, 2),
+        (ImageError::RecordLength, 3),
+        (ImageError::CodeLength, 4),
+        (ImageError::OutOfMemory, 5),
+    ];
+    for (error, number) in rows {
+        assert_eq!(rt; error as u8, number, "{error:?}");
+    }
+    let text = format!(in rt.alloc(); "{}", ImageError::CodeLength)?;
+    assert_eq!(rt; text.as_str(), "the code is not 1 to 4096 units");
     Ok(())
 }

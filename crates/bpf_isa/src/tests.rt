@@ -151,3 +151,10 @@ fn registers_by_number(rt: HostRuntime) {
     assert_eq!(rt; Register::from_number(11), None);
     assert_eq!(rt; Register::R9.number(), 9);
 }
+
+#[test]
+fn errors_have_texts(rt: HostRuntime) -> Result<(), Fail> {
+    let text = format!(in rt.alloc(); "{}", DecodeError::BadRegister)?;
+    assert_eq!(rt; text.as_str(), "a register above r10");
+    Ok(())
+}
