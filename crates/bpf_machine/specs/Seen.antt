@@ -27,7 +27,7 @@ abbrev pub going_on : Result ℕ TrapKind → ℤ → (ℕ → Next) → Next
 going_on (Ok n) pc go = go n
 going_on (Err kind) pc go = Traps kind pc
 
--- what came of a turn that leaves this state; a trap leaves the state that it found
+-- what came of a turn that leaves this state; a trap leaves the pc that it found
 abbrev pub answer : Turn → State → Next
 answer Went s = Goes s
 answer (Exited value) s = Exits value

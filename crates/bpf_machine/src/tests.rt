@@ -180,6 +180,23 @@ fn traps(rt: HostRuntime) -> Result<(), Fail> {
 }
 
 #[test]
+fn traps_have_numbers(rt: HostRuntime) -> Result<(), Fail> {
+    for (kind, number) in [
+        (TrapKind::BadInstruction, 1),
+        (TrapKind::OutsideCode, 2),
+        (TrapKind::UnsetRegister, 3),
+        (TrapKind::OutsideMemory, 4),
+        (TrapKind::UnsetByte, 5),
+        (TrapKind::FrameRegister, 6),
+        (TrapKind::UnknownHelper, 8),
+        (TrapKind::UnsetResult, 10),
+    ] {
+        assert_eq!(rt; kind as u8, number);
+    }
+    Ok(())
+}
+
+#[test]
 fn ends(rt: HostRuntime) -> Result<(), Fail> {
     let seven = [0xb7, 0, 0, 0, 7, 0, 0, 0];
     assert_eq!(rt; run_one(rt.alloc(), seven, 0)?, Outcome::OutOfFuel);

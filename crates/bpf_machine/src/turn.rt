@@ -7,6 +7,6 @@ pub enum Turn {
     Went,
     /// It has exited with this number.
     Exited(u64),
-    /// It was stopped, and the machine is as it was before the instruction.
+    /// It was stopped, where it was and with the record as it was before the instruction.
     Trapped(TrapKind),
 }

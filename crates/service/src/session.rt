@@ -108,9 +108,7 @@ impl Session {
             let fault = Fault::TooMany;
             return Ok(Some(Stop { fault, line }));
         }
-        let Ok(pin) = publisher.pin() else {
-            return Err(SessionError::Store);
-        };
+        let pin = publisher.pin()?;
         let version = pin.version();
         put_pin(text, name, version.number(), version.edge_count())?;
         let name = Vec::from_slice(self.alloc, name)?;

@@ -1,9 +1,10 @@
 ghost use Rattle.std.specs.Prelude.{◌≡◌};
-ghost use Rattle.service.specs.declared.stop.SessionError.TheVariants.{OutOfMemory};
+ghost use Rattle.service.specs.declared.stop.SessionError.TheVariants.{OutOfMemory, Store};
 
 use script_model::Fault;
 use std::alloc::{AllocError, AllocFailed};
 use thiserror::Error;
+use versions::PinError;
 
 /// A fault, and the line that the script names for it, counted from 1.
 #[derive(Clone, Copy, Debug, PartialEq, Eq)]
@@ -36,5 +37,13 @@ impl<T: Drop> From<AllocFailed<T>> for SessionError {
 
     fn from(_e: AllocFailed<T>) -> SessionError {
         SessionError::OutOfMemory
+    }
+}
+
+impl From<PinError> for SessionError {
+    ghost from_gives = { λ _ e. e ≡ Store };
+
+    fn from(_e: PinError) -> SessionError {
+        SessionError::Store
     }
 }

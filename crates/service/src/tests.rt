@@ -7,6 +7,7 @@ mod checked;
 mod compiled;
 mod ends;
 mod programs;
+mod standard;
 
 /// The program that exits with the target of its edge.
 const TARGET: &str = "code t 16 61100400000000009500000000000000";
@@ -285,6 +286,19 @@ fn parts_of_any_size(rt: HostRuntime) -> Result<(), Fail> {
         let ending = serve(rt.alloc(), &mut input, &mut output)?;
         assert_eq!(rt; ending, Ending::Fault);
         assert_eq!(rt; output.bytes.as_slice(), SAID.as_bytes());
+    }
+    Ok(())
+}
+
+#[test]
+fn errors_have_numbers(rt: HostRuntime) -> Result<(), Fail> {
+    for (error, number) in [
+        (ServeError::Read, 1),
+        (ServeError::Write, 2),
+        (ServeError::OutOfMemory, 3),
+        (ServeError::Store, 5),
+    ] {
+        assert_eq!(rt; error as u8, number);
     }
     Ok(())
 }

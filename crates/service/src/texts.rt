@@ -1,8 +1,6 @@
 ghost use Rattle.std.specs.Prelude.{◌≡◌, ◌++◌, codes, OnOk};
 ghost use Rattle.std.specs.Fmt.{decimal};
 ghost use Rattle.script_model.specs.Texts.{
-  fault_number,
-  cause_number,
   newline,
   graph_text,
   batch_text,
@@ -21,7 +19,7 @@ use bpf_asm::{AssembleError, Cause as TextCause};
 use itoa::Buffer;
 use script_model::Fault;
 use std::alloc::AllocError;
-use verifier::{Cause, Refusal};
+use verifier::Refusal;
 
 /// Writes bytes at the end of a text.
 fn put(text: &mut Vec<u8>, bytes: &[u8]) -> Result<(), AllocError>
@@ -101,32 +99,12 @@ pub fn put_program(
     put(text, b"\n")
 }
 
-/// The number by which a script tells a cause.
-fn number_of_cause(cause: Cause) -> u64
-    ensures { result ≡ cause_number cause }
-{
-    match cause {
-        Cause::BadInstruction => 1,
-        Cause::JumpOut => 2,
-        Cause::JumpBack => 3,
-        Cause::FallsOff => 5,
-        Cause::TooLong => 7,
-        Cause::UnsetRegister => 8,
-        Cause::FrameRegister => 9,
-        Cause::PointerUse => 10,
-        Cause::OutOfRange => 11,
-        Cause::UnsetStackByte => 12,
-        Cause::ResultNotNumber => 15,
-        Cause::OutOfMemory => 16,
-    }
-}
-
 /// The line of a program that was refused.
 pub fn put_refused(text: &mut Vec<u8>, name: &[u8], refusal: Refusal) -> Result<(), AllocError>
     ensures { OnOk result (text.new.items ≡ text.old.items ++ refused_text name.now refusal) }
 {
     put_name(text, b"refused ", name)?;
-    put_field(text, b" cause ", number_of_cause(refusal.cause))?;
+    put_field(text, b" cause ", refusal.cause as u64)?;
     put_field(text, b" pc ", refusal.pc as u64)?;
     put(text, b"\n")
 }
@@ -205,29 +183,11 @@ pub fn put_row(text: &mut Vec<u8>, vertex: u64, value: u64) -> Result<(), AllocE
     put(text, b"\n")
 }
 
-/// The number by which a script tells a fault.
-fn number_of_fault(fault: Fault) -> u64
-    ensures { result ≡ fault_number fault }
-{
-    match fault {
-        Fault::LongLine => 1,
-        Fault::Words => 2,
-        Fault::Order => 3,
-        Fault::Range => 4,
-        Fault::Name => 5,
-        Fault::ArgumentLength => 6,
-        Fault::Frontier => 7,
-        Fault::TooMany => 8,
-        Fault::LogFull => 9,
-        Fault::OpenBlock => 10,
-    }
-}
-
 /// The line of a fault, the last of a script.
 pub fn put_fault(text: &mut Vec<u8>, fault: Fault, line: u64) -> Result<(), AllocError>
     ensures { OnOk result (text.new.items ≡ text.old.items ++ fault_text fault line) }
 {
-    put_field(text, b"fault ", number_of_fault(fault))?;
+    put_field(text, b"fault ", fault as u64)?;
     put_field(text, b" line ", line)?;
     put(text, b"\n")
 }

@@ -1,6 +1,6 @@
 -- The verifier's answer: the first broken rule by pass, pc and cause, or the bound of a program that
 -- breaks none.
-use Rattle.std.specs.Prelude.{◌≡◌, ℕ, zero, suc, ◌+◌, ◌==◌, nat_lt, nat_le, if◌then◌else◌, Bool, true, false, ℤ, pos, negsuc, Option, Some, None, Result, Ok, Err, ⊤, is_some}
+use Rattle.std.specs.Prelude.{◌≡◌, ℕ, zero, suc, ◌+◌, ◌==◌, nat_lt, nat_le, if◌then◌else◌, Bool, true, false, ℤ, pos, negsuc, ◌⊎◌, Option, Some, None, Result, Ok, Err, is_some}
 use Rattle.std.specs.Option.{option_or}
 use Rattle.bpf_isa.specs.declared.instruction.Instruction.{Instruction}
 use Rattle.bpf_isa.specs.declared.instruction.Instruction.TheVariants.{Jump, Branch, Exit}
@@ -103,11 +103,14 @@ verdict p =
     (unless_refused (length_fault p)
     (unless_refused (first_fault (rule_fault p) (units p)) (Accepted (longest p) 1))))
 
--- what is true of a cause that does not tell of memory
-abbrev pub unless_memory : Cause → Type 0 → Type 0
-unless_memory OutOfMemory P = ⊤
-unless_memory _ P = P
+-- a refusal for want of memory: no rule gives it
+abbrev pub no_memory : Refusal
+no_memory = record { cause = OutOfMemory; pc = 0 }
+
+-- what is true of a refusal, if there was memory
+abbrev pub unless_memory : Refusal → Type 0 → Type 0
+unless_memory r P = (r ≡ no_memory) ⊎ P
 
 -- a refusal is the one that the rules give, if there was memory
 abbrev pub Refuses : Refusal → Verdict → Type 0
-Refuses r v = unless_memory r.cause (v ≡ Refused r)
+Refuses r v = unless_memory r (v ≡ Refused r)

@@ -1,10 +1,9 @@
 //! The third pass: the greatest count of a walk through the code.
 ghost use Rattle.std.specs.Prelude.{◌≡◌, ◌<◌, ◌≤◌, ◌+◌, ℕ, None, unsigned_abs, slice_index_or, MatchResult};
 ghost use Rattle.bpf_image.specs.Program.{units};
-ghost use Rattle.abstract_values.specs.declared.cause.Cause.TheVariants as causes;
 ghost use Rattle.verifier.specs.Listing.{listed};
 ghost use Rattle.verifier.specs.Walks.{greatest, next_pcs, count_from, longest};
-ghost use Rattle.verifier.specs.Verdict.{first_fault, decoding_fault, flow_fault};
+ghost use Rattle.verifier.specs.Verdict.{first_fault, decoding_fault, flow_fault, no_memory};
 
 use crate::flow::{length_of, place_at, starting_at};
 use crate::refusal::Refusal;
@@ -66,7 +65,7 @@ pub fn find_bound(
     requires listing { listing.now ≡ listed image.now (units image.now) }
     requires decodes { first_fault (decoding_fault image.now) (units image.now) ≡ None }
     requires flow { first_fault (flow_fault image.now) (units image.now) ≡ None }
-    ensures { MatchResult result (λ bound. (bound ≡ longest image.now) × (bound ≤ 4096)) (λ refusal. refusal.cause ≡ causes.OutOfMemory) }
+    ensures { MatchResult result (λ bound. (bound ≡ longest image.now) × (bound ≤ 4096)) (λ refusal. refusal ≡ no_memory) }
 {
     let end = image.code().len() / 8;
     let mut counts = vec![in alloc; 0u32; end]?;

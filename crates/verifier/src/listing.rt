@@ -42,7 +42,7 @@ fn known_at(image: &Image, pc: usize) -> Option<Instruction>
 pub fn list(alloc: Global, image: &Image) -> Result<Vec<Option<Instruction>>, Refusal>
     ensures { MatchResult result
         (λ listing. (listing.items ≡ listed image.now (units image.now)) × (first_fault (decoding_fault image.now) (units image.now) ≡ None))
-        (λ refusal. unless_memory refusal.cause (first_fault (decoding_fault image.now) (units image.now) ≡ Some refusal)) }
+        (λ refusal. unless_memory refusal (first_fault (decoding_fault image.now) (units image.now) ≡ Some refusal)) }
 {
     let end = image.code().len() / 8;
     let mut listing = Vec::with_capacity(alloc, end)?;

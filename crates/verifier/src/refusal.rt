@@ -15,7 +15,7 @@ pub struct Refusal {
 }
 
 impl From<AllocError> for Refusal {
-    ghost from_gives = { λ _ e. e.cause ≡ causes.OutOfMemory };
+    ghost from_gives = { λ _ e. e ≡ record { cause = causes.OutOfMemory; pc = 0 } };
 
     fn from(_e: AllocError) -> Refusal {
         Refusal {
@@ -26,7 +26,7 @@ impl From<AllocError> for Refusal {
 }
 
 impl<T: Drop> From<AllocFailed<T>> for Refusal {
-    ghost from_gives = { λ _ e. e.cause ≡ causes.OutOfMemory };
+    ghost from_gives = { λ _ e. e ≡ record { cause = causes.OutOfMemory; pc = 0 } };
 
     fn from(_e: AllocFailed<T>) -> Refusal {
         Refusal {

@@ -94,7 +94,7 @@ fn visit(
     requires inside { pc < units image.now }
     requires walked { IsWalkedTo image.now pc states.old.items }
     ensures { MatchResult result (λ _. IsWalkedTo image.now (pc + 1) states.new.items)
-        (λ refusal. unless_memory refusal.cause (first_fault (rule_fault image.now) (units image.now) ≡ Some refusal)) }
+        (λ refusal. unless_memory refusal (first_fault (rule_fault image.now) (units image.now) ≡ Some refusal)) }
 {
     let Some(mut state) = states[pc].take() else {
         return Ok(());
@@ -117,7 +117,7 @@ pub fn walk(alloc: Global, image: &Image, listing: &[Option<Instruction>]) -> Re
     requires decodes { first_fault (decoding_fault image.now) (units image.now) ≡ None }
     requires flow { first_fault (flow_fault image.now) (units image.now) ≡ None }
     ensures { MatchResult result (λ _. first_fault (rule_fault image.now) (units image.now) ≡ None)
-        (λ refusal. unless_memory refusal.cause (first_fault (rule_fault image.now) (units image.now) ≡ Some refusal)) }
+        (λ refusal. unless_memory refusal (first_fault (rule_fault image.now) (units image.now) ≡ Some refusal)) }
 {
     let mut states = no_states(alloc, image.code().len() / 8)?;
     let entry = Box::new(alloc, AbstractState::entry(image.record_length()))?;

@@ -1,4 +1,4 @@
-ghost use Rattle.std.specs.Prelude.{◌≡◌, ◌≤◌, Option, Some, None, Ok, [], option_map, length, List, ℕ};
+ghost use Rattle.std.specs.Prelude.{◌≡◌, ◌≤◌, Option, Some, None, Ok, IfErr, [], option_map, length, List, ℕ};
 ghost use Rattle.graph_model.specs.declared.edit.Edit.TheVariants.{Insert};
 ghost use Rattle.graph_model.specs.Edits.{AreEditsBelow};
 ghost use Rattle.graph_model.specs.Past.{Past};
@@ -133,6 +133,7 @@ fn publish(
     requires below { AreEditsBelow publisher.old.vertex_count edits.items }
     requires short { length edits.items ≤ 65536 }
     ensures vertices { publisher.new.vertex_count ≡ publisher.old.vertex_count }
+    ensures error { IfErr result (λ e. e ≡ SessionError.OutOfMemory) }
     ensures answer { (begun : OpenBatch) → begun.edits ≡ edits.items → (s : ScriptSession)
         → Executes (end_batch publisher.old begun s line) result text.old.items text.new.items (record s { past = Some publisher.new; block = None }) }
 {

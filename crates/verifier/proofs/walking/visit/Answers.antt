@@ -1,14 +1,12 @@
-use Rattle.std.proofs.Common.{◌≡◌, length, sym, ◌∙◌, Some, None, Err, get_or, set}
+use Rattle.std.proofs.Common.{◌≡◌, length, sym, ◌∙◌, Some, None, Err, get_or, set, inr}
 use Rattle.std.proofs.lemmas.List.{length-set, get_or_read_under}
 use Rattle.bpf_image.specs.Program.{units}
 use Rattle.verifier_parts.specs.Rules.{transfer}
 use Rattle.verifier_parts.specs.Answers.{ways_onward}
 use Rattle.verifier_parts.proofs.Parts.{ok}
-use Rattle.verifier.specs.Verdict.{first_fault, rule_fault}
 use Rattle.verifier.specs.Listing.{instruction_at}
 use Rattle.verifier.proofs.Flowing.{Flows}
 use Rattle.verifier.proofs.Visits.{lead_inside, fault_here, visited}
-use Rattle.verifier.proofs.Verdicts.{or_memory}
 use Rattle.verifier.proofs.walking.visit.Goals as goal
 
 pub go_on-requires-clause-inside : goal.go_on-requires-clause-inside
@@ -28,8 +26,7 @@ returns-in-Err c =
     let found : instruction_at c.args.image.now c.args.pc ≡ Some c.in-Some-starting_at.instruction = sym c.in-Some-starting_at.ensures.exact in
     let step = c.in-Err.ensures c.args.pc in
     let fails : transfer c.args.image.now.record_length c.args.pc c.in-Some-starting_at.instruction c.in-Some.state.value ≡ Err c.in-Err.cause = rw (← c.record_length.ensures.exact, ← c.deref_mut.ensures.value) step in
-    let first = fault_here c.args.image.now c.args.pc c.in-Some-starting_at.instruction c.args.states.now.items c.in-Some.state c.in-Err.cause c.requires.inside walked (sym here) found fails in
-    or_memory c.in-Err.cause (first_fault (rule_fault c.args.image.now) (units c.args.image.now) ≡ Some (record { cause = c.in-Err.cause; pc = c.args.pc })) first
+    inr (fault_here c.args.image.now c.args.pc c.in-Some-starting_at.instruction c.args.states.now.items c.in-Some.state c.in-Err.cause c.requires.inside walked (sym here) found fails)
 
 pub returns-in_ok-go_on-in-Ok : goal.returns-in_ok-go_on-in-Ok
 returns-in_ok-go_on-in-Ok c =
