@@ -72,23 +72,6 @@ const fn trap(kind: TrapKind, pc: i64) -> Outcome {
 }
 
 #[test]
-fn traps_have_numbers(rt: HostRuntime) {
-    let rows = [
-        (TrapKind::BadInstruction, 1),
-        (TrapKind::OutsideCode, 2),
-        (TrapKind::UnsetRegister, 3),
-        (TrapKind::OutsideMemory, 4),
-        (TrapKind::UnsetByte, 5),
-        (TrapKind::FrameRegister, 6),
-        (TrapKind::UnknownHelper, 8),
-        (TrapKind::UnsetResult, 10),
-    ];
-    for (kind, number) in rows {
-        assert_eq!(rt; kind as u8, number, "{kind:?}");
-    }
-}
-
-#[test]
 fn moves(rt: HostRuntime) -> Result<(), Fail> {
     let rows = [
         ([0xb7, 0, 0, 0, 7, 0, 0, 0], 7),
