@@ -57,6 +57,7 @@ fn a_store_ends_the_spills_that_it_touches(rt: HostRuntime) -> Result<(), Fail> 
 fn stores_are_refused(rt: HostRuntime) -> Result<(), Fail> {
     let mut state = AbstractState::entry(LENGTH);
     let number = range(7, 7);
+    let somewhere = AbstractValue::Record { lo: 2, hi: 8 };
     let rows = [
         (TOP, 0, Size::Double, RECORD, Err(Cause::PointerUse)),
         (TOP, 0, Size::Double, number, Err(Cause::OutOfRange)),
@@ -67,6 +68,10 @@ fn stores_are_refused(rt: HostRuntime) -> Result<(), Fail> {
         (RECORD, 0, Size::Double, RECORD, Err(Cause::PointerUse)),
         (RECORD, 8, Size::Double, number, Ok(())),
         (RECORD, 9, Size::Double, number, Err(Cause::OutOfRange)),
+        (somewhere, -2, Size::Double, number, Ok(())),
+        (somewhere, -3, Size::Double, number, Err(Cause::OutOfRange)),
+        (somewhere, 0, Size::Double, number, Ok(())),
+        (somewhere, 1, Size::Double, number, Err(Cause::OutOfRange)),
         (number, 0, Size::Byte, number, Err(Cause::PointerUse)),
         (
             AbstractValue::Unset,
@@ -79,6 +84,34 @@ fn stores_are_refused(rt: HostRuntime) -> Result<(), Fail> {
     for (base, offset, size, value, wanted) in rows {
         assert_eq!(rt;
             store(LENGTH, &mut state, base, offset, size, value),
+            wanted,
+            "{offset}"
+        );
+    }
+    Ok(())
+}
+
+#[test]
+fn loads_through_values(rt: HostRuntime) -> Result<(), Fail> {
+    let state = AbstractState::entry(LENGTH);
+    let rows = [
+        (RECORD, 0, Size::Byte, Ok(range(0, 0xff))),
+        (RECORD, 12, Size::Word, Ok(range(0, 0xffff_ffff))),
+        (RECORD, 13, Size::Word, Err(Cause::OutOfRange)),
+        (RECORD, -1, Size::Byte, Err(Cause::OutOfRange)),
+        (TOP, -8, Size::Double, Err(Cause::UnsetStackByte)),
+        (TOP, -7, Size::Double, Err(Cause::OutOfRange)),
+        (range(7, 7), 0, Size::Byte, Err(Cause::PointerUse)),
+        (
+            AbstractValue::Unset,
+            0,
+            Size::Byte,
+            Err(Cause::UnsetRegister),
+        ),
+    ];
+    for (base, offset, size, wanted) in rows {
+        assert_eq!(rt;
+            load(LENGTH, &state, base, offset, size),
             wanted,
             "{offset}"
         );

@@ -99,6 +99,7 @@ fn ranges_in_64_bits(rt: HostRuntime) -> Result<(), Fail> {
         (Operation::Add, tens, range(1, 2), range(11, 22)),
         (Operation::Add, range(1, u64::MAX), constant(1), ALL_64),
         (Operation::Subtract, tens, range(1, 2), range(8, 19)),
+        (Operation::Subtract, tens, constant(10), range(0, 10)),
         (Operation::Subtract, tens, constant(11), ALL_64),
         (Operation::Multiply, range(2, 3), range(4, 5), range(8, 15)),
         (
@@ -155,6 +156,7 @@ fn wide_inputs_in_32_bits(rt: HostRuntime) -> Result<(), Fail> {
         (Operation::Add, constant(1), constant(wide), ALL_32),
         (Operation::And, constant(wide + 1), constant(7), range(0, 7)),
         (Operation::ShiftLeft, constant(1), constant(wide), ALL_32),
+        (Operation::ShiftLeft, range(1, 2), constant(33), range(2, 4)),
         (
             Operation::ShiftRight,
             range(4, 9),
@@ -240,6 +242,7 @@ fn operations_on_one_number(rt: HostRuntime) -> Result<(), Fail> {
         (Extension::From16To64, 0x7fff, constant(0x7fff)),
         (Extension::From32To64, wide + 1, constant(1)),
         (Extension::From16To32, wide + 1, ALL_32),
+        (Extension::From8To32, wide + 1, ALL_32),
     ];
     for (extension, source, wanted) in rows {
         assert_eq!(rt;
@@ -375,6 +378,20 @@ fn a_branch_narrows_both_sides(rt: HostRuntime) -> Result<(), Fail> {
             five,
             side((0, 4), (5, 5)),
             side((5, 10), (5, 5)),
+        ),
+        (
+            Comparison::GreaterOrEqualSigned,
+            few,
+            five,
+            side((5, 10), (5, 5)),
+            side((0, 4), (5, 5)),
+        ),
+        (
+            Comparison::LessOrEqualSigned,
+            few,
+            five,
+            side((0, 5), (5, 5)),
+            side((6, 10), (5, 5)),
         ),
     ];
     for (comparison, left, right, taken, passed) in rows {
