@@ -7,7 +7,6 @@ ghost use Rattle.script_model.specs.Texts.{
   program_text,
   refused_text,
   image_text,
-  text_cause_number,
   assembler_text,
   pin_text,
   run_text,
@@ -15,7 +14,7 @@ ghost use Rattle.script_model.specs.Texts.{
   fault_text,
 };
 
-use bpf_asm::{AssembleError, Cause as TextCause};
+use bpf_asm::AssembleError;
 use itoa::Buffer;
 use script_model::Fault;
 use std::alloc::AllocError;
@@ -118,21 +117,6 @@ pub fn put_image(text: &mut Vec<u8>, name: &[u8]) -> Result<(), AllocError>
     put(text, b"\n")
 }
 
-/// The number by which a script tells what is wrong with a program's text.
-fn number_of_text_cause(cause: TextCause) -> u64
-    ensures { result ≡ text_cause_number cause }
-{
-    match cause {
-        TextCause::Syntax => 1,
-        TextCause::UnknownName => 2,
-        TextCause::DoubleLabel => 3,
-        TextCause::UnknownLabel => 4,
-        TextCause::NumberRange => 5,
-        TextCause::TooLong => 6,
-        TextCause::OutOfMemory => 7,
-    }
-}
-
 /// The line of a program whose text means no code.
 pub fn put_assembler(
     text: &mut Vec<u8>,
@@ -142,7 +126,7 @@ pub fn put_assembler(
     ensures { OnOk result (text.new.items ≡ text.old.items ++ assembler_text name.now error) }
 {
     put_name(text, b"assembler ", name)?;
-    put_field(text, b" error ", number_of_text_cause(error.cause))?;
+    put_field(text, b" error ", error.cause as u64)?;
     put_field(text, b" line ", error.line as u64)?;
     put(text, b"\n")
 }
