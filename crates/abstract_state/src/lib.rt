@@ -2,8 +2,8 @@
 //! stores and the meeting of two ways change it. No call takes memory.
 #![tactic(auto)]
 
-pub mod laws;
 mod joining;
+pub mod laws;
 mod memory;
 mod stack;
 mod state;

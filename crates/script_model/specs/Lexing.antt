@@ -73,4 +73,3 @@ is_dash (b ∷ c ∷ bytes) = false
 
 abbrev pub hex : List ℕ → Option (List ℕ)
 hex word = if is_dash word then Some [] else hex_pairs word
-

@@ -4,20 +4,20 @@
 mod block;
 mod ending;
 mod ends;
-mod reporting;
 mod frontier;
 mod kept;
 mod lines;
 mod names;
 mod program;
+mod reporting;
 mod run;
 mod serve_error;
+mod serving;
 mod session;
 mod stop;
 #[cfg(test)]
 mod tests;
 mod texts;
-mod serving;
 mod writing;
 
 pub use ends::{Failure, Input, Output, StdInput, StdOutput};

@@ -2,8 +2,8 @@
 #![tactic(auto)]
 
 mod batches;
-mod commands;
 mod block_end;
+mod commands;
 mod hex;
 mod line;
 mod names;
@@ -13,7 +13,7 @@ mod tests;
 mod words;
 
 pub use batches::batch_line;
-pub use commands::command_line;
 pub use block_end::is_end;
+pub use commands::command_line;
 pub use line::{BatchLine, Command, Line};
 pub use words::is_plain_line;
