@@ -1,9 +1,6 @@
 -- What loads and stores ask of what is known, and what is known after them.
 use Rattle.std.specs.Prelude.{ℕ, zero, suc, ◌+◌, ◌-◌, ◌*◌, ◌/◌, ◌%◌, ◌^◌, ◌==◌, ◌&&◌, Bool, true, false, if◌then◌else◌, ℤ, pos, negsuc, ◌+ℤ◌, int_le, unsigned_abs, List, Result, Ok, Err, slice_index_or, slice_set}
-use Rattle.bpf_isa.specs.declared.instruction.Size.{Size}
-use Rattle.bpf_isa.specs.declared.instruction.Size.TheVariants.{Byte, Half, Word}
 use Rattle.bpf_isa.specs.declared.instruction.SignedSize.{SignedSize}
-use Rattle.bpf_isa.specs.declared.instruction.SignedSize.TheVariants.{SignedByte, SignedHalf, SignedWord}
 use Rattle.bpf_isa.specs.Sizes.{size_bytes, plain_size}
 use Rattle.abstract_values.specs.declared.cause.Cause.{Cause}
 use Rattle.abstract_values.specs.declared.cause.Cause.TheVariants.{UnsetRegister, PointerUse, OutOfRange, UnsetStackByte}

@@ -1,5 +1,5 @@
 -- Bytes as lines, words, numbers, names and hexadecimal digits.
-use Rattle.std.specs.Prelude.{ℕ, ◌+◌, ◌*◌, ◌-◌, ◌==◌, ◌&&◌, ◌||◌, not, nat_le, Bool, true, false, if◌then◌else◌, List, [], ◌∷◌, length, filter, Option, Some, None}
+use Rattle.std.specs.Prelude.{ℕ, ◌+◌, ◌*◌, ◌-◌, ◌==◌, ◌&&◌, ◌||◌, not, nat_le, Bool, false, if◌then◌else◌, List, [], ◌∷◌, length, filter, Option, Some, None}
 use Rattle.std.specs.List.{slice_split, list_all}
 -- blanks and digits are those of the assembler's text: spaces and tabs, and decimal digits
 pub use Rattle.bpf_asm.specs.Lexing.{is_blank, is_digit, is_empty, same_bytes}

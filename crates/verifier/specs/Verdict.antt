@@ -1,6 +1,6 @@
 -- The verifier's answer: the first broken rule by pass, pc and cause, or the bound of a program that
 -- breaks none.
-use Rattle.std.specs.Prelude.{◌≡◌, ℕ, zero, suc, ◌+◌, ◌==◌, nat_lt, nat_le, if◌then◌else◌, Bool, true, false, ℤ, pos, negsuc, ◌⊎◌, Option, Some, None, Result, Ok, Err, is_some}
+use Rattle.std.specs.Prelude.{◌≡◌, ℕ, zero, suc, ◌+◌, ◌==◌, nat_lt, nat_le, if◌then◌else◌, ℤ, pos, negsuc, ◌⊎◌, Option, Some, None, Result, Ok, Err, is_some}
 use Rattle.std.specs.Option.{option_or}
 use Rattle.bpf_isa.specs.declared.instruction.Instruction.{Instruction}
 use Rattle.bpf_isa.specs.declared.instruction.Instruction.TheVariants.{Jump, Branch, Exit}

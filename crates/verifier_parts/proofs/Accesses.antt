@@ -19,7 +19,6 @@ use Rattle.abstract_values.specs.declared.value.AbstractValue.TheVariants.{Numbe
 use Rattle.abstract_values.specs.Described.{Describes}
 use Rattle.abstract_state.specs.declared.state.AbstractState.{AbstractState}
 use Rattle.abstract_state.specs.Memory.{loaded, loaded_signed, any_number_where, stored_through}
-use Rattle.abstract_state.specs.Memory as rules
 use Rattle.abstract_state.specs.Described.{IsAllowed}
 use Rattle.abstract_state.proofs.Loads.{load_describes}
 use Rattle.abstract_state.proofs.Stores.{store_describes}
