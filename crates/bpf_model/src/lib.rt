@@ -6,8 +6,10 @@ pub mod arithmetic_laws;
 pub mod laws;
 mod outcome;
 mod reduction;
+mod row;
 mod trap;
 
 pub use outcome::Outcome;
 pub use reduction::Reduction;
+pub use row::Row;
 pub use trap::TrapKind;

@@ -56,7 +56,7 @@ fn publish(publisher: &mut Publisher, batch: Batch, old: &[u32], new: &[u32]) ->
         return Told::NotBegun;
     };
     let number = publisher.number();
-    let published = publisher.publish(batch).is_ok();
+    let published = publisher.publish(0, batch).is_ok();
     let Ok(after) = publisher.pin() else {
         return Told::NotBegun;
     };

@@ -59,14 +59,14 @@ impl Publisher {
         self.current.number()
     }
 
-    /// Publishes the next version: the last one after this batch, whose edits are at most 65,536 and
-    /// among the graph's vertices. After an error the last version is still the one before: `LogFull`,
+    /// Publishes the next version: the last one after this batch from a feed (0 for A), whose edits are at
+    /// most 65,536 and among the graph's vertices. After an error the last version is still the one before: `LogFull`,
     /// which is tested first, after 4,096 batches, and `OutOfMemory` where there is no memory for the
     /// next version.
-    pub fn publish(&mut self, batch: Batch) -> Result<Receipt, PublishError>
+    pub fn publish(&mut self, feed: u8, batch: Batch) -> Result<Receipt, PublishError>
         requires short { length batch ≤ 65536 }
         requires below { AreEditsBelow self.old.vertex_count batch }
-        ensures receipt { IfOk result (λ receipt. receipt ≡ longer self.old (entry 0 batch)) }
+        ensures receipt { IfOk result (λ receipt. receipt ≡ longer self.old (entry feed batch)) }
         ensures published { IfOk result (λ receipt. self.new ≡ receipt) }
         ensures err { OnErr result (self.new ≡ self.old) }
         ensures full { IsErrOf result PublishError.LogFull ↔ (number_of self.old ≡ 4096) }
@@ -74,7 +74,7 @@ impl Publisher {
         if self.current.number() >= LOG_LIMIT {
             return Err(PublishError::LogFull);
         }
-        let entry = Entry { feed: 0, batch };
+        let entry = Entry { feed, batch };
         let published = entry.share()?;
         let next = self.current.next(self.alloc, entry)?;
         let version = Arc::new(self.alloc, next.version)?;

@@ -20,14 +20,14 @@ fn later_edits_decide(rt: HostRuntime) -> Result<(), Fail> {
         Edit::Remove(2, 3),
     ];
     let mut publisher = Store::new(alloc, 4)?;
-    let first = publisher.publish(batch_of(alloc, &edits)?)?;
+    let first = publisher.publish(0, batch_of(alloc, &edits)?)?;
     assert_eq!(rt; first.number(), 1);
     assert_eq!(rt; first.added(), 1);
     assert_eq!(rt; first.removed(), 0);
     assert_eq!(rt; first.feed(), 0);
     assert_eq!(rt; first.batch().edits(), edits.as_slice());
 
-    let second = publisher.publish(Batch::empty())?;
+    let second = publisher.publish(0, Batch::empty())?;
     assert_eq!(rt; second.number(), 2);
     assert_eq!(rt; second.added(), 0);
     assert_eq!(rt; second.removed(), 0);
@@ -40,12 +40,12 @@ fn each_pair_counts_once(rt: HostRuntime) -> Result<(), Fail> {
     let alloc = rt.alloc();
     let mut publisher = Store::new(alloc, 4)?;
     let twice = [Edit::Insert(1, 3), Edit::Insert(1, 3), Edit::Insert(1, 0)];
-    let receipt = publisher.publish(batch_of(alloc, &twice)?)?;
+    let receipt = publisher.publish(0, batch_of(alloc, &twice)?)?;
     assert_eq!(rt; receipt.added(), 2);
     assert_eq!(rt; receipt.removed(), 0);
 
     let missing = [Edit::Remove(1, 2), Edit::Remove(3, 1), Edit::Remove(1, 3)];
-    let receipt = publisher.publish(batch_of(alloc, &missing)?)?;
+    let receipt = publisher.publish(0, batch_of(alloc, &missing)?)?;
     assert_eq!(rt; receipt.added(), 0);
     assert_eq!(rt; receipt.removed(), 1);
 
@@ -56,7 +56,7 @@ fn each_pair_counts_once(rt: HostRuntime) -> Result<(), Fail> {
         Edit::Insert(2, 2),
         Edit::Remove(2, 2),
     ];
-    let receipt = publisher.publish(batch_of(alloc, &back)?)?;
+    let receipt = publisher.publish(0, batch_of(alloc, &back)?)?;
     assert_eq!(rt; receipt.added(), 0);
     assert_eq!(rt; receipt.removed(), 0);
     let pin = publisher.pin()?;
@@ -76,7 +76,7 @@ fn neighbours_ascend(rt: HostRuntime) -> Result<(), Fail> {
         Edit::Insert(2, 1),
         Edit::Remove(2, 2),
     ];
-    publisher.publish(batch_of(alloc, &edits)?)?;
+    publisher.publish(0, batch_of(alloc, &edits)?)?;
     let pin = publisher.pin()?;
     let version = pin.version();
     assert_eq!(rt; version.neighbours(2), [0, 1, 3].as_slice());
@@ -105,7 +105,7 @@ fn a_pin_stays(rt: HostRuntime) -> Result<(), Fail> {
     let alloc = rt.alloc();
     let mut publisher = Store::new(alloc, 4)?;
     let before = publisher.pin()?;
-    publisher.publish(batch_of(alloc, &[Edit::Insert(0, 1)])?)?;
+    publisher.publish(0, batch_of(alloc, &[Edit::Insert(0, 1)])?)?;
     let after = publisher.pin()?;
     assert_eq!(rt; before.version().number(), 0);
     assert_eq!(rt; before.version().neighbours(0), [].as_slice());
@@ -129,10 +129,10 @@ fn vertex_counts_are_tested(rt: HostRuntime) -> Result<(), Fail> {
 fn a_full_log_refuses(rt: HostRuntime) -> Result<(), Fail> {
     let mut publisher = Store::new(rt.alloc(), 1)?;
     for number in 1..4097 {
-        let receipt = publisher.publish(Batch::empty())?;
+        let receipt = publisher.publish(0, Batch::empty())?;
         assert_eq!(rt; receipt.number(), number);
     }
-    let refused = publisher.publish(Batch::empty()).err();
+    let refused = publisher.publish(0, Batch::empty()).err();
     assert_eq!(rt; refused, Some(PublishError::LogFull));
     assert_eq!(rt; publisher.number(), 4096);
     Ok(())
@@ -153,7 +153,7 @@ fn refused_memory_changes_nothing(rt: HostRuntime) -> Result<(), Fail> {
     let Ok(batch) = batch_of(alloc, &[Edit::Insert(0, 1), Edit::Insert(0, 2)]) else {
         return Ok(());
     };
-    let number = match publisher.publish(batch) {
+    let number = match publisher.publish(0, batch) {
         Ok(receipt) => {
             assert_eq!(rt; receipt.added(), 2);
             1
