@@ -1,4 +1,4 @@
-use super::{EXIT, run, trap};
+use super::{EXIT, run_on_record, trap};
 use crate::{Outcome, TrapKind};
 use std::test::Fail;
 
@@ -106,7 +106,10 @@ fn functions_in_their_frames(rt: HostRuntime) -> Result<(), Fail> {
             trap(TrapKind::OutsideMemory, 2),
         ),
         // A function that calls itself: nine frames are one too many.
-        (&[call_over(0xff), EXIT][..], trap(TrapKind::OutsideCode, 256)),
+        (
+            &[call_over(0xff), EXIT][..],
+            trap(TrapKind::OutsideCode, 256),
+        ),
         (
             &[[0x85, 0x10, 0, 0, 0xff, 0xff, 0xff, 0xff], EXIT][..],
             trap(TrapKind::NinthFrame, 0),
@@ -117,7 +120,7 @@ fn functions_in_their_frames(rt: HostRuntime) -> Result<(), Fail> {
         for unit in units {
             code.extend_from_slice(unit)?;
         }
-        let outcome = run(rt.alloc(), code.as_slice(), 99)?;
+        let (outcome, _) = run_on_record(rt.alloc(), code.as_slice(), 99)?;
         assert_eq!(rt; outcome, wanted, "{units:?}");
     }
     Ok(())

@@ -27,7 +27,7 @@ returns-then-not-store_bytes-clause-step c =
     let size : length (take c.from.result c.to_le_bytes-spelled.result) ≡ size_bytes c.args.size = ap length low ∙ low_length c.args.size c.args.value in
     let live = c.live_frames-frames.ensures.live c.args.bytes.now in
     let may : false ≡ may_access (length c.args.bytes.now) (seen c.args.machine.now c.args.bytes.now) c.args.address (size_bytes c.args.size) =
-        sym c.if-not-store_bytes.true ∙ c.store_bytes.ensures.allowed ∙ ap₂ (λ n m. allowed (length c.args.bytes.now) n c.args.address m) live size in
+    sym c.if-not-store_bytes.true ∙ c.store_bytes.ensures.allowed ∙ ap₂ (λ n m. allowed (length c.args.bytes.now) n c.args.address m) live size in
     rw (← may) refl
 
 pub returns-clause-step : goal.returns-clause-step
@@ -37,9 +37,9 @@ returns-clause-step c =
     let size : length (take c.from.result c.to_le_bytes-spelled.result) ≡ size_bytes c.args.size = ap length low ∙ low_length c.args.size c.args.value in
     let live = c.live_frames-frames.ensures.live c.args.bytes.now in
     let may : true ≡ may_access (length c.args.bytes.now) (seen c.args.machine.now c.args.bytes.now) c.args.address (size_bytes c.args.size) =
-        sym c.if-not-store_bytes.false ∙ c.store_bytes.ensures.allowed ∙ ap₂ (λ n m. allowed (length c.args.bytes.now) n c.args.address m) live size in
+    sym c.if-not-store_bytes.false ∙ c.store_bytes.ensures.allowed ∙ ap₂ (λ n m. allowed (length c.args.bytes.now) n c.args.address m) live size in
     let memory : stored_all (memory_of c.args.bytes.now (held c.args.machine.now.stack.cells)) c.args.address (low_bytes c.args.size c.args.value) ≡ memory_of c.store_bytes.new.bytes (held c.store_bytes.new.stack.cells) =
-        ap (stored_all (memory_of c.args.bytes.now (held c.args.machine.now.stack.cells)) c.args.address) (sym low) ∙ c.store_bytes.ensures.stored c.if-not-store_bytes.false in
+    ap (stored_all (memory_of c.args.bytes.now (held c.args.machine.now.stack.cells)) c.args.address) (sym low) ∙ c.store_bytes.ensures.stored c.if-not-store_bytes.false in
     let here : to_z w64 (of_z w64 c.args.machine.now.pc) ≡ c.args.machine.now.pc = to_z-of_z w64 c.args.machine.now.pc (search rules) in
     let fits : FitsSigned w64 (c.args.machine.now.pc +ℤ pos 1) = search rules in
     let pc : to_z w64 (of_z w64 (to_z w64 (of_z w64 c.args.machine.now.pc) +ℤ pos 1)) ≡ c.args.machine.now.pc +ℤ pos 1 = ap (λ z. to_z w64 (of_z w64 (z +ℤ pos 1))) here ∙ to_z-of_z w64 (c.args.machine.now.pc +ℤ pos 1) fits in

@@ -13,10 +13,10 @@ returns c bytes =
     let number : c.number-number.result ≡ number_of c.args.destination = c.number-number.ensures.exact in
     let other : eqb (number_of c.args.destination) 10 ≡ false = ne_eqb _ _ (λ e. c.if-number-eq10.false (number ∙ e)) in
     let registers : stored (held c.args.self.now.registers) (number_of c.args.destination) c.args.value ≡ held (set c.args.self.now.registers c.number-number.result (Some c.args.value)) =
-        ap (λ n. stored (held c.args.self.now.registers) n c.args.value) (sym number) ∙ search rules in
+    ap (λ n. stored (held c.args.self.now.registers) n c.args.value) (sym number) ∙ search rules in
     let here : to_z w64 (of_z w64 c.args.self.now.pc) ≡ c.args.self.now.pc = to_z-of_z w64 c.args.self.now.pc (search rules) in
     let more : to_z w64 (of_z w64 c.from.result) ≡ pos c.args.units = to_z-of_z w64 c.from.result (search rules) ∙ c.from.ensures in
     let fits : FitsSigned w64 (c.args.self.now.pc +ℤ pos c.args.units) = search rules in
     let pc : to_z w64 (of_z w64 (to_z w64 (of_z w64 c.args.self.now.pc) +ℤ to_z w64 (of_z w64 c.from.result))) ≡ c.args.self.now.pc +ℤ pos c.args.units =
-        ap₂ (λ a b. to_z w64 (of_z w64 (a +ℤ b))) here more ∙ to_z-of_z w64 (c.args.self.now.pc +ℤ pos c.args.units) fits in
+    ap₂ (λ a b. to_z w64 (of_z w64 (a +ℤ b))) here more ∙ to_z-of_z w64 (c.args.self.now.pc +ℤ pos c.args.units) fits in
     rw other (goes_same (sym pc) registers refl refl)
