@@ -3,7 +3,7 @@ use Rattle.std.specs.Prelude.{ℕ, ◌==◌, if◌then◌else◌, List, [], ◌�
 use Rattle.std.specs.List.{flat_map}
 use Rattle.std.specs.Fmt.{decimal}
 use Rattle.abstract_values.specs.declared.cause.Cause.{Cause}
-use Rattle.abstract_values.specs.declared.cause.Cause.TheVariants.{BadInstruction, JumpOut, JumpBack, FallsOff, TooLong, UnsetRegister, FrameRegister, PointerUse, OutOfRange, UnsetStackByte, ResultNotNumber, OutOfMemory}
+use Rattle.abstract_values.specs.declared.cause.Cause.TheVariants.{BadInstruction, JumpOut, JumpBack, CallTarget, FallsOff, TooDeep, TooLong, UnsetRegister, FrameRegister, PointerUse, OutOfRange, UnsetStackByte, ResultNotNumber, OutOfMemory}
 use Rattle.verifier.specs.declared.refusal.Refusal.{Refusal}
 use Rattle.bpf_asm.specs.declared.errors.Cause.{Cause as TextCause}
 use Rattle.bpf_asm.specs.declared.errors.Cause.TheVariants.{Syntax, UnknownName, DoubleLabel, UnknownLabel, NumberRange, TooLong, OutOfMemory}
@@ -37,7 +37,9 @@ abbrev pub cause_number : Cause → ℕ
 cause_number BadInstruction = 1
 cause_number JumpOut = 2
 cause_number JumpBack = 3
+cause_number CallTarget = 4
 cause_number FallsOff = 5
+cause_number TooDeep = 6
 cause_number TooLong = 7
 cause_number UnsetRegister = 8
 cause_number FrameRegister = 9
