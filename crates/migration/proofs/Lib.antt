@@ -1,0 +1,3 @@
+pub mod GroupLemmas
+pub mod MergeLemmas
+pub mod WordLemmas
