@@ -1,3 +1,4 @@
 pub mod GroupLemmas
 pub mod MergeLemmas
 pub mod WordLemmas
+pub mod PartLemmas

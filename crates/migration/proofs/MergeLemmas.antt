@@ -211,8 +211,8 @@ remove_split out rest i h =
 found_in_rest : (n t i : ℕ) (f g : ℕ → Bool) (out rest : List ℕ) → out ++ rest ≡ filter f (numbers_below n) → t < n → ((x : ℕ) → (x ≡ t → ⊥) → f x ≡ g x) → i < length rest → get_or rest i 0 ≡ t → (f t ≡ true) × (g t ≡ false → filter g (numbers_below n) ≡ (out ++ take i rest) ++ drop (i + 1) rest)
 found_in_rest n t i f g out rest list low agree inside at =
     let whole = search_finds (length out + i) (filters_differ f g n t low agree)
-        (subst (λ l. length out + i < length l) list (omega (arith, length-append out rest)))
-        (subst (λ l. get_or l (length out + i) 0 ≡ t) list (get_or-append-add out rest i 0 ∙ at)) in
+    (subst (λ l. length out + i < length l) list (omega (arith, length-append out rest)))
+    (subst (λ l. get_or l (length out + i) 0 ≡ t) list (get_or-append-add out rest i 0 ∙ at)) in
     (whole.0, λ off. whole.1 off ∙ sym (ap (λ l. remove l (length out + i)) list) ∙ remove_split out rest i inside)
 
 -- where it finds none, it is not, and the edit that inserts it puts it there
@@ -224,11 +224,11 @@ missed_in_rest n t i f g out rest list low agree behind gap =
 rest_behind : (out rest : List ℕ) (t i : ℕ) → All (λ x. x < t) out → (i ≤ length rest) → ((k : ℕ) → k < i → get_or rest k 0 < t) → All (λ x. x < t) (out ++ take i rest)
 rest_behind out rest t i behind short before =
     All-append (λ x. x < t) out (take i rest) behind (λ k q h.
-        let few : k < i = omega (arith, length-take-le i rest short) in
-        let at = get_or-take i rest k q few in
-        let other = get_or_default rest k q 0 (omega arith) in
-        let less = before k few in
-        omega (arith, at, other, less))
+    let few : k < i = omega (arith, length-take-le i rest short) in
+    let at = get_or-take i rest k q few in
+    let other = get_or_default rest k q 0 (omega arith) in
+    let less = before k few in
+    omega (arith, at, other, less))
 
 -- an insertion of a target that is not there
 merge_insertion : (n : ℕ) (p : ℕ → Bool) (es : List Edit) (u i : ℕ) (m : Merging) (s t at : ℕ) (d : Edit) → (is : IsMerging n p es u i m) → i < length es → Insert s t ≡ get_or es i d → s ≡ u → t < n → is.test t ≡ p t → All (λ x. x < t) m.merged → ((j : ℕ) (q : Edit) → i + 1 ≤ j → j < length es → t < target_of (get_or es j q)) → IsGap m.rest t at → IsMerging n p es u (i + 1) (edited (Insert s t) (Err at) m)

@@ -5,7 +5,6 @@
 mod counts;
 mod groups;
 mod merge;
-
 mod shard;
 mod targets;
 

@@ -53,10 +53,7 @@ impl Shard {
     {
         let groups = Groups::of(alloc, Grouping::ByVertex, self.rows.len(), edits)?;
         let mut rows = Vec::with_capacity(alloc, self.rows.len())?;
-        let mut counts = Counts {
-            added: 0,
-            removed: 0,
-        };
+        let mut counts = Counts::NONE;
         let mut own = Vec::new(alloc);
         let mut merged = Vec::new(alloc);
         for (place, row) in self.rows.iter().enumerate() {
@@ -67,8 +64,7 @@ impl Shard {
             groups.read(place, &mut own)?;
             let (next, more) = row.after(alloc, &mut own, &mut merged)?;
             rows.push(next)?;
-            counts.added += more.added;
-            counts.removed += more.removed;
+            counts = counts.plus(more);
         }
         let range = self.range;
         Ok((Shard { range, rows }, counts))
