@@ -2,3 +2,4 @@ pub mod GroupLemmas
 pub mod MergeLemmas
 pub mod WordLemmas
 pub mod PartLemmas
+pub mod SearchLemmas

@@ -1,5 +1,5 @@
-ghost use Rattle.std.specs.Prelude.{◌≡◌, ◌<◌, ◌≤◌, [], length, replicate, IfOk};
-ghost use Rattle.graph_model.specs.declared.limits.TheConstants.{MOST_RANGES, RANGE_VERTICES};
+ghost use Rattle.std.specs.Prelude.{◌≡◌, ◌↔◌, ◌<◌, ◌≤◌, [], length, replicate, Contains, IsTrue, IfOk};
+ghost use Rattle.graph_model.specs.declared.limits.TheConstants.{MOST_VERTICES, MOST_RANGES, RANGE_VERTICES};
 
 use crate::counts::Counts;
 use crate::groups::{Grouping, Groups};
@@ -28,6 +28,7 @@ impl Model for Shard {
 
 impl Shard {
     ghost use Rattle.migration.specs.Part.{row_at, IsShard, AreEditsOf, IsPartAfter, AreCounts};
+    ghost use Rattle.migration.specs.Lent.{IsLentAt};
 
     /// A range of so many vertices, without an edge.
     pub fn new(alloc: Global, range: u32, vertices: u16) -> Result<Shard, AllocError>
@@ -70,13 +71,56 @@ impl Shard {
         Ok((Shard { range, rows }, counts))
     }
 
+    /// How many vertices it has: from 1 to 256.
+    pub fn vertex_count(&self) -> u16
+        ensures value { result ≡ length self.now.rows }
+        // The lists of a shard are those of a graph.
+        ensures shard { IsShard self.now }
+    {
+        self.rows.len() as u16
+    }
+
+    // The list of a vertex.
+    fn row(&self, vertex: u8) -> &[u32]
+        requires { vertex < length self.now.rows }
+        ensures value { result.now ≡ row_at self.now vertex }
+        ensures small { length result.now ≤ MOST_VERTICES }
+        ensures shard { IsShard self.now }
+    {
+        self.rows[usize::from(vertex)].as_slice()
+    }
+
     /// How many targets a vertex has, where `vertex` counts from the range's first.
     pub fn degree(&self, vertex: u8) -> u32
         requires { vertex < length self.now.rows }
         ensures value { result ≡ length (row_at self.now vertex) }
-        // The lists of a shard are those of a graph.
-        ensures shard { IsShard self.now }
+        ensures small { result ≤ MOST_VERTICES }
     {
-        self.rows[usize::from(vertex)].as_slice().len() as u32
+        self.row(vertex).len() as u32
+    }
+
+    /// A vertex's targets from a place on, as many as lie side by side. How a list is cut into such slices
+    /// is left open.
+    pub fn lent_at(&self, vertex: u8, place: u32) -> &[u32]
+        requires { vertex < length self.now.rows }
+        ensures lent { IsLentAt (row_at self.now vertex) place result.now }
+        ensures small { length (row_at self.now vertex) ≤ MOST_VERTICES }
+    {
+        match self.row(vertex).get(place as usize..) {
+            None => &[],
+            Some(rest) => rest,
+        }
+    }
+
+    /// Whether a vertex has a target.
+    pub fn has_target(&self, vertex: u8, target: u64) -> bool
+        requires { vertex < length self.now.rows }
+        ensures { IsTrue result ↔ Contains (row_at self.now vertex) target }
+    {
+        let targets = self.row(vertex);
+        match u32::try_from(target) {
+            Ok(target) => targets.binary_search(&target).is_ok(),
+            Err(_) => false,
+        }
     }
 }
