@@ -10,8 +10,9 @@ use Rattle.graph_model.specs.Edits.{source_of, target_of, inserts, names, decide
 use Rattle.graph_model.proofs.Neighbours.{length-filter_below, length-neighbours, neighbours-within, neighbours-empty_graph}
 use Rattle.graph_model.proofs.Pairs.{count_pairs-le, count_pairs-suc, count_pairs-zero}
 use Rattle.migration.specs.declared.counts.Counts.{Counts}
+use Rattle.migration.specs.declared.groups.Grouping.{Grouping}
 use Rattle.migration.specs.declared.groups.Grouping.TheVariants.{ByVertex}
-use Rattle.migration.specs.Groups.{Grouped, edits_of}
+use Rattle.migration.specs.Groups.{Grouped, group_of, edits_of}
 use Rattle.migration.specs.Part.{Part, vertex_at, row_at, IsPart, IsEditOf, AreEditsOf, IsPartAfter, AreCounts, IsShard}
 use Rattle.migration.specs.Merge.{decided, AreEditsFrom, IsMerged}
 use Rattle.migration.proofs.WordLemmas.{last_word-filter}
@@ -43,31 +44,34 @@ own_edits_from n p (e ∷ es) i few own below =
 named_source : (e : Edit) (u v : ℕ) → names e u v ≡ true → source_of e ≡ u
 named_source e u v t = eqb-true (source_of e) u (and_parts (source_of e == u) (target_of e == v) t).0
 
--- the edits of a vertex are all that decide its pairs
-named_own : (p : Part) (es : List Edit) (i v : ℕ) → i < 256 → filter (λ e. names e (vertex_at p i) v) (own_edits p es i) ≡ filter (λ e. names e (vertex_at p i) v) es
-named_own p [] i v small = refl
-named_own p (e ∷ es) i v small =
-    elim (cases_Bool (names e (vertex_at p i) v)) [
+-- the edits of a group are all that decide the pairs of its vertices
+named_own : (k : Grouping) (count : ℕ) (es : List Edit) (i u v : ℕ) → group_of k u ≡ i → filter (λ e. names e u v) (edits_of record { grouping = k; count = count; edits = es } i) ≡ filter (λ e. names e u v) es
+named_own k count [] i u v is = refl
+named_own k count (e ∷ es) i u v is =
+    let rest = edits_of record { grouping = k; count = count; edits = es } i in
+    elim (cases_Bool (names e u v)) [
       | inl t ↦ (
-          let source = named_source e (vertex_at p i) v t in
-          let mine : (source_of e % 256 == i) ≡ true = eq-eqb (source_of e % 256) i (omega arith) in
-          ap (λ b. filter (λ f. names f (vertex_at p i) v) (cond b (e ∷ own_edits p es i) (own_edits p es i))) mine
-          ∙ ap₂ (λ b l. cond b (e ∷ l) l) refl (named_own p es i v small))
+          let mine : (group_of k (source_of e) == i) ≡ true = eq-eqb (group_of k (source_of e)) i (ap (group_of k) (named_source e u v t) ∙ is) in
+          ap (λ b. filter (λ f. names f u v) (cond b (e ∷ rest) rest)) mine
+          ∙ ap (λ l. cond (names e u v) (e ∷ l) l) (named_own k count es i u v is))
       | inr f ↦
-          skip (source_of e % 256 == i) f
-          ∙ named_own p es i v small
-          ∙ sym (ap (λ b. cond b (e ∷ filter (λ g. names g (vertex_at p i) v) es) (filter (λ g. names g (vertex_at p i) v) es)) f)
+          skip (group_of k (source_of e) == i) rest f
+          ∙ named_own k count es i u v is
+          ∙ sym (ap (λ b. cond b (e ∷ filter (λ g. names g u v) es) (filter (λ g. names g u v) es)) f)
     ]
   where
-    skip : (b : Bool) → names e (vertex_at p i) v ≡ false → filter (λ f. names f (vertex_at p i) v) (cond b (e ∷ own_edits p es i) (own_edits p es i)) ≡ filter (λ f. names f (vertex_at p i) v) (own_edits p es i)
-    skip true f = ap (λ b. cond b (e ∷ filter (λ g. names g (vertex_at p i) v) (own_edits p es i)) (filter (λ g. names g (vertex_at p i) v) (own_edits p es i))) f
-    skip false f = refl
+    skip : (b : Bool) (rest : List Edit) → names e u v ≡ false → filter (λ f. names f u v) (cond b (e ∷ rest) rest) ≡ filter (λ f. names f u v) rest
+    skip true rest f = ap (λ b. cond b (e ∷ filter (λ g. names g u v) rest) (filter (λ g. names g u v) rest)) f
+    skip false rest f = refl
 
-pub own_word : (p : Part) (es : List Edit) (i v : ℕ) → i < 256 → last_word (own_edits p es i) (vertex_at p i) v ≡ last_word es (vertex_at p i) v
-own_word p es i v small =
-    sym (last_word-filter (own_edits p es i) (vertex_at p i) v)
-    ∙ ap (λ l. last_word l (vertex_at p i) v) (named_own p es i v small)
-    ∙ last_word-filter es (vertex_at p i) v
+pub group_word : (k : Grouping) (count : ℕ) (es : List Edit) (i u v : ℕ) → group_of k u ≡ i → last_word (edits_of record { grouping = k; count = count; edits = es } i) u v ≡ last_word es u v
+group_word k count es i u v is =
+    sym (last_word-filter (edits_of record { grouping = k; count = count; edits = es } i) u v)
+    ∙ ap (λ l. last_word l u v) (named_own k count es i u v is)
+    ∙ last_word-filter es u v
+
+own_word : (p : Part) (es : List Edit) (i v : ℕ) → i < 256 → last_word (own_edits p es i) (vertex_at p i) v ≡ last_word es (vertex_at p i) v
+own_word p es i v small = group_word ByVertex (length p.rows) es i (vertex_at p i) v (omega arith)
 
 -- an edge that a batch adds, and one that it takes out
 abbrev pub is_new : List Edit → Graph → ℕ → ℕ → Bool
@@ -87,7 +91,7 @@ no_word p (e ∷ es) u v own outside =
     outside (omega arith) (omega arith)) in
     ap (λ o. decided_first o e u v) (no_word p es u v own.1 outside) ∙ ap (λ b. if b then Some (inserts e) else None) unnamed
 
-never_new : (b : Bool) → (b && not b) ≡ false
+pub never_new : (b : Bool) → (b && not b) ≡ false
 never_new true = refl
 never_new false = refl
 
@@ -97,7 +101,7 @@ outside_new p es g u v own outside = ap (λ o. unwrap_or o (g.has_edge u v) && n
 outside_gone : (p : Part) (es : List Edit) (g : Graph) (u v : ℕ) → AreEditsOf p es → (vertex_at p 0 ≤ u → u < vertex_at p (length p.rows) → ⊥) → is_gone es g u v ≡ false
 outside_gone p es g u v own outside = ap (λ o. g.has_edge u v && not (unwrap_or o (g.has_edge u v))) (no_word p es u v own outside) ∙ never_new (g.has_edge u v)
 
-filter_none : (f : ℕ → Bool) (xs : List ℕ) → ((x : ℕ) → f x ≡ false) → length (filter f xs) ≡ 0
+pub filter_none : (f : ℕ → Bool) (xs : List ℕ) → ((x : ℕ) → f x ≡ false) → length (filter f xs) ≡ 0
 filter_none f [] never = refl
 filter_none f (x ∷ xs) never = ap (λ b. length (cond b (x ∷ filter f xs) (filter f xs))) (never x) ∙ filter_none f xs never
 
@@ -106,11 +110,11 @@ pub count_none : (m n : ℕ) (f : ℕ → ℕ → Bool) → ((w x : ℕ) → w <
 count_none zero n f never = count_pairs-zero n f
 count_none (suc m) n f never = omega (arith, count_pairs-suc m n f, count_none m n f (λ w x h. never w x (omega arith)), filter_none (f m) (numbers_below n) (λ x. never m x (omega arith)))
 
-pub count_past : (k m n : ℕ) (f : ℕ → ℕ → Bool) → ((w x : ℕ) → m ≤ w → f w x ≡ false) → count_pairs (k + m) n f ≡ count_pairs m n f
+pub count_past : (k m n : ℕ) (f : ℕ → ℕ → Bool) → ((w x : ℕ) → m ≤ w → w < k + m → f w x ≡ false) → count_pairs (k + m) n f ≡ count_pairs m n f
 count_past zero m n f never = ap (λ k. count_pairs k n f) (omega arith)
 count_past (suc k) m n f never =
     let shift : suc k + m ≡ suc (k + m) = omega arith in
-    omega (arith, ap (λ j. count_pairs j n f) shift, count_pairs-suc (k + m) n f, count_past k m n f never, filter_none (f (k + m)) (numbers_below n) (λ x. never (k + m) x (omega arith)))
+    omega (arith, ap (λ j. count_pairs j n f) shift, count_pairs-suc (k + m) n f, count_past k m n f (λ w x low high. never w x low (omega arith)), filter_none (f (k + m)) (numbers_below n) (λ x. never (k + m) x (omega arith) (omega arith)))
 
 -- the lists of the first i vertices are made, and their edits counted
 pub record IsDone (es : List Edit) (p : Part) (g : Graph) (rows : List (List ℕ)) (counts : Counts) : Type 0 where
@@ -193,14 +197,14 @@ all_done es p q counts own range count done = (
         (let is = (done g below part).gained in
         let within = part.within in
         let k = g.vertex_count - vertex_at p (length q.rows) in
-        let rest = count_past k (vertex_at p (length q.rows)) g.vertex_count (is_new es g) (λ w x h. outside_new p es g w x own (λ low high. omega (arith, count))) in
+        let rest = count_past k (vertex_at p (length q.rows)) g.vertex_count (is_new es g) (λ w x h _. outside_new p es g w x own (λ low high. omega (arith, count))) in
         let whole : k + vertex_at p (length q.rows) ≡ g.vertex_count = omega (arith, count) in
         is ∙ sym rest ∙ ap (λ m. count_pairs m g.vertex_count (is_new es g)) whole);
     lost = λ g below part.
         (let is = (done g below part).lost in
         let within = part.within in
         let k = g.vertex_count - vertex_at p (length q.rows) in
-        let rest = count_past k (vertex_at p (length q.rows)) g.vertex_count (is_gone es g) (λ w x h. outside_gone p es g w x own (λ low high. omega (arith, count))) in
+        let rest = count_past k (vertex_at p (length q.rows)) g.vertex_count (is_gone es g) (λ w x h _. outside_gone p es g w x own (λ low high. omega (arith, count))) in
         let whole : k + vertex_at p (length q.rows) ≡ g.vertex_count = omega (arith, count) in
         is ∙ sym rest ∙ ap (λ m. count_pairs m g.vertex_count (is_gone es g)) whole);
   },
