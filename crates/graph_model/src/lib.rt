@@ -6,9 +6,11 @@ mod batch;
 mod edit;
 mod entry;
 pub mod laws;
+mod limits;
 mod view;
 
 pub use batch::Batch;
 pub use edit::Edit;
 pub use entry::Entry;
+pub use limits::{MOST_BATCHES, MOST_EDITS, MOST_RANGES, MOST_VERTICES, RANGE_VERTICES};
 pub use view::GraphView;

@@ -1,4 +1,2 @@
-pub mod RowLemmas
-pub mod TableLemmas
-pub mod DraftLemmas
+pub mod ShardLemmas
 pub mod VersionLemmas

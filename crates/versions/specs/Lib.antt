@@ -1,6 +1,4 @@
-pub mod Rows
-pub mod Table
-pub mod Draft
 pub mod Log
 pub mod Version
+pub mod Shards
 pub mod Receipt

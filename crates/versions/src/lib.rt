@@ -1,17 +1,17 @@
 //! Versions of a graph: what each is the replay of, how one is published, and how one is held.
 #![tactic(auto)]
 
-mod draft;
 mod errors;
 mod log;
 mod pin;
 mod publisher;
 mod receipt;
-mod rows;
+mod shards;
 mod store;
 mod version;
 mod view;
 
+pub use cursors::Cursor;
 pub use errors::{PinError, PublishError, StoreError};
 pub use graph_model::{Batch, Edit, Entry, GraphView};
 pub use pin::Pin;

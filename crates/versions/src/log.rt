@@ -1,5 +1,6 @@
 ghost use Rattle.std.specs.Prelude.{◌≡◌, ◌<◌, [], ◌∷◌, ◌++◌, length, IfOk};
 ghost use Rattle.std.specs.List.{flat_map};
+ghost use Rattle.graph_model.specs.declared.limits.TheConstants.{MOST_BATCHES};
 ghost use Rattle.versions.specs.Log.{entries_in};
 
 use graph_model::Entry;
@@ -53,7 +54,7 @@ impl Log {
 
     /// The log with one entry more. This one stays.
     pub fn with(&self, alloc: Global, entry: Entry) -> Result<Log, AllocError>
-        requires { length self.now < 4096 }
+        requires { length self.now < MOST_BATCHES }
         ensures { IfOk result (λ log. log ≡ self.now ++ entry ∷ []) }
     {
         let mut full = shared_chunks(alloc, &self.full)?;

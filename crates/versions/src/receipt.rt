@@ -1,4 +1,5 @@
 ghost use Rattle.std.specs.Prelude.{◌≡◌, ◌≤◌};
+ghost use Rattle.graph_model.specs.declared.limits.TheConstants.{MOST_BATCHES};
 ghost use Rattle.graph_model.specs.declared.entry.Entry.{Entry};
 ghost use Rattle.graph_model.specs.Edits.{added, removed};
 ghost use Rattle.graph_model.specs.Past.{Past, graph_of, number_of, longer};
@@ -6,6 +7,7 @@ ghost use Rattle.versions.specs.Receipt.{IsPublished, IsReceipt};
 
 use crate::version::Version;
 use graph_model::{Batch, Entry};
+use migration::Counts;
 use std::marker::Model;
 use std::sync::Arc;
 
@@ -14,8 +16,7 @@ use std::sync::Arc;
 pub struct Receipt {
     version: Arc<Version>,
     entry: Entry,
-    added: u64,
-    removed: u64,
+    counts: Counts,
 }
 
 impl Model for Receipt {
@@ -27,29 +28,28 @@ impl Model for Receipt {
 
     ghost view = { λ r. arc_value r.version };
 
-    ghost invariant = { λ r. IsReceipt (arc_value r.version) r.entry r.added r.removed };
+    ghost invariant = { λ r. IsReceipt (arc_value r.version) r.entry r.counts };
 }
 
 impl Receipt {
     ghost use Rattle.std.specs.Arc.{arc_value};
 
     /// The receipt of a version that this entry made.
-    pub(crate) fn of(version: Arc<Version>, entry: Entry, added: u64, removed: u64) -> Receipt
-        requires { IsReceipt (arc_value version) entry added removed }
+    pub(crate) fn of(version: Arc<Version>, entry: Entry, counts: Counts) -> Receipt
+        requires { IsReceipt (arc_value version) entry counts }
         ensures { result ≡ arc_value version }
     {
         Receipt {
             version,
             entry,
-            added,
-            removed,
+            counts,
         }
     }
 
     /// The number of the version that the batch made: how many batches its log has, at most 4,096.
     pub fn number(&self) -> u64
         ensures value { result ≡ number_of self.now }
-        ensures small { result ≤ 4096 }
+        ensures small { result ≤ MOST_BATCHES }
         ensures published { IsPublished self.now }
     {
         let _entry = &self.entry;
@@ -74,13 +74,13 @@ impl Receipt {
     pub fn added(&self) -> u64
         ensures { (before : Past) (e : Entry) → self.now ≡ longer before e → result ≡ added e.batch (graph_of before) }
     {
-        self.added
+        self.counts.added
     }
 
     /// How many edges there were before the batch that are not there since.
     pub fn removed(&self) -> u64
         ensures { (before : Past) (e : Entry) → self.now ≡ longer before e → result ≡ removed e.batch (graph_of before) }
     {
-        self.removed
+        self.counts.removed
     }
 }

@@ -1,14 +1,13 @@
 ghost use Rattle.std.specs.Prelude.{◌≡◌, ◌<◌, ◌↔◌, ◌⊎◌, IfOk, IsErrOf};
+ghost use Rattle.graph_model.specs.declared.limits.TheConstants.{MOST_VERTICES};
 ghost use Rattle.graph_model.specs.Past.{opening};
 
 use crate::errors::StoreError;
 use crate::publisher::Publisher;
 use crate::version::Version;
+use graph_model::MOST_VERTICES;
 use std::alloc::Global;
 use std::sync::Arc;
-
-// How many vertices a graph may have.
-const MOST_VERTICES: u32 = 1 << 20;
 
 /// Where versions come from.
 pub struct Store;
@@ -18,7 +17,7 @@ impl Store {
     /// vertices, and has no edge.
     pub fn new(alloc: Global, vertex_count: u32) -> Result<Publisher, StoreError>
         ensures opened { IfOk result (λ publisher. publisher ≡ opening vertex_count) }
-        ensures refused { IsErrOf result StoreError.VertexCount ↔ ((vertex_count ≡ 0) ⊎ (1048576 < vertex_count)) }
+        ensures refused { IsErrOf result StoreError.VertexCount ↔ ((vertex_count ≡ 0) ⊎ (MOST_VERTICES < vertex_count)) }
     {
         if vertex_count == 0 || vertex_count > MOST_VERTICES {
             return Err(StoreError::VertexCount);

@@ -1,14 +1,17 @@
-ghost use Rattle.std.specs.Prelude.{◌≡◌, ◌<◌, ◌≤◌, IfOk};
-ghost use Rattle.graph_model.specs.Graph.{neighbours, edge_count};
+ghost use Rattle.std.specs.Prelude.{◌≡◌, ◌<◌, ◌≤◌, length, slice_get, IfOk};
+ghost use Rattle.graph_model.specs.declared.limits.TheConstants.{MOST_BATCHES};
+ghost use Rattle.graph_model.specs.Graph.{neighbours, edge_count, degree};
 ghost use Rattle.graph_model.specs.Edits.{AreEditsBelow, added, removed};
 ghost use Rattle.graph_model.specs.Past.{IsPast, graph_of, number_of, opening, longer};
 
-use crate::draft::Draft;
 use crate::log::Log;
-use crate::rows::Rows;
+use crate::shards::{empty_shards, next_shards};
+use cursors::Cursor;
 use graph_model::Entry;
+use migration::{Counts, Shard};
 use std::alloc::{AllocError, Global};
 use std::marker::Model;
+use std::sync::Arc;
 
 /// One state of a graph: what the log of its batches makes of the graph without an edge. It never
 /// changes after it was made.
@@ -16,27 +19,27 @@ use std::marker::Model;
 pub struct Version {
     vertex_count: u32,
     log: Log,
-    rows: Rows,
+    shards: Vec<Arc<Shard>>,
     edge_count: u64,
 }
 
 impl Model for Version {
     ghost use Rattle.graph_model.specs.Past.{Past};
+    ghost use Rattle.migration.specs.Table.{parts_of};
     ghost use Rattle.versions.specs.Version.{past_of, IsVersion};
 
     ghost Value = { Past };
 
     ghost view = { λ v. past_of v.vertex_count v.log };
 
-    ghost invariant = { λ v. IsVersion (past_of v.vertex_count v.log) v.rows v.edge_count };
+    ghost invariant = { λ v. IsVersion (past_of v.vertex_count v.log) (parts_of v.shards.items) v.edge_count };
 }
 
 /// A version's next one, and what the batch between them did.
 #[derive(Drop)]
 pub(crate) struct Next {
     pub version: Version,
-    pub added: u64,
-    pub removed: u64,
+    pub counts: Counts,
 }
 
 impl Version {
@@ -50,7 +53,7 @@ impl Version {
         Ok(Version {
             vertex_count,
             log: Log::empty(alloc),
-            rows: Rows::empty(alloc, vertex_count)?,
+            shards: empty_shards(alloc, vertex_count)?,
             edge_count: 0,
         })
     }
@@ -58,7 +61,7 @@ impl Version {
     /// How many batches were published before it and with it.
     pub fn number(&self) -> u64
         ensures value { result ≡ number_of self.now }
-        ensures small { result ≤ 4096 }
+        ensures small { result ≤ MOST_BATCHES }
         ensures past { IsPast self.now }
     {
         self.log.len()
@@ -79,36 +82,49 @@ impl Version {
         self.edge_count
     }
 
-    /// The targets of a vertex's edges, ascending. A vertex outside has none.
-    pub fn neighbours(&self, vertex: u32) -> &[u32]
-        ensures { result.now ≡ neighbours (graph_of self.now) vertex }
+    /// The neighbours of a vertex, ascending, to be lent in slices. A vertex outside has none.
+    pub fn cursor(&self, vertex: u32) -> Cursor<'_>
+        ensures { result ≡ neighbours (graph_of self.now) vertex }
     {
-        self.rows.row(vertex)
+        Cursor::over(&self.shards, vertex)
+    }
+
+    /// How many neighbours a vertex has. A vertex outside has none.
+    pub fn degree(&self, vertex: u64) -> u32
+        ensures { result ≡ degree (graph_of self.now) vertex }
+    {
+        cursors::degree(&self.shards, vertex)
+    }
+
+    /// Whether there is an edge from a vertex to another.
+    pub fn has_edge(&self, source: u64, target: u64) -> bool
+        ensures { result ≡ (graph_of self.now).has_edge source target }
+    {
+        cursors::has_edge(&self.shards, source, target)
+    }
+
+    /// The neighbour at a place of a vertex's neighbours, from 0; there is none past their end.
+    pub fn neighbour(&self, vertex: u64, place: u64) -> Option<u32>
+        ensures { result ≡ slice_get (neighbours (graph_of self.now) vertex) place }
+    {
+        cursors::neighbour(&self.shards, vertex, place)
     }
 
     /// The version after one more batch. This one stays.
     pub(crate) fn next(&self, alloc: Global, entry: Entry) -> Result<Next, AllocError>
-        requires room { number_of self.now < 4096 }
+        requires room { number_of self.now < MOST_BATCHES }
         requires below { AreEditsBelow self.now.vertex_count entry.batch }
         ensures version { IfOk result (λ next. next.version ≡ longer self.now entry) }
-        ensures gained { IfOk result (λ next. next.added ≡ added entry.batch (graph_of self.now)) }
-        ensures lost { IfOk result (λ next. next.removed ≡ removed entry.batch (graph_of self.now)) }
+        ensures gained { IfOk result (λ next. next.counts.added ≡ added entry.batch (graph_of self.now)) }
+        ensures lost { IfOk result (λ next. next.counts.removed ≡ removed entry.batch (graph_of self.now)) }
     {
-        let Draft {
-            rows,
-            added,
-            removed,
-        } = Draft::of(alloc, &self.rows, entry.batch.edits())?;
+        let (shards, counts) = next_shards(alloc, &self.shards, entry.batch.edits())?;
         let version = Version {
             vertex_count: self.vertex_count,
             log: self.log.with(alloc, entry)?,
-            rows,
-            edge_count: self.edge_count + added - removed,
+            shards,
+            edge_count: self.edge_count + counts.added - counts.removed,
         };
-        Ok(Next {
-            version,
-            added,
-            removed,
-        })
+        Ok(Next { version, counts })
     }
 }

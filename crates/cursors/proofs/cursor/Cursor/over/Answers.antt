@@ -1,0 +1,7 @@
+use Rattle.std.proofs.Common.{◌≡◌, ◌≤◌, sym, subst}
+use Rattle.graph_model.proofs.Neighbours.{neighbours-outside}
+use Rattle.cursors.proofs.cursor.Cursor.over.Goals as goal
+
+pub returns-in-None : goal.returns-in-None
+returns-in-None c =
+    λ g table. sym (neighbours-outside g c.args.vertex (subst (λ v. g.vertex_count ≤ v) c.from.ensures (c.in-None.ensures.list g table)))

@@ -1,0 +1,73 @@
+ghost use Rattle.std.specs.Prelude.{◌≡◌, ◌<◌, ◌++◌, [], length, MatchOption};
+ghost use Rattle.graph_model.specs.Graph.{Graph, neighbours};
+ghost use Rattle.migration.specs.Part.{row_at};
+ghost use Rattle.migration.specs.Table.{IsTable, parts_of};
+
+use crate::place::place_of;
+use migration::Shard;
+use std::marker::Model;
+use std::sync::Arc;
+
+/// A vertex's neighbours, lent in slices. A slice lives as long as the shards, and not as long as the
+/// cursor. How the list is cut into slices is left open.
+#[derive(Drop)]
+pub struct Cursor<'a> {
+    // None is the cursor of a vertex outside.
+    shard: Option<&'a Shard>,
+    vertex: u8,
+    place: u32,
+}
+
+impl<'a> Model for Cursor<'a> {
+    ghost use Rattle.std.specs.Prelude.{List, ℕ};
+    ghost use Rattle.cursors.specs.Cursor.{left_at, IsCursor};
+
+    ghost Value = { List ℕ };
+
+    ghost view = { λ c. left_at c.shard c.vertex c.place };
+
+    ghost invariant = { λ c. IsCursor c.shard c.vertex c.place };
+}
+
+impl<'a> Cursor<'a> {
+    /// The list of one vertex of a shard, where `vertex` counts from the range's first.
+    pub fn of(shard: &'a Shard, vertex: u8) -> Cursor<'a>
+        requires { vertex < length shard.now.rows }
+        ensures { result ≡ row_at shard.now vertex }
+    {
+        Cursor {
+            shard: Some(shard),
+            vertex,
+            place: 0,
+        }
+    }
+
+    /// The neighbours of a vertex of the graph that the shards are. A vertex outside has none.
+    pub fn over(shards: &'a [Arc<Shard>], vertex: u32) -> Cursor<'a>
+        ensures { (g : Graph) → IsTable g (parts_of shards.now) → result ≡ neighbours g vertex }
+    {
+        match place_of(shards, u64::from(vertex)) {
+            Some((shard, place)) => Cursor::of(shard, place),
+            None => Cursor {
+                shard: None,
+                vertex: 0,
+                place: 0,
+            },
+        }
+    }
+
+    /// The next slice of what is left, which has a target at least. It is `None` at the end alone.
+    pub fn next_slice(&mut self) -> Option<&'a [u32]>
+        ensures { MatchOption result
+            ((self.old ≡ []) × (self.new ≡ []))
+            (λ slice. (0 < length slice.now) × (self.old ≡ slice.now ++ self.new)) }
+    {
+        let shard: &'a Shard = self.shard?;
+        let slice = shard.lent_at(self.vertex, self.place);
+        if slice.is_empty() {
+            return None;
+        }
+        self.place += slice.len() as u32;
+        Some(slice)
+    }
+}

@@ -1,0 +1,13 @@
+//! What a graph in shards answers: a vertex's neighbours lent in place, slice by slice, and single
+//! questions after them. Nothing here takes memory.
+#![tactic(auto)]
+
+mod answers;
+mod cursor;
+mod place;
+
+pub use answers::{degree, has_edge, neighbour};
+pub use cursor::Cursor;
+
+#[cfg(test)]
+mod tests;

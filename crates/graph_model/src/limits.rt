@@ -1,0 +1,17 @@
+//! The limits that several crates share. Clauses and definitions cite them by name.
+
+/// How many vertices a graph may have. A vertex is a number below it.
+pub const MOST_VERTICES: u32 = 1_048_576;
+
+/// How many vertices a range has: those from 256 times its number on. The last range of a graph may
+/// have fewer.
+pub const RANGE_VERTICES: u32 = 256;
+
+/// How many ranges a graph may have: its vertices' numbers divided by those of a range.
+pub const MOST_RANGES: u32 = 4_096;
+
+/// How many edits a batch may have.
+pub const MOST_EDITS: usize = 65_536;
+
+/// How many batches a log may have.
+pub const MOST_BATCHES: u64 = 4_096;

@@ -1,0 +1,5 @@
+pub mod GroupLemmas
+pub mod MergeLemmas
+pub mod WordLemmas
+pub mod PartLemmas
+pub mod SearchLemmas

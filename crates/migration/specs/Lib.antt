@@ -1,0 +1,5 @@
+pub mod Groups
+pub mod Part
+pub mod Table
+pub mod Lent
+pub mod Merge

@@ -1,0 +1,13 @@
+//! Ranges of a graph's vertices under edit: a shard is one range as it stands in a version, and a batch
+//! makes the next one of it, which shares the lists that it does not change.
+#![tactic(auto)]
+
+mod counts;
+mod groups;
+mod merge;
+mod shard;
+mod targets;
+
+pub use counts::Counts;
+pub use groups::{Grouping, Groups};
+pub use shard::Shard;

@@ -1,0 +1,14 @@
+use Rattle.std.proofs.Common.{◌≡◌, ap, subst, sym, ◌∙◌}
+use Rattle.graph_model.specs.Past.{Past, graph_of}
+use Rattle.migration.specs.Table.{IsTable, parts_of}
+use Rattle.versions.specs.Version.{past_of}
+use Rattle.versions.proofs.VersionLemmas.{edge_listed}
+use Rattle.versions.proofs.version.Version.has_edge.Goals as goal
+
+pub returns : goal.returns
+returns c =
+    let past : Past = past_of c.self.inside.vertex_count c.self.inside.log in
+    let parts = parts_of c.self.inside.shards.items in
+    let listed = c.has_edge.ensures (graph_of past) (subst (λ l. IsTable (graph_of past) (parts_of l)) (sym c.deref.ensures.value) c.self.invariant.table) in
+    edge_listed past parts c.self.inside.edge_count c.args.source c.args.target c.has_edge.result c.self.invariant listed.0 listed.1
+    ∙ ap (λ p. (graph_of p).has_edge c.args.source c.args.target) c.self.view_is
