@@ -12,8 +12,8 @@ ghost use Rattle.session.specs.Performs.{Performs};
 use crate::answer::Answer;
 use crate::error::CommandError;
 use crate::session::Session;
-use graph_model::{Batch, Edit};
-use session_model::{Fault, MOST_EDITS};
+use graph_model::{Batch, Edit, MOST_EDITS};
+use session_model::Fault;
 use std::alloc::Global;
 use versions::{PublishError, Publisher};
 

@@ -6,7 +6,8 @@ use Rattle.graph_model.specs.Edits.{source_of, target_of}
 use Rattle.graph_model.specs.Past.{Past, number_of}
 use Rattle.session_model.specs.declared.fault.Fault.{Fault}
 use Rattle.session_model.specs.declared.fault.Fault.TheVariants as faults
-use Rattle.session_model.specs.declared.limits.TheConstants.{MOST_VERTICES, MOST_EDITS, MOST_BATCHES, MOST_KEPT, LEAST_RECORD_LENGTH, MOST_RECORD_LENGTH}
+use Rattle.graph_model.specs.declared.limits.TheConstants.{MOST_VERTICES, MOST_EDITS, MOST_BATCHES}
+use Rattle.session_model.specs.declared.limits.TheConstants.{MOST_KEPT, LEAST_RECORD_LENGTH, MOST_RECORD_LENGTH}
 use Rattle.session_model.specs.Session.{Session, program_named, pin_named}
 
 -- tests in their order: the first that holds tells the fault

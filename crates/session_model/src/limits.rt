@@ -1,13 +1,4 @@
-//! How much a session may have.
-
-/// The greatest number of vertices of a graph; the least is 1.
-pub const MOST_VERTICES: u32 = 1_048_576;
-
-/// The greatest number of edits in a batch.
-pub const MOST_EDITS: usize = 65_536;
-
-/// The greatest number of batches that are published.
-pub const MOST_BATCHES: u64 = 4096;
+//! How much a session may have, besides what its graph and its batches may have.
 
 /// The greatest number of programs that are kept, and of pins.
 pub const MOST_KEPT: usize = 256;
