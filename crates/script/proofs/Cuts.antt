@@ -145,39 +145,44 @@ outside-cut words s few = line_of-cut (saying words) s few ∙ line_of-saying wo
 
 -- ---- edits
 
-insert_in-cut : (u v : ℕ) (past : Past) → past.vertex_count ≤ 1048576 → is_edit_of past (Insert (cut u) (cut v)) ≡ is_edit_of past (Insert u v)
-insert_in-cut u v past small = rw (ltb-cut u past.vertex_count small, ltb-cut v past.vertex_count small) refl
+edit_in-cut : (e : Edit) (past : Past) → past.vertex_count ≤ 1048576 → is_edit_of past (cut_edit e) ≡ is_edit_of past e
+edit_in-cut (Insert u v) past small = rw (ltb-cut u past.vertex_count small, ltb-cut v past.vertex_count small) refl
+edit_in-cut (Remove u v) past small = rw (ltb-cut u past.vertex_count small, ltb-cut v past.vertex_count small) refl
 
-edit_at : (u v : ℕ) (begun : OpenBatch) (s : Script) (past : Option Past) → s.session.past ≡ past → AreFewVertices past → one_edit (Insert (cut u) (cut v)) begun s ≡ one_edit (Insert u v) begun s
-edit_at u v begun s None past-is few = rw past-is refl
-edit_at u v begun s (Some past) past-is few =
-    elim (cases_Bool (is_edit_of past (Insert u v))) [
-      | inl is ↦
-          let ends = and_parts _ _ is in
-          let first : cut u ≡ u = cut_below u past.vertex_count few (ltb-true _ _ ends.0) in
-          let second : cut v ≡ v = cut_below v past.vertex_count few (ltb-true _ _ ends.1) in
-          rw (first, second) refl
-      | inr not_is ↦ rw (past-is, insert_in-cut u v past few, not_is) refl
+same_edit : (e : Edit) (past : Past) → past.vertex_count ≤ 1048576 → is_edit_of past e ≡ true → cut_edit e ≡ e
+same_edit (Insert u v) past small is =
+    let ends = and_parts _ _ is in
+    let first : cut u ≡ u = cut_below u past.vertex_count small (ltb-true _ _ ends.0) in
+    let second : cut v ≡ v = cut_below v past.vertex_count small (ltb-true _ _ ends.1) in
+    rw (first, second) refl
+same_edit (Remove u v) past small is =
+    let ends = and_parts _ _ is in
+    let first : cut u ≡ u = cut_below u past.vertex_count small (ltb-true _ _ ends.0) in
+    let second : cut v ≡ v = cut_below v past.vertex_count small (ltb-true _ _ ends.1) in
+    rw (first, second) refl
+
+edit_at : (e : Edit) (begun : OpenBatch) (s : Script) (past : Option Past) → s.session.past ≡ past → AreFewVertices past → one_edit (cut_edit e) begun s ≡ one_edit e begun s
+edit_at e begun s None past-is few = rw past-is refl
+edit_at e begun s (Some past) past-is few =
+    elim (cases_Bool (is_edit_of past e)) [
+      | inl is ↦ ap (λ (d : Edit). one_edit d begun s) (same_edit e past few is)
+      | inr not_is ↦ rw (past-is, edit_in-cut e past few, not_is) refl
     ]
 
--- what a line says that the code takes as an insertion
-said_insert : (o : Option BatchLine) (u v : ℕ) → Some (OneEdit (Insert u v)) ≡ option_map cut_batch_line o → (a : ℕ) × (b : ℕ) × (o ≡ Some (OneEdit (Insert a b))) × (cut a ≡ u) × (cut b ≡ v)
-said_insert None u v h = absurd cc
-said_insert (Some EndBatch) u v h = absurd cc
-said_insert (Some (OneEdit (Remove a b))) u v h = absurd cc
-said_insert (Some (OneEdit (Insert a b))) u v h = (a, b, refl, cc, cc)
+-- what a line says that the code takes as an edit
+said_edit : (o : Option BatchLine) (e : Edit) → Some (OneEdit e) ≡ option_map cut_batch_line o → (d : Edit) × (o ≡ Some (OneEdit d)) × (cut_edit d ≡ e)
+said_edit None e h = absurd cc
+said_edit (Some EndBatch) e h = absurd cc
+said_edit (Some (OneEdit d)) e h = (d, refl, cc)
 
 inside_edit : (words : List (List ℕ)) (e : Edit) (begun : OpenBatch) (s : Script) → batch_line words ≡ Some (OneEdit e) → one_edit e begun s ≡ inside_batch words begun s
 inside_edit words e begun s said = rw said refl
 
--- an insertion inside a batch does what the definitions say of the line
-pub insert_line : (words : List (List ℕ)) (u v : ℕ) (begun : OpenBatch) (s : Script) → Some (OneEdit (Insert u v)) ≡ option_map cut_batch_line (batch_line words) → HasFewVertices s.session → one_edit (Insert u v) begun s ≡ inside_batch words begun s
-insert_line words u v begun s said few =
-    let whole = said_insert (batch_line words) u v said in
-    let cut-is = edit_at whole.0 whole.1 begun s s.session.past refl few in
-    let first = ap (λ (x : ℕ). one_edit (Insert x v) begun s) (sym whole.3) in
-    let second = ap (λ (y : ℕ). one_edit (Insert (cut whole.0) y) begun s) (sym whole.4) in
-    first ∙ second ∙ cut-is ∙ inside_edit words (Insert whole.0 whole.1) begun s whole.2
+-- an edit inside a batch does what the definitions say of the line
+pub edit_line : (words : List (List ℕ)) (e : Edit) (begun : OpenBatch) (s : Script) → Some (OneEdit e) ≡ option_map cut_batch_line (batch_line words) → HasFewVertices s.session → one_edit e begun s ≡ inside_batch words begun s
+edit_line words e begun s said few =
+    let whole = said_edit (batch_line words) e said in
+    ap (λ (d : Edit). one_edit d begun s) (sym whole.2) ∙ edit_at whole.0 begun s s.session.past refl few ∙ inside_edit words whole.0 begun s whole.1
 
 -- what a line says that the code takes as an end
 said_end : (o : Option BatchLine) → Some EndBatch ≡ option_map cut_batch_line o → o ≡ Some EndBatch

@@ -61,6 +61,9 @@ impl Script {
             BatchLine::Insert { source, target } => {
                 self.add_edit(begun, GivenEdit::Insert(source, target))
             }
+            BatchLine::Remove { source, target } => {
+                self.add_edit(begun, GivenEdit::Remove(source, target))
+            }
             BatchLine::End => {
                 let BegunBatch { line: _, feed, edits } = begun;
                 self.perform(text, Command::PublishBatch { feed, edits })

@@ -1,7 +1,7 @@
 -- What the words of a line say, before anything is known of names and graphs.
-use Rattle.std.specs.Prelude.{ℕ, if◌then◌else◌, Bool, false, List, [], ◌∷◌, Option, Some, None, codes}
+use Rattle.std.specs.Prelude.{ℕ, if◌then◌else◌, Bool, false, List, [], ◌∷◌, Option, Some, None, option_map, codes}
 use Rattle.graph_model.specs.declared.edit.Edit.{Edit}
-use Rattle.graph_model.specs.declared.edit.Edit.TheVariants.{Insert}
+use Rattle.graph_model.specs.declared.edit.Edit.TheVariants.{Insert, Remove}
 use Rattle.bpf_model.specs.declared.reduction.Reduction.{Reduction}
 use Rattle.bpf_model.specs.declared.reduction.Reduction.TheVariants.{Min, Max, Sum}
 use Rattle.session_model.specs.Commands.{Command, MakeGraph, LoadProgram, TakePin, RunProgram}
@@ -44,7 +44,8 @@ graph_statement (n ∷ []) = given (number n) (λ vertices. Some (Asks (MakeGrap
 graph_statement _ = None
 
 abbrev pub batch_statement : List (List ℕ) → Option Statement
-batch_statement (feed ∷ []) = if same_bytes feed (codes "A") then Some (BeginBatch 0) else None
+batch_statement (feed ∷ []) =
+    if same_bytes feed (codes "A") then Some (BeginBatch 0) else (if same_bytes feed (codes "B") then Some (BeginBatch 1) else None)
 batch_statement _ = None
 
 abbrev pub code_statement : List (List ℕ) → Option Statement
@@ -86,13 +87,21 @@ pub data BatchLine : Type 0 where
   OneEdit : Edit → BatchLine
   EndBatch : BatchLine
 
-abbrev pub edit_of : Option ℕ → Option ℕ → Option BatchLine
-edit_of (Some u) (Some v) = Some (OneEdit (Insert u v))
-edit_of None v = None
-edit_of (Some u) None = None
+-- the pair of two numbers that are both numbers
+abbrev pub pair_of : Option ℕ → Option ℕ → Option (ℕ × ℕ)
+pair_of (Some u) (Some v) = Some (u, v)
+pair_of None v = None
+pair_of (Some u) None = None
+
+abbrev pub insert_line : ℕ × ℕ → BatchLine
+insert_line pair = OneEdit (Insert pair.0 pair.1)
+
+abbrev pub remove_line : ℕ × ℕ → BatchLine
+remove_line pair = OneEdit (Remove pair.0 pair.1)
 
 abbrev pub batch_line : List (List ℕ) → Option BatchLine
 batch_line (word ∷ []) = if is_end (word ∷ []) then Some EndBatch else None
 batch_line (sign ∷ source ∷ target ∷ []) =
-    if same_bytes sign (codes "+") then edit_of (number source) (number target) else None
+    if same_bytes sign (codes "+") then option_map insert_line (pair_of (number source) (number target))
+    else (if same_bytes sign (codes "-") then option_map remove_line (pair_of (number source) (number target)) else None)
 batch_line _ = None

@@ -3,7 +3,7 @@ use Rattle.std.specs.Prelude.{ℕ, List, [], ◌∷◌, Option, Some, None, opti
 use Rattle.bpf_model.specs.declared.reduction.Reduction.{Reduction}
 use Rattle.script_model.specs.Lexing.{number, hex}
 use Rattle.session_model.specs.Commands.{LoadProgram, RunProgram}
-use Rattle.script_model.specs.Parsing.{BatchLine, edit_of, Statement, Asks, given, numbers}
+use Rattle.script_model.specs.Parsing.{pair_of, Statement, Asks, given, numbers}
 use Rattle.script_words.specs.Said.{cut}
 
 abbrev pub cut_before : List (List ℕ) → ℕ → ℕ × List (List ℕ)
@@ -14,10 +14,13 @@ abbrev pub first_number : List (List ℕ) → Option (ℕ × List (List ℕ))
 first_number [] = None
 first_number (word ∷ words) = option_map (cut_before words) (number word)
 
--- the edit that stands behind a sign
-abbrev pub edit_behind : List (List ℕ) → Option BatchLine
-edit_behind (source ∷ target ∷ []) = edit_of (number source) (number target)
-edit_behind _ = None
+-- the two numbers that stand behind a sign
+abbrev pub pair_behind : List (List ℕ) → Option (ℕ × ℕ)
+pair_behind (source ∷ target ∷ []) = pair_of (number source) (number target)
+pair_behind _ = None
+
+abbrev pub cut_pair : ℕ × ℕ → ℕ × ℕ
+cut_pair pair = (cut pair.0, cut pair.1)
 
 -- the statement to load a program whose code these digits spell
 abbrev pub loaded : List ℕ → ℕ → List ℕ → Option Statement

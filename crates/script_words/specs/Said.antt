@@ -44,6 +44,7 @@ cut_statement (BeginProgram name record_length) = BeginProgram name (cut record_
 -- the line of a batch that the code's stands for
 abbrev pub said_batch_line : CodeBatchLine → BatchLine
 said_batch_line (batch_lines.Insert u v) = OneEdit (Insert u v)
+said_batch_line (batch_lines.Remove u v) = OneEdit (Remove u v)
 said_batch_line batch_lines.End = EndBatch
 
 abbrev pub said_statement : CodeStatement → Statement

@@ -7,6 +7,8 @@ use bpf_model::Reduction;
 pub enum BatchLine {
     /// An edge is inserted.
     Insert { source: u64, target: u64 },
+    /// An edge is removed.
+    Remove { source: u64, target: u64 },
     /// The batch ends.
     End,
 }
@@ -18,7 +20,7 @@ pub enum Statement<'a> {
     Graph {
         vertices: u64,
     },
-    /// A batch of edits begins, of a feed (0 for A).
+    /// A batch of edits begins, of a feed (0 for A, 1 for B).
     Batch {
         feed: u8,
     },

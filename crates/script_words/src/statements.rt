@@ -1,8 +1,8 @@
 //! Lines outside blocks.
 
-ghost use Rattle.std.specs.Prelude.{◌≡◌, List, Option, Some, None, option_map, IfOk, MatchOption};
+ghost use Rattle.std.specs.Prelude.{◌≡◌, List, [], ◌∷◌, Option, Some, None, option_map, IfOk, MatchOption};
 ghost use Rattle.script_model.specs.Lexing.{words};
-ghost use Rattle.script_model.specs.Parsing.{graph_statement, batch_statement, code_statement, program_statement, pin_statement, run_statement, reduction_of as reduction_word, statement as statement_of};
+ghost use Rattle.script_model.specs.Parsing.{BeginBatch, graph_statement, batch_statement, code_statement, program_statement, pin_statement, run_statement, reduction_of as reduction_word, statement as statement_of};
 ghost use Rattle.script_model.specs.Execution.{is_comment as is_comment_word};
 ghost use Rattle.script_words.specs.Said.{said_statement, cut_statement, saying, said_line, cut_saying};
 ghost use Rattle.script_words.specs.Reading.{loaded, run_of};
@@ -43,14 +43,28 @@ fn graph(operands: &[u8]) -> Option<Statement<'_>>
     Some(Statement::Graph { vertices })
 }
 
+/// The number of a feed.
+fn feed_of(word: &[u8]) -> Option<u8>
+    ensures { option_map BeginBatch result ≡ batch_statement (word.now ∷ []) }
+{
+    if is_word(word, "A") {
+        return Some(0);
+    }
+    if is_word(word, "B") {
+        return Some(1);
+    }
+    None
+}
+
 fn batch(operands: &[u8]) -> Option<Statement<'_>>
     ensures { option_map said_statement result ≡ option_map cut_statement (batch_statement (words operands.now)) }
 {
     let (feed, rest) = next_word(operands)?;
-    if !is_word(feed, "A") || !has_no_word(rest) {
+    if !has_no_word(rest) {
         return None;
     }
-    Some(Statement::Batch { feed: 0 })
+    let feed = feed_of(feed)?;
+    Some(Statement::Batch { feed })
 }
 
 fn pin(operands: &[u8]) -> Option<Statement<'_>>

@@ -4,7 +4,7 @@ use std::test::Fail;
 
 #[test]
 fn batches(rt: HostRuntime) {
-    let cases: [(&[u8], Option<BatchLine>); 13] = [
+    let cases: [(&[u8], Option<BatchLine>); 15] = [
         (
             b"+ 0 1",
             Some(BatchLine::Insert {
@@ -29,7 +29,15 @@ fn batches(rt: HostRuntime) {
         (b"end", Some(BatchLine::End)),
         (b" end ", Some(BatchLine::End)),
         (b"end x", None),
-        (b"- 0 1", None),
+        (
+            b"- 0 1",
+            Some(BatchLine::Remove {
+                source: 0,
+                target: 1,
+            }),
+        ),
+        (b"-0 1", None),
+        (b"- 0", None),
         (b"+ 0", None),
         (b"+ 0 1 2", None),
         (b"+ 0 1a", None),
@@ -70,11 +78,12 @@ fn plain(rt: HostRuntime) {
 
 #[test]
 fn unknown(rt: HostRuntime) -> Result<(), Fail> {
-    let lines: [&[u8]; 20] = [
+    let lines: [&[u8]; 21] = [
         b"graph",
         b"graph 4 5",
         b"graph x",
-        b"batch B",
+        b"batch C",
+        b"batch AB",
         b"batch A A",
         b"code t 16 abc",
         b"code t 16 0g",
@@ -93,7 +102,7 @@ fn unknown(rt: HostRuntime) -> Result<(), Fail> {
         b"end",
     ];
     for line in &lines {
-        assert!(rt; matches!(command_line(rt.alloc(), line)?, Line::Unknown));
+        assert!(rt; matches!(statement_line(rt.alloc(), line)?, Line::Unknown));
     }
     Ok(())
 }
@@ -102,39 +111,39 @@ fn unknown(rt: HostRuntime) -> Result<(), Fail> {
 fn skipped(rt: HostRuntime) -> Result<(), Fail> {
     let lines: [&[u8]; 4] = [b"", b" \t ", b"# x", b"\t#graph 4"];
     for line in &lines {
-        assert!(rt; matches!(command_line(rt.alloc(), line)?, Line::Skipped));
+        assert!(rt; matches!(statement_line(rt.alloc(), line)?, Line::Skipped));
     }
     Ok(())
 }
 
 #[test]
 fn small_commands(rt: HostRuntime) -> Result<(), Fail> {
-    let graph = command_line(rt.alloc(), b"graph 4")?;
-    assert!(rt; matches!(&graph, Line::Command(Command::Graph { vertices: 4 })));
-    let batch = command_line(rt.alloc(), b"batch A")?;
-    assert!(rt; matches!(&batch, Line::Command(Command::Batch)));
-    let program = command_line(rt.alloc(), b"program p\t0016 ")?;
+    let graph = statement_line(rt.alloc(), b"graph 4")?;
+    assert!(rt; matches!(&graph, Line::Statement(Statement::Graph { vertices: 4 })));
+    let batch = statement_line(rt.alloc(), b"batch A")?;
+    assert!(rt; matches!(&batch, Line::Statement(Statement::Batch { feed: 0 })));
+    let program = statement_line(rt.alloc(), b"program p\t0016 ")?;
     assert!(rt;
         matches!(
             &program,
-            Line::Command(Command::Program {
+            Line::Statement(Statement::Program {
                 name: b"p",
                 record_length: 16
             })
         )
     );
-    let pin = command_line(rt.alloc(), b" pin  Az09_-")?;
-    assert!(rt; matches!(&pin, Line::Command(Command::Pin { name: b"Az09_-" })));
-    let longest = command_line(rt.alloc(), b"pin abcdefghijklmnopqrstuvwxyz012345")?;
-    assert!(rt; matches!(&longest, Line::Command(Command::Pin { .. })));
+    let pin = statement_line(rt.alloc(), b" pin  Az09_-")?;
+    assert!(rt; matches!(&pin, Line::Statement(Statement::Pin { name: b"Az09_-" })));
+    let longest = statement_line(rt.alloc(), b"pin abcdefghijklmnopqrstuvwxyz012345")?;
+    assert!(rt; matches!(&longest, Line::Statement(Statement::Pin { .. })));
     Ok(())
 }
 
 #[test]
 fn codes(rt: HostRuntime) -> Result<(), Fail> {
-    let line = command_line(rt.alloc(), b"code t 16 61100400000000009500000000000000")?;
-    let Line::Command(
-        Command::Code {
+    let line = statement_line(rt.alloc(), b"code t 16 61100400000000009500000000000000")?;
+    let Line::Statement(
+        Statement::Code {
             name,
             record_length,
             code,
@@ -149,8 +158,8 @@ fn codes(rt: HostRuntime) -> Result<(), Fail> {
         code.as_slice(),
         b"\x61\x10\x04\0\0\0\0\0\x95\0\0\0\0\0\0\0".as_slice()
     );
-    let empty = command_line(rt.alloc(), b"code t 16 -")?;
-    let Line::Command(Command::Code { code, .. }) = empty else {
+    let empty = statement_line(rt.alloc(), b"code t 16 -")?;
+    let Line::Statement(Statement::Code { code, .. }) = empty else {
         return Err(Fail::new("no such command"));
     };
     assert!(rt; code.is_empty());
@@ -159,9 +168,9 @@ fn codes(rt: HostRuntime) -> Result<(), Fail> {
 
 #[test]
 fn runs(rt: HostRuntime) -> Result<(), Fail> {
-    let line = command_line(rt.alloc(), b"run t a sum 0Aff 1 2")?;
-    let Line::Command(
-        Command::Run {
+    let line = statement_line(rt.alloc(), b"run t a sum 0Aff 1 2")?;
+    let Line::Statement(
+        Statement::Run {
             program,
             pin,
             reduction,
@@ -177,9 +186,9 @@ fn runs(rt: HostRuntime) -> Result<(), Fail> {
     assert_eq!(rt; reduction, Reduction::Sum);
     assert_eq!(rt; argument.as_slice(), b"\x0a\xff".as_slice());
     assert_eq!(rt; frontier.as_slice(), [1, 2].as_slice());
-    let every = command_line(rt.alloc(), b"run t a min -")?;
-    let Line::Command(
-        Command::Run {
+    let every = statement_line(rt.alloc(), b"run t a min -")?;
+    let Line::Statement(
+        Statement::Run {
             reduction: Reduction::Min,
             argument,
             frontier,

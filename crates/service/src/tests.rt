@@ -3,8 +3,10 @@ use crate::{Ending, ServeError, serve};
 use std::alloc::{AllocError, Global};
 use std::test::Fail;
 
+mod calls;
 mod checked;
 mod compiled;
+mod edits;
 mod ends;
 mod programs;
 mod standard;
@@ -101,12 +103,14 @@ fn faults(rt: HostRuntime) -> Result<(), Fail> {
     for (script, number, line) in [
         ("graph four", 2, 1),
         ("graph 4\nbatch A\n\nend", 2, 3),
-        ("graph 4\nbatch A\n- 0 1", 2, 3),
+        ("graph 4\nbatch A\n- 0", 2, 3),
+        ("graph 4\nbatch B\n- 0 4", 4, 3),
         ("graph 4\nend", 2, 2),
         // Commands that are not there yet are unknown before the graph is missed.
         ("list t a -", 2, 1),
         ("home 0", 2, 1),
-        ("batch B", 2, 1),
+        ("batch B", 3, 1),
+        ("batch C", 2, 1),
         ("pin a", 3, 1),
         ("graph 4\ngraph 0", 3, 2),
         ("graph 0", 4, 1),
