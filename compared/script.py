@@ -85,12 +85,12 @@ class Session:
             self.said.append(f"image {name} error 4")
             return
         try:
-            bound = verify(code, length)
+            bound, frames = verify(code, length)
         except Refused as refused:
             self.said.append(f"refused {name} cause {refused.cause} pc {refused.pc}")
             return
         self.programs[name] = (length, code, bound)
-        self.said.append(f"program {name} bound {bound} frames 1")
+        self.said.append(f"program {name} bound {bound} frames {frames}")
 
     def program_line(self, line, words):
         if words != ["end"]:

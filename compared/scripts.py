@@ -77,12 +77,51 @@ class Writer:
         return unit(0x18, target, immediate=low) + unit(0, immediate=high)
 
     def code(self, length):
-        state = State.entry(length)
+        if self.often(0.3):
+            items = self.with_functions(length)
+        else:
+            state = State.entry(length)
+            items = self.with_distances(self.ended(*self.steps(state, length, self.set_up(state, length), 40)))
+        code = b"".join(items)
+        if self.often(0.02):
+            place = self.random.randrange(len(code))
+            code = code[:place] + bytes([self.random.randrange(256)]) + code[place + 1 :]
+        return code
+
+    def with_functions(self, length):
+        """A program and functions behind it, each of which calls some of those behind itself."""
+        count = self.choice([2, 2, 3, 4, 9])
+        entries, parts, calls = {0: State.entry(length)}, [], []
+        for function in range(count):
+            state = entries.get(function) or State.entry(length).entered()
+            items, state = self.steps(state, length, self.set_up(state, length), 6)
+            for _ in range(self.choice([0, 1, 1, 2, 3]) if function + 1 < count else 0):
+                callee = self.random.randrange(function + 1, count)
+                calls.append((function, len(items), callee))
+                (_, entry), (_, state) = ways_from(state, length, 0, ("local", 0), 1)
+                entries[callee] = entries[callee].joined(entry) if callee in entries else entry
+                items, state = self.steps(state, length, items + [unit(0x85, 0, 1)], 6)
+            parts.append(self.with_distances(self.ended(items, state)))
+        starts = [sum(len(item) for part in parts[:function] for item in part) // 8 for function in range(count)]
+        for function, place, callee in calls:
+            pc = starts[function] + sum(len(item) for item in parts[function][:place]) // 8
+            distance = self.random.randrange(-3, 9) if self.often(0.02) else starts[callee] - pc - 1
+            parts[function][place] = unit(0x85, 0, 1, immediate=distance)
+        return [item for part in parts for item in part]
+
+    def set_up(self, state, length):
+        """Registers are set, as what is known allows."""
         items = []
         for register in (0, 3, 4, 5, 6, 7, 8, 9) if self.often(0.7) else ():
             items.append(self.choice([unit(0xB7, register, immediate=self.choice(NUMBERS)), unit(0x71, register, 1, 3), unit(0x79, register, 1)]))
-            state = ways_from(state, length, 0, *decode(items[-1], 0))[0][1]
-        for _ in range(self.random.randrange(4, 40)):
+            if state.registers[1] != ("record", 0, 0):
+                items[-1] = unit(0xB7, register, immediate=self.choice(NUMBERS))
+            ways_from(state, length, 0, *decode(items[-1], 0))
+        return items
+
+    def steps(self, state, length, items, most):
+        """More instructions, and what is known behind them."""
+        for _ in range(self.random.randrange(most)):
             for _ in range(8):
                 item = self.instruction(state)
                 try:
@@ -95,8 +134,10 @@ class Writer:
                     state = ways[-1][1]
                     break
             items.append(item)
-        items += [unit(0xB7, 0, immediate=3)] if state.registers[0][0] != "number" else []
-        return self.with_distances(items + [unit(0x95)])
+        return items, state
+
+    def ended(self, items, state):
+        return items + [unit(0xB7, 0, immediate=3)] * (state.registers[0][0] != "number") + [unit(0x95)]
 
     def with_distances(self, items):
         """Jumps and branches go a few instructions on."""
@@ -106,11 +147,7 @@ class Writer:
                 target = starts[min(len(items) - 1, place + 1 + self.choice([0, 1, 1, 2, 2, 3, 5]))]
                 distance = self.random.randrange(-3, 9) if self.often(0.002) else target - starts[place] - 1
                 items[place] = item[:2] + struct.pack("<h", distance) + item[4:]
-        code = b"".join(items)
-        if self.often(0.02):
-            place = self.random.randrange(len(code))
-            code = code[:place] + bytes([self.random.randrange(256)]) + code[place + 1 :]
-        return code
+        return items
 
     # Programs as texts.
 

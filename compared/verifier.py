@@ -1,8 +1,11 @@
-"""The verifier: the causes by which a program is refused, and the bound of one that is accepted."""
-from bpf import FRAME_BYTES, BITS_64, NoInstruction, calculated, decode, extended, negated, signed, swapped
+"""The verifier: the causes by which a program is refused, and the bound and the frames of one that is accepted."""
+from bisect import bisect_right
+
+from bpf import FRAME_BYTES, MOST_FRAMES, BITS_64, NoInstruction, calculated, decode, extended, negated, signed, swapped
 
 UNSET = ("unset",)
-BAD_INSTRUCTION, JUMP_OUT, JUMP_BACK, FALLS_OFF, TOO_LONG = 1, 2, 3, 5, 7
+BAD_INSTRUCTION, JUMP_OUT, JUMP_BACK, CALL_TARGET, FALLS_OFF, TOO_DEEP, TOO_LONG = 1, 2, 3, 4, 5, 6, 7
+MOST_COUNTED = 1_000_000
 UNSET_REGISTER, FRAME_REGISTER, POINTER_USE, OUT_OF_RANGE, UNSET_BYTE, NOT_A_NUMBER = 8, 9, 10, 11, 12, 15
 OPPOSITES = {"eq": "ne", "gt": "le", "ge": "lt", "sgt": "sle", "sge": "slt"}
 OPPOSITES |= {second: first for first, second in OPPOSITES.items()}
@@ -118,6 +121,15 @@ class State:
         registers = [joined(left, right) for left, right in zip(self.registers, other.registers)]
         spilled = {slot: joined(value, other.spilled.get(slot, UNSET)) for slot, value in self.spilled.items()}
         return State(registers, self.is_set & other.is_set, {slot: value for slot, value in spilled.items() if value != UNSET})
+
+    def entered(self):
+        """What is known where a function begins that is called here."""
+        passed = [UNSET if value[0] == "stack" else value for value in self.registers[1:6]]
+        return State([UNSET, *passed, *[UNSET] * 4, ("stack", 0)], frozenset(), {})
+
+    def returned(self):
+        """What is known behind the call."""
+        return State([number(0, BITS_64), *[UNSET] * 5, *self.registers[6:]], self.is_set, dict(self.spilled))
 
     def operand(self, operand, bits):
         kind, value = operand
@@ -246,6 +258,8 @@ def ways_from(state, record_length, pc, instruction, units):
         return [(pc + 1 + parts[0], state)]
     if kind == "branch":
         return branch_ways(state, pc, *parts)
+    if kind == "local":
+        return [(pc + 1 + parts[0], state.entered()), (pc + 1, state.returned())]
     if kind == "alu":
         bits, operation, destination, operand = parts
         left, right = registers[destination], state.operand(operand, bits)
@@ -284,14 +298,14 @@ def ways_from(state, record_length, pc, instruction, units):
 
 
 def listed(code):
-    """The instructions by their pcs. The calls are not known yet."""
+    """The instructions by their pcs. Helpers are not known yet."""
     instructions, pc = {}, 0
     while 8 * pc < len(code):
         try:
             instruction, units = decode(code, pc)
         except NoInstruction:
             raise Refused(BAD_INSTRUCTION, pc) from None
-        if instruction[0] in ("helper", "local"):
+        if instruction[0] == "helper":
             raise Refused(BAD_INSTRUCTION, pc)
         instructions[pc] = (instruction, units)
         pc += units
@@ -307,26 +321,42 @@ def next_pcs(pc, instruction, units):
     return [pc + 1 + instruction[-1], pc + 1] if kind == "branch" else [pc + units]
 
 
+def entry_called(instructions, pc, instruction):
+    """Where the function begins that is called, if the instruction is a call of one."""
+    entry = pc + 1 + instruction[1] if instruction[0] == "local" else None
+    return entry if entry in instructions and entry > pc else None
+
+
 def test_flow(instructions, units_of_code):
+    called = {entry_called(instructions, pc, instruction) for pc, (instruction, _) in instructions.items()}
+    entries = sorted(called - {None})
     for pc, (instruction, units) in instructions.items():
+        place = bisect_right(entries, pc)
+        end = entries[place] if place < len(entries) else units_of_code
         if instruction[0] in ("jump", "branch"):
             target = pc + 1 + (instruction[1] if instruction[0] == "jump" else instruction[-1])
-            if target not in instructions:
+            if target not in instructions or target >= end:
                 raise Refused(JUMP_OUT, pc)
             if target <= pc:
                 raise Refused(JUMP_BACK, pc)
-        if pc + units == units_of_code and instruction[0] not in ("exit", "jump"):
+        if instruction[0] == "local" and entry_called(instructions, pc, instruction) is None:
+            raise Refused(CALL_TARGET, pc)
+        if pc + units >= end and instruction[0] not in ("exit", "jump"):
             raise Refused(FALLS_OFF, pc)
 
 
 def verify(code, record_length):
-    """The bound, or the refusal as an exception."""
+    """The bound and the frames, or the refusal as an exception."""
     instructions = listed(code)
     test_flow(instructions, len(code) // 8)
-    counts = {}
+    counts, frames = {}, {}
     for pc, (instruction, units) in reversed(instructions.items()):
-        counts[pc] = 1 + max((counts[target] for target in next_pcs(pc, instruction, units)), default=0)
-    if counts[0] > 1_000_000:
+        onward, entry = next_pcs(pc, instruction, units), entry_called(instructions, pc, instruction)
+        counts[pc] = 1 + counts.get(entry, 0) + max((counts[target] for target in onward), default=0)
+        frames[pc] = max([1 + frames.get(entry, 0)] + [frames[target] for target in onward])
+    if frames[0] > MOST_FRAMES:
+        raise Refused(TOO_DEEP, 0)
+    if counts[0] > MOST_COUNTED:
         raise Refused(TOO_LONG, 0)
     states = {0: State.entry(record_length)}
     for pc, (instruction, units) in instructions.items():
@@ -338,4 +368,4 @@ def verify(code, record_length):
             raise Refused(broken.args[0], pc) from None
         for target, state in ways:
             states[target] = states[target].joined(state) if target in states else state
-    return counts[0]
+    return counts[0], frames[0]

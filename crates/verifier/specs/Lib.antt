@@ -3,6 +3,7 @@ pub mod Functions
 pub mod Equations
 pub mod Walks
 pub mod Verdict
+pub mod VerdictRows
 pub mod Sound
 pub mod Laws
 pub mod Tables

@@ -1,4 +1,5 @@
 ghost use Rattle.verifier.specs.Laws.{AssignedSolves, OneSolution};
+ghost use Rattle.verifier.specs.VerdictRows.{WorkedVerdicts};
 
 /// What is known at each pc solves the equations of the abstract pass.
 pub fn assigned_solves()
@@ -8,4 +9,9 @@ pub fn assigned_solves()
 /// The equations have no other solution.
 pub fn one_solution()
     ensures { OneSolution }
+{}
+
+/// The verdicts on worked programs of several functions.
+pub fn worked_verdicts()
+    ensures { WorkedVerdicts }
 {}
