@@ -20,7 +20,7 @@ fn three_edges(alloc: Global) -> Result<Pin, Fail> {
         alloc,
         &[Edit::Insert(0, 1), Edit::Insert(0, 2), Edit::Insert(1, 2)],
     )?;
-    let _receipt = publisher.publish(batch)?;
+    let _receipt = publisher.publish(0, batch)?;
     Ok(publisher.pin()?)
 }
 

@@ -138,7 +138,7 @@ fn publish(
         → Executes (end_batch publisher.old begun s line) result text.old.items text.new.items (record s { past = Some publisher.new; block = None }) }
 {
     let batch = Batch::new(alloc, edits)?;
-    match publisher.publish(batch) {
+    match publisher.publish(0, batch) {
         Ok(receipt) => {
             let number = receipt.number();
             put_batch(text, number, receipt.added(), receipt.removed())?;
