@@ -1,4 +1,5 @@
-ghost use Rattle.std.specs.Prelude.{◌≡◌, ◌↔◌, length, slice_get, Contains, IsTrue};
+ghost use Rattle.std.specs.Prelude.{◌≡◌, ◌≤◌, ◌↔◌, length, slice_get, Contains, IsTrue};
+ghost use Rattle.graph_model.specs.declared.limits.TheConstants.{MOST_VERTICES};
 ghost use Rattle.graph_model.specs.Graph.{Graph, neighbours};
 ghost use Rattle.migration.specs.Table.{IsTable, parts_of};
 
@@ -8,7 +9,8 @@ use std::sync::Arc;
 
 /// How many neighbours a vertex of the graph has that the shards are. A vertex outside has none.
 pub fn degree(shards: &[Arc<Shard>], vertex: u64) -> u32
-    ensures { (g : Graph) → IsTable g (parts_of shards.now) → result ≡ length (neighbours g vertex) }
+    ensures small { result ≤ MOST_VERTICES }
+    ensures value { (g : Graph) → IsTable g (parts_of shards.now) → result ≡ length (neighbours g vertex) }
 {
     match place_of(shards, vertex) {
         Some((shard, place)) => shard.degree(place),

@@ -43,7 +43,20 @@ fn batch_of(alloc: Global, edits: &[Edit]) -> Result<Batch, AllocError>
 fn is_such(version: &Version, number: u64, edges: u64, neighbours: &[u32]) -> bool {
     version.number() == number
         && version.edge_count() == edges
-        && version.neighbours(1) == neighbours
+        && lists(version, neighbours)
+}
+
+/// Whether the neighbours of vertex 1 are these.
+fn lists(version: &Version, neighbours: &[u32]) -> bool {
+    let mut rest = neighbours;
+    let mut cursor = version.cursor(1);
+    while let Some(slice) = cursor.next_slice() {
+        match rest.strip_prefix(slice) {
+            Some(later) => rest = later,
+            None => return false,
+        }
+    }
+    rest.is_empty()
 }
 
 /// Publishes the edits. Afterwards the last version is the new one, or after an error the old one.

@@ -45,14 +45,15 @@ pub range_own : (g : Graph) (p : Part) (count : ℕ) (es : List Edit) (range : �
 range_own g p count [] range small at below = tt
 range_own g p count (e ∷ es) range small at below =
     elim (cases_Bool (source_of e / 256 == range)) [
-      | inl t ↦ subst (λ b. AreEditsOf p (cond b (e ∷ range_edits count es range) (range_edits count es range))) (sym t)
-          ((let number = at.number in
-          let size = at.size in
-          let source = below.0.0 in
-          let target = below.0.1 in
-          let mine : source_of e / 256 ≡ range = eqb-true (source_of e / 256) range t in
-          (omega arith, omega arith, omega arith)),
-          range_own g p count es range small at below.1)
+      | inl t ↦ subst (λ b. AreEditsOf p (cond b (e ∷ range_edits count es range) (range_edits count es range))) (sym t) (
+        (let number = at.number in
+            let size = at.size in
+            let source = below.0.0 in
+            let target = below.0.1 in
+            let mine : source_of e / 256 ≡ range = eqb-true (source_of e / 256) range t in
+            (omega arith, omega arith, omega arith)),
+        range_own g p count es range small at below.1,
+      )
       | inr f ↦ subst (λ b. AreEditsOf p (cond b (e ∷ range_edits count es range) (range_edits count es range))) (sym f) (range_own g p count es range small at below.1)
     ]
 
@@ -64,8 +65,8 @@ other_word count (e ∷ es) range u v ne =
       | inl t ↦ (
           let mine : source_of e / 256 ≡ range = eqb-true (source_of e / 256) range t in
           let unnamed : names e u v ≡ false = false_from_ne_true (names e u v) (λ named.
-              let source : source_of e ≡ u = eqb-true (source_of e) u (and_parts (source_of e == u) (target_of e == v) named).0 in
-              ne (ap (λ s. s / 256) (sym source) ∙ mine)) in
+          let source : source_of e ≡ u = eqb-true (source_of e) u (and_parts (source_of e == u) (target_of e == v) named).0 in
+          ne (ap (λ s. s / 256) (sym source) ∙ mine)) in
           ap (λ b. last_word (cond b (e ∷ range_edits count es range) (range_edits count es range)) u v) t
           ∙ ap (λ o. decided_first o e u v) (other_word count es range u v ne)
           ∙ ap (λ b. if b then Some (inserts e) else None) unnamed)

@@ -11,10 +11,7 @@ use std::alloc::{AllocError, Global};
 use std::sync::Arc;
 
 /// The shards of a graph of so many vertices without an edge.
-pub(crate) fn empty_shards(
-    alloc: Global,
-    vertex_count: u32,
-) -> Result<Vec<Arc<Shard>>, AllocError>
+pub(crate) fn empty_shards(alloc: Global, vertex_count: u32) -> Result<Vec<Arc<Shard>>, AllocError>
     requires { IsVertexCount vertex_count }
     ensures { IfOk result (λ shards. IsTable (empty_graph vertex_count) (parts_of shards.items)) }
 {

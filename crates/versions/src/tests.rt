@@ -1,6 +1,6 @@
 ghost use Rattle.std.specs.Prelude.{◌≡◌, IfOk};
 
-use super::{Batch, Edit, PublishError, Store, StoreError};
+use super::{Batch, Edit, PublishError, Publisher, Store, StoreError, Version};
 use std::alloc::{AllocError, Global};
 use std::test::Fail;
 
@@ -8,6 +8,16 @@ fn batch_of(alloc: Global, edits: &[Edit]) -> Result<Batch, AllocError>
     ensures { IfOk result (λ batch. batch ≡ edits.now) }
 {
     Batch::new(alloc, Vec::from_slice(alloc, edits)?)
+}
+
+// The neighbours of a vertex, joined.
+fn neighbours_of(alloc: Global, version: &Version, vertex: u32) -> Result<Vec<u32>, AllocError> {
+    let mut all = Vec::new(alloc);
+    let mut cursor = version.cursor(vertex);
+    while let Some(slice) = cursor.next_slice() {
+        all.extend_from_slice(slice)?;
+    }
+    Ok(all)
 }
 
 #[test]
@@ -27,8 +37,9 @@ fn later_edits_decide(rt: HostRuntime) -> Result<(), Fail> {
     assert_eq!(rt; first.feed(), 0);
     assert_eq!(rt; first.batch().edits(), edits.as_slice());
 
-    let second = publisher.publish(0, Batch::empty())?;
+    let second = publisher.publish(1, Batch::empty())?;
     assert_eq!(rt; second.number(), 2);
+    assert_eq!(rt; second.feed(), 1);
     assert_eq!(rt; second.added(), 0);
     assert_eq!(rt; second.removed(), 0);
     assert_eq!(rt; publisher.number(), 2);
@@ -61,7 +72,10 @@ fn each_pair_counts_once(rt: HostRuntime) -> Result<(), Fail> {
     assert_eq!(rt; receipt.removed(), 0);
     let pin = publisher.pin()?;
     assert_eq!(rt; pin.version().edge_count(), 1);
-    assert_eq!(rt; pin.version().neighbours(1), [0].as_slice());
+    assert_eq!(rt;
+        neighbours_of(rt.alloc(), pin.version(), 1)?.as_slice(),
+        [0].as_slice()
+    );
     Ok(())
 }
 
@@ -79,10 +93,22 @@ fn neighbours_ascend(rt: HostRuntime) -> Result<(), Fail> {
     publisher.publish(0, batch_of(alloc, &edits)?)?;
     let pin = publisher.pin()?;
     let version = pin.version();
-    assert_eq!(rt; version.neighbours(2), [0, 1, 3].as_slice());
-    assert_eq!(rt; version.neighbours(3), [].as_slice());
-    assert_eq!(rt; version.neighbours(4), [].as_slice());
-    assert_eq!(rt; version.neighbours(u32::MAX), [].as_slice());
+    assert_eq!(rt;
+        neighbours_of(rt.alloc(), version, 2)?.as_slice(),
+        [0, 1, 3].as_slice()
+    );
+    assert_eq!(rt;
+        neighbours_of(rt.alloc(), version, 3)?.as_slice(),
+        [].as_slice()
+    );
+    assert_eq!(rt;
+        neighbours_of(rt.alloc(), version, 4)?.as_slice(),
+        [].as_slice()
+    );
+    assert_eq!(rt;
+        neighbours_of(rt.alloc(), version, u32::MAX)?.as_slice(),
+        [].as_slice()
+    );
     assert_eq!(rt; version.edge_count(), 3);
     assert_eq!(rt; version.vertex_count(), 4);
     assert_eq!(rt; publisher.vertex_count(), 4);
@@ -96,7 +122,10 @@ fn one_vertex_is_enough(rt: HostRuntime) -> Result<(), Fail> {
     assert_eq!(rt; pin.version().number(), 0);
     assert_eq!(rt; pin.version().edge_count(), 0);
     assert_eq!(rt; pin.version().vertex_count(), 1);
-    assert_eq!(rt; pin.version().neighbours(0), [].as_slice());
+    assert_eq!(rt;
+        neighbours_of(rt.alloc(), pin.version(), 0)?.as_slice(),
+        [].as_slice()
+    );
     Ok(())
 }
 
@@ -108,9 +137,15 @@ fn a_pin_stays(rt: HostRuntime) -> Result<(), Fail> {
     publisher.publish(0, batch_of(alloc, &[Edit::Insert(0, 1)])?)?;
     let after = publisher.pin()?;
     assert_eq!(rt; before.version().number(), 0);
-    assert_eq!(rt; before.version().neighbours(0), [].as_slice());
+    assert_eq!(rt;
+        neighbours_of(rt.alloc(), before.version(), 0)?.as_slice(),
+        [].as_slice()
+    );
     assert_eq!(rt; after.version().number(), 1);
-    assert_eq!(rt; after.version().neighbours(0), [1].as_slice());
+    assert_eq!(rt;
+        neighbours_of(rt.alloc(), after.version(), 0)?.as_slice(),
+        [1].as_slice()
+    );
     Ok(())
 }
 
@@ -167,6 +202,94 @@ fn refused_memory_changes_nothing(rt: HostRuntime) -> Result<(), Fail> {
     assert_eq!(rt; after.version().number(), number);
     assert_eq!(rt; after.version().edge_count(), 2 * number);
     assert_eq!(rt; before.version().edge_count(), 0);
-    assert_eq!(rt; before.version().neighbours(0), [].as_slice());
+    assert_eq!(rt;
+        neighbours_of(rt.alloc(), before.version(), 0)?.as_slice(),
+        [].as_slice()
+    );
     Ok(())
+}
+
+#[test]
+fn ranges_lie_apart(rt: HostRuntime) -> Result<(), Fail> {
+    let alloc = rt.alloc();
+    let mut publisher = Store::new(alloc, 300)?;
+    let edits = [
+        Edit::Insert(299, 4),
+        Edit::Insert(0, 1),
+        Edit::Insert(299, 3),
+        Edit::Insert(70, 2),
+    ];
+    let receipt = publisher.publish(0, batch_of(alloc, &edits)?)?;
+    assert_eq!(rt; receipt.added(), 4);
+    let pin = publisher.pin()?;
+    let version = pin.version();
+    assert_eq!(rt;
+        neighbours_of(alloc, version, 0)?.as_slice(),
+        [1].as_slice()
+    );
+    assert_eq!(rt;
+        neighbours_of(alloc, version, 70)?.as_slice(),
+        [2].as_slice()
+    );
+    assert_eq!(rt;
+        neighbours_of(alloc, version, 299)?.as_slice(),
+        [3, 4].as_slice()
+    );
+    assert_eq!(rt;
+        neighbours_of(alloc, version, 256)?.as_slice(),
+        [].as_slice()
+    );
+    assert_eq!(rt;
+        neighbours_of(alloc, version, 300)?.as_slice(),
+        [].as_slice()
+    );
+    assert_eq!(rt; version.degree(299), 2);
+    assert_eq!(rt; version.degree(0x1_0000_012b), 0);
+    assert_eq!(rt; version.neighbour(299, 1), Some(4));
+    assert_eq!(rt; version.neighbour(299, 2), None);
+    assert_eq!(rt; version.neighbour(299, 0x1_0000_0000), None);
+    assert!(rt; version.has_edge(70, 2));
+    assert!(rt; !version.has_edge(70, 0x1_0000_0002));
+    assert!(rt; !version.has_edge(2, 70));
+
+    // A version that was pinned before removals lists what it listed.
+    let gone = [
+        Edit::Remove(299, 3),
+        Edit::Remove(70, 2),
+        Edit::Remove(70, 3),
+    ];
+    let receipt = publisher.publish(1, batch_of(alloc, &gone)?)?;
+    assert_eq!(rt; receipt.added(), 0);
+    assert_eq!(rt; receipt.removed(), 2);
+    assert_eq!(rt;
+        neighbours_of(alloc, version, 299)?.as_slice(),
+        [3, 4].as_slice()
+    );
+    assert_eq!(rt;
+        neighbours_of(alloc, version, 70)?.as_slice(),
+        [2].as_slice()
+    );
+    let after = publisher.pin()?;
+    assert_eq!(rt;
+        neighbours_of(alloc, after.version(), 299)?.as_slice(),
+        [4].as_slice()
+    );
+    assert_eq!(rt; after.version().edge_count(), 2);
+    Ok(())
+}
+
+// Insertions and removals of one pair in turn, so many.
+fn alternating(alloc: Global, count: u32) -> Result<Batch, AllocError>
+    ensures { IfOk result (λ batch. length batch ≡ count × AreEditsBelow 4 batch) }
+{
+    let mut edits = Vec::new(alloc);
+    for place in 0..count {
+        let edit = if place % 2 == 0 {
+            Edit::Insert(0, 1)
+        } else {
+            Edit::Remove(0, 1)
+        };
+        edits.push(edit)?;
+    }
+    Batch::new(alloc, edits)
 }

@@ -1,5 +1,5 @@
 ghost use Rattle.std.specs.Prelude.{◌≡◌, ◌<◌, ◌≤◌, length, slice_get, IfOk};
-ghost use Rattle.graph_model.specs.declared.limits.TheConstants.{MOST_BATCHES};
+ghost use Rattle.graph_model.specs.declared.limits.TheConstants.{MOST_BATCHES, MOST_VERTICES};
 ghost use Rattle.graph_model.specs.Graph.{neighbours, edge_count, degree};
 ghost use Rattle.graph_model.specs.Edits.{AreEditsBelow, added, removed};
 ghost use Rattle.graph_model.specs.Past.{IsPast, graph_of, number_of, opening, longer};
@@ -91,7 +91,8 @@ impl Version {
 
     /// How many neighbours a vertex has. A vertex outside has none.
     pub fn degree(&self, vertex: u64) -> u32
-        ensures { result ≡ degree (graph_of self.now) vertex }
+        ensures value { result ≡ degree (graph_of self.now) vertex }
+        ensures small { result ≤ MOST_VERTICES }
     {
         cursors::degree(&self.shards, vertex)
     }

@@ -2,5 +2,5 @@ use Rattle.std.proofs.Common.{◌≡◌, length, sym, ap}
 use Rattle.graph_model.proofs.Neighbours.{neighbours-outside}
 use Rattle.cursors.proofs.answers.degree.Goals as goal
 
-pub returns-in-None : goal.returns-in-None
-returns-in-None c = λ g table. sym (ap length (neighbours-outside g c.args.vertex (c.in-None.ensures.list g table)))
+pub returns-in-None-clause-value : goal.returns-in-None-clause-value
+returns-in-None-clause-value c = λ g table. sym (ap length (neighbours-outside g c.args.vertex (c.in-None.ensures.list g table)))

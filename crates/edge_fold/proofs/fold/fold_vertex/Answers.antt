@@ -1,20 +1,26 @@
-use Rattle.std.proofs.Common.{◌≡◌, ◌+◌, ◌++◌, ◌∷◌, [], length, take, refl, sym, ap, ◌∙◌}
-use Rattle.std.proofs.lemmas.List.{length_push}
+use Rattle.std.proofs.Common.{◌≡◌, ◌+◌, ◌<◌, ◌≤◌, ◌++◌, [], length, drop, get_or, refl, sym, ap, subst, ◌∙◌, arith}
+use Rattle.graph_model.specs.Graph.{neighbours}
 use Rattle.graph_model.specs.Past.{graph_of}
-use Rattle.bpf_model.specs.EdgeMap.{reduced}
-use Rattle.edge_fold.specs.Numbers.{combined}
-use Rattle.edge_fold.proofs.Numbers.{found, found_more}
-use Rattle.edge_fold.proofs.Reductions.{reduced_more}
+use Rattle.edge_fold.proofs.Numbers.{IsFolded, none_folded, one_folded, all_folded, next_target}
 use Rattle.edge_fold.proofs.fold.fold_vertex.Goals as goal
 
-pub loop-place-preserved : goal.loop-place-preserved
-loop-place-preserved c =
-    let g = graph_of c.args.version.now in
-    let early = found c.args.program.now g c.args.argument.now c.args.source 0 (take c.loop-place.place c.neighbours-targets.result.now) in
-    let more : found c.args.program.now g c.args.argument.now c.args.source 0 (take (c.loop-place.place + 1) c.neighbours-targets.result.now) ≡ early ++ c.number_for_edge-number.result ∷ [] =
-    found_more c.args.program.now g c.args.argument.now c.args.source c.neighbours-targets.result.now c.loop-place.place _ c.number_for_edge-number.result c.loop-place-test.true refl c.number_for_edge-number.ensures in
+pub slices-init : goal.slices-init
+slices-init c = record {
+  rest = sym c.cursor.ensures;
+  folded = none_folded c.args.reduction c.args.program.now (graph_of c.args.version.now) c.args.argument.now c.args.source (neighbours (graph_of c.args.version.now) c.args.source) c.nothing-so_far.result c.nothing-so_far.ensures;
+}
+
+pub targets-init : goal.targets-init
+targets-init c = record {
+  rest = c.slices.invariant.rest ∙ c.in-Some.ensures.1;
+  folded = c.slices.invariant.folded;
+}
+
+pub targets-preserved : goal.targets-preserved
+targets-preserved c =
+    let all = neighbours (graph_of c.args.version.now) c.args.source in
+    let next = next_target all c.in-Some.targets.now c.next_slice.new.self c.targets.place c.targets.target-index c.targets.invariant.rest c.targets-test.true c.targets.invariant.folded.within in
     record {
-      value = c.combine-so_far.ensures ∙ ap (λ n. combined c.args.reduction n c.number_for_edge-number.result) c.loop-place.invariant.value
-          ∙ sym (reduced_more c.args.reduction early c.number_for_edge-number.result c.number_for_edge-number.type_inv) ∙ ap (reduced c.args.reduction) (sym more);
-      count = ap length more ∙ length_push early c.number_for_edge-number.result ∙ ap (λ n. n + 1) c.loop-place.invariant.count;
+      rest = next.2;
+      folded = one_folded c.args.reduction c.args.program.now (graph_of c.args.version.now) c.args.argument.now c.args.source all c.targets.place c.targets.so_far _ c.number_for_edge-number.result c.combine-so_far.result c.targets.invariant.folded next.0 (sym next.1) c.number_for_edge-number.ensures c.number_for_edge-number.type_inv c.combine-so_far.ensures;
     }

@@ -1,9 +1,20 @@
-use Rattle.std.proofs.Common.{◌≡◌, length, take}
+use Rattle.std.proofs.Common.{◌≡◌, ◌+◌, ◌≤◌, ◌++◌, length, take, drop}
+use Rattle.graph_model.specs.Graph.{neighbours}
 use Rattle.graph_model.specs.Past.{graph_of}
-use Rattle.bpf_model.specs.EdgeMap.{reduced}
-use Rattle.edge_fold.proofs.Numbers.{found}
+use Rattle.edge_fold.proofs.Numbers.{IsFolded}
 use Rattle.edge_fold.proofs.fold.fold_vertex.Given as goal
 
-abbrev pub invariant-loop-place : goal.invariant-loop-place
-invariant-loop-place l =
-    record { value : l.so_far ≡ reduced l.reduction (found l.program (graph_of l.version) l.argument l.source 0 (take l.place l.targets)); count : length (found l.program (graph_of l.version) l.argument l.source 0 (take l.place l.targets)) ≡ l.place }
+abbrev pub invariant-slices : goal.invariant-slices
+invariant-slices l = record {
+  rest : drop l.place (neighbours (graph_of l.version) l.source) ≡ l.cursor;
+  folded : IsFolded l.reduction l.program (graph_of l.version) l.argument l.source (neighbours (graph_of l.version) l.source) l.place l.so_far;
+}
+
+abbrev pub invariant-targets : goal.invariant-targets
+invariant-targets l = record {
+  rest : drop l.place (neighbours (graph_of l.version) l.source) ≡ drop l.target-index l.targets ++ l.cursor;
+  folded : IsFolded l.reduction l.program (graph_of l.version) l.argument l.source (neighbours (graph_of l.version) l.source) l.place l.so_far;
+}
+
+abbrev pub decreases-slices : goal.decreases-slices
+decreases-slices l = length l.cursor
