@@ -1,11 +1,14 @@
 -- The frames in memory, by the bytes of all frames in a row.
-use Rattle.std.proofs.Common.{◌≡◌, ◌≢◌, ℕ, zero, suc, ◌+◌, ◌-◌, ◌*◌, ◌/◌, ◌%◌, ◌<◌, ◌≤◌, true, false, Bool, cond, nat_le, nat_lt, eqb, List, [], ◌∷◌, length, get_or, set, Option, Some, None, refl, sym, ap, ◌∙◌, arith, inl, inr, ◌⊎◌, eq-eqb}
+use Rattle.std.proofs.Common.{◌≡◌, ◌≢◌, ℕ, zero, suc, ◌+◌, ◌-◌, ◌*◌, ◌/◌, ◌%◌, ◌<◌, ◌≤◌, true, false, Bool, cond, nat_le, nat_lt, eqb, List, [], ◌∷◌, length, get_or, set, drop, drop-cons, add-one, Option, Some, None, refl, sym, ap, ◌∙◌, arith, inl, inr, ◌⊎◌, eq-eqb}
 use Rattle.std.specs.Prelude.{◌&&◌, ◌||◌}
 use Rattle.std.proofs.Math.Path.{fun_ext}
 use Rattle.std.proofs.lemmas.Bool.{cases_Bool, cases_eq, cases_lt, and_parts, and_from, or_left, or_right, le-leb, lt-leb, leb-true, leb-false, lt-ltb, le-ltb, ne_eqb}
 use Rattle.std.proofs.lemmas.List.{get_or-set_same, get_or-set_other}
-use Rattle.bpf_model.specs.State.{Partial, Saved, stored, cleared, frame_top, frame_bytes, in_frame, in_frames}
+use Rattle.bpf_model.specs.State.{Partial, Saved, stored, stored_all, cleared, frame_top, frame_bytes, in_frame, in_frames}
 use Rattle.bpf_machine.specs.declared.callers.Kept.{Kept}
+use Rattle.bpf_machine.specs.declared.stack.Stack.{Stack}
+use Rattle.bpf_machine.specs.declared.stack.Stack.TheVariants.{One, All}
+use Rattle.bpf_machine.specs.Cells.{frames_in}
 use Rattle.bpf_machine.specs.Seen.{held, stack_byte, memory_of, saved_of, no_caller, callers_of}
 
 -- ---- which frame an access lies in
@@ -86,6 +89,17 @@ stored_at bytes cells frame place v a inside =
 pub stored_seen : (bytes : List ℕ) (cells : Partial) (frame place v : ℕ) → place < frame_bytes → stored (memory_of bytes cells) ((frame_top frame - frame_bytes) + place) v ≡ memory_of bytes (stored cells (frame_bytes * frame + place) v)
 stored_seen bytes cells frame place v inside = fun_ext (λ a. stored_at bytes cells frame place v a inside)
 
+pub stored_all_seen : (bytes : List ℕ) (cells : Partial) (frame place : ℕ) (value : List ℕ) → place + length value ≤ frame_bytes → stored_all (memory_of bytes cells) ((frame_top frame - frame_bytes) + place) value ≡ memory_of bytes (stored_all cells (frame_bytes * frame + place) value)
+stored_all_seen bytes cells frame place [] inside = refl
+stored_all_seen bytes cells frame place (v ∷ vs) inside =
+    let first = stored_seen bytes cells frame place v (omega (arith, inside)) in
+    let next : ((frame_top frame - frame_bytes) + place) + 1 ≡ (frame_top frame - frame_bytes) + (place + 1) = omega arith in
+    let cell : (frame_bytes * frame + place) + 1 ≡ frame_bytes * frame + (place + 1) = omega arith in
+    ap (λ m. stored_all m (((frame_top frame - frame_bytes) + place) + 1) vs) first
+    ∙ ap (λ a. stored_all (memory_of bytes (stored cells (frame_bytes * frame + place) v)) a vs) next
+    ∙ stored_all_seen bytes (stored cells (frame_bytes * frame + place) v) frame (place + 1) vs (omega (arith, inside))
+    ∙ ap (λ k. memory_of bytes (stored_all (stored cells (frame_bytes * frame + place) v) k vs)) (sym cell)
+
 -- whether a place is among those that are cleared
 cleared_in : (m : Partial) (from count x : ℕ) → from ≤ x → x < from + count → cleared m from count x ≡ None
 cleared_in m from count x low high =
@@ -152,6 +166,32 @@ cleared_next cells m from k x inside so_far =
 
 pub cleared_more : (cells : List (Option ℕ)) (m : Partial) (from k : ℕ) → from + k < length cells → held cells ≡ cleared m from k → held (set cells (from + k) None) ≡ cleared m from (k + 1)
 cleared_more cells m from k inside so_far = fun_ext (λ x. cleared_next cells m from k x inside so_far)
+
+-- ---- rows of bytes
+
+stored_set_at : (cells : List (Option ℕ)) (k v x : ℕ) → k < length cells → stored (held cells) k v x ≡ held (set cells k (Some v)) x
+stored_set_at cells k v x inside =
+    elim (cases_eq x k) [
+      | inl same ↦ (let test : eqb x k ≡ true = eq-eqb _ _ same in rw test (sym (ap (held (set cells k (Some v))) same ∙ get_or-set_same cells k (Some v) None inside)))
+      | inr other ↦ (let test : eqb x k ≡ false = ne_eqb _ _ other in rw test (sym (get_or-set_other cells k x (Some v) None other)))
+    ]
+
+pub stored_set : (cells : List (Option ℕ)) (k v : ℕ) → k < length cells → stored (held cells) k v ≡ held (set cells k (Some v))
+stored_set cells k v inside = fun_ext (λ x. stored_set_at cells k v x inside)
+
+-- what is left to store in a row once one byte more is stored
+pub row_more : (cells : List (Option ℕ)) (place k : ℕ) (value : List ℕ) → k < length value → place + k < length cells
+    → stored_all (held (set cells (place + k) (Some (get_or value k 0)))) (place + (k + 1)) (drop (k + 1) value) ≡ stored_all (held cells) (place + k) (drop k value)
+row_more cells place k value within inside =
+    let next : place + (k + 1) ≡ (place + k) + 1 = omega arith in
+    let rest : drop k value ≡ get_or value k 0 ∷ drop (k + 1) value = rw (add-one, drop-cons value k 0) refl in
+    ap (λ a. stored_all (held (set cells (place + k) (Some (get_or value k 0)))) a (drop (k + 1) value)) next
+    ∙ ap (λ (m : Partial). stored_all m ((place + k) + 1) (drop (k + 1) value)) (sym (stored_set cells (place + k) (get_or value k 0) inside))
+    ∙ sym (ap (stored_all (held cells) (place + k)) rest)
+
+pub room_for_one : (s : Stack) → 1 ≤ frames_in s
+room_for_one (One cells) = omega arith
+room_for_one (All cells) = omega arith
 
 -- ---- callers
 

@@ -6,6 +6,7 @@ use Rattle.bpf_model.specs.Step.{Next, Goes, Exits, Traps}
 use Rattle.bpf_machine.specs.declared.callers.Kept.{Kept}
 use Rattle.bpf_machine.specs.declared.machine.Machine.{Machine}
 use Rattle.bpf_machine.specs.declared.stack.TheConstants.{STACK_BASE, FRAME_SPACE, FRAME_START}
+use Rattle.bpf_machine.specs.Cells.{cells_of}
 use Rattle.bpf_machine.specs.declared.turn.Turn.{Turn}
 use Rattle.bpf_machine.specs.declared.turn.Turn.TheVariants.{Went, Exited, Trapped}
 
@@ -41,7 +42,7 @@ callers_of kept (suc n) = saved_of (slice_index_or kept n no_caller) ∷ callers
 -- the machine's state when these are the bytes of its record
 abbrev pub seen : Machine → List ℕ → State
 seen machine bytes =
-    record { pc = machine.pc; registers = held machine.registers; memory = memory_of bytes (held machine.stack.cells); callers = callers_of machine.callers.kept machine.callers.count }
+    record { pc = machine.pc; registers = held machine.registers; memory = memory_of bytes (held (cells_of machine.stack)); callers = callers_of machine.callers.kept machine.callers.count }
 
 -- goes on with a number that was found, or traps as it says
 abbrev pub going_on : Result ℕ TrapKind → ℤ → (ℕ → Next) → Next

@@ -48,7 +48,7 @@ pub fn byte_at(machine: &Machine, bytes: &[u8], address: u64) -> Option<u8>
         }
         let frame = (address - STACK_BASE) / FRAME_SPACE;
         let cell = FRAME_BYTES as u64 * frame + (place - FRAME_START);
-        machine.stack.cells.get(cell as usize).copied().flatten()
+        machine.stack.byte(cell)
     } else if address >= RECORD_BASE {
         bytes.get((address - RECORD_BASE) as usize).copied()
     } else {

@@ -1,6 +1,7 @@
 ghost use Rattle.std.specs.Prelude.{◌≡◌, ◌+◌, ◌≤◌, ◌<◌, ◌≤ℤ◌, ◌||◌, true, false, pos, length};
 ghost use Rattle.bpf_model.specs.State.{Partial, stored, stored_all, record_base, in_record, in_frames, most_frames};
 ghost use Rattle.bpf_model.specs.Step.{store};
+ghost use Rattle.bpf_machine.specs.Cells.{cells_of};
 ghost use Rattle.bpf_machine.specs.Seen.{held, memory_of, seen, answer, Keeps};
 
 use crate::machine::{Machine, RECORD_BASE};
@@ -46,7 +47,7 @@ fn store_bytes(
     requires frames { frames ≤ most_frames }
     requires record { length bytes.old ≤ 256 }
     ensures allowed { result ≡ (in_record (length bytes.old) address (length value.now) || in_frames frames address (length value.now)) }
-    ensures stored { result ≡ true → stored_all (memory_of bytes.old (held stack.old.cells)) address value.now ≡ memory_of bytes.new (held stack.new.cells) }
+    ensures stored { result ≡ true → stored_all (memory_of bytes.old (held (cells_of stack.old))) address value.now ≡ memory_of bytes.new (held (cells_of stack.new)) }
     ensures kept { result ≡ false → (bytes.new ≡ bytes.old) × (stack.new ≡ stack.old) }
 {
     let count = value.len() as u64;

@@ -6,6 +6,7 @@ use Rattle.bpf_isa.specs.declared.instruction.Size.TheVariants.{Byte, Half, Word
 use Rattle.bpf_isa.specs.Sizes.{size_bytes}
 use Rattle.bpf_model.specs.State.{stored_all, in_record, in_frames, may_access}
 use Rattle.bpf_model.specs.Step.{low_bytes}
+use Rattle.bpf_machine.specs.Cells.{cells_of}
 use Rattle.bpf_machine.specs.Seen.{held, memory_of, seen}
 use Rattle.bpf_machine.proofs.CallFacts.{goes_same}
 use Rattle.bpf_machine.proofs.stores.store_to.Goals as goal
@@ -38,8 +39,8 @@ returns-clause-step c =
     let live = c.live_frames-frames.ensures.live c.args.bytes.now in
     let may : true ≡ may_access (length c.args.bytes.now) (seen c.args.machine.now c.args.bytes.now) c.args.address (size_bytes c.args.size) =
     sym c.if-not-store_bytes.false ∙ c.store_bytes.ensures.allowed ∙ ap₂ (λ n m. allowed (length c.args.bytes.now) n c.args.address m) live size in
-    let memory : stored_all (memory_of c.args.bytes.now (held c.args.machine.now.stack.cells)) c.args.address (low_bytes c.args.size c.args.value) ≡ memory_of c.store_bytes.new.bytes (held c.store_bytes.new.stack.cells) =
-    ap (stored_all (memory_of c.args.bytes.now (held c.args.machine.now.stack.cells)) c.args.address) (sym low) ∙ c.store_bytes.ensures.stored c.if-not-store_bytes.false in
+    let memory : stored_all (memory_of c.args.bytes.now (held (cells_of c.args.machine.now.stack))) c.args.address (low_bytes c.args.size c.args.value) ≡ memory_of c.store_bytes.new.bytes (held (cells_of c.store_bytes.new.stack)) =
+    ap (stored_all (memory_of c.args.bytes.now (held (cells_of c.args.machine.now.stack))) c.args.address) (sym low) ∙ c.store_bytes.ensures.stored c.if-not-store_bytes.false in
     let here : to_z w64 (of_z w64 c.args.machine.now.pc) ≡ c.args.machine.now.pc = to_z-of_z w64 c.args.machine.now.pc (search rules) in
     let fits : FitsSigned w64 (c.args.machine.now.pc +ℤ pos 1) = search rules in
     let pc : to_z w64 (of_z w64 (to_z w64 (of_z w64 c.args.machine.now.pc) +ℤ pos 1)) ≡ c.args.machine.now.pc +ℤ pos 1 = ap (λ z. to_z w64 (of_z w64 (z +ℤ pos 1))) here ∙ to_z-of_z w64 (c.args.machine.now.pc +ℤ pos 1) fits in
