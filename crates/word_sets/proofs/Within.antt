@@ -2,7 +2,7 @@
 use Rattle.std.proofs.Common.{ℕ, zero, suc, ◌+◌, ◌<◌, ◌≤◌, Bool, true, false, cond, List, [], ◌∷◌, ◌++◌, length, get_or, filter, arith, subst, add-one}
 use Rattle.std.specs.List.Sorted.{IsStrictlyIncreasing}
 use Rattle.std.proofs.lemmas.List.Elements.{All-get_or, All-from_get_or}
-use Rattle.word_sets.specs.Words.{IsWithin}
+use Rattle.word_sets.specs.Words.{IsWithin, IsSet}
 use Rattle.word_sets.specs.Laws.{SetsAscend}
 use Rattle.word_sets.specs.declared.places.TheConstants.{WORD_LIMIT}
 
@@ -71,3 +71,10 @@ ascends xs = (
   ),
   λ f. within_from 0 WORD_LIMIT xs (omega arith) (λ k h. steps xs f.0 k h) (λ k h. omega arith) (λ k h. All-get_or (λ x. x < WORD_LIMIT) xs k 0 h f.1),
 )
+
+-- both parts of a set's list are sets
+pub IsSet-parts : (xs ys : List ℕ) → IsSet (xs ++ ys) → IsSet xs × IsSet ys
+IsSet-parts xs ys s =
+    let p = parts 0 WORD_LIMIT xs ys s in
+    let top = IsWithin-length p.0 WORD_LIMIT ys p.2 in
+    (IsWithin-wider 0 0 p.0 WORD_LIMIT xs (omega arith) (omega arith) p.1, IsWithin-wider 0 p.0 WORD_LIMIT WORD_LIMIT ys (omega arith) (omega arith) p.2)

@@ -1,0 +1,4 @@
+pub mod Leaves
+pub mod NodeLists
+pub mod Lent
+pub mod Below
