@@ -1,4 +1,4 @@
-pub mod Leaves
+pub mod LeafWords
 pub mod NodeLists
 pub mod Lent
 pub mod Below

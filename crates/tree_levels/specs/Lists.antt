@@ -1,5 +1,5 @@
 -- Lists of nodes.
-use Rattle.std.specs.Prelude.{◌≡◌, ℕ, ◌≤◌, ◌+◌, All, None, length, List, [], ◌∷◌, ◌++◌, take, drop, Option, option_to_list, slice_index, slice_index_or}
+use Rattle.std.specs.Prelude.{◌≡◌, ℕ, ◌<◌, ◌≤◌, ◌+◌, ◌*◌, All, None, length, List, [], ◌∷◌, ◌++◌, take, drop, Option, option_to_list, slice_index, slice_index_or}
 use Rattle.tree_levels.specs.Node.{Node, joined, IsChild}
 
 -- no node at all
@@ -20,3 +20,10 @@ pub record Mends (least : ℕ) (nodes : List Node) (at : ℕ) (n : Node) (new : 
   pub children : All (IsChild least) new
   pub most : length new ≤ length nodes
   pub fewest : length nodes ≤ length new + 1
+
+-- a row of children, of 32 entries each or fewer than 64, over so many entries with these words
+pub record IsRow (least entries : ℕ) (list : List ℕ) (row : List Node) : Type 0 where
+  pub words : joined row ≡ list
+  pub children : All (IsChild least) row
+  pub many : entries < 32 * length row + 32
+  pub few : 32 * length row ≤ entries

@@ -154,16 +154,19 @@ fn mend_below<C: Level>(
     }
 }
 
-/// Takes a word out of shared children, where they have one owner.
+/// Takes a word out of shared children, where they have one owner. They never become fewer than `fewest`.
 pub fn remove_owned<C: Level>(
     children: &mut Arc<Vec<Child<C>>>,
     alloc: Global,
     word: u32,
+    fewest: usize,
 ) -> Result<Change, AllocError>
     requires inner { IsInner C.least (items_of children.old) }
     requires word { word < WORD_LIMIT }
-    requires enough { 2 ≤ length (items_of children.old) }
+    requires some { 1 ≤ fewest }
+    requires enough { fewest ≤ length (items_of children.old) }
     ensures inner { IsInner C.least (items_of children.new) }
+    ensures fewest { fewest ≤ length (items_of children.new) }
     ensures ok { IfOk result (Takes (16 * C.least) (inner_of (items_of children.old)) (inner_of (items_of children.new)) word) }
     ensures err { OnErr result (inner_of (items_of children.new) ≡ inner_of (items_of children.old)) }
 {
@@ -171,7 +174,12 @@ pub fn remove_owned<C: Level>(
         return Ok(Change::Unable);
     };
     match remove_below(children, alloc, word)? {
-        Change::Unable => mend_below(children, alloc, word),
+        Change::Unable => {
+            if children.len() <= fewest {
+                return Ok(Change::Unable);
+            }
+            mend_below(children, alloc, word)
+        }
         change => Ok(change),
     }
 }

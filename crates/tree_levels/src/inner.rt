@@ -1,9 +1,9 @@
 //! Inner nodes: each level over another.
-ghost use Rattle.std.specs.Prelude.{◌≡◌, ◌≤◌, ◌<◌, ◌+◌, ◌*◌, ◌++◌, ◌∷◌, [], length, All, None, IfOk};
+ghost use Rattle.std.specs.Prelude.{◌≡◌, ◌≤◌, ◌<◌, ◌+◌, ◌*◌, ◌++◌, ◌∷◌, [], length, All, None, IfOk, OnErr};
 ghost use Rattle.word_sets.specs.Words.{IsSet};
 ghost use Rattle.tree_levels.specs.Node.{Node, joined, inner_of, IsChild, IsSound, IsInner};
 ghost use Rattle.tree_levels.specs.Lists.{replaced};
-ghost use Rattle.tree_levels.specs.Changes.{Packs, Grows, Shrinks, IsSliceAt};
+ghost use Rattle.tree_levels.specs.Changes.{Packs, Grows, Shrinks, Takes, IsSliceAt};
 ghost use Rattle.tree_levels.specs.Lists.{Mends};
 
 use crate::change::{Change, Grown};
@@ -43,6 +43,41 @@ impl<C: Level> Inner<C> {
         Ok(Inner {
             children: Arc::new(alloc, children)?,
         })
+    }
+
+    /// The node of two children.
+    pub fn of_two(alloc: Global, first: C, second: C) -> Result<Inner<C>, AllocError>
+        requires first { IsChild C.least (C.node first) }
+        requires second { IsChild C.least (C.node second) }
+        requires set { IsSet ((C.node first).words ++ (C.node second).words) }
+        ensures { IfOk result (λ node. node ≡ inner_of (C.node first ∷ C.node second ∷ [])) }
+    {
+        let mut children = Vec::with_capacity(alloc, 2)?;
+        children.push(Child::of(first))?;
+        children.push(Child::of(second))?;
+        let node = Inner::new(alloc, children)?;
+        Ok(node)
+    }
+
+    /// Another owner of its only child.
+    pub fn only_child(&self) -> Result<C, AllocError>
+        requires { self.now.size ≡ 1 }
+        ensures words { IfOk result (λ node. (C.node node).words ≡ self.now.words) }
+        ensures child { IfOk result (λ node. IsChild C.least (C.node node)) }
+    {
+        let child = self.children[0].node().share()?;
+        Ok(child)
+    }
+
+    /// Takes a word out, in place, of a root: it keeps two children. After an error the node is as it was.
+    pub fn remove_from_root(&mut self, alloc: Global, word: u32) -> Result<Change, AllocError>
+        requires word { word < WORD_LIMIT }
+        requires enough { 2 ≤ self.old.size }
+        ensures ok { IfOk result (Takes (16 * C.least) self.old self.new word) }
+        ensures err { OnErr result (self.new ≡ self.old) }
+        ensures two { 2 ≤ self.new.size }
+    {
+        remove_owned(&mut self.children, alloc, word, 2)
     }
 }
 
@@ -123,7 +158,7 @@ impl<C: Level> Level for Inner<C> {
     }
 
     fn remove(&mut self, alloc: Global, word: u32) -> Result<Change, AllocError> {
-        remove_owned(&mut self.children, alloc, word)
+        remove_owned(&mut self.children, alloc, word, 1)
     }
 }
 

@@ -3,7 +3,7 @@ ghost use Rattle.std.specs.Prelude.{◌≡◌, ◌≤◌, ◌<◌, ◌++◌, len
 ghost use Rattle.word_sets.specs.Words.{IsSet, has_word, with_word, without_word};
 ghost use Rattle.tree_levels.specs.Node.{Node, leaf_of, IsLeaf};
 ghost use Rattle.tree_levels.specs.Shared.{items_of};
-ghost use Rattle.tree_levels.specs.Changes.{Packs, Adds, Takes};
+ghost use Rattle.tree_levels.specs.Changes.{Packs, Shrinks, Adds, Takes};
 
 use crate::change::{Change, Grown};
 use crate::level::{Level, MOST};
@@ -84,7 +84,10 @@ impl Level for Leaf {
         }
     }
 
-    fn without(&self, alloc: Global, word: u32) -> Result<Option<Leaf>, AllocError> {
+    // A leaf may lose its last word, too.
+    fn without(&self, alloc: Global, word: u32) -> Result<Option<Leaf>, AllocError>
+        ensures { IfOk result (Shrinks (λ (l : Node). l) 16 self.now word) }
+    {
         let words = self.words.as_slice();
         match place(words, word) {
             Err(_) => Ok(None),
@@ -106,7 +109,10 @@ impl Level for Leaf {
         insert_owned(&mut self.words, word)
     }
 
-    fn remove(&mut self, _alloc: Global, word: u32) -> Result<Change, AllocError> {
+    fn remove(&mut self, _alloc: Global, word: u32) -> Result<Change, AllocError>
+        ensures ok { IfOk result (Takes 16 self.old self.new word) }
+        ensures err { OnErr result (self.new ≡ self.old) }
+    {
         Ok(remove_owned(&mut self.words, word))
     }
 }

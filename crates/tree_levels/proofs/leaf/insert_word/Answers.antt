@@ -1,6 +1,6 @@
 use Rattle.std.proofs.Common.{◌≡◌, ℕ, List, Err, subst, arith}
 use Rattle.word_sets.specs.Words.{IsPlace}
-use Rattle.tree_levels.proofs.Leaves.{IsLeaf-insert}
+use Rattle.tree_levels.proofs.LeafWords.{IsLeaf-insert}
 use Rattle.tree_levels.proofs.leaf.insert_word.Goals as goal
 
 pub returns-in_ok-insert-in-Err-clause-leaf : goal.returns-in_ok-insert-in-Err-clause-leaf

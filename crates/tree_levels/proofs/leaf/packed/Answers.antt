@@ -1,5 +1,5 @@
 use Rattle.std.proofs.Common.{◌+◌, ◌/◌, arith}
-use Rattle.tree_levels.proofs.Leaves.{IsLeaf-take, IsLeaf-drop}
+use Rattle.tree_levels.proofs.LeafWords.{IsLeaf-take, IsLeaf-drop}
 use Rattle.tree_levels.proofs.leaf.packed.Goals as goal
 
 pub new-requires-2 : goal.new-requires-2

@@ -1,6 +1,6 @@
 use Rattle.std.proofs.Common.{◌≡◌, ℕ, List, Ok, subst, arith}
 use Rattle.word_sets.specs.Words.{IsPlace}
-use Rattle.tree_levels.proofs.Leaves.{IsLeaf-remove}
+use Rattle.tree_levels.proofs.LeafWords.{IsLeaf-remove}
 use Rattle.tree_levels.proofs.leaf.remove_word.Goals as goal
 
 pub returns-in-Ok-clause-leaf : goal.returns-in-Ok-clause-leaf

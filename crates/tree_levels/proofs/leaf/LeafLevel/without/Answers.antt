@@ -2,7 +2,7 @@ use Rattle.std.proofs.Common.{◌≡◌, ℕ, List, Vec, sym, subst, ap, ◌∙�
 use Rattle.std.specs.declared.alloc.Global.{Global}
 use Rattle.tree_levels.specs.Node.{IsLeaf}
 use Rattle.tree_levels.specs.Shared.{items_of}
-use Rattle.tree_levels.proofs.Leaves.{IsLeaf-remove}
+use Rattle.tree_levels.proofs.LeafWords.{IsLeaf-remove}
 use Rattle.tree_levels.proofs.leaf.LeafLevel.without.Goals as goal
 
 pub new-requires : goal.new-requires
