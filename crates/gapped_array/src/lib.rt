@@ -8,3 +8,6 @@ mod run;
 
 pub use array::GappedArray;
 pub use run::{SEGMENT, VERTICES};
+
+#[cfg(test)]
+mod tests;

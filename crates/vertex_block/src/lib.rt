@@ -5,5 +5,5 @@ mod block;
 
 pub use block::{PLACES, VertexBlock};
 
-
-
+#[cfg(test)]
+mod tests;
