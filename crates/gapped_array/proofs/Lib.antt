@@ -1,0 +1,3 @@
+pub mod Pieces
+pub mod Layouts
+pub mod Packs

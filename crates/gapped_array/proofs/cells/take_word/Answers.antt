@@ -1,0 +1,7 @@
+use Rattle.std.proofs.Common.{◌+◌, ◌-◌, arith}
+use Rattle.gapped_array.proofs.Pieces.{word_taken_slice}
+use Rattle.gapped_array.proofs.cells.take_word.Goals as goal
+
+pub returns : goal.returns
+returns c =
+    word_taken_slice c.args.from c.args.count c.args.at (c.args.from + c.args.count - (c.args.from + c.args.at)) c.args.cells.now.len c.deref_mut.result.now c.args.cells.now.items c.rotate_left.new.self c.deref_mut.ensures.value c.requires.place (omega (arith, c.requires.within, c.args.cells.now.ok)) (omega arith) (omega (arith, c.args.cells.now.ok)) c.rotate_left.ensures.after

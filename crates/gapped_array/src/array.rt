@@ -1,0 +1,185 @@
+//! The array and its calls.
+ghost use Rattle.std.specs.Prelude.{◌≡◌, ◌<◌, ◌≤◌, ◌+◌, ◌*◌, ◌^◌, ◌↔◌, [], length, not, replicate, None, Some, IsTrue, IsNone, IfOk, OnOk, OnErr, slice_index_or, slice_set};
+ghost use Rattle.word_sets.specs.Words.{IsSet, has_word, with_word, without_word};
+ghost use Rattle.gapped_array.specs.Table.{IsOpen, list_at};
+
+use crate::cells::{append, put_word, take_word, with_room, words_of};
+use crate::packing::{pack, surplus};
+use crate::run::{Run, SEGMENT, VERTICES};
+use std::alloc::{AllocError, Global};
+use std::marker::Model;
+use word_sets::{WORD_LIMIT, place};
+
+/// For each of 256 vertices a set of words, or none. Clauses see it as the list of these, in the vertices' order;
+/// a set is the ascending list of its words.
+#[derive(Drop)]
+pub struct GappedArray {
+    cells: Vec<u32>,
+    segments: usize,
+    runs: Vec<Option<Run>>,
+}
+
+impl Model for GappedArray {
+    ghost use Rattle.std.specs.Prelude.{List, ℕ, Option};
+    ghost use Rattle.gapped_array.specs.Runs.{IsArray, lists_in};
+
+    ghost Value = { List (Option (List ℕ)) };
+
+    ghost view = { λ a. lists_in a.cells.items a.runs.items };
+
+    ghost invariant = { λ a. IsArray a.cells.items a.segments a.runs.items };
+}
+
+impl GappedArray {
+    /// The array in which no vertex has a list.
+    pub fn new(alloc: Global) -> Result<GappedArray, AllocError>
+        ensures { IfOk result (λ array. array ≡ replicate VERTICES None) }
+    {
+        let mut runs = Vec::new(alloc);
+        runs.resize(VERTICES, None)?;
+        Ok(GappedArray {
+            cells: Vec::new(alloc),
+            segments: 0,
+            runs,
+        })
+    }
+
+    /// Another array of the same lists.
+    pub fn copy(&self, alloc: Global) -> Result<GappedArray, AllocError>
+        ensures { IfOk result (λ array. array ≡ self.now) }
+    {
+        Ok(GappedArray {
+            cells: Vec::from_slice(alloc, &self.cells)?,
+            segments: self.segments,
+            runs: Vec::from_slice(alloc, &self.runs)?,
+        })
+    }
+
+    /// Makes room for so many segments more, so that lists which fit there are opened without more memory.
+    pub fn reserve(&mut self, segments: usize) -> Result<(), AllocError>
+        ensures { self.new ≡ self.old }
+    {
+        self.cells.reserve(segments.saturating_mul(SEGMENT))
+    }
+
+    /// Whether a vertex has a list.
+    pub fn is_open(&self, vertex: u8) -> bool
+        ensures answer { IsTrue result ↔ IsOpen self.now vertex }
+        ensures vertices { length self.now ≡ VERTICES }
+    {
+        self.runs[vertex as usize].is_some()
+    }
+
+    /// A vertex's words, ascending. They lie in one slice.
+    pub fn words(&self, vertex: u8) -> &[u32]
+        requires { IsOpen self.now vertex }
+        ensures words { result.now ≡ list_at self.now vertex }
+        ensures set { IsSet result.now }
+    {
+        match self.runs[vertex as usize] {
+            None => unreachable!(),
+            Some(run) => words_of(&self.cells, run),
+        }
+    }
+
+    /// Opens a vertex's list, which is empty. It takes no memory.
+    pub fn open_run(&mut self, vertex: u8)
+        requires { IsNone (slice_index_or self.old vertex None) }
+        ensures { self.new ≡ slice_set self.old vertex (Some []) }
+    {
+        self.runs[vertex as usize] = Some(Run {
+            segment: 0,
+            segments: 0,
+            count: 0,
+        });
+    }
+
+    /// Opens a vertex's list with these words. They go behind all others, into segments without a place free but
+    /// in the last. After an error the array is as it was.
+    pub fn open_with(&mut self, vertex: u8, words: &[u32]) -> Result<(), AllocError>
+        requires closed { IsNone (slice_index_or self.old vertex None) }
+        requires set { IsSet words.now }
+        ensures ok { OnOk result (self.new ≡ slice_set self.old vertex (Some words.now)) }
+        ensures err { OnErr result (self.new ≡ self.old) }
+    {
+        if words.is_empty() {
+            self.open_run(vertex);
+            return Ok(());
+        }
+        let segments = segments_for(words);
+        append(&mut self.cells, words, SEGMENT * segments)?;
+        self.runs[vertex as usize] = Some(Run {
+            segment: self.segments,
+            segments,
+            count: words.len(),
+        });
+        self.segments += segments;
+        Ok(())
+    }
+
+    /// Closes a vertex's list, whatever it holds. It takes no memory.
+    pub fn close_run(&mut self, vertex: u8)
+        requires { IsOpen self.old vertex }
+        ensures { self.new ≡ slice_set self.old vertex None }
+    {
+        self.runs[vertex as usize] = None;
+        if VERTICES < surplus(self.segments, &self.runs) {
+            self.segments = pack(&mut self.cells, self.segments, &mut self.runs);
+        }
+    }
+
+    /// Puts a word into a vertex's list, and answers whether it was not there. After an error the array is as it
+    /// was.
+    pub fn insert(&mut self, vertex: u8, word: u32) -> Result<bool, AllocError>
+        requires word { word < WORD_LIMIT }
+        requires open { IsOpen self.old vertex }
+        ensures ok { OnOk result (self.new ≡ slice_set self.old vertex (Some (with_word word (list_at self.old vertex)))) }
+        ensures changed { IfOk result (λ changed. changed ≡ not (has_word word (list_at self.old vertex))) }
+        ensures err { OnErr result (self.new ≡ self.old) }
+    {
+        let Some(run) = self.runs[vertex as usize] else {
+            unreachable!()
+        };
+        let Err(at) = place(words_of(&self.cells, run), word) else {
+            return Ok(false);
+        };
+        let run = with_room(&mut self.cells, self.segments, run)?;
+        put_word(&mut self.cells, SEGMENT * run.segment, run.count, at, word);
+        self.segments = self.cells.len() / SEGMENT;
+        self.runs[vertex as usize] = Some(Run {
+            count: run.count + 1,
+            ..run
+        });
+        Ok(true)
+    }
+
+    /// Takes a word out of a vertex's list, and answers whether it was there. It takes no memory.
+    pub fn remove(&mut self, vertex: u8, word: u32) -> bool
+        requires { IsOpen self.old vertex }
+        ensures words { self.new ≡ slice_set self.old vertex (Some (without_word word (list_at self.old vertex))) }
+        ensures changed { result ≡ has_word word (list_at self.old vertex) }
+    {
+        let Some(run) = self.runs[vertex as usize] else {
+            unreachable!()
+        };
+        let Ok(at) = place(words_of(&self.cells, run), word) else {
+            return false;
+        };
+        take_word(&mut self.cells, SEGMENT * run.segment, run.count, at);
+        self.runs[vertex as usize] = Some(Run {
+            count: run.count - 1,
+            ..run
+        });
+        true
+    }
+}
+
+// How many segments a set's words fill.
+fn segments_for(words: &[u32]) -> usize
+    requires { IsSet words.now }
+    ensures room { length words.now ≤ SEGMENT * result }
+    ensures filled { SEGMENT * result < length words.now + SEGMENT }
+    ensures fits { result ≤ 2 ^ 15 }
+{
+    words.len().div_ceil(SEGMENT)
+}

@@ -1,0 +1,13 @@
+//! The neighbours of 256 vertices in one packed array, in runs of segments of 32 places.
+#![tactic(auto)]
+
+mod array;
+mod cells;
+mod packing;
+mod run;
+
+pub use array::GappedArray;
+pub use run::{SEGMENT, VERTICES};
+
+#[cfg(test)]
+mod tests;

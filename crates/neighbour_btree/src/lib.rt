@@ -1,0 +1,9 @@
+//! A set of words in a tree whose versions share their unchanged parts.
+#![tactic(auto)]
+
+mod root;
+mod slices;
+mod tree;
+
+pub use slices::Slices;
+pub use tree::NeighbourTree;

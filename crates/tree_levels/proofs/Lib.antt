@@ -1,0 +1,4 @@
+pub mod LeafWords
+pub mod NodeLists
+pub mod Lent
+pub mod Below

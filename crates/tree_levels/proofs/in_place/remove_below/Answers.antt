@@ -1,0 +1,36 @@
+use Rattle.std.proofs.Common.{◌≡◌, ◌++◌, ◌+◌, ◌-◌, ◌*◌, ◌<◌, ◌≤◌, ℕ, List, true, false, Bool, length, get_or, set, Option, None, Some, Ok, option_map, refl, sym, ap, ap₂, subst, ◌∙◌, arith}
+use Rattle.word_sets.specs.declared.places.TheConstants.{WORD_LIMIT}
+use Rattle.word_sets.specs.Words.{IsSet, has_word, with_word, without_word}
+use Rattle.tree_levels.specs.Node.{Node, joined, inner_of, IsChild, IsInner}
+use Rattle.tree_levels.specs.Lists.{replaced, Mends}
+use Rattle.tree_levels.specs.Changes.{Adds, Takes, Packs}
+use Rattle.tree_levels.proofs.NodeLists.{found}
+use Rattle.tree_levels.proofs.Below.{found_set, taken_below}
+use Rattle.tree_levels.proofs.in_place.remove_below.Goals as goal
+
+pub remove-requires-clause-set : goal.remove-requires-clause-set
+remove-requires-clause-set g c =
+    let ns = c.args.children.now.items in
+    let at = c.child_for-at.result in
+    let child = c.index_mut-child.result.now in
+    let is : child ≡ get_or c.as_slice.result.now at child = c.index_mut-child.ensures.value ∙ ap (λ l. get_or l at child) (sym c.as_slice.ensures.value) in
+    let f = found g.C.Level.least ns c.as_slice.result.now c.args.word at child c.requires.inner c.as_slice.ensures.value c.requires.word c.child_for-at.ensures.within c.child_for-at.ensures.from c.child_for-at.ensures.to is in
+    found_set g.C.Level.least ns c.args.word at child f
+
+pub returns-clause-inner : goal.returns-clause-inner
+returns-clause-inner g c =
+    let ns = c.args.children.now.items in
+    let at = c.child_for-at.result in
+    let child = c.index_mut-child.result.now in
+    let is : child ≡ get_or c.as_slice.result.now at child = c.index_mut-child.ensures.value ∙ ap (λ l. get_or l at child) (sym c.as_slice.ensures.value) in
+    let f = found g.C.Level.least ns c.as_slice.result.now c.args.word at child c.requires.inner c.as_slice.ensures.value c.requires.word c.child_for-at.ensures.within c.child_for-at.ensures.from c.child_for-at.ensures.to is in
+    (taken_below g.C.Level.least ns c.args.word at child c.remove.new.self c.remove.result f (omega (arith, c.if-size-le-FEWEST.false, c.size.ensures, ap (λ (n : Node). n.size) c.node.ensures.node)) c.remove.ensures.ok c.remove.ensures.err).0
+
+pub returns-clause-ok : goal.returns-clause-ok
+returns-clause-ok g c =
+    let ns = c.args.children.now.items in
+    let at = c.child_for-at.result in
+    let child = c.index_mut-child.result.now in
+    let is : child ≡ get_or c.as_slice.result.now at child = c.index_mut-child.ensures.value ∙ ap (λ l. get_or l at child) (sym c.as_slice.ensures.value) in
+    let f = found g.C.Level.least ns c.as_slice.result.now c.args.word at child c.requires.inner c.as_slice.ensures.value c.requires.word c.child_for-at.ensures.within c.child_for-at.ensures.from c.child_for-at.ensures.to is in
+    (taken_below g.C.Level.least ns c.args.word at child c.remove.new.self c.remove.result f (omega (arith, c.if-size-le-FEWEST.false, c.size.ensures, ap (λ (n : Node). n.size) c.node.ensures.node)) c.remove.ensures.ok c.remove.ensures.err).1

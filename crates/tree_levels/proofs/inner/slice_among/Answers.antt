@@ -1,0 +1,10 @@
+use Rattle.std.proofs.Common.{◌<◌, ℕ, length, subst, arith}
+use Rattle.tree_levels.specs.Node.{Node}
+use Rattle.tree_levels.specs.Changes.{IsSliceAt}
+use Rattle.tree_levels.proofs.Lent.{slice_among}
+use Rattle.tree_levels.proofs.inner.slice_among.Goals as goal
+
+pub returns-then-left-count : goal.returns-then-left-count
+returns-then-left-count g c =
+    let P : Node → Type 0 = λ n. IsSliceAt n.words c.loop-child.left c.slice_at.result.now in
+    slice_among c.args.children.now c.loop-child.child-index c.args.place c.loop-child.left c.child-item.result c.slice_at.result.now (omega arith) c.child-item.is c.loop-child.invariant (omega (arith, c.if-left-count.true, c.count-count.ensures)) (subst P c.node.ensures.node c.slice_at.ensures)

@@ -1,0 +1,4 @@
+pub mod Node
+pub mod Shared
+pub mod Changes
+pub mod Lists

@@ -1,0 +1,9 @@
+//! A set of at most 12 words that lies in place. No call of it takes memory.
+#![tactic(auto)]
+
+mod block;
+
+pub use block::{PLACES, VertexBlock};
+
+#[cfg(test)]
+mod tests;

@@ -1,0 +1,6 @@
+pub mod Within
+pub mod Members
+pub mod Parts
+pub mod WordPlaces
+pub mod Targets
+pub mod Changes
