@@ -65,7 +65,11 @@ impl Script {
                 self.add_edit(begun, GivenEdit::Remove(source, target))
             }
             BatchLine::End => {
-                let BegunBatch { line: _, feed, edits } = begun;
+                let BegunBatch {
+                    line: _,
+                    feed,
+                    edits,
+                } = begun;
                 self.perform(text, Command::PublishBatch { feed, edits })
             }
         }

@@ -52,11 +52,7 @@ impl BegunProgram {
 
 impl Script {
     /// Begins a program in assembler text.
-    pub(crate) fn begin_program(
-        &mut self,
-        name: &[u8],
-        record_length: u64,
-    ) -> Result<(), LineError>
+    pub(crate) fn begin_program(&mut self, name: &[u8], record_length: u64) -> Result<(), LineError>
         ensures executed { Executes (begin_program name.now record_length self.old) result [] [] self.new }
         ensures line { self.new.line ≡ self.old.line }
     {
@@ -121,11 +117,7 @@ impl Script {
 }
 
 /// Says why a program's text means no code. Want of memory is no answer of a script.
-fn put_unassembled(
-    text: &mut Vec<u8>,
-    name: &[u8],
-    error: AssembleError,
-) -> Result<(), LineError>
+fn put_unassembled(text: &mut Vec<u8>, name: &[u8], error: AssembleError) -> Result<(), LineError>
     ensures said { OnOk result (text.new.items ≡ text.old.items ++ assembler_text name.now error) }
     ensures cause { OnOk result (error.cause ≢ OutOfMemory) }
     ensures error { IfErr result (λ e. e ≡ LineError.OutOfMemory) }

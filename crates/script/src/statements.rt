@@ -17,11 +17,7 @@ use session::Command;
 
 impl Script {
     /// Has the session perform a command, and writes its answer.
-    pub(crate) fn perform(
-        &mut self,
-        text: &mut Vec<u8>,
-        command: Command,
-    ) -> Result<(), LineError>
+    pub(crate) fn perform(&mut self, text: &mut Vec<u8>, command: Command) -> Result<(), LineError>
         requires { self.old.block ≡ None }
         ensures executed { Executes (execution_of (response (command_of command.entry) self.old.session) self.old) result text.old.items text.new.items self.new }
         ensures line { self.new.line ≡ self.old.line }

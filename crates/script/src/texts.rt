@@ -19,8 +19,8 @@ ghost use Rattle.script_model.specs.Texts.{
 };
 
 use bpf_asm::AssembleError;
-use itoa::Buffer;
 use bpf_model::Row;
+use itoa::Buffer;
 use script_model::LineFault;
 use std::alloc::AllocError;
 use verifier::Refusal;

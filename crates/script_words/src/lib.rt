@@ -3,17 +3,17 @@
 
 mod batches;
 mod block_end;
-mod statements;
 mod hex;
 mod line;
 mod names;
 mod numbers;
+mod statements;
 #[cfg(test)]
 mod tests;
 mod words;
 
 pub use batches::batch_line;
 pub use block_end::is_end;
-pub use statements::statement_line;
 pub use line::{BatchLine, Line, Statement};
+pub use statements::statement_line;
 pub use words::is_plain_line;

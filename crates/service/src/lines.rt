@@ -88,11 +88,7 @@ pub fn execute_read(
 }
 
 /// Executes the last line of a script, if that lacks its end, and ends the script.
-pub fn finish(
-    script: &mut Script,
-    text: &mut Vec<u8>,
-    rest: &[u8],
-) -> Result<Ending, ScriptError>
+pub fn finish(script: &mut Script, text: &mut Vec<u8>, rest: &[u8]) -> Result<Ending, ScriptError>
     requires { IsOneLine rest.now }
     ensures { Finishes result rest.now script.old text.old.items text.new.items }
 {

@@ -14,8 +14,6 @@ mod programs;
 mod runs;
 mod session;
 
-
-
 pub use answer::Answer;
 pub use batches::GivenEdit;
 pub use command::Command;

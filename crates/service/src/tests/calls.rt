@@ -25,7 +25,10 @@ fn functions_that_call(rt: HostRuntime) -> Result<(), Fail> {
             "mov r6, 5\ncalllocal f\nmov r0, r6\nexit\nf:\nmov r6, 1\nmov r0, 0\nexit\n",
             "program p bound 7 frames 2\n",
         ),
-        ("calllocal f\nexit\nf:\nmov r0, 0\n", "refused p cause 5 pc 2\n"),
+        (
+            "calllocal f\nexit\nf:\nmov r0, 0\n",
+            "refused p cause 5 pc 2\n",
+        ),
     ] {
         let script = format!(in rt.alloc(); "graph 4\nprogram p 16\n{lines}end\n")?;
         let (text, ending) = served(rt.alloc(), script.as_bytes())?;
@@ -39,7 +42,9 @@ fn functions_that_call(rt: HostRuntime) -> Result<(), Fail> {
 fn a_kept_register_comes_back(rt: HostRuntime) -> Result<(), Fail> {
     let program =
         "program p 16\nmov r6, 5\ncalllocal f\nmov r0, r6\nexit\nf:\nmov r6, 1\nmov r0, 0\nexit\nend\n";
-    let script = format!(in rt.alloc(); "graph 4\nbatch A\n+ 0 1\nend\n{program}pin a\nrun p a sum -\n")?;
+    let script = format!(in rt.alloc();
+        "graph 4\nbatch A\n+ 0 1\nend\n{program}pin a\nrun p a sum -\n"
+    )?;
     let (text, _) = served(rt.alloc(), script.as_bytes())?;
     assert!(rt; text.ends_with(b"run p a edges 1 total 5\nrow 0 5\n"));
     Ok(())

@@ -26,8 +26,9 @@ fn edits_that_alternate(rt: HostRuntime) -> Result<(), Fail> {
         script.push_str(last)?;
         script.push_str("end\n")?;
         let (text, _) = served(rt.alloc(), script.as_bytes())?;
-        let wanted =
-            format!(in rt.alloc(); "graph 4\nbatch A version 1 added {added} removed 0\n")?;
+        let wanted = format!(in rt.alloc();
+            "graph 4\nbatch A version 1 added {added} removed 0\n"
+        )?;
         assert_eq!(rt; text.as_slice(), wanted.as_bytes());
     }
     Ok(())
@@ -49,7 +50,8 @@ fn vertices_of_two_ranges(rt: HostRuntime) -> Result<(), Fail> {
 #[test]
 fn a_pin_keeps_what_is_removed(rt: HostRuntime) -> Result<(), Fail> {
     let script = format!(in rt.alloc();
-        "graph 4\nbatch A\n+ 0 1\n+ 0 2\nend\n{TARGET}\npin a\nbatch B\n- 0 1\n- 0 3\nend\npin b\nrun t a sum -\nrun t b sum -\n")?;
+        "graph 4\nbatch A\n+ 0 1\n+ 0 2\nend\n{TARGET}\npin a\nbatch B\n- 0 1\n- 0 3\nend\npin b\nrun t a sum -\nrun t b sum -\n"
+    )?;
     let (text, _) = served(rt.alloc(), script.as_bytes())?;
     let wanted =
         b"batch B version 2 added 0 removed 1\npin b version 2 edges 1\nrun t a edges 2 total 3\nrow 0 3\nrun t b edges 1 total 2\nrow 0 2\n";
