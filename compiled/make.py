@@ -8,9 +8,9 @@ import tempfile
 LENGTHS = {
     "pair_hash": 16, "short_hash": 16, "weight": 24, "even_degree": 16, "clamp": 20, "signed_parts": 16,
     "unsigned_parts": 17, "bits_set": 16, "swapped": 16, "chosen": 17, "signed_argument": 24, "signed_sums": 16,
-    "over_stack": 16, "middle": 21, "many_values": 24, "written_record": 20,
+    "over_stack": 16, "middle": 21, "many_values": 24, "written_record": 20, "nested": 16, "lent": 20, "framed": 16,
 }
-REFUSED = {"any_byte": (24, 11, 1), "stack_table": (16, 10, 12), "loop": (20, 3, 10)}
+REFUSED = {"any_byte": (24, 11, 1), "stack_table": (16, 10, 12), "loop": (20, 3, 10), "lent_stack": (16, 8, 6)}
 HEAD = '''\
 //! Vectors from outside, which `compiled/make.py` wrote. Clang 19 made the bytes of each program out of
 //! `compiled/programs.c`, and the numbers are those of the same C as native code.
@@ -21,23 +21,30 @@ pub const LINES: &str = "\\
 '''
 
 
-def longest(code):
-    """The greatest number of instructions of a way from the start to an exit. Jumps only go forward."""
+def extent(code):
+    """The greatest number of instructions of a way from the start to an exit, with those of the functions that it
+    calls, and the greatest number of frames on it. Jumps and calls only go forward."""
     units = [code[at:at + 8] for at in range(0, len(code), 8)]
     count = [0] * (len(units) + 1)
+    frames = [0] * (len(units) + 1)
     for pc in reversed(range(len(units))):
         opcode = units[pc][0]
         offset = int.from_bytes(units[pc][2:4], "little", signed=True)
+        entry = None
         if opcode == 0x95:
             onward = []
         elif opcode == 0x05:
             onward = [pc + 1 + offset]
+        elif opcode == 0x85:
+            onward = [pc + 1]
+            entry = pc + 1 + int.from_bytes(units[pc][4:8], "little", signed=True)
         elif opcode & 7 in (5, 6):
             onward = [pc + 1, pc + 1 + offset]
         else:
             onward = [pc + (2 if opcode == 0x18 else 1)]
-        count[pc] = 1 + max([count[to] for to in onward], default=0)
-    return count[0]
+        count[pc] = 1 + max([count[to] for to in onward], default=0) + (count[entry] if entry else 0)
+        frames[pc] = max([frames[to] for to in onward] + [1 + frames[entry] if entry else 1])
+    return f"bound {count[0]} frames {frames[0]}"
 
 
 def main():
@@ -58,7 +65,7 @@ def main():
         for name, length in LENGTHS.items():
             program = code(name)
             runs = [line.split("|")[1:] for line in written.splitlines() if line.split("|")[0] == name]
-            lines.append(f"{name}|code {name} {length} {program.hex()}|program {name} bound {longest(program)} frames 1|"
+            lines.append(f"{name}|code {name} {length} {program.hex()}|program {name} {extent(program)}|"
                          + "/".join(run[0] for run in runs) + "|" + "".join(run[1] for run in runs))
         for name, (length, cause, pc) in REFUSED.items():
             lines.append(f"{name}|code {name} {length} {code(name).hex()}|refused {name} cause {cause} pc {pc}||")

@@ -181,6 +181,74 @@ u64 written_record(struct edge *e, u64 length)
     return (u64)v->place << 24 | (u64)*(volatile u32 *)&v->argument[0];
 }
 
+// ---- programs of several functions
+
+// The functions of a program stand in its own section, so the compiler itself says how far each call goes. A call
+// goes to a function above it: the program comes first, and its functions behind those that call them.
+#define PROGRAM(name) __attribute__((section(".text." #name)))
+#define FUNCTION(name) static __attribute__((noinline, section(".text." #name)))
+
+// Three functions, one inside another: each is called twice, and the callers' values live on in r6 to r9.
+FUNCTION(nested) u64 nested_outer(u64 x, u64 y);
+FUNCTION(nested) u64 nested_inner(u64 x);
+
+PROGRAM(nested) u64 nested(struct edge *e, u64 length)
+{
+    u64 first = nested_outer(e->source, e->target);
+    u64 second = nested_outer(e->target, first);
+    return first ^ second * e->degree;
+}
+
+FUNCTION(nested) u64 nested_outer(u64 x, u64 y)
+{
+    return nested_inner(x) + 3 * nested_inner(y ^ 0x55);
+}
+
+FUNCTION(nested) u64 nested_inner(u64 x)
+{
+    x *= 0x9e3779b97f4a7c15ULL;
+    return x ^ x >> 29;
+}
+
+// The record is passed to a function, and the function changes it.
+FUNCTION(lent) u64 lent_weight(struct edge *e, u64 factor, u64 a, u64 b, u64 c);
+
+PROGRAM(lent) u64 lent(struct edge *e, u64 length)
+{
+    e->place += 5;
+    u64 sum = lent_weight(e, 3, e->source, e->target, length);
+    return sum * 10 + e->place;
+}
+
+FUNCTION(lent) u64 lent_weight(struct edge *e, u64 factor, u64 a, u64 b, u64 c)
+{
+    e->place = e->place * factor + e->argument[3];
+    return a * factor + b * c + (u64)e->argument[0] * e->degree;
+}
+
+// A caller and its function both have values on their stacks, and the function is entered again: each time in the
+// same frame. One of the calls is made on one way alone.
+FUNCTION(framed) u64 framed_sum(u64 x, u64 y);
+
+PROGRAM(framed) u64 framed(struct edge *e, u64 length)
+{
+    volatile u64 parts[3];
+    parts[0] = framed_sum(e->source, e->place);
+    parts[1] = framed_sum(e->target, e->degree);
+    parts[2] = parts[0] ^ parts[1];
+    if (e->target > 300)
+        parts[2] += framed_sum(parts[0], parts[1]);
+    return parts[2] * 7 + parts[1] - parts[0];
+}
+
+FUNCTION(framed) u64 framed_sum(u64 x, u64 y)
+{
+    volatile u64 kept[2];
+    kept[0] = x * 5;
+    kept[1] = y ^ kept[0];
+    return kept[0] + (kept[1] >> 2);
+}
+
 // ---- refused
 
 // The argument byte at the target: it may lie behind the record.
@@ -206,4 +274,18 @@ u64 loop(struct edge *e, u64 length)
     for (u32 i = 0; i < 4; i++)
         sum = sum * 31 + e->argument[i];
     return sum;
+}
+
+// A caller lends a place of its stack.
+FUNCTION(lent_stack) u64 lent_stack_read(volatile u64 *place);
+
+PROGRAM(lent_stack) u64 lent_stack(struct edge *e, u64 length)
+{
+    volatile u64 kept = e->source;
+    return lent_stack_read(&kept);
+}
+
+FUNCTION(lent_stack) u64 lent_stack_read(volatile u64 *place)
+{
+    return *place + 1;
 }

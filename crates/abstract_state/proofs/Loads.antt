@@ -112,13 +112,13 @@ frame_gives l top s registers memory size k low d inside set =
           let whole = and_parts (eqb (size_bytes size) 8) (eqb (k % 8) 0) both.0 in
           let eight : size_bytes size ≡ 8 = eqb-true (size_bytes size) 8 whole.0 in
           let aligned : top - 512 + 8 * (k / 8) ≡ top - 512 + k = omega (arith, eqb-true (k % 8) 0 whole.1) in
-          let kept = d.spilled (k / 8) in
+          let kept = d.frame.spilled (k / 8) (omega (arith, inside, eight)) in
           let n = spilled_number l top (get_or s.slots (k / 8) Unset) (number_at memory (top - 512 + 8 * (k / 8)) 8) both.1 kept in
           let described : Describes l top (get_or s.slots (k / 8) Unset) (Some n.0) = subst (λ x. Describes l top (get_or s.slots (k / 8) Unset) x) n.1 kept in
           let here : number_at memory (top - 512 + k) (size_bytes size) ≡ Some n.0 = ap (λ z. number_at memory (top - 512 + k) z) eight ∙ ap (λ a. number_at memory a 8) (sym aligned) ∙ n.1 in
           rw is (record { number = n.0; allowed = allowed; there = here; described = described })
       | inr not_is ↦
-          let n = number_there memory (top - 512 + k) (size_bytes size) (λ i lt. let b = d.stack_set (k + i) (each_set s.bytes_set k (size_bytes size) i set lt) in let same : (top - 512 + k) + i ≡ top - 512 + (k + i) = omega arith in (b.0, rw same b.1, b.2)) in
+          let n = number_there memory (top - 512 + k) (size_bytes size) (λ i lt. let b = d.frame.stack_set (k + i) (omega (arith, inside, lt)) (each_set s.bytes_set k (size_bytes size) i set lt) in let same : (top - 512 + k) + i ≡ top - 512 + (k + i) = omega arith in (b.0, rw same b.1, b.2)) in
           rw not_is (record { number = n.0; allowed = allowed; there = n.1; described = any_described l top size n.0 n.2 })
     ]
 

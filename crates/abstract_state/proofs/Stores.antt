@@ -32,7 +32,7 @@ size_some Word = (omega arith, omega arith)
 size_some Double = (omega arith, omega arith)
 
 -- memories that agree on some bytes have one number there
-number_same : (m n : Partial) (a size : ℕ) → ((i : ℕ) → i < size → m (a + i) ≡ n (a + i)) → number_at m a size ≡ number_at n a size
+pub number_same : (m n : Partial) (a size : ℕ) → ((i : ℕ) → i < size → m (a + i) ≡ n (a + i)) → number_at m a size ≡ number_at n a size
 number_same m n a zero same = refl
 number_same m n a (suc size) same =
     let base : a + 0 ≡ a = omega arith in
@@ -153,13 +153,31 @@ spilled_after l top slots before after k size n j v low lt some few stored new o
     ]
 
 frame_described : (l top : ℕ) (s : AbstractState) (registers before after : Partial) (k size n : ℕ) (v : AbstractValue) → 512 ≤ top → n < 2 ^ 64 → 1 ≤ size → size ≤ 8 → DescribesParts l top s registers before → IsStored before after (top - 512 + k) size n → Describes l top v (Some n) → DescribesParts l top (frame_stored s k size v) registers after
-frame_described l top s registers before after k size n v low lt some few d stored new =
-    record { values = d.values; record_set = λ i inside. byte_stays before after (top - 512 + k) size n (record_base + i) stored (d.record_set i inside); stack_set = λ i h. elim (beside i k size) [ inl inside ↦ (let b = stored.inside (i - k) (omega (arith, inside.0, inside.1)) in let same : top - 512 + k + (i - k) ≡ top - 512 + i = omega (arith, inside.0) in subst (λ p. IsByteAt after p) same b) | inr out ↦ byte_stays before after (top - 512 + k) size n (top - 512 + i) stored (d.stack_set i (sym (flags_other s.bytes_set k size i out) ∙ h)) ]; spilled = λ j. spilled_after l top s.slots before after k size n j v low lt some few stored new (d.spilled j) }
+frame_described l top s registers before after k size n v low lt some few d stored new = record {
+  values = d.values;
+  record_set = λ i inside. byte_stays before after (top - 512 + k) size n (record_base + i) stored (d.record_set i inside);
+  frame = record {
+    stack_set = λ i below h. elim (beside i k size) [
+      | inl inside ↦
+          let b = stored.inside (i - k) (omega (arith, inside.0, inside.1)) in
+          let same : top - 512 + k + (i - k) ≡ top - 512 + i = omega (arith, inside.0) in
+          subst (λ p. IsByteAt after p) same b
+      | inr out ↦ byte_stays before after (top - 512 + k) size n (top - 512 + i) stored (d.frame.stack_set i below (sym (flags_other s.bytes_set k size i out) ∙ h))
+    ];
+    spilled = λ j below. spilled_after l top s.slots before after k size n j v low lt some few stored new (d.frame.spilled j below);
+  };
+}
 
 -- a store in the record leaves the frame as it was
 record_described : (l top : ℕ) (s : AbstractState) (registers before after : Partial) (place size n : ℕ) → l < 2 ^ 16 → record_base + 2 ^ 17 ≤ top → place + size ≤ l → DescribesParts l top s registers before → IsStored before after (record_base + place) size n → DescribesParts l top s registers after
-record_described l top s registers before after place size n short high inside d stored =
-    record { values = d.values; record_set = λ i lt. byte_stays before after (record_base + place) size n (record_base + i) stored (d.record_set i lt); stack_set = λ i h. byte_stays before after (record_base + place) size n (top - 512 + i) stored (d.stack_set i h); spilled = λ j. subst (λ x. Describes l top (get_or s.slots j Unset) x) (slot_stays before after (record_base + place) size n (top - 512 + 8 * j) stored (inr (omega (arith, inside, short, high)))) (d.spilled j) }
+record_described l top s registers before after place size n short high inside d stored = record {
+  values = d.values;
+  record_set = λ i lt. byte_stays before after (record_base + place) size n (record_base + i) stored (d.record_set i lt);
+  frame = record {
+    stack_set = λ i below h. byte_stays before after (record_base + place) size n (top - 512 + i) stored (d.frame.stack_set i below h);
+    spilled = λ j below. subst (λ x. Describes l top (get_or s.slots j Unset) x) (slot_stays before after (record_base + place) size n (top - 512 + 8 * j) stored (inr (omega (arith, inside, short, high)))) (d.frame.spilled j below);
+  };
+}
 
 -- what a store leads to
 abbrev Leaves : ℕ → ℕ → AbstractState → Partial → Partial → ℕ → ℕ → Type 0

@@ -1,7 +1,8 @@
 -- What is known of all registers and of the stack of one frame.
-use Rattle.std.specs.Prelude.{ℕ, ◌&&◌, false, List, [], ◌∷◌, pos, slice_index_or, slice_set, replicate}
+use Rattle.std.specs.Prelude.{ℕ, ◌-◌, ◌/◌, ◌^◌, ◌&&◌, false, List, [], ◌∷◌, pos, slice_index_or, slice_set, replicate}
 use Rattle.bpf_isa.specs.declared.register.Register.{Register}
 use Rattle.bpf_isa.specs.Encoding.{number_of}
+use Rattle.bpf_model.specs.State.{frame_bytes}
 use Rattle.abstract_values.specs.declared.value.AbstractValue.{AbstractValue}
 use Rattle.abstract_values.specs.declared.value.AbstractValue.TheVariants.{Unset, Number, Record, Stack}
 use Rattle.abstract_values.specs.Values.{joined}
@@ -13,10 +14,14 @@ register s r = slice_index_or s.registers (number_of r) Unset
 abbrev pub with_register : AbstractState → Register → AbstractValue → AbstractState
 with_register s r v = record s { registers = slice_set s.registers (number_of r) v }
 
+-- a slot has 8 bytes
+abbrev pub frame_slots : ℕ
+frame_slots = frame_bytes / 8
+
 -- at entry R1 is the record's address, R2 its length, and R10 the top of the frame; no stack byte is set
 abbrev pub entry_state : ℕ → AbstractState
 entry_state record_length =
-    record { registers = Unset ∷ Record 0 0 ∷ Number record_length record_length ∷ Unset ∷ Unset ∷ Unset ∷ Unset ∷ Unset ∷ Unset ∷ Unset ∷ Stack (pos 0) ∷ []; bytes_set = replicate 512 false; slots = replicate 64 Unset }
+    record { registers = Unset ∷ Record 0 0 ∷ Number record_length record_length ∷ Unset ∷ Unset ∷ Unset ∷ Unset ∷ Unset ∷ Unset ∷ Unset ∷ Stack (pos 0) ∷ []; bytes_set = replicate frame_bytes false; slots = replicate frame_slots Unset }
 
 -- element by element
 abbrev pub zipped : {A : Type 0} → (A → A → A) → List A → List A → List A
@@ -28,3 +33,30 @@ zipped f (x ∷ xs) (y ∷ ys) = f x y ∷ zipped f xs ys
 abbrev pub joined_state : AbstractState → AbstractState → AbstractState
 joined_state s t =
     record { registers = zipped joined s.registers t.registers; bytes_set = zipped (λ a b. a && b) s.bytes_set t.bytes_set; slots = zipped joined s.slots t.slots }
+
+-- ---- calls of the program's own functions
+
+-- a function is told nothing of a value that points into its caller's frame
+abbrev pub passed : AbstractValue → AbstractValue
+passed Unset = Unset
+passed (Number lo hi) = Number lo hi
+passed (Record lo hi) = Record lo hi
+passed (Stack offset) = Unset
+
+-- what is known of the register of a number, and what of it is passed to a function
+abbrev pub known_of : AbstractState → ℕ → AbstractValue
+known_of s r = slice_index_or s.registers r Unset
+
+abbrev pub argument_of : AbstractState → ℕ → AbstractValue
+argument_of s r = passed (known_of s r)
+
+-- where a called function begins R1 to R5 are passed, and R10 is the top of its frame, of which no byte is
+-- set
+abbrev pub entered : AbstractState → AbstractState
+entered s =
+    record { registers = Unset ∷ argument_of s 1 ∷ argument_of s 2 ∷ argument_of s 3 ∷ argument_of s 4 ∷ argument_of s 5 ∷ Unset ∷ Unset ∷ Unset ∷ Unset ∷ Stack (pos 0) ∷ []; bytes_set = replicate frame_bytes false; slots = replicate frame_slots Unset }
+
+-- behind a call R0 is any number and nothing is known of R1 to R5; the rest is as it was
+abbrev pub returned_from : AbstractState → AbstractState
+returned_from s =
+    record s { registers = Number 0 (2 ^ 64 - 1) ∷ Unset ∷ Unset ∷ Unset ∷ Unset ∷ Unset ∷ known_of s 6 ∷ known_of s 7 ∷ known_of s 8 ∷ known_of s 9 ∷ known_of s 10 ∷ [] }

@@ -1,7 +1,8 @@
 //! What is known of all registers and of the stack of a frame at a place in a program, and how loads,
-//! stores and the meeting of two ways change it. No call takes memory.
+//! stores, calls and the meeting of two ways change it. No call takes memory.
 #![tactic(auto)]
 
+mod calls;
 mod joining;
 pub mod laws;
 mod memory;
@@ -10,6 +11,7 @@ mod state;
 #[cfg(test)]
 mod tests;
 
+pub use calls::{enter_call, return_from_call};
 pub use joining::join_into;
 pub use memory::{load, load_signed, store};
 pub use state::AbstractState;

@@ -7,6 +7,7 @@ use crate::stack::{any_number, is_whole_slot, load_frame, store_frame};
 use crate::state::AbstractState;
 use abstract_values::{AbstractValue, Cause};
 use bpf_isa::{SignedSize, Size};
+use bpf_model::FRAME_BYTES;
 
 /// Whether bytes at an offset from a range of places lie in a record.
 fn is_inside_record(record_length: u16, lo: u16, hi: u16, offset: i16, bytes: usize) -> bool
@@ -45,7 +46,7 @@ fn frame_byte(top: i16, offset: i16) -> usize
 fn find_in_frame(top: i16, offset: i16, bytes: usize) -> Option<usize>
     requires { bytes ≤ 8 }
     ensures found { result ≡ (if is_in_frame (top +ℤ offset) bytes then Some (frame_index (top +ℤ offset)) else None) }
-    ensures inside { IfSome result (λ first. first + bytes ≤ 512) }
+    ensures inside { IfSome result (λ first. first + bytes ≤ FRAME_BYTES) }
 {
     if is_inside_frame(top, offset, bytes) {
         Some(frame_byte(top, offset))

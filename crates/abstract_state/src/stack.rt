@@ -2,12 +2,13 @@
 ghost use Rattle.std.specs.Prelude.{◌≡◌, ◌+◌, ◌*◌, ◌-◌, ◌^◌, ◌<◌, ◌≤◌};
 ghost use Rattle.abstract_state.specs.Memory.{is_slot, is_spilled, are_set, any_of_size, frame_value, frame_loaded, set_from, spills_ended, frame_stored};
 
-use crate::state::AbstractState;
+use crate::state::{AbstractState, FRAME_SLOTS};
 use abstract_values::{AbstractValue, Cause};
+use bpf_model::FRAME_BYTES;
 
 /// Whether so many bytes from byte `first` are all set.
-fn are_bytes_set(flags: &[bool; 512], first: usize, bytes: usize) -> bool
-    requires inside { first + bytes ≤ 512 }
+fn are_bytes_set(flags: &[bool; FRAME_BYTES], first: usize, bytes: usize) -> bool
+    requires inside { first + bytes ≤ FRAME_BYTES }
     ensures { result ≡ are_set flags.now first bytes }
 {
     for i in 0..bytes {
@@ -19,8 +20,8 @@ fn are_bytes_set(flags: &[bool; 512], first: usize, bytes: usize) -> bool
 }
 
 /// Sets so many bytes from byte `first`.
-fn set_bytes(flags: &mut [bool; 512], first: usize, bytes: usize)
-    requires inside { first + bytes ≤ 512 }
+fn set_bytes(flags: &mut [bool; FRAME_BYTES], first: usize, bytes: usize)
+    requires inside { first + bytes ≤ FRAME_BYTES }
     ensures { flags.new ≡ set_from flags.old first bytes }
 {
     for i in 0..bytes {
@@ -53,7 +54,7 @@ pub(crate) fn load_frame(
     first: usize,
     bytes: usize,
 ) -> Result<AbstractValue, Cause>
-    requires inside { first + bytes ≤ 512 }
+    requires inside { first + bytes ≤ FRAME_BYTES }
     requires some { 1 ≤ bytes }
     requires few { bytes ≤ 8 }
     ensures { result ≡ frame_loaded state.now first bytes }
@@ -69,8 +70,8 @@ pub(crate) fn load_frame(
 }
 
 /// Ends what is known of the slots that bytes touch.
-fn end_spills(slots: &mut [AbstractValue; 64], first: usize, bytes: usize)
-    requires inside { first + bytes ≤ 512 }
+fn end_spills(slots: &mut [AbstractValue; FRAME_SLOTS], first: usize, bytes: usize)
+    requires inside { first + bytes ≤ FRAME_BYTES }
     requires some { 1 ≤ bytes }
     ensures { slots.new ≡ spills_ended slots.old first bytes }
 {
@@ -85,7 +86,7 @@ pub(crate) fn store_frame(
     bytes: usize,
     value: AbstractValue,
 )
-    requires inside { first + bytes ≤ 512 }
+    requires inside { first + bytes ≤ FRAME_BYTES }
     requires some { 1 ≤ bytes }
     ensures { state.new ≡ frame_stored state.old first bytes value }
 {

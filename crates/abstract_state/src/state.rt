@@ -2,6 +2,10 @@ ghost use Rattle.std.specs.Prelude.{◌≡◌};
 
 use abstract_values::AbstractValue;
 use bpf_isa::Register;
+use bpf_model::FRAME_BYTES;
+
+/// How many aligned slots of eight bytes a frame has.
+pub const FRAME_SLOTS: usize = FRAME_BYTES / 8;
 
 /// What is known of all registers and of the stack of a frame at a place.
 #[derive(Clone, Copy, Debug, PartialEq, Eq)]
@@ -9,9 +13,9 @@ pub struct AbstractState {
     /// R0 to R10, by number.
     pub registers: [AbstractValue; 11],
     /// Which stack bytes are set, from the lowest.
-    pub bytes_set: [bool; 512],
+    pub bytes_set: [bool; FRAME_BYTES],
     /// What was spilled to each aligned slot of eight bytes, from the lowest; `Unset` where nothing was.
-    pub slots: [AbstractValue; 64],
+    pub slots: [AbstractValue; FRAME_SLOTS],
 }
 
 impl AbstractState {
@@ -32,8 +36,8 @@ impl AbstractState {
             registers: [
                 unset, record, length, unset, unset, unset, unset, unset, unset, unset, stack,
             ],
-            bytes_set: [false; 512],
-            slots: [AbstractValue::Unset; 64],
+            bytes_set: [false; FRAME_BYTES],
+            slots: [AbstractValue::Unset; FRAME_SLOTS],
         }
     }
 

@@ -3,7 +3,7 @@ use thiserror::Error;
 /// Which of the verifier's rules a program breaks. The numbers are part of the script language.
 #[derive(Clone, Copy, Debug, PartialEq, Eq, Error)]
 pub enum Cause {
-    /// No instruction stands there, or one that the verifier does not know yet.
+    /// No instruction stands there, or a call of a helper: none is known yet.
     #[error("no known instruction")]
     BadInstruction = 1,
     /// A jump goes to no instruction, or out of its function.
@@ -12,9 +12,15 @@ pub enum Cause {
     /// A jump goes back, or to itself.
     #[error("a jump goes back")]
     JumpBack = 3,
+    /// A call goes to no instruction behind itself.
+    #[error("a call goes to no instruction behind it")]
+    CallTarget = 4,
     /// The last instruction of a function goes on behind its end.
     #[error("the last instruction is no exit")]
     FallsOff = 5,
+    /// Some walk through the code has more live stack frames than a run may have.
+    #[error("a run may have too many stack frames")]
+    TooDeep = 6,
     /// Some walk through the code counts more instructions than a run may have.
     #[error("a run may be too long")]
     TooLong = 7,

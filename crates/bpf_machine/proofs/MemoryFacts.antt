@@ -1,14 +1,13 @@
 -- What a machine's memory is as it begins, and numbers of several bytes in it.
-use Rattle.std.proofs.Common.{◌≡◌, ℕ, zero, suc, ◌+◌, ◌-◌, ◌*◌, ◌^◌, ◌<◌, ◌≤◌, nat_le, List, length, Option, Some, None, arith, inl, inr, ◌∙◌, sym, refl, ap, add-zero, lit<}
+use Rattle.std.proofs.Common.{◌≡◌, ℕ, zero, suc, ◌+◌, ◌-◌, ◌*◌, ◌%◌, ◌^◌, ◌<◌, ◌≤◌, nat_le, List, length, Option, Some, None, arith, inl, inr, ◌∙◌, sym, refl, ap, add-zero, lit<}
 use Rattle.std.proofs.Math.ListN.{replicate}
 use Rattle.std.proofs.Math.Path.{fun_ext}
 use Rattle.std.proofs.Math.Nat.{pow-suc, pow-le-pow_right}
 use Rattle.std.proofs.lemmas.Bool.{cases_lt, cases_Bool, leb-true, cond-true, cond-false}
 use Rattle.std.proofs.lemmas.List.{get_or-replicate, get_or_past, length-replicate}
 use Rattle.std.proofs.lemmas.Option.{slice_get_past}
-use Rattle.bpf_model.specs.State.{Partial, joined_bytes, number_at, record_base, record_memory, frame_top, frame_bytes}
-use Rattle.bpf_machine.specs.declared.machine.Frame.{Frame}
-use Rattle.bpf_machine.specs.Seen.{held, memory_of}
+use Rattle.bpf_model.specs.State.{Partial, joined_bytes, number_at, record_base, record_memory}
+use Rattle.bpf_machine.specs.Seen.{held, stack_byte, memory_of}
 
 -- no byte of a new frame is set
 pub held-replicate : (n k : ℕ) → held (replicate n None) k ≡ None
@@ -18,18 +17,25 @@ held-replicate n k =
       | inr past ↦ (let long : length (replicate {A = Option ℕ} n None) ≤ k = rw length-replicate past in get_or_past _ k None long)
     ]
 
--- a short record has no byte as far up as frame 0
-pub record_memory_past : (bytes : List ℕ) (a : ℕ) → length bytes ≤ 256 → frame_top 0 - frame_bytes ≤ a → record_memory bytes a ≡ None
+-- a short record has no byte as far up as the stack
+record_memory_past : (bytes : List ℕ) (a : ℕ) → length bytes ≤ 256 → 0x200000000 ≤ a → record_memory bytes a ≡ None
 record_memory_past bytes a short above =
     elim (cases_Bool (nat_le record_base a)) [
       | inl within ↦ (let past : length bytes ≤ a - record_base = omega arith in cond-true _ _ _ within ∙ slice_get_past bytes (a - record_base) past)
       | inr below ↦ cond-false _ _ _ below
     ]
 
-pub memory_begins : (bytes : List ℕ) (frame : Frame) → length bytes ≤ 256 → ((k : ℕ) → held frame.bytes k ≡ None) → record_memory bytes ≡ memory_of bytes frame
-memory_begins bytes frame short unset =
-    fun_ext (λ a. elim (cases_Bool (nat_le (frame_top 0 - frame_bytes) a)) [
-      | inl above ↦ record_memory_past bytes a short (leb-true _ a above) ∙ sym (cond-true _ _ _ above ∙ unset (a - (frame_top 0 - frame_bytes)))
+none_there : (cells : Partial) (d : ℕ) → ((k : ℕ) → cells k ≡ None) → stack_byte cells d ≡ None
+none_there cells d unset =
+    elim (cases_Bool (nat_le 3584 (d % 4096))) [
+      | inl room ↦ cond-true _ _ _ room ∙ unset _
+      | inr low ↦ cond-false _ _ _ low
+    ]
+
+pub memory_begins : (bytes : List ℕ) (cells : Partial) → length bytes ≤ 256 → ((k : ℕ) → cells k ≡ None) → record_memory bytes ≡ memory_of bytes cells
+memory_begins bytes cells short unset =
+    fun_ext (λ a. elim (cases_Bool (nat_le 0x200000000 a)) [
+      | inl above ↦ record_memory_past bytes a short (leb-true _ a above) ∙ sym (cond-true _ _ _ above ∙ none_there cells (a - 0x200000000) unset)
       | inr below ↦ sym (cond-false _ _ _ below)
     ])
 

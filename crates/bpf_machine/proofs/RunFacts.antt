@@ -4,7 +4,7 @@ use Rattle.std.proofs.lemmas.Bool.{cond-true, cond-false, le-leb, lt-leb}
 use Rattle.std.specs.Prelude.{slice_get}
 use Rattle.graph_model.specs.Graph.{Graph}
 use Rattle.bpf_image.specs.Program.{Program}
-use Rattle.bpf_model.specs.State.{State, start, HasRecord, record_base, frame_top, frame_bytes}
+use Rattle.bpf_model.specs.State.{State, start, HasRecord, record_base}
 use Rattle.bpf_model.specs.Step.{Next, Goes, step}
 use Rattle.bpf_model.specs.Run.{after, then_step, Stops}
 use Rattle.bpf_machine.specs.declared.machine.Machine.{Machine}
@@ -13,7 +13,7 @@ use Rattle.bpf_machine.specs.Seen.{seen}
 -- the record is seen at its address, below the frames
 pub record_seen : (machine : Machine) (bytes : List ℕ) → length bytes ≤ 256 → HasRecord (seen machine bytes) bytes
 record_seen machine bytes short k within =
-    let below : nat_le (frame_top 0 - frame_bytes) (record_base + k) ≡ false = lt-leb _ _ (omega arith) in
+    let below : nat_le 0x200000000 (record_base + k) ≡ false = lt-leb _ _ (omega arith) in
     let above : nat_le record_base (record_base + k) ≡ true = le-leb _ _ (omega arith) in
     let place : (record_base + k) - record_base ≡ k = omega arith in
     cond-false _ _ _ below ∙ cond-true _ _ _ above ∙ ap (slice_get bytes) place

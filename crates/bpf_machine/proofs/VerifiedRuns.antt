@@ -1,7 +1,7 @@
 -- The runs of a verified program: they exit, and their fuel is the bound.
 use Rattle.std.proofs.Common.{◌≡◌, ℕ, List, Option, Some, None, sym, ap, refl, subst₂, ◌∙◌}
 use Rattle.graph_model.specs.Graph.{Graph}
-use Rattle.bpf_image.specs.Program.{Program, units}
+use Rattle.bpf_image.specs.Program.{Program}
 use Rattle.bpf_model.specs.declared.outcome.Outcome.{Outcome}
 use Rattle.bpf_model.specs.declared.outcome.Outcome.TheVariants as outcomes
 use Rattle.bpf_model.specs.EdgeMap.{exit_number}
@@ -9,23 +9,6 @@ use Rattle.bpf_model.specs.State.{start}
 use Rattle.bpf_model.specs.Step.{Goes, Exits, Traps}
 use Rattle.bpf_model.specs.Run.{after, IsOutcome}
 use Rattle.bpf_model.proofs.Outcomes.{after-past_end}
-use Rattle.verifier.specs.declared.refusal.Refusal.{Refusal}
-use Rattle.verifier.specs.Verdict.{Accepted, unless_refused, verdict, first_fault, decoding_fault, flow_fault, length_fault, rule_fault}
-use Rattle.verifier.specs.Walks.{longest}
-
-accepted_bound : (first second third fourth : Option Refusal) (n bound : ℕ)
-    → unless_refused first (unless_refused second (unless_refused third (unless_refused fourth (Accepted n 1)))) ≡ Accepted bound 1 → bound ≡ n
-accepted_bound None None None None n bound accepted = cc
-accepted_bound None None None (Some r) n bound accepted = cc
-accepted_bound None None (Some r) fourth n bound accepted = cc
-accepted_bound None (Some r) third fourth n bound accepted = cc
-accepted_bound (Some r) second third fourth n bound accepted = cc
-
--- the bound that the verdict names is the longest walk
-pub bound_is_longest : (p : Program) (bound : ℕ) → verdict p ≡ Accepted bound 1 → bound ≡ longest p
-unfolding verdict
-bound_is_longest p bound accepted =
-    accepted_bound (first_fault (decoding_fault p) (units p)) (first_fault (flow_fault p) (units p)) (length_fault p) (first_fault (rule_fault p) (units p)) (longest p) bound accepted
 
 -- a run that has exited once its fuel is used has no other outcome
 pub no_other : (p : Program) (g : Graph) (old : List ℕ) (fuel : ℕ) (outcome : Outcome) (new : List ℕ) (v : ℕ)

@@ -1,10 +1,11 @@
 -- A machine with the bytes that it is lent, as a state of a run.
-use Rattle.std.specs.Prelude.{◌≡◌, ℕ, ◌-◌, nat_le, if◌then◌else◌, ℤ, List, [], Option, None, Result, Ok, Err, slice_index_or}
+use Rattle.std.specs.Prelude.{◌≡◌, ℕ, zero, suc, ◌+◌, ◌-◌, ◌*◌, ◌/◌, ◌%◌, nat_le, ◌&&◌, if◌then◌else◌, ℤ, pos, List, [], ◌∷◌, Option, None, Result, Ok, Err, slice_index_or}
 use Rattle.bpf_model.specs.declared.trap.TrapKind.{TrapKind}
-use Rattle.bpf_model.specs.State.{State, Partial, record_memory, frame_top, frame_bytes}
+use Rattle.bpf_model.specs.State.{Saved, State, Partial, record_memory, frame_bytes}
 use Rattle.bpf_model.specs.Step.{Next, Goes, Exits, Traps}
-use Rattle.bpf_machine.specs.declared.machine.Frame.{Frame}
+use Rattle.bpf_machine.specs.declared.callers.Kept.{Kept}
 use Rattle.bpf_machine.specs.declared.machine.Machine.{Machine}
+use Rattle.bpf_machine.specs.declared.stack.TheConstants.{STACK_BASE, FRAME_SPACE, FRAME_START}
 use Rattle.bpf_machine.specs.declared.turn.Turn.{Turn}
 use Rattle.bpf_machine.specs.declared.turn.Turn.TheVariants.{Went, Exited, Trapped}
 
@@ -12,15 +13,35 @@ use Rattle.bpf_machine.specs.declared.turn.Turn.TheVariants.{Went, Exited, Trapp
 abbrev pub held : List (Option ℕ) → Partial
 held values = λ k. slice_index_or values k None
 
--- the record, and frame 0 above it
-abbrev pub memory_of : List ℕ → Frame → Partial
-memory_of bytes frame =
-    λ a. if nat_le (frame_top 0 - frame_bytes) a then held frame.bytes (a - (frame_top 0 - frame_bytes)) else record_memory bytes a
+-- the byte at a distance from the first frame's room, of the frames' bytes in a row: each frame is the end
+-- of its room
+abbrev pub stack_byte : Partial → ℕ → Option ℕ
+stack_byte cells distance =
+    if nat_le FRAME_START (distance % FRAME_SPACE) then cells (frame_bytes * (distance / FRAME_SPACE) + (distance % FRAME_SPACE - FRAME_START)) else None
 
--- the machine's state when these are the bytes of its record; without calls no caller waits
+-- the record, and the frames above it
+abbrev pub memory_of : List ℕ → Partial → Partial
+memory_of bytes cells =
+    λ a. if nat_le STACK_BASE a then stack_byte cells (a - STACK_BASE) else record_memory bytes a
+
+-- what is kept of a caller: R6 to R9, and where it goes on
+abbrev pub saved_of : Kept → Saved
+saved_of kept =
+    record { registers = λ r. if nat_le 6 r && nat_le r 9 then held kept.registers (r - 6) else None; return_pc = kept.return_pc }
+
+-- what stands behind the last that is kept
+abbrev pub no_caller : Kept
+no_caller = record { registers = []; return_pc = pos 0 }
+
+-- the first so many that are kept, the last one first
+abbrev pub callers_of : List Kept → ℕ → List Saved
+callers_of kept zero = []
+callers_of kept (suc n) = saved_of (slice_index_or kept n no_caller) ∷ callers_of kept n
+
+-- the machine's state when these are the bytes of its record
 abbrev pub seen : Machine → List ℕ → State
 seen machine bytes =
-    record { pc = machine.pc; registers = held machine.registers; memory = memory_of bytes machine.frame; callers = [] }
+    record { pc = machine.pc; registers = held machine.registers; memory = memory_of bytes (held machine.stack.cells); callers = callers_of machine.callers.kept machine.callers.count }
 
 -- goes on with a number that was found, or traps as it says
 abbrev pub going_on : Result ℕ TrapKind → ℤ → (ℕ → Next) → Next

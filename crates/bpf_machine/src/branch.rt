@@ -1,5 +1,5 @@
 ghost use Rattle.std.specs.Prelude.{◌≡◌, ℕ, ◌≤ℤ◌, pos, List};
-ghost use Rattle.bpf_isa.specs.declared.instruction.Instruction.TheVariants.{Jump, Branch, Exit};
+ghost use Rattle.bpf_isa.specs.declared.instruction.Instruction.TheVariants.{Jump, Branch};
 ghost use Rattle.bpf_model.specs.Step.{effect};
 ghost use Rattle.bpf_machine.specs.Seen.{seen, answer};
 
@@ -50,17 +50,5 @@ pub fn branch(
         machine.jump(i32::from(distance))
     } else {
         machine.jump(0)
-    }
-}
-
-/// The exit of the function (RFC 9669, section 4.3), which ends the run.
-pub fn exit(machine: &Machine) -> Turn
-    ensures { (record_length : ℕ) (bytes : List ℕ)
-        → effect record_length Exit (seen machine.now bytes)
-        ≡ answer result (seen machine.now bytes) }
-{
-    match machine.register(Register::R0) {
-        None => Turn::Trapped(TrapKind::UnsetResult),
-        Some(value) => Turn::Exited(value),
     }
 }

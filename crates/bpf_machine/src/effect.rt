@@ -4,7 +4,8 @@ ghost use Rattle.bpf_machine.specs.Seen.{seen, answer, Keeps};
 
 use crate::access::{load_plain, load_signed, store_immediate, store_register};
 use crate::alu::{move_signed, negate_register, operate, swap_register};
-use crate::branch::{branch, exit, jump_over};
+use crate::branch::{branch, jump_over};
+use crate::calls::{call, exit};
 use crate::machine::Machine;
 use crate::turn::Turn;
 use bpf_isa::Instruction;
@@ -47,7 +48,7 @@ pub fn perform(machine: &mut Machine, bytes: &mut [u8], instruction: Instruction
             distance,
         } => branch(machine, width, comparison, left, right, distance),
         Instruction::CallHelper { .. } => Turn::Trapped(TrapKind::UnknownHelper),
-        Instruction::CallLocal { .. } => Turn::Trapped(TrapKind::BadInstruction),
+        Instruction::CallLocal { distance } => call(machine, distance),
         Instruction::Exit => exit(machine),
         Instruction::Load {
             size,

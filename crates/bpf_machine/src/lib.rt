@@ -4,10 +4,13 @@
 mod access;
 mod alu;
 mod branch;
+mod callers;
+mod calls;
 mod effect;
 mod machine;
 mod memory;
 mod run;
+mod stack;
 mod stores;
 #[cfg(test)]
 mod tests;

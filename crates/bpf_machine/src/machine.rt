@@ -3,27 +3,14 @@ ghost use Rattle.bpf_isa.specs.Encoding.{number_of};
 ghost use Rattle.bpf_model.specs.State.{start_registers};
 ghost use Rattle.bpf_machine.specs.Seen.{held};
 
+use crate::callers::Callers;
+use crate::stack::{Stack, top_of};
 use crate::turn::Turn;
 use bpf_isa::{Operand, Register};
 use bpf_model::TrapKind;
 
 /// Where the record begins that a run is lent.
 pub const RECORD_BASE: u64 = 0x1_0000_0000;
-
-/// The address of the first byte of frame 0.
-pub const FRAME_BASE: u64 = FRAME_TOP - FRAME_BYTES;
-
-/// How many bytes a frame has.
-pub const FRAME_BYTES: u64 = 512;
-
-/// The address past the last byte of frame 0, which is its R10.
-const FRAME_TOP: u64 = 0x2_0000_1000;
-
-/// The stack of one function: which of its bytes are set, and to what.
-#[derive(Drop)]
-pub struct Frame {
-    pub bytes: [Option<u8>; 512],
-}
 
 /// A run between two instructions, without the record that it is lent.
 #[derive(Drop)]
@@ -32,19 +19,10 @@ pub struct Machine {
     pub pc: i64,
     /// The registers, each set or not.
     pub registers: [Option<u64>; 11],
-    /// The frame of the function that runs. Only one is live, as no function calls another yet.
-    pub frame: Frame,
-}
-
-impl Frame {
-    ghost use Rattle.bpf_machine.specs.Seen.{held};
-
-    /// The frame of a function that begins.
-    fn new() -> Frame
-        ensures { (k : ℕ) → held result.bytes k ≡ None }
-    {
-        Frame { bytes: [None; 512] }
-    }
+    /// The frames of all functions that are live.
+    pub stack: Stack,
+    /// What is kept for the callers of the function that runs.
+    pub callers: Callers,
 }
 
 /// The registers as a run begins on a record of so many bytes.
@@ -54,12 +32,12 @@ fn first_registers(record_length: u16) -> [Option<u64>; 11]
     let mut registers = [None; 11];
     registers[1] = Some(RECORD_BASE);
     registers[2] = Some(u64::from(record_length));
-    registers[10] = Some(FRAME_TOP);
+    registers[10] = Some(top_of(0));
     registers
 }
 
 impl Machine {
-    ghost use Rattle.bpf_model.specs.State.{start};
+    ghost use Rattle.bpf_model.specs.State.{start, live_frames, most_frames};
     ghost use Rattle.bpf_model.specs.Step.{operand_of, put, jump};
     ghost use Rattle.bpf_machine.specs.Seen.{seen, answer};
 
@@ -70,12 +48,22 @@ impl Machine {
         ensures start { (bytes : List ℕ) → length bytes ≡ record_length → start bytes ≡ seen result bytes }
     {
         let registers = first_registers(record_length);
-        let frame = Frame::new();
+        let stack = Stack::new();
+        let callers = Callers::new();
         Machine {
             pc: 0,
             registers,
-            frame,
+            stack,
+            callers,
         }
+    }
+
+    /// How many frames are live: the current one, and one for each caller.
+    pub fn live_frames(&self) -> usize
+        ensures live { (bytes : List ℕ) → result ≡ live_frames (seen self.now bytes) }
+        ensures few { result ≤ most_frames }
+    {
+        self.callers.count + 1
     }
 
     /// What a register holds, if it is set.

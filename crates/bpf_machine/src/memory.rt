@@ -1,8 +1,10 @@
-ghost use Rattle.std.specs.Prelude.{◌≡◌, ◌+◌, ◌^◌, ◌<◌, ◌≤◌, nat_le, ◌&&◌, length};
-ghost use Rattle.bpf_model.specs.State.{may_access, number_at};
+ghost use Rattle.std.specs.Prelude.{◌≡◌, ◌+◌, ◌^◌, ◌<◌, ◌≤◌, nat_le, ◌&&◌, true, length};
+ghost use Rattle.bpf_model.specs.State.{may_access, in_frames, live_frames, number_at};
 ghost use Rattle.bpf_machine.specs.Seen.{seen};
 
-use crate::machine::{FRAME_BASE, FRAME_BYTES, Machine, RECORD_BASE};
+use crate::machine::{Machine, RECORD_BASE};
+use crate::stack::{FRAME_SPACE, FRAME_START, STACK_BASE, find_spot};
+use bpf_model::FRAME_BYTES;
 
 /// Whether so many bytes from an address lie wholly in a region.
 pub fn lies_within(base: u64, room: u64, address: u64, size: u64) -> bool
@@ -15,26 +17,38 @@ pub fn lies_within(base: u64, room: u64, address: u64, size: u64) -> bool
     size <= room && place <= room - size
 }
 
+/// Whether an access lies wholly in one live frame.
+fn is_in_frame(machine: &Machine, bytes: &[u8], address: u64, size: u64) -> bool
+    requires { 1 ≤ size }
+    ensures exact { result ≡ in_frames (live_frames (seen machine.now bytes.now)) address size }
+    ensures room { result ≡ true → address + size < 2 ^ 64 }
+{
+    find_spot(machine.live_frames(), address, size).is_some()
+}
+
 /// Whether an access is allowed: wholly in the record, or wholly in one live frame.
 pub fn is_allowed(machine: &Machine, bytes: &[u8], address: u64, size: u64) -> bool
-    ensures { result ≡ may_access (length bytes.now) (seen machine.now bytes.now) address size }
+    requires some { 1 ≤ size }
+    requires record { length bytes.now ≤ 256 }
+    ensures exact { result ≡ may_access (length bytes.now) (seen machine.now bytes.now) address size }
+    ensures room { result ≡ true → address + size < 2 ^ 64 }
 {
     let in_record = lies_within(RECORD_BASE, bytes.len() as u64, address, size);
-    let in_frame = lies_within(FRAME_BASE, FRAME_BYTES, address, size);
-    in_record || in_frame
+    in_record || is_in_frame(machine, bytes, address, size)
 }
 
 /// The byte at an address, where there is one that is set.
 pub fn byte_at(machine: &Machine, bytes: &[u8], address: u64) -> Option<u8>
     ensures { result ≡ (seen machine.now bytes.now).memory address }
 {
-    if address >= FRAME_BASE {
-        let place = address - FRAME_BASE;
-        if place < FRAME_BYTES {
-            machine.frame.bytes[place as usize]
-        } else {
-            None
+    if address >= STACK_BASE {
+        let place = (address - STACK_BASE) % FRAME_SPACE;
+        if place < FRAME_START {
+            return None;
         }
+        let frame = (address - STACK_BASE) / FRAME_SPACE;
+        let cell = FRAME_BYTES as u64 * frame + (place - FRAME_START);
+        machine.stack.cells.get(cell as usize).copied().flatten()
     } else if address >= RECORD_BASE {
         bytes.get((address - RECORD_BASE) as usize).copied()
     } else {

@@ -1,10 +1,11 @@
-ghost use Rattle.std.specs.Prelude.{◌≡◌, ◌+◌, ◌≤◌, ◌<◌, ◌-◌, ◌≤ℤ◌, ℕ, pos, List, length};
-ghost use Rattle.bpf_model.specs.State.{stored, stored_all, record_base, frame_top, frame_bytes};
+ghost use Rattle.std.specs.Prelude.{◌≡◌, ◌+◌, ◌≤◌, ◌<◌, ◌≤ℤ◌, ◌||◌, true, false, pos, length};
+ghost use Rattle.bpf_model.specs.State.{Partial, stored, stored_all, record_base, in_record, in_frames, most_frames};
 ghost use Rattle.bpf_model.specs.Step.{store};
-ghost use Rattle.bpf_machine.specs.Seen.{memory_of, seen, answer, Keeps};
+ghost use Rattle.bpf_machine.specs.Seen.{held, memory_of, seen, answer, Keeps};
 
-use crate::machine::{FRAME_BASE, FRAME_BYTES, Frame, Machine, RECORD_BASE};
+use crate::machine::{Machine, RECORD_BASE};
 use crate::memory::lies_within;
+use crate::stack::{Stack, find_spot};
 use crate::turn::Turn;
 use bpf_isa::Size;
 use bpf_model::TrapKind;
@@ -13,8 +14,8 @@ use bpf_model::TrapKind;
 fn set_record_byte(bytes: &mut [u8], place: usize, byte: u8)
     requires place { place < length bytes.old }
     requires record { length bytes.old ≤ 256 }
-    ensures { (frame : Frame)
-        → stored (memory_of bytes.old frame) (record_base + place) byte ≡ memory_of bytes.new frame }
+    ensures { (cells : Partial)
+        → stored (memory_of bytes.old cells) (record_base + place) byte ≡ memory_of bytes.new cells }
 {
     bytes[place] = byte;
 }
@@ -23,34 +24,42 @@ fn set_record_byte(bytes: &mut [u8], place: usize, byte: u8)
 fn set_record(bytes: &mut [u8], place: usize, value: &[u8])
     requires places { place + length value.now ≤ length bytes.old }
     requires record { length bytes.old ≤ 256 }
-    ensures { (frame : Frame)
-        → stored_all (memory_of bytes.old frame) (record_base + place) value.now
-        ≡ memory_of bytes.new frame }
+    ensures { (cells : Partial)
+        → stored_all (memory_of bytes.old cells) (record_base + place) value.now
+        ≡ memory_of bytes.new cells }
 {
     for (k, byte) in value.iter().enumerate() {
         set_record_byte(bytes, place + k, *byte);
     }
 }
 
-/// Sets a byte of the frame.
-fn set_frame_byte(frame: &mut Frame, place: usize, byte: u8)
-    requires { place < frame_bytes }
-    ensures { (bytes : List ℕ)
-        → stored (memory_of bytes frame.old) ((frame_top 0 - frame_bytes) + place) byte
-        ≡ memory_of bytes frame.new }
+/// Stores bytes from an address on, where all of them lie in the record or in one of the first frames. Else
+/// it stores none and says so.
+fn store_bytes(
+    stack: &mut Stack,
+    frames: usize,
+    bytes: &mut [u8],
+    address: u64,
+    value: &[u8],
+) -> bool
+    requires some { 1 ≤ length value.now }
+    requires frames { frames ≤ most_frames }
+    requires record { length bytes.old ≤ 256 }
+    ensures allowed { result ≡ (in_record (length bytes.old) address (length value.now) || in_frames frames address (length value.now)) }
+    ensures stored { result ≡ true → stored_all (memory_of bytes.old (held stack.old.cells)) address value.now ≡ memory_of bytes.new (held stack.new.cells) }
+    ensures kept { result ≡ false → (bytes.new ≡ bytes.old) × (stack.new ≡ stack.old) }
 {
-    frame.bytes[place] = Some(byte);
-}
-
-/// Sets bytes of the frame, from a place on.
-fn set_frame(frame: &mut Frame, place: usize, value: &[u8])
-    requires { place + length value.now ≤ frame_bytes }
-    ensures { (bytes : List ℕ)
-        → stored_all (memory_of bytes frame.old) ((frame_top 0 - frame_bytes) + place) value.now
-        ≡ memory_of bytes frame.new }
-{
-    for (k, byte) in value.iter().enumerate() {
-        set_frame_byte(frame, place + k, *byte);
+    let count = value.len() as u64;
+    if lies_within(RECORD_BASE, bytes.len() as u64, address, count) {
+        set_record(bytes, (address - RECORD_BASE) as usize, value);
+        return true;
+    }
+    match find_spot(frames, address, count) {
+        None => false,
+        Some(spot) => {
+            stack.set_bytes(spot, value);
+            true
+        }
     }
 }
 
@@ -68,14 +77,10 @@ pub fn store_to(
         ≡ answer result (seen machine.new bytes.new) }
     ensures kept { Keeps result bytes.old bytes.new }
 {
-    let count = u64::from(size.bytes());
     let spelled = value.to_le_bytes();
-    let low = &spelled[..count as usize];
-    if lies_within(RECORD_BASE, bytes.len() as u64, address, count) {
-        set_record(bytes, (address - RECORD_BASE) as usize, low);
-    } else if lies_within(FRAME_BASE, FRAME_BYTES, address, count) {
-        set_frame(&mut machine.frame, (address - FRAME_BASE) as usize, low);
-    } else {
+    let low = &spelled[..usize::from(size.bytes())];
+    let frames = machine.live_frames();
+    if !store_bytes(&mut machine.stack, frames, bytes, address, low) {
         return Turn::Trapped(TrapKind::OutsideMemory);
     }
     machine.pc += 1;

@@ -1,5 +1,6 @@
 mod arithmetic;
 mod branches;
+mod calls;
 mod stores;
 
 use super::*;
@@ -149,10 +150,9 @@ fn traps(rt: HostRuntime) -> Result<(), Fail> {
         // A branch reads both.
         ([0x1d, 0x31, 0, 0, 0, 0, 0, 0], TrapKind::UnsetRegister),
         ([0x15, 0x03, 0, 0, 0, 0, 0, 0], TrapKind::UnsetRegister),
-        // No instruction, and calls, which are not run yet.
+        // No instruction, and helpers, which are not known yet.
         ([0xff, 0, 0, 0, 0, 0, 0, 0], TrapKind::BadInstruction),
         ([0xb7, 0x10, 0, 0, 0, 0, 0, 0], TrapKind::BadInstruction),
-        ([0x85, 0x10, 0, 0, 0, 0, 0, 0], TrapKind::BadInstruction),
         ([0x85, 0, 0, 0, 1, 0, 0, 0], TrapKind::UnknownHelper),
     ];
     for (unit, kind) in rows {
@@ -171,6 +171,7 @@ fn traps_have_numbers(rt: HostRuntime) -> Result<(), Fail> {
         (TrapKind::OutsideMemory, 4),
         (TrapKind::UnsetByte, 5),
         (TrapKind::FrameRegister, 6),
+        (TrapKind::NinthFrame, 7),
         (TrapKind::UnknownHelper, 8),
         (TrapKind::UnsetResult, 10),
     ] {

@@ -1,10 +1,12 @@
 -- A program mapped over edges: one run for each edge, each on a record of its own.
-use Rattle.std.specs.Prelude.{ℕ, ◌+◌, ◌-◌, ◌^◌, ◌%◌, min, max, List, [], ◌∷◌, ◌++◌, sum, Option, Some, None}
+use Rattle.std.specs.Prelude.{ℕ, ◌+◌, ◌-◌, ◌^◌, ◌%◌, ◌==◌, min, max, if◌then◌else◌, List, [], ◌∷◌, ◌++◌, sum, Option, Some, None}
+use Rattle.std.specs.List.{flat_map, filter_map}
 use Rattle.std.specs.Int.{w32, to_le_bytes}
 use Rattle.bpf_image.specs.Program.{Program}
 use Rattle.graph_model.specs.Graph.{Graph, neighbours, degree}
 use Rattle.bpf_model.specs.declared.reduction.Reduction.{Reduction}
 use Rattle.bpf_model.specs.declared.reduction.Reduction.TheVariants.{Min, Max, Sum}
+use Rattle.bpf_model.specs.declared.row.Row.{Row}
 use Rattle.bpf_model.specs.State.{start}
 use Rattle.bpf_model.specs.Step.{Next, Goes, Exits, Traps}
 use Rattle.bpf_model.specs.Run.{after}
@@ -48,3 +50,21 @@ abbrev pub reduced : Reduction → List ℕ → ℕ
 reduced Min numbers = least numbers
 reduced Max numbers = greatest numbers
 reduced Sum numbers = sum numbers % 2 ^ 64
+
+-- the exit numbers of a vertex's edges, as far as runs exit within so many steps
+abbrev pub exit_numbers : Program → ℕ → Graph → List ℕ → ℕ → List ℕ
+exit_numbers p steps g argument source = filter_map (λ number. number) (numbers_of p steps g argument source)
+
+-- those of a frontier's vertices, one vertex after another
+abbrev pub all_numbers : Program → ℕ → Graph → List ℕ → List ℕ → List ℕ
+all_numbers p steps g argument frontier = flat_map (exit_numbers p steps g argument) frontier
+
+-- what a vertex's edges reduce to, where it has a neighbour
+abbrev pub row_of : Program → ℕ → Graph → Reduction → List ℕ → ℕ → List Row
+row_of p steps g reduction argument v =
+    let value = reduced reduction (exit_numbers p steps g argument v) in
+    if degree g v == 0 then [] else record { vertex = v; value = value } ∷ []
+
+-- one row for each vertex of the frontier that has a neighbour, in the frontier's order
+abbrev pub rows_of : Program → ℕ → Graph → Reduction → List ℕ → List ℕ → List Row
+rows_of p steps g reduction argument frontier = flat_map (row_of p steps g reduction argument) frontier

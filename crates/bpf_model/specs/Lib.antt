@@ -1,7 +1,9 @@
 pub mod Arithmetic
 pub mod State
+pub mod Calls
 pub mod Step
 pub mod Run
 pub mod EdgeMap
+pub mod CallRows
 pub mod ArithmeticLaws
 pub mod Laws

@@ -1,5 +1,6 @@
 //! The laws of the definitions. Each function does nothing: its contract is the law.
 ghost use Rattle.bpf_model.specs.Laws.{EndStays, StepsInTurn, RecordAtStart, OneOutcome};
+ghost use Rattle.bpf_model.specs.CallRows.{WorkedCalls};
 
 /// An end of a run stays, however many steps are counted after it.
 pub fn end_stays()
@@ -19,4 +20,9 @@ pub fn record_at_start()
 /// A run with so much fuel has one outcome, and leaves its record in one way.
 pub fn one_outcome()
     ensures { OneOutcome }
+{}
+
+/// What worked programs of several functions lead to.
+pub fn worked_calls()
+    ensures { WorkedCalls }
 {}

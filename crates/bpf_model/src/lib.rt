@@ -4,10 +4,14 @@
 
 pub mod arithmetic_laws;
 pub mod laws;
+mod limits;
 mod outcome;
 mod reduction;
+mod row;
 mod trap;
 
+pub use limits::{FRAME_BYTES, MOST_FRAMES};
 pub use outcome::Outcome;
 pub use reduction::Reduction;
+pub use row::Row;
 pub use trap::TrapKind;

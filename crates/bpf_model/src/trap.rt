@@ -1,7 +1,7 @@
 /// Why a run stopped without an exit number. Where several apply, the first one is given.
 #[derive(Clone, Copy, Debug, PartialEq, Eq)]
 pub enum TrapKind {
-    /// No instruction stands at the pc, or a call of the program's own functions, which no machine runs yet.
+    /// No instruction stands at the pc.
     BadInstruction = 1,
     /// The pc is outside the code.
     OutsideCode = 2,
@@ -13,6 +13,8 @@ pub enum TrapKind {
     UnsetByte = 5,
     /// R10 is written.
     FrameRegister = 6,
+    /// A function is called while eight frames are live.
+    NinthFrame = 7,
     /// A helper is called that there is not.
     UnknownHelper = 8,
     /// The function exits while R0 is not set.

@@ -73,8 +73,7 @@ pub all_folded : (r : Reduction) (p : Program) (g : Graph) (argument : List ℕ)
 all_folded r p g argument source targets place so_far done ended =
     let within = done.within in
     let short : length targets ≤ place = omega (arith, ap length ended, length-drop place targets) in
-    let whole : take place targets ≡ targets = take_all place targets short in
-    (
+    let whole : take place targets ≡ targets = take_all place targets short in (
       done.value ∙ ap (λ l. reduced r (found p g argument source 0 l)) whole,
       ap (λ l. length (found p g argument source 0 l)) (sym whole) ∙ done.count ∙ omega arith,
     )

@@ -6,9 +6,9 @@ mod edge;
 mod fold;
 mod outcome;
 
-pub use bpf_model::Reduction;
+pub use bpf_model::{Reduction, Row};
 pub use fold::map_edges;
-pub use outcome::{MapOutcome, Row};
+pub use outcome::MapOutcome;
 pub use verifier::Verified;
 pub use versions::Version;
 

@@ -1,9 +1,6 @@
-/// What the numbers of a vertex's edges reduce to.
-#[derive(Clone, Copy, Debug, PartialEq, Eq)]
-pub struct Row {
-    pub vertex: u32,
-    pub value: u64,
-}
+//! What a map over edges gives.
+
+use bpf_model::Row;
 
 /// What a map over edges gives.
 #[derive(Debug, Drop)]

@@ -1,6 +1,6 @@
 pub mod Lexing
-pub mod Session
 pub mod Parsing
+pub mod State
 pub mod Texts
 pub mod Execution
 pub mod Script

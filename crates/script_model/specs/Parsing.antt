@@ -4,29 +4,24 @@ use Rattle.graph_model.specs.declared.edit.Edit.{Edit}
 use Rattle.graph_model.specs.declared.edit.Edit.TheVariants.{Insert}
 use Rattle.bpf_model.specs.declared.reduction.Reduction.{Reduction}
 use Rattle.bpf_model.specs.declared.reduction.Reduction.TheVariants.{Min, Max, Sum}
+use Rattle.session_model.specs.Commands.{Command, MakeGraph, LoadProgram, TakePin, RunProgram}
 use Rattle.script_model.specs.Lexing.{number, is_name, hex, same_bytes}
 
-pub data Command : Type 0 where
-  -- a graph of so many vertices
-  MakeGraph : (vertices : ℕ) → Command
-  -- a batch of edits begins
-  BeginBatch : Command
-  -- a program's name, record length and code
-  LoadCode : (name : List ℕ) (record_length : ℕ) (code : List ℕ) → Command
+pub data Statement : Type 0 where
+  -- a command of a session, on a line of its own
+  Asks : Command → Statement
+  -- a batch of edits of a feed begins
+  BeginBatch : (feed : ℕ) → Statement
   -- a program in assembler text begins, with its name and record length
-  BeginProgram : (name : List ℕ) (record_length : ℕ) → Command
-  -- a name for the last version
-  TakePin : (name : List ℕ) → Command
-  -- a program mapped over the edges of a pin
-  RunProgram : (program pin : List ℕ) (reduction : Reduction) (argument : List ℕ) (frontier : List ℕ) → Command
+  BeginProgram : (name : List ℕ) (record_length : ℕ) → Statement
 
 -- goes on with a value, where there is one
 abbrev pub given : {A B : Type 0} → Option A → (A → Option B) → Option B
 given None go = None
 given (Some x) go = go x
 
-abbrev pub named : List ℕ → Option Command → Option Command
-named name command = if is_name name then command else None
+abbrev pub named : List ℕ → Option Statement → Option Statement
+named name statement = if is_name name then statement else None
 
 abbrev pub reduction_of : List ℕ → Option Reduction
 reduction_of word =
@@ -44,42 +39,42 @@ abbrev pub numbers : List (List ℕ) → Option (List ℕ)
 numbers [] = Some []
 numbers (word ∷ words) = with_number (number word) (numbers words)
 
-abbrev pub graph_command : List (List ℕ) → Option Command
-graph_command (n ∷ []) = given (number n) (λ vertices. Some (MakeGraph vertices))
-graph_command _ = None
+abbrev pub graph_statement : List (List ℕ) → Option Statement
+graph_statement (n ∷ []) = given (number n) (λ vertices. Some (Asks (MakeGraph vertices)))
+graph_statement _ = None
 
-abbrev pub batch_command : List (List ℕ) → Option Command
-batch_command (feed ∷ []) = if same_bytes feed (codes "A") then Some BeginBatch else None
-batch_command _ = None
+abbrev pub batch_statement : List (List ℕ) → Option Statement
+batch_statement (feed ∷ []) = if same_bytes feed (codes "A") then Some (BeginBatch 0) else None
+batch_statement _ = None
 
-abbrev pub code_command : List (List ℕ) → Option Command
-code_command (name ∷ length ∷ digits ∷ []) =
-    named name (given (number length) (λ record_length. given (hex digits) (λ code. Some (LoadCode name record_length code))))
-code_command _ = None
+abbrev pub code_statement : List (List ℕ) → Option Statement
+code_statement (name ∷ length ∷ digits ∷ []) =
+    named name (given (number length) (λ record_length. given (hex digits) (λ code. Some (Asks (LoadProgram name (record { code = code; record_length = record_length }))))))
+code_statement _ = None
 
-abbrev pub program_command : List (List ℕ) → Option Command
-program_command (name ∷ length ∷ []) =
+abbrev pub program_statement : List (List ℕ) → Option Statement
+program_statement (name ∷ length ∷ []) =
     named name (given (number length) (λ record_length. Some (BeginProgram name record_length)))
-program_command _ = None
+program_statement _ = None
 
-abbrev pub pin_command : List (List ℕ) → Option Command
-pin_command (name ∷ []) = named name (Some (TakePin name))
-pin_command _ = None
+abbrev pub pin_statement : List (List ℕ) → Option Statement
+pin_statement (name ∷ []) = named name (Some (Asks (TakePin name)))
+pin_statement _ = None
 
-abbrev pub run_command : List (List ℕ) → Option Command
-run_command (program ∷ pin ∷ reducer ∷ digits ∷ frontier) =
-    named program (named pin (given (reduction_of reducer) (λ reduction. given (hex digits) (λ argument. given (numbers frontier) (λ vertices. Some (RunProgram program pin reduction argument vertices))))))
-run_command _ = None
+abbrev pub run_statement : List (List ℕ) → Option Statement
+run_statement (program ∷ pin ∷ reducer ∷ digits ∷ frontier) =
+    named program (named pin (given (reduction_of reducer) (λ reduction. given (hex digits) (λ argument. given (numbers frontier) (λ vertices. Some (Asks (RunProgram program pin reduction argument vertices)))))))
+run_statement _ = None
 
--- the command that a line's first word names, with the words behind it
-abbrev pub command : List ℕ → List (List ℕ) → Option Command
-command word operands =
-    if same_bytes word (codes "graph") then graph_command operands
-    else (if same_bytes word (codes "batch") then batch_command operands
-    else (if same_bytes word (codes "code") then code_command operands
-    else (if same_bytes word (codes "pin") then pin_command operands
-    else (if same_bytes word (codes "run") then run_command operands
-    else (if same_bytes word (codes "program") then program_command operands else None)))))
+-- the statement that a line's first word names, with the words behind it
+abbrev pub statement : List ℕ → List (List ℕ) → Option Statement
+statement word operands =
+    if same_bytes word (codes "graph") then graph_statement operands
+    else (if same_bytes word (codes "batch") then batch_statement operands
+    else (if same_bytes word (codes "code") then code_statement operands
+    else (if same_bytes word (codes "pin") then pin_statement operands
+    else (if same_bytes word (codes "run") then run_statement operands
+    else (if same_bytes word (codes "program") then program_statement operands else None)))))
 
 -- a block ends at a line whose only word is `end`
 abbrev pub is_end : List (List ℕ) → Bool

@@ -2,12 +2,12 @@
 use Rattle.std.specs.Prelude.{ℕ, ◌+◌, List, [], ◌∷◌, ◌++◌, Option, Some, None}
 use Rattle.script_model.specs.declared.ending.Ending.{Ending}
 use Rattle.script_model.specs.declared.ending.Ending.TheVariants as endings
-use Rattle.script_model.specs.declared.fault.Fault.{Fault}
-use Rattle.script_model.specs.declared.fault.Fault.TheVariants as faults
+use Rattle.script_model.specs.declared.line_fault.LineFault.{LineFault}
+use Rattle.script_model.specs.declared.line_fault.LineFault.TheVariants as faults
 use Rattle.script_model.specs.Lexing.{script_lines}
-use Rattle.script_model.specs.Session.{Block, opened_at, Session, new_session}
+use Rattle.script_model.specs.State.{Block, first_line, Script, new_script}
 use Rattle.script_model.specs.Texts.{fault_text}
-use Rattle.script_model.specs.Execution.{Answer, Says, Fails, execute}
+use Rattle.script_model.specs.Execution.{Execution, Says, Stops, execution}
 
 -- all that is written, and how the script ended
 pub record Outcome : Type 0 where
@@ -18,25 +18,29 @@ pub record Outcome : Type 0 where
 abbrev pub after_text : List ℕ → Outcome → Outcome
 after_text text o = record { text = text ++ o.text; ending = o.ending }
 
-abbrev pub faulted : Fault → ℕ → Outcome
-faulted fault line = record { text = fault_text fault line; ending = endings.Fault }
+abbrev pub fault_outcome : LineFault → ℕ → Outcome
+fault_outcome fault line = record { text = fault_text fault line; ending = endings.Fault }
 
 -- the end of the input: a block that is still open is a fault of the line that opened it
-abbrev pub finished : Option Block → Outcome
-finished None = record { text = []; ending = endings.Complete }
-finished (Some block) = faulted faults.OpenBlock (opened_at block)
+abbrev pub end_outcome : Option Block → Outcome
+end_outcome None = record { text = []; ending = endings.Complete }
+end_outcome (Some block) = fault_outcome faults.OpenBlock (first_line block)
 
--- goes on after a line that was executed
-abbrev pub continued : Answer → (List ℕ → Session → Outcome) → Outcome
-continued (Says text s) go = go text s
-continued (Fails fault line) go = faulted fault line
+-- goes on after a line of this number
+abbrev pub outcome_after : Execution → ℕ → (List ℕ → Script → Outcome) → Outcome
+outcome_after (Says text s) line go = go text s
+outcome_after (Stops fault) line go = fault_outcome fault line
 
--- the lines from one of this number on
-abbrev pub follow : ℕ → Session → List (List ℕ) → Outcome
-follow line s [] = finished s.block
-follow line s (bytes ∷ lines) =
-    continued (execute s line bytes) (λ text next. after_text text (follow (line + 1) next lines))
+-- the script with one line more behind it
+abbrev pub next_line : ℕ → Script → Script
+next_line line s = record s { line = line + 1 }
+
+-- what some lines mean to a script
+abbrev pub outcome_from : Script → List (List ℕ) → Outcome
+outcome_from s [] = end_outcome s.block
+outcome_from s (bytes ∷ lines) =
+    outcome_after (execution s bytes) s.line (λ text next. after_text text (outcome_from (next_line s.line next) lines))
 
 -- what a script's bytes mean
 abbrev pub meaning : List ℕ → Outcome
-meaning bytes = follow 1 new_session (script_lines bytes)
+meaning bytes = outcome_from new_script (script_lines bytes)

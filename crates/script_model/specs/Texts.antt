@@ -1,21 +1,24 @@
 -- The lines that are written.
-use Rattle.std.specs.Prelude.{ℕ, List, [], ◌∷◌, ◌++◌, codes}
+use Rattle.std.specs.Prelude.{ℕ, ◌==◌, if◌then◌else◌, List, [], ◌∷◌, ◌++◌, codes}
+use Rattle.std.specs.List.{flat_map}
 use Rattle.std.specs.Fmt.{decimal}
 use Rattle.abstract_values.specs.declared.cause.Cause.{Cause}
-use Rattle.abstract_values.specs.declared.cause.Cause.TheVariants.{BadInstruction, JumpOut, JumpBack, FallsOff, TooLong, UnsetRegister, FrameRegister, PointerUse, OutOfRange, UnsetStackByte, ResultNotNumber, OutOfMemory}
+use Rattle.abstract_values.specs.declared.cause.Cause.TheVariants.{BadInstruction, JumpOut, JumpBack, CallTarget, FallsOff, TooDeep, TooLong, UnsetRegister, FrameRegister, PointerUse, OutOfRange, UnsetStackByte, ResultNotNumber, OutOfMemory}
 use Rattle.verifier.specs.declared.refusal.Refusal.{Refusal}
 use Rattle.bpf_asm.specs.declared.errors.Cause.{Cause as TextCause}
 use Rattle.bpf_asm.specs.declared.errors.Cause.TheVariants.{Syntax, UnknownName, DoubleLabel, UnknownLabel, NumberRange, TooLong, OutOfMemory}
 use Rattle.bpf_asm.specs.declared.errors.AssembleError.{AssembleError}
-use Rattle.script_model.specs.declared.fault.Fault.{Fault}
-use Rattle.script_model.specs.declared.fault.Fault.TheVariants as faults
+use Rattle.bpf_model.specs.declared.row.Row.{Row}
+use Rattle.session_model.specs.declared.fault.Fault.{Fault}
+use Rattle.session_model.specs.declared.fault.Fault.TheVariants as faults
+use Rattle.session_model.specs.Commands.{Answer, GraphMade, BatchPublished, ProgramAccepted, ProgramRefused, NoImage, PinTaken, EdgesMapped}
+use Rattle.script_model.specs.declared.line_fault.LineFault.{LineFault}
+use Rattle.script_model.specs.declared.line_fault.LineFault.TheVariants as line_faults
 
 abbrev pub newline : List ℕ
 newline = 10 ∷ []
 
 abbrev pub fault_number : Fault → ℕ
-fault_number faults.LongLine = 1
-fault_number faults.Words = 2
 fault_number faults.Order = 3
 fault_number faults.Range = 4
 fault_number faults.Name = 5
@@ -23,13 +26,20 @@ fault_number faults.ArgumentLength = 6
 fault_number faults.Frontier = 7
 fault_number faults.TooMany = 8
 fault_number faults.LogFull = 9
-fault_number faults.OpenBlock = 10
+
+abbrev pub line_fault_number : LineFault → ℕ
+line_fault_number line_faults.LongLine = 1
+line_fault_number line_faults.Words = 2
+line_fault_number (line_faults.Command fault) = fault_number fault
+line_fault_number line_faults.OpenBlock = 10
 
 abbrev pub cause_number : Cause → ℕ
 cause_number BadInstruction = 1
 cause_number JumpOut = 2
 cause_number JumpBack = 3
+cause_number CallTarget = 4
 cause_number FallsOff = 5
+cause_number TooDeep = 6
 cause_number TooLong = 7
 cause_number UnsetRegister = 8
 cause_number FrameRegister = 9
@@ -52,9 +62,13 @@ text_cause_number OutOfMemory = 7
 abbrev pub graph_text : ℕ → List ℕ
 graph_text n = codes "graph " ++ decimal n ++ newline
 
-abbrev pub batch_text : ℕ → ℕ → ℕ → List ℕ
-batch_text number added removed =
-    codes "batch A version " ++ decimal number ++ codes " added " ++ decimal added ++ codes " removed " ++ decimal removed ++ newline
+-- the letter of a feed
+abbrev pub feed_text : ℕ → List ℕ
+feed_text feed = if feed == 0 then codes "A" else codes "B"
+
+abbrev pub batch_text : ℕ → ℕ → ℕ → ℕ → List ℕ
+batch_text feed number added removed =
+    codes "batch " ++ feed_text feed ++ codes " version " ++ decimal number ++ codes " added " ++ decimal added ++ codes " removed " ++ decimal removed ++ newline
 
 abbrev pub program_text : List ℕ → ℕ → ℕ → List ℕ
 program_text name bound frames =
@@ -81,8 +95,18 @@ abbrev pub run_text : List ℕ → List ℕ → ℕ → ℕ → List ℕ
 run_text program pin edges total =
     codes "run " ++ program ++ codes " " ++ pin ++ codes " edges " ++ decimal edges ++ codes " total " ++ decimal total ++ newline
 
-abbrev pub row_text : ℕ → ℕ → List ℕ
-row_text vertex value = codes "row " ++ decimal vertex ++ codes " " ++ decimal value ++ newline
+abbrev pub row_text : Row → List ℕ
+row_text row = codes "row " ++ decimal row.vertex ++ codes " " ++ decimal row.value ++ newline
 
-abbrev pub fault_text : Fault → ℕ → List ℕ
-fault_text fault line = codes "fault " ++ decimal (fault_number fault) ++ codes " line " ++ decimal line ++ newline
+-- what is written for an answer
+abbrev pub answer_text : Answer → List ℕ
+answer_text (GraphMade vertices) = graph_text vertices
+answer_text (BatchPublished feed number added removed) = batch_text feed number added removed
+answer_text (ProgramAccepted name bound frames) = program_text name bound frames
+answer_text (ProgramRefused name refusal) = refused_text name refusal
+answer_text (NoImage name) = image_text name
+answer_text (PinTaken name number edges) = pin_text name number edges
+answer_text (EdgesMapped program pin edges total rows) = run_text program pin edges total ++ flat_map row_text rows
+
+abbrev pub fault_text : LineFault → ℕ → List ℕ
+fault_text fault line = codes "fault " ++ decimal (line_fault_number fault) ++ codes " line " ++ decimal line ++ newline

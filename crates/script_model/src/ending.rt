@@ -1,3 +1,5 @@
+//! How a script ends.
+
 /// How a script ended.
 #[derive(Clone, Copy, Debug, PartialEq, Eq)]
 pub enum Ending {

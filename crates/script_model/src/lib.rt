@@ -3,7 +3,9 @@
 #![tactic(auto)]
 
 mod ending;
-mod fault;
+mod limits;
+mod line_fault;
 
 pub use ending::Ending;
-pub use fault::Fault;
+pub use limits::{MOST_LINE_BYTES, MOST_PROGRAM_LINES};
+pub use line_fault::LineFault;

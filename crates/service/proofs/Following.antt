@@ -1,19 +1,20 @@
 -- A script is served line by line.
-use Rattle.std.proofs.Common.{◌≡◌, ℕ, ◌+◌, ◌<◌, true, false, ltb, List, [], ◌∷◌, ◌++◌, length, Option, Some, None, refl, sym, ap, ◌∙◌, arith, inl, inr, append_assoc, length-append}
+use Rattle.std.proofs.Common.{◌≡◌, ℕ, ◌+◌, ◌<◌, true, false, ltb, List, [], ◌∷◌, ◌++◌, length, refl, sym, ap, ◌∙◌, arith, inl, inr, append_assoc, length-append}
 use Rattle.std.specs.List.{slice_split, onto_first}
-use Rattle.std.specs.Prelude.{◌==◌, option_map}
+use Rattle.std.specs.Prelude.{◌==◌}
 use Rattle.std.proofs.lemmas.Bool.{cases_Bool, lt-ltb}
 use Rattle.std.proofs.lemmas.List.{append-nil}
 use Rattle.std.proofs.lemmas.List.Splits.{slice_split-cons_yes, slice_split-cons_no}
 use Rattle.script_model.specs.declared.ending.Ending.{Ending}
 use Rattle.script_model.specs.declared.ending.Ending.TheVariants as endings
-use Rattle.script_model.specs.declared.fault.Fault.{Fault}
-use Rattle.script_model.specs.declared.fault.Fault.TheVariants as faults
+use Rattle.script_model.specs.declared.line_fault.LineFault.{LineFault}
+use Rattle.script_model.specs.declared.line_fault.LineFault.TheVariants as faults
+use Rattle.script_model.specs.declared.limits.TheConstants.{MOST_LINE_BYTES}
 use Rattle.script_model.specs.Lexing.{is_newline, without_last_empty, script_lines}
-use Rattle.script_model.specs.Session.{Session, Block, opened_at, new_session}
+use Rattle.script_model.specs.State.{Script, new_script}
 use Rattle.script_model.specs.Texts.{fault_text}
-use Rattle.script_model.specs.Execution.{Says, Fails, execute, most_bytes}
-use Rattle.script_model.specs.Script.{Outcome, after_text, faulted, finished, follow, meaning}
+use Rattle.script_model.specs.Execution.{Says, Stops, execution}
+use Rattle.script_model.specs.Script.{Outcome, after_text, fault_outcome, end_outcome, next_line, outcome_from, meaning}
 use Rattle.service.specs.Served.{Served, Settled, IsOneLine}
 
 abbrev parts : List ℕ → List (List ℕ)
@@ -48,35 +49,39 @@ after_after : (a b : List ℕ) (o : Outcome) → after_text a (after_text b o) �
 after_after a b o = ap (λ (t : List ℕ). record { text = t; ending = o.ending }) (sym (append_assoc a b o.text))
 
 -- nothing is read yet
-pub served_start : Served [] [] 1 new_session []
+pub served_start : Served [] [] new_script []
 served_start rest = refl
 
 -- more is read
-pub served_more : (read said : List ℕ) (n : ℕ) (s : Session) (left more : List ℕ) → Served read said n s left → Served (read ++ more) said n s (left ++ more)
-served_more read said n s left more h rest =
+pub served_more : (read said : List ℕ) (s : Script) (left more : List ℕ) → Served read said s left → Served (read ++ more) said s (left ++ more)
+served_more read said s left more h rest =
     let first : (read ++ more) ++ rest ≡ read ++ (more ++ rest) = append_assoc read more rest in
     let second : (left ++ more) ++ rest ≡ left ++ (more ++ rest) = append_assoc left more rest in
     rw (first, second) (h (more ++ rest))
 
 -- what follows from the first line
-served_at : (read said line left : List ℕ) (n : ℕ) (s : Session) (rest : List ℕ) → Served read said n s (line ++ (10 ∷ left)) → IsOneLine line → meaning (read ++ rest) ≡ after_text said (follow n s (line ∷ script_lines (left ++ rest)))
-served_at read said line left n s rest h one =
+served_at : (read said line left : List ℕ) (s : Script) (rest : List ℕ) → Served read said s (line ++ (10 ∷ left)) → IsOneLine line → meaning (read ++ rest) ≡ after_text said (outcome_from s (line ∷ script_lines (left ++ rest)))
+served_at read said line left s rest h one =
     let joined : (line ++ (10 ∷ left)) ++ rest ≡ line ++ (10 ∷ (left ++ rest)) = append_assoc line (10 ∷ left) rest in
     let lines : script_lines ((line ++ (10 ∷ left)) ++ rest) ≡ line ∷ script_lines (left ++ rest) = ap (λ (bytes : List ℕ). script_lines bytes) joined ∙ lines_first line (left ++ rest) one in
-    h rest ∙ ap (λ (ls : List (List ℕ)). after_text said (follow n s ls)) lines
+    h rest ∙ ap (λ (ls : List (List ℕ)). after_text said (outcome_from s ls)) lines
 
 -- a line that was executed
-pub served_line : (read said line left : List ℕ) (n : ℕ) (s : Session) (text : List ℕ) (next : Session) → Served read said n s (line ++ (10 ∷ left)) → IsOneLine line → execute s n line ≡ Says text next → Served read (said ++ text) (n + 1) next left
-served_line read said line left n s text next h one says rest =
-    let here = served_at read said line left n s rest h one in
-    let goes : follow n s (line ∷ script_lines (left ++ rest)) ≡ after_text text (follow (n + 1) next (script_lines (left ++ rest))) = rw says refl in
-    here ∙ ap (λ (o : Outcome). after_text said o) goes ∙ after_after said text (follow (n + 1) next (script_lines (left ++ rest)))
+pub served_line : (read said line left : List ℕ) (s : Script) (text : List ℕ) (next : Script) → Served read said s (line ++ (10 ∷ left)) → IsOneLine line → execution s line ≡ Says text next → Served read (said ++ text) (next_line s.line next) left
+served_line read said line left s text next h one says rest =
+    let here = served_at read said line left s rest h one in
+    let goes : outcome_from s (line ∷ script_lines (left ++ rest)) ≡ after_text text (outcome_from (next_line s.line next) (script_lines (left ++ rest))) = rw says refl in
+    here ∙ ap (λ (o : Outcome). after_text said o) goes ∙ after_after said text (outcome_from (next_line s.line next) (script_lines (left ++ rest)))
+
+pub served_step : (read said line left : List ℕ) (s : Script) (text : List ℕ) (behind next : Script) → Served read said s (line ++ (10 ∷ left)) → IsOneLine line → execution s line ≡ Says text behind → next ≡ next_line s.line behind → Served read (said ++ text) next left
+served_step read said line left s text behind next h one says is =
+    rw is (served_line read said line left s text behind h one says)
 
 -- a line with a fault settles the script
-pub served_fault : (read said line left : List ℕ) (n : ℕ) (s : Session) (fault : Fault) (at : ℕ) → Served read said n s (line ++ (10 ∷ left)) → IsOneLine line → execute s n line ≡ Fails fault at → Settled read (said ++ fault_text fault at)
-served_fault read said line left n s fault at h one fails rest =
-    let here = served_at read said line left n s rest h one in
-    let goes : follow n s (line ∷ script_lines (left ++ rest)) ≡ faulted fault at = rw fails refl in
+pub served_fault : (read said line left : List ℕ) (s : Script) (fault : LineFault) → Served read said s (line ++ (10 ∷ left)) → IsOneLine line → execution s line ≡ Stops fault → Settled read (said ++ fault_text fault s.line)
+served_fault read said line left s fault h one fails rest =
+    let here = served_at read said line left s rest h one in
+    let goes : outcome_from s (line ∷ script_lines (left ++ rest)) ≡ fault_outcome fault s.line = rw fails refl in
     here ∙ ap (λ (o : Outcome). after_text said o) goes
 
 -- bytes that end no line begin the first part
@@ -97,19 +102,19 @@ lines_begin (b ∷ left) rest some one =
     let begin = parts_begin (b ∷ left) rest one in
     (begin.0, without_last_empty begin.1, ap (λ (ps : List (List ℕ)). without_last_empty ps) begin.2 ∙ keeps_some b (left ++ begin.0) begin.1)
 
-too_long : (s : Session) (n : ℕ) (line : List ℕ) → most_bytes < length line → execute s n line ≡ Fails faults.LongLine n
-unfolding execute
-too_long s n line long =
-    let test : ltb most_bytes (length line) ≡ true = lt-ltb _ _ long in
+too_long : (s : Script) (line : List ℕ) → MOST_LINE_BYTES < length line → execution s line ≡ Stops faults.LongLine
+unfolding execution
+too_long s line long =
+    let test : ltb MOST_LINE_BYTES (length line) ≡ true = lt-ltb _ _ long in
     rw test refl
 
 -- a line that is too long settles the script, though its end has not come
-pub served_long : (read said left : List ℕ) (n : ℕ) (s : Session) → Served read said n s left → IsOneLine left → most_bytes < length left → Settled read (said ++ fault_text faults.LongLine n)
-served_long read said left n s h one long rest =
+pub served_long : (read said left : List ℕ) (s : Script) → Served read said s left → IsOneLine left → MOST_LINE_BYTES < length left → Settled read (said ++ fault_text faults.LongLine s.line)
+served_long read said left s h one long rest =
     let begin = lines_begin left rest (omega arith) one in
-    let here : meaning (read ++ rest) ≡ after_text said (follow n s ((left ++ begin.0) ∷ begin.1)) = h rest ∙ ap (λ (ls : List (List ℕ)). after_text said (follow n s ls)) begin.2 in
-    let fails = too_long s n (left ++ begin.0) (omega (arith, length-append left begin.0)) in
-    let goes : follow n s ((left ++ begin.0) ∷ begin.1) ≡ faulted faults.LongLine n = rw fails refl in
+    let here : meaning (read ++ rest) ≡ after_text said (outcome_from s ((left ++ begin.0) ∷ begin.1)) = h rest ∙ ap (λ (ls : List (List ℕ)). after_text said (outcome_from s ls)) begin.2 in
+    let fails = too_long s (left ++ begin.0) (omega (arith, length-append left begin.0)) in
+    let goes : outcome_from s ((left ++ begin.0) ∷ begin.1) ≡ fault_outcome faults.LongLine s.line = rw fails refl in
     here ∙ ap (λ (o : Outcome). after_text said o) goes
 
 parts_one : (left : List ℕ) → IsOneLine left → parts left ≡ left ∷ []
@@ -122,53 +127,42 @@ lines_one [] one some = absurd (omega arith)
 lines_one (b ∷ left) one some = ap (λ (ps : List (List ℕ)). without_last_empty ps) (parts_one (b ∷ left) one)
 
 -- the input is at its end
-at_end : (read said left : List ℕ) (n : ℕ) (s : Session) → Served read said n s left → meaning read ≡ after_text said (follow n s (script_lines left))
-at_end read said left n s h =
-    ap (λ (bytes : List ℕ). meaning bytes) (sym (append-nil read)) ∙ h [] ∙ ap (λ (bytes : List ℕ). after_text said (follow n s (script_lines bytes))) (append-nil left)
+at_end : (read said left : List ℕ) (s : Script) → Served read said s left → meaning read ≡ after_text said (outcome_from s (script_lines left))
+at_end read said left s h =
+    ap (λ (bytes : List ℕ). meaning bytes) (sym (append-nil read)) ∙ h [] ∙ ap (λ (bytes : List ℕ). after_text said (outcome_from s (script_lines bytes))) (append-nil left)
 
-pub served_end : (read said : List ℕ) (n : ℕ) (s : Session) → Served read said n s [] → meaning read ≡ after_text said (finished s.block)
-served_end read said n s h = at_end read said [] n s h
+pub served_end : (read said : List ℕ) (s : Script) → Served read said s [] → meaning read ≡ after_text said (end_outcome s.block)
+served_end read said s h = at_end read said [] s h
 
 -- and its last line lacks its end
-pub served_last : (read said left : List ℕ) (n : ℕ) (s : Session) (text : List ℕ) (next : Session) → Served read said n s left → IsOneLine left → 0 < length left → execute s n left ≡ Says text next → meaning read ≡ after_text (said ++ text) (finished next.block)
-served_last read said left n s text next h one some says =
-    let lines = ap (λ (ls : List (List ℕ)). after_text said (follow n s ls)) (lines_one left one some) in
-    let goes : follow n s (left ∷ []) ≡ after_text text (finished next.block) = rw says refl in
-    at_end read said left n s h ∙ lines ∙ ap (λ (o : Outcome). after_text said o) goes ∙ after_after said text (finished next.block)
+pub served_last : (read said left : List ℕ) (s : Script) (text : List ℕ) (next : Script) → Served read said s left → IsOneLine left → 0 < length left → execution s left ≡ Says text next → meaning read ≡ after_text (said ++ text) (end_outcome next.block)
+served_last read said left s text next h one some says =
+    let lines = ap (λ (ls : List (List ℕ)). after_text said (outcome_from s ls)) (lines_one left one some) in
+    let goes : outcome_from s (left ∷ []) ≡ after_text text (end_outcome next.block) = rw says refl in
+    at_end read said left s h ∙ lines ∙ ap (λ (o : Outcome). after_text said o) goes ∙ after_after said text (end_outcome next.block)
 
-pub served_last_fault : (read said left : List ℕ) (n : ℕ) (s : Session) (fault : Fault) (at : ℕ) → Served read said n s left → IsOneLine left → 0 < length left → execute s n left ≡ Fails fault at → meaning read ≡ after_text said (faulted fault at)
-served_last_fault read said left n s fault at h one some fails =
-    let lines = ap (λ (ls : List (List ℕ)). after_text said (follow n s ls)) (lines_one left one some) in
-    let goes : follow n s (left ∷ []) ≡ faulted fault at = rw fails refl in
-    at_end read said left n s h ∙ lines ∙ ap (λ (o : Outcome). after_text said o) goes
-
--- what is open, by its line
-pub closed : (block : Option Block) → None ≡ option_map opened_at block → finished block ≡ record { text = []; ending = endings.Complete }
-closed None h = refl
-closed (Some begun) h = absurd cc
-
-pub still_open : (block : Option Block) (line : ℕ) → Some line ≡ option_map opened_at block → finished block ≡ faulted faults.OpenBlock line
-still_open None line h = absurd cc
-still_open (Some begun) line h =
-    let same : line ≡ opened_at begun = cc in
-    ap (λ (l : ℕ). faulted faults.OpenBlock l) (sym same)
+pub served_last_fault : (read said left : List ℕ) (s : Script) (fault : LineFault) → Served read said s left → IsOneLine left → 0 < length left → execution s left ≡ Stops fault → meaning read ≡ after_text said (fault_outcome fault s.line)
+served_last_fault read said left s fault h one some fails =
+    let lines = ap (λ (ls : List (List ℕ)). after_text said (outcome_from s ls)) (lines_one left one some) in
+    let goes : outcome_from s (left ∷ []) ≡ fault_outcome fault s.line = rw fails refl in
+    at_end read said left s h ∙ lines ∙ ap (λ (o : Outcome). after_text said o) goes
 
 -- the ends of a script
-pub ends_here : (read before : List ℕ) (n : ℕ) (s : Session) (text said : List ℕ) (e : Ending) → said ≡ text ++ (finished s.block).text → e ≡ (finished s.block).ending → Served read before n s [] → (t : List ℕ) × (said ≡ text ++ t) × (meaning read ≡ record { text = before ++ t; ending = e })
-ends_here read before n s text said e writes ends h =
-    ((finished s.block).text, writes, served_end read before n s h ∙ ap (λ (x : Ending). record { text = before ++ (finished s.block).text; ending = x }) (sym ends))
+pub ends_here : (read before : List ℕ) (s : Script) (text said : List ℕ) (e : Ending) → said ≡ text ++ (end_outcome s.block).text → e ≡ (end_outcome s.block).ending → Served read before s [] → (t : List ℕ) × (said ≡ text ++ t) × (meaning read ≡ record { text = before ++ t; ending = e })
+ends_here read before s text said e writes ends h =
+    ((end_outcome s.block).text, writes, served_end read before s h ∙ ap (λ (x : Ending). record { text = before ++ (end_outcome s.block).text; ending = x }) (sym ends))
 
-pub ends_after : (read before left : List ℕ) (n : ℕ) (s : Session) (t : List ℕ) (next : Session) (text middle said : List ℕ) (e : Ending) → execute s n left ≡ Says t next → IsOneLine left → 0 < length left → middle ≡ text ++ t → said ≡ middle ++ (finished next.block).text → e ≡ (finished next.block).ending → Served read before n s left → (u : List ℕ) × (said ≡ text ++ u) × (meaning read ≡ record { text = before ++ u; ending = e })
-ends_after read before left n s t next text middle said e says one some first writes ends h =
-    let last = (finished next.block).text in
+pub ends_after : (read before left : List ℕ) (s : Script) (t : List ℕ) (next : Script) (text middle said : List ℕ) (e : Ending) → execution s left ≡ Says t next → IsOneLine left → 0 < length left → middle ≡ text ++ t → said ≡ middle ++ (end_outcome next.block).text → e ≡ (end_outcome next.block).ending → Served read before s left → (u : List ℕ) × (said ≡ text ++ u) × (meaning read ≡ record { text = before ++ u; ending = e })
+ends_after read before left s t next text middle said e says one some first writes ends h =
+    let last = (end_outcome next.block).text in
     let whole : said ≡ text ++ (t ++ last) = writes ∙ ap (λ (x : List ℕ). x ++ last) first ∙ append_assoc text t last in
-    let means : meaning read ≡ after_text (before ++ t) (finished next.block) = served_last read before left n s t next h one some says in
-    let joined : meaning read ≡ record { text = before ++ (t ++ last); ending = (finished next.block).ending } = means ∙ ap (λ (x : List ℕ). record { text = x; ending = (finished next.block).ending }) (append_assoc before t last) in
+    let means : meaning read ≡ after_text (before ++ t) (end_outcome next.block) = served_last read before left s t next h one some says in
+    let joined : meaning read ≡ record { text = before ++ (t ++ last); ending = (end_outcome next.block).ending } = means ∙ ap (λ (x : List ℕ). record { text = x; ending = (end_outcome next.block).ending }) (append_assoc before t last) in
     (t ++ last, whole, joined ∙ ap (λ (x : Ending). record { text = before ++ (t ++ last); ending = x }) (sym ends))
 
-pub ends_in_fault : (read before left : List ℕ) (n : ℕ) (s : Session) (fault : Fault) (at : ℕ) (text middle said : List ℕ) → execute s n left ≡ Fails fault at → IsOneLine left → 0 < length left → middle ≡ text → said ≡ middle ++ fault_text fault at → Served read before n s left → (u : List ℕ) × (said ≡ text ++ u) × (meaning read ≡ record { text = before ++ u; ending = endings.Fault })
-ends_in_fault read before left n s fault at text middle said fails one some same writes h =
-    (fault_text fault at, writes ∙ ap (λ (x : List ℕ). x ++ fault_text fault at) same, served_last_fault read before left n s fault at h one some fails)
+pub ends_in_fault : (read before left : List ℕ) (s : Script) (fault : LineFault) (text said : List ℕ) → execution s left ≡ Stops fault → IsOneLine left → 0 < length left → said ≡ text ++ fault_text fault s.line → Served read before s left → (u : List ℕ) × (said ≡ text ++ u) × (meaning read ≡ record { text = before ++ u; ending = endings.Fault })
+ends_in_fault read before left s fault text said fails one some writes h =
+    (fault_text fault s.line, writes, served_last_fault read before left s fault h one some fails)
 
 -- bytes that are not none are some
 pub some_left : (left : List ℕ) → false ≡ (length left == 0) → 0 < length left

@@ -1,9 +1,3 @@
-pub mod Cuts
-pub mod CommandCuts
-pub mod FrontierLemmas
-pub mod PinLemmas
-pub mod RunLemmas
-pub mod ProgramLemmas
 pub mod Following
 pub mod KnownLemmas
 pub mod LineLemmas

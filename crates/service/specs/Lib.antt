@@ -1,6 +1,5 @@
 pub mod Ends
-pub mod Kept
-pub mod Executed
+pub mod Stand
 pub mod Served
 pub mod Serves
 pub mod Rounds

@@ -1,14 +1,14 @@
-ghost use Rattle.std.specs.Prelude.{◌≡◌, ◌≤◌, MatchOption};
-ghost use Rattle.service.specs.Served.{IsOneLine, IsLine, Steps, Goes};
+//! The lines of what was read.
 
-use crate::session::Session;
-use crate::stop::SessionError;
-use crate::texts::put_fault;
+ghost use Rattle.std.specs.Prelude.{◌≡◌, ◌≤◌, MatchOption};
+ghost use Rattle.service.specs.Served.{IsOneLine, IsLine, TakesLine, TakesLines, LeavesFew, Finishes};
+
 use memchr::memchr;
+use script::{Ending, MOST_LINE_BYTES, Script, ScriptError, Step};
 
 /// What came of the first line of some bytes.
 #[derive(Clone, Copy, Debug, PartialEq, Eq)]
-pub enum Step {
+pub enum FirstLine {
     /// Its end is not among them.
     Partial,
     /// It was executed; with its end it has so many bytes.
@@ -25,23 +25,19 @@ fn line_end(bytes: &[u8]) -> Option<usize>
 }
 
 /// Executes the first line of some bytes, if it is whole.
-pub fn execute_first(
-    session: &mut Session,
+fn execute_first(
+    script: &mut Script,
     text: &mut Vec<u8>,
     bytes: &[u8],
-    line: u64,
-) -> Result<Step, SessionError>
-    ensures { Steps result bytes.now line session.old session.new text.old.items text.new.items }
+) -> Result<FirstLine, ScriptError>
+    ensures { TakesLine result bytes.now script.old script.new text.old.items text.new.items }
 {
     let Some(end) = line_end(bytes) else {
-        return Ok(Step::Partial);
+        return Ok(FirstLine::Partial);
     };
-    match session.execute(text, &bytes[..end], line)? {
-        None => Ok(Step::Executed(end + 1)),
-        Some(stop) => {
-            put_fault(text, stop.fault, stop.line)?;
-            Ok(Step::Stopped)
-        }
+    match script.execute(text, &bytes[..end])? {
+        Step::Executed => Ok(FirstLine::Executed(end + 1)),
+        Step::Stopped => Ok(FirstLine::Stopped),
     }
 }
 
@@ -54,26 +50,57 @@ pub enum Progress {
     Settled,
 }
 
-/// Executes the whole lines of some bytes, of which the first has this number, and counts them.
-pub fn execute_lines(
-    session: &mut Session,
+/// Executes the whole lines of some bytes.
+fn execute_lines(
+    script: &mut Script,
     text: &mut Vec<u8>,
     bytes: &[u8],
-    line: &mut u64,
-) -> Result<Progress, SessionError>
-    ensures { Goes result bytes.now line.old session.old line.new session.new text.old.items text.new.items }
+) -> Result<Progress, ScriptError>
+    ensures { TakesLines result bytes.now script.old script.new text.old.items text.new.items }
 {
     let mut from = 0;
     loop {
-        match execute_first(session, text, &bytes[from..], *line)? {
-            Step::Partial => return Ok(Progress::Left(from)),
-            Step::Stopped => return Ok(Progress::Settled),
-            Step::Executed(count) => from += count,
+        match execute_first(script, text, &bytes[from..])? {
+            FirstLine::Partial => return Ok(Progress::Left(from)),
+            FirstLine::Stopped => return Ok(Progress::Settled),
+            FirstLine::Executed(count) => from += count,
         }
-        // No machine reads 2^64 lines.
-        let Some(next) = line.checked_add(1) else {
-            return Err(SessionError::OutOfMemory);
-        };
-        *line = next;
+    }
+}
+
+/// Executes the whole lines of what was read. A line that is too long is a fault before its end comes.
+pub fn execute_read(
+    script: &mut Script,
+    text: &mut Vec<u8>,
+    bytes: &[u8],
+) -> Result<Progress, ScriptError>
+    ensures taken { TakesLines result bytes.now script.old script.new text.old.items text.new.items }
+    ensures few { LeavesFew result bytes.now }
+{
+    let progress = execute_lines(script, text, bytes)?;
+    if let Progress::Left(from) = progress
+        && bytes.len() - from > MOST_LINE_BYTES
+    {
+        script.stop_at_long_line(text)?;
+        return Ok(Progress::Settled);
+    }
+    Ok(progress)
+}
+
+/// Executes the last line of a script, if that lacks its end, and ends the script.
+pub fn finish(
+    script: &mut Script,
+    text: &mut Vec<u8>,
+    rest: &[u8],
+) -> Result<Ending, ScriptError>
+    requires { IsOneLine rest.now }
+    ensures { Finishes result rest.now script.old text.old.items text.new.items }
+{
+    if rest.is_empty() {
+        return script.finish(text);
+    }
+    match script.execute(text, rest)? {
+        Step::Executed => script.finish(text),
+        Step::Stopped => Ok(Ending::Fault),
     }
 }

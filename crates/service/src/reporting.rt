@@ -1,8 +1,10 @@
+//! How the program ends.
+
 ghost use Rattle.std.specs.Prelude.{◌≡◌};
 ghost use Rattle.service.specs.Report.{status_of, line_of};
 
 use crate::serve_error::ServeError;
-use script_model::Ending;
+use script::Ending;
 
 /// How a program ends that served a script: its exit status, 0 only where the script is complete, and
 /// the line that it writes to standard error, without its end; empty where there is none.

@@ -1,6 +1,8 @@
+//! Why a script was not served to its end.
+
 ghost use Rattle.std.specs.Prelude.{◌≡◌};
 
-use crate::stop::SessionError;
+use script::ScriptError;
 use std::alloc::AllocError;
 use thiserror::Error;
 
@@ -21,15 +23,15 @@ pub enum ServeError {
     Store = 5,
 }
 
-impl From<SessionError> for ServeError {
-    ghost use Rattle.service.specs.Rounds.{of_session};
+impl From<ScriptError> for ServeError {
+    ghost use Rattle.service.specs.Rounds.{serve_error_of};
 
-    ghost from_gives = { λ s e. e ≡ of_session s };
+    ghost from_gives = { λ s e. e ≡ serve_error_of s };
 
-    fn from(e: SessionError) -> ServeError {
+    fn from(e: ScriptError) -> ServeError {
         match e {
-            SessionError::OutOfMemory => ServeError::OutOfMemory,
-            SessionError::Store => ServeError::Store,
+            ScriptError::OutOfMemory => ServeError::OutOfMemory,
+            ScriptError::Store => ServeError::Store,
         }
     }
 }

@@ -1,42 +1,43 @@
+//! A script that is read, executed and written block by block.
+
 ghost use Rattle.std.specs.Prelude.{◌≡◌, ◌<◌, ℕ, List, [], Option, length};
 ghost use Rattle.service.specs.Served.{IsOneLine};
 ghost use Rattle.service.specs.Serves.{Serves, CountsReads, CountsWrites};
 ghost use Rattle.service.specs.Rounds.{Advances, Rounds, Turns, IsServed, IsNoWrite};
 
-use crate::ending::{execute_read, finish};
 use crate::ends::{Input, Output};
-use crate::lines::Progress;
+use crate::lines::{Progress, execute_read, finish};
 use crate::serve_error::ServeError;
-use crate::session::Session;
-use crate::stop::SessionError;
 use crate::writing::write_all;
-use script_model::{Ending, Fault};
+use script::{Ending, Script, ScriptError};
 use std::alloc::Global;
+use std::marker::Model;
 
 /// The most bytes that one read asks for.
 const BLOCK_BYTES: usize = 65_536;
 
-/// A script on its way: its session, the number of its next line, the bytes that were read and not
-/// executed, and the text that is not written.
-#[derive(Drop)]
+/// A script on its way: how far it is, the bytes that were read and not executed, and the text that is
+/// not written.
 struct Serving {
-    session: Session,
-    line: u64,
+    script: Script,
     pending: Vec<u8>,
     text: Vec<u8>,
 }
 
+impl Model for Serving {
+    ghost use Rattle.service.specs.Stand.{Stand};
+
+    ghost Value = { Stand };
+
+    ghost view = { λ s. record { script = s.script; pending = s.pending.items; text = s.text.items } };
+}
+
 impl Serving {
     /// Executes the whole lines among what was read.
-    fn advance(&mut self, alloc: Global) -> Result<Option<Ending>, SessionError>
-        ensures { Advances result self.old.line self.old.session self.old.pending.items self.new.line self.new.session self.new.pending.items self.old.text.items self.new.text.items }
+    fn advance(&mut self, alloc: Global) -> Result<Option<Ending>, ScriptError>
+        ensures { Advances result self.old self.new }
     {
-        match execute_read(
-            &mut self.session,
-            &mut self.text,
-            &self.pending,
-            &mut self.line,
-        )? {
+        match execute_read(&mut self.script, &mut self.text, &self.pending)? {
             Progress::Settled => Ok(Some(Ending::Fault)),
             Progress::Left(from) => {
                 self.pending = Vec::from_slice(alloc, &self.pending[from..])?;
@@ -53,9 +54,9 @@ impl Serving {
         block: &mut [u8],
     ) -> Result<Option<Ending>, ServeError>
         requires room { 0 < length block.old }
-        requires one { IsOneLine self.old.pending.items }
+        requires one { IsOneLine self.old.pending }
         ensures same { length block.new ≡ length block.old }
-        ensures round { Rounds result (I.remaining input.old) (I.remaining input.new) self.old.line self.old.session self.old.pending.items self.new.line self.new.session self.new.pending.items self.old.text.items self.new.text.items }
+        ensures round { Rounds result (I.remaining input.old) (I.remaining input.new) self.old self.new }
         ensures reads { CountsReads result (I.failures input.old) (I.failures input.new) }
         ensures no_write { IsNoWrite result }
     {
@@ -63,7 +64,7 @@ impl Serving {
             return Err(ServeError::Read);
         };
         if count == 0 {
-            let ending = finish(&mut self.session, &mut self.text, &self.pending, self.line)?;
+            let ending = finish(&mut self.script, &mut self.text, &self.pending)?;
             return Ok(Some(ending));
         }
         self.pending.extend_from_slice(&block[..count])?;
@@ -80,10 +81,11 @@ impl Serving {
         block: &mut [u8],
     ) -> Result<Option<Ending>, ServeError>
         requires room { 0 < length block.old }
-        requires one { IsOneLine self.old.pending.items }
-        requires written { self.old.text.items ≡ [] }
+        requires one { IsOneLine self.old.pending }
+        requires written { self.old.text ≡ [] }
         ensures same { length block.new ≡ length block.old }
-        ensures turn { Turns result (I.remaining input.old) (I.remaining input.new) (O.contents output.old) (O.contents output.new) self.old.line self.old.session self.old.pending.items self.new.line self.new.session self.new.pending.items self.new.text.items }
+        ensures turn { Turns result (I.remaining input.old) (I.remaining input.new)
+            (O.contents output.old) (O.contents output.new) self.old self.new }
         ensures reads { CountsReads result (I.failures input.old) (I.failures input.new) }
         ensures writes { CountsWrites result (O.failures output.old) (O.failures output.new) }
     {
@@ -104,9 +106,11 @@ impl Serving {
         block: &mut [u8],
     ) -> Result<Ending, ServeError>
         requires room { 0 < length block.old }
-        requires one { IsOneLine self.old.pending.items }
-        requires written { self.old.text.items ≡ [] }
-        ensures served { (had held : Option (List ℕ)) → IsServed had (I.remaining input.old) held (O.contents output.old) self.old.line self.old.session self.old.pending.items → Serves result had (I.remaining input.new) held (O.contents output.new) }
+        requires one { IsOneLine self.old.pending }
+        requires written { self.old.text ≡ [] }
+        ensures served { (had held : Option (List ℕ))
+            → IsServed had (I.remaining input.old) held (O.contents output.old) self.old
+            → Serves result had (I.remaining input.new) held (O.contents output.new) }
         ensures reads { CountsReads result (I.failures input.old) (I.failures input.new) }
         ensures writes { CountsWrites result (O.failures output.old) (O.failures output.new) }
     {
@@ -117,6 +121,16 @@ impl Serving {
         }
         // No machine reads so often.
         Err(ServeError::OutOfMemory)
+    }
+
+    /// Lets go of the script and of what it has made.
+    fn close(self) {
+        let Serving {
+            script,
+            pending: _,
+            text: _,
+        } = self;
+        script.close();
     }
 }
 
@@ -132,16 +146,18 @@ pub fn serve<I: Input, O: Output>(
     input: &mut I,
     output: &mut O,
 ) -> Result<Ending, ServeError>
-    ensures served { Serves result (I.remaining input.old) (I.remaining input.new) (O.contents output.old) (O.contents output.new) }
+    ensures served { Serves result (I.remaining input.old) (I.remaining input.new)
+        (O.contents output.old) (O.contents output.new) }
     ensures reads { CountsReads result (I.failures input.old) (I.failures input.new) }
     ensures writes { CountsWrites result (O.failures output.old) (O.failures output.new) }
 {
     let mut block = vec![in alloc; 0u8; BLOCK_BYTES]?;
     let mut serving = Serving {
-        session: Session::new(alloc),
-        line: 1,
+        script: Script::new(alloc),
         pending: Vec::new(alloc),
         text: Vec::new(alloc),
     };
-    serving.until_ended(alloc, input, output, &mut block)
+    let answer = serving.until_ended(alloc, input, output, &mut block);
+    serving.close();
+    answer
 }

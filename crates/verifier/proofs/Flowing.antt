@@ -1,19 +1,20 @@
 -- Where the second pass has no fault, every way leads behind its pc, to an instruction inside the code.
-use Rattle.std.proofs.Common.{◌≡◌, ◌≢◌, ℕ, ◌+◌, ◌<◌, ◌≤◌, [], ◌∷◌, true, false, leb, eqb, Option, Some, None, refl, sym, ◌∙◌, arith, inl, inr}
+use Rattle.std.proofs.Common.{◌≡◌, ℕ, zero, suc, ◌+◌, ◌-◌, ◌<◌, ◌≤◌, List, [], ◌∷◌, ◌++◌, true, leb, ltb, Option, Some, None, refl, arith, inl, inr, ◌⊎◌}
 use Rattle.std.specs.Option.{option_or}
-use Rattle.std.specs.Prelude.{ℤ, pos, negsuc, is_some}
-use Rattle.std.proofs.lemmas.Bool.{cases_Bool, leb-false, eq-eqb}
+use Rattle.std.specs.Prelude.{ℤ, pos, negsuc, ◌&&◌, is_some}
+use Rattle.std.proofs.lemmas.Bool.{cases_Bool, and_parts, leb-false, ltb-true}
 use Rattle.bpf_isa.specs.declared.instruction.Instruction.{Instruction}
 use Rattle.bpf_isa.specs.declared.instruction.Instruction.TheVariants.{Alu, MoveSigned, Negate, Swap, Jump, Branch, CallHelper, CallLocal, Exit, Load, LoadSigned, Store, StoreRegister, Wide}
 use Rattle.bpf_isa.specs.Encoding.{units_of}
 use Rattle.bpf_model.specs.Step.{units_over}
 use Rattle.bpf_image.specs.Program.{Program, units}
 use Rattle.abstract_values.specs.declared.cause.Cause.{Cause}
-use Rattle.abstract_values.specs.declared.cause.Cause.TheVariants.{JumpOut, JumpBack, FallsOff}
+use Rattle.abstract_values.specs.declared.cause.Cause.TheVariants.{JumpOut, JumpBack, CallTarget, FallsOff}
 use Rattle.verifier_parts.specs.Rules.{target}
 use Rattle.verifier.specs.Listing.{instruction_at, start_from}
-use Rattle.verifier.specs.Walks.{next_pcs, IsOneOf}
-use Rattle.verifier.specs.Verdict.{first_fault, decoding_fault, flow_fault, flow_cause, landing_cause, falling_cause}
+use Rattle.verifier.specs.Functions.{start_above, is_entry, entry_from, function_end}
+use Rattle.verifier.specs.Walks.{next_pcs, called_pcs, IsOneOf}
+use Rattle.verifier.specs.Verdict.{first_fault, decoding_fault, flow_fault, flow_cause, landing_cause, calling_cause, falling_cause}
 use Rattle.verifier.proofs.Faults.{NoFault-first}
 use Rattle.verifier.proofs.Listed.{inside, units_inside, next_starts, stands_at}
 
@@ -34,9 +35,9 @@ there (Some i) h = (i, refl)
 
 landing_ahead : (p : Program) (pc : ℕ) (z : ℤ) → landing_cause p pc z ≡ None → Ahead p pc z
 landing_ahead p pc (pos q) h =
-    elim (cases_Bool (is_some (instruction_at p q))) [
+    elim (cases_Bool (is_some (instruction_at p q) && ltb q (function_end p pc))) [
       | inl is ↦
-          let found = there (instruction_at p q) is in
+          let found = there (instruction_at p q) ((and_parts (is_some (instruction_at p q)) (ltb q (function_end p pc)) is).0) in
           elim (cases_Bool (leb q pc)) [
             | inl back ↦ absurd (let e : some_cause JumpBack ≡ None = (rw (is, back) at h) in cc)
             | inr behind ↦ record { place = q; is = refl; behind = omega (arith, leb-false q pc behind); instruction = found.0; found = found.1 }
@@ -45,15 +46,39 @@ landing_ahead p pc (pos q) h =
     ]
 landing_ahead p pc (negsuc n) h = absurd cc
 
-falling_ahead : (p : Program) (pc : ℕ) (i : Instruction) (u : ℕ) → first_fault (decoding_fault p) (units p) ≡ None → instruction_at p pc ≡ Some i → u ≡ units_of i → 1 ≤ u → falling_cause (pc + u) (units p) ≡ None → Ahead p pc (pos (pc + u))
+calling_ahead : (p : Program) (pc : ℕ) (z : ℤ) → calling_cause (start_above p pc z) ≡ None → Ahead p pc z
+calling_ahead p pc (pos q) h =
+    elim (cases_Bool (is_some (instruction_at p q) && ltb pc q)) [
+      | inl is ↦
+          let both = and_parts (is_some (instruction_at p q)) (ltb pc q) is in
+          let found = there (instruction_at p q) both.0 in
+          record { place = q; is = refl; behind = ltb-true pc q both.1; instruction = found.0; found = found.1 }
+      | inr not_is ↦ absurd (let e : some_cause CallTarget ≡ None = (rw not_is at h) in cc)
+    ]
+calling_ahead p pc (negsuc n) h = absurd cc
+
+-- a function ends inside the code
+entry_most : (p : Program) (n pc : ℕ) → entry_from p n pc ≤ pc + n
+entry_most p zero pc = omega arith
+entry_most p (suc n) pc =
+    elim (cases_Bool (is_entry p pc)) [
+      | inl is ↦ rw is (omega arith)
+      | inr not_is ↦ rw not_is (let rest = entry_most p n (pc + 1) in omega (arith, rest))
+    ]
+
+pub end_inside : (p : Program) (pc : ℕ) → pc < units p → function_end p pc ≤ units p
+unfolding function_end
+end_inside p pc lt = (let most = entry_most p (units p - (pc + 1)) (pc + 1) in omega (arith, most, lt))
+
+falling_ahead : (p : Program) (pc : ℕ) (i : Instruction) (u : ℕ) → first_fault (decoding_fault p) (units p) ≡ None → instruction_at p pc ≡ Some i → u ≡ units_of i → 1 ≤ u → falling_cause p pc (pc + u) ≡ None → Ahead p pc (pos (pc + u))
 falling_ahead p pc i u fine found size some h =
-    elim (cases_Bool (eqb (pc + u) (units p))) [
+    elim (cases_Bool (leb (function_end p pc) (pc + u))) [
       | inl end ↦ absurd (let e : some_cause FallsOff ≡ None = (rw end at h) in cc)
       | inr more ↦
-          let last = units_inside p pc i found in
-          let apart : (pc + u) ≢ units p = (λ e. let t : eqb (pc + u) (units p) ≡ true = eq-eqb _ _ e in absurd (let f : true ≡ false = sym t ∙ more in cc)) in
+          let before = leb-false (function_end p pc) (pc + u) more in
+          let end = end_inside p pc (inside p pc i found) in
           let at : start_from p (pc + u) ≡ pc + u = (rw size (next_starts p pc i found)) in
-          let found = stands_at p (pc + u) fine at (omega (arith, last, apart, size)) in
+          let found = stands_at p (pc + u) fine at (omega (arith, before, end)) in
           record { place = pc + u; is = refl; behind = omega (arith, some); instruction = found.0; found = found.1 }
     ]
 
@@ -73,7 +98,7 @@ cause_ahead p pc Exit z fine found h m = absurd m
 cause_ahead p pc (Jump d) z fine found h m =
     one_ahead p pc z (target pc (units_over d)) (landing_ahead p pc (target pc (units_over d)) h) m
 cause_ahead p pc (Branch w c l r d) z fine found h m =
-    let parts = both_none (landing_cause p pc (target pc d)) (falling_cause (pc + 1) (units p)) h in
+    let parts = both_none (landing_cause p pc (target pc d)) (falling_cause p pc (pc + 1)) h in
     two_ahead p pc z (target pc d) (pos (pc + 1)) (landing_ahead p pc (target pc d) parts.0) (falling_ahead p pc (Branch w c l r d) 1 fine found refl (omega arith) parts.1) m
 cause_ahead p pc (Wide d v) z fine found h m =
     one_ahead p pc z (pos (pc + 2)) (falling_ahead p pc (Wide d v) 2 fine found refl (omega arith) h) m
@@ -87,8 +112,9 @@ cause_ahead p pc (Swap o b d) z fine found h m =
     one_ahead p pc z (pos (pc + 1)) (falling_ahead p pc (Swap o b d) 1 fine found refl (omega arith) h) m
 cause_ahead p pc (CallHelper n) z fine found h m =
     one_ahead p pc z (pos (pc + 1)) (falling_ahead p pc (CallHelper n) 1 fine found refl (omega arith) h) m
-cause_ahead p pc (CallLocal n) z fine found h m =
-    one_ahead p pc z (pos (pc + 1)) (falling_ahead p pc (CallLocal n) 1 fine found refl (omega arith) h) m
+cause_ahead p pc (CallLocal d) z fine found h m =
+    let parts = both_none (calling_cause (start_above p pc (target pc d))) (falling_cause p pc (pc + 1)) h in
+    one_ahead p pc z (pos (pc + 1)) (falling_ahead p pc (CallLocal d) 1 fine found refl (omega arith) parts.1) m
 cause_ahead p pc (Load s d b o) z fine found h m =
     one_ahead p pc z (pos (pc + 1)) (falling_ahead p pc (Load s d b o) 1 fine found refl (omega arith) h) m
 cause_ahead p pc (LoadSigned s d b o) z fine found h m =
@@ -98,13 +124,42 @@ cause_ahead p pc (Store s b o n) z fine found h m =
 cause_ahead p pc (StoreRegister s b o r) z fine found h m =
     one_ahead p pc z (pos (pc + 1)) (falling_ahead p pc (StoreRegister s b o r) 1 fine found refl (omega arith) h) m
 
+-- what is called lies ahead too
+called_ahead : (p : Program) (pc : ℕ) (i : Instruction) (z : ℤ) → flow_cause p pc i ≡ None → IsOneOf z (called_pcs i pc) → Ahead p pc z
+called_ahead p pc (CallLocal d) z h m =
+    let parts = both_none (calling_cause (start_above p pc (target pc d))) (falling_cause p pc (pc + 1)) h in
+    one_ahead p pc z (target pc d) (calling_ahead p pc (target pc d) parts.0) m
+called_ahead p pc _ z h m = absurd m
+
 -- what the first two passes found of a program
 pub record Flows (p : Program) : Type 0 where
   pub decodes : first_fault (decoding_fault p) (units p) ≡ None
   pub flow : first_fault (flow_fault p) (units p) ≡ None
 
+flow_fine : (p : Program) (pc : ℕ) (i : Instruction) → Flows p → instruction_at p pc ≡ Some i → flow_cause p pc i ≡ None
+flow_fine p pc i passed found =
+    let none : flow_fault p pc ≡ None = NoFault-first (flow_fault p) (units p) passed.flow pc (inside p pc i found) in
+    (rw found at none)
+
 pub ahead : (p : Program) (pc : ℕ) (i : Instruction) (z : ℤ) → Flows p → instruction_at p pc ≡ Some i → IsOneOf z (next_pcs i pc) → Ahead p pc z
 ahead p pc i z passed found m =
-    let none : flow_fault p pc ≡ None = NoFault-first (flow_fault p) (units p) passed.flow pc (inside p pc i found) in
-    let fine : flow_cause p pc i ≡ None = (rw found at none) in
-    cause_ahead p pc i z passed.decodes found fine m
+    cause_ahead p pc i z passed.decodes found (flow_fine p pc i passed found) m
+
+pub call_ahead : (p : Program) (pc : ℕ) (i : Instruction) (z : ℤ) → Flows p → instruction_at p pc ≡ Some i → IsOneOf z (called_pcs i pc) → Ahead p pc z
+call_ahead p pc i z passed found m = called_ahead p pc i z (flow_fine p pc i passed found) m
+
+pub one_of_two : (z : ℤ) (xs ys : List ℤ) → IsOneOf z (xs ++ ys) → IsOneOf z xs ⊎ IsOneOf z ys
+one_of_two z [] ys m = inr m
+one_of_two z (x ∷ xs) ys m =
+    elim m [
+      | inl same ↦ inl (inl same)
+      | inr rest ↦ elim (one_of_two z xs ys rest) [ inl left ↦ inl (inr left) | inr right ↦ inr right ]
+    ]
+
+-- where an instruction goes in any way
+pub any_ahead : (p : Program) (pc : ℕ) (i : Instruction) (z : ℤ) → Flows p → instruction_at p pc ≡ Some i → IsOneOf z (called_pcs i pc ++ next_pcs i pc) → Ahead p pc z
+any_ahead p pc i z passed found m =
+    elim (one_of_two z (called_pcs i pc) (next_pcs i pc) m) [
+      | inl called ↦ call_ahead p pc i z passed found called
+      | inr next ↦ ahead p pc i z passed found next
+    ]

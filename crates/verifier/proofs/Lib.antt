@@ -2,8 +2,10 @@ pub mod Faults
 pub mod Equal
 pub mod Listed
 pub mod Flowing
-pub mod Counting
-pub mod CountTable
+pub mod Weighing
+pub mod Greatest
+pub mod WeightTable
+pub mod EntryTable
 pub mod Arrivals
 pub mod WaysAhead
 pub mod Visits

@@ -14,14 +14,14 @@ use Rattle.verifier.specs.Verdict.{first_fault, rule_fault}
 use Rattle.verifier.specs.Tables.{state_at, boxed_state, LeadInside, IsWalkedTo}
 use Rattle.verifier.proofs.Faults.{NoFault-first, first_fault_at}
 use Rattle.verifier.proofs.Listed.{inside}
-use Rattle.verifier.proofs.Flowing.{Flows, ahead}
+use Rattle.verifier.proofs.Flowing.{Flows, any_ahead}
 use Rattle.verifier.proofs.Arrivals.{States}
 use Rattle.verifier.proofs.WaysAhead.{ways_lead}
 
 -- the rules' ways lead inside the code
 pub lead_inside : (p : Program) (pc : ℕ) (i : Instruction) (s : AbstractState) (ws : Ways) → Flows p → instruction_at p pc ≡ Some i → transfer p.record_length pc i s ≡ ok ws → LeadInside (units p) ws
 lead_inside p pc i s ws passed found goes w m =
-    let to = ahead p pc i w.0 passed found (ways_lead p.record_length pc i s ws goes w m) in
+    let to = any_ahead p pc i w.0 passed found (ways_lead p.record_length pc i s ws goes w m) in
     (to.place, to.is, inside p to.place to.instruction to.found)
 
 -- what the table has of a pc is what has come there

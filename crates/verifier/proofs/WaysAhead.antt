@@ -13,12 +13,12 @@ use Rattle.abstract_values.specs.declared.value.AbstractValue.{AbstractValue}
 use Rattle.abstract_values.specs.declared.value.AbstractValue.TheVariants.{Unset, Number, Record, Stack}
 use Rattle.abstract_values.specs.Values.{arithmetic, negation, sign_extension, swap_result}
 use Rattle.abstract_state.specs.declared.state.AbstractState.{AbstractState}
-use Rattle.abstract_state.specs.States.{with_register}
+use Rattle.abstract_state.specs.States.{with_register, entered, returned_from}
 use Rattle.abstract_state.specs.Memory.{loaded, loaded_signed, stored_through}
-use Rattle.verifier_parts.specs.Rules.{Ways, bind, constant, known_register, operand_known, left_known, onward, written, behind_store, target, branch_sides, side_way, branch_ways, returned, transfer}
+use Rattle.verifier_parts.specs.Rules.{Ways, bind, constant, known_register, operand_known, left_known, onward, written, behind_store, target, branch_sides, side_way, branch_ways, call_ways, returned, transfer}
 use Rattle.verifier_parts.specs.Described.{IsWay}
 use Rattle.verifier_parts.proofs.Parts.{ok, bind_ok, writes_from}
-use Rattle.verifier.specs.Walks.{next_pcs, IsOneOf}
+use Rattle.verifier.specs.Walks.{next_pcs, called_pcs, IsOneOf}
 
 -- each way leads to one of some pcs
 abbrev pub AllLead : Ways → List ℤ → Type 0
@@ -28,6 +28,14 @@ one_leads : (z : ℤ) (s : AbstractState) (ws : Ways) → (z, s) ∷ [] ≡ ws �
 one_leads z s ws same w m =
     let one : IsWay w ((z, s) ∷ []) = subst (λ (x : Ways). IsWay w x) (sym same) m in
     elim one [ inl is ↦ inl (ap (λ (x : ℤ × AbstractState). x.0) is) | inr none ↦ absurd none ]
+
+two_lead : (x y : ℤ) (s t : AbstractState) (ws : Ways) → (x, s) ∷ (y, t) ∷ [] ≡ ws → AllLead ws (x ∷ y ∷ [])
+two_lead x y s t ws same w m =
+    let both : IsWay w ((x, s) ∷ (y, t) ∷ []) = subst (λ (v : Ways). IsWay w v) (sym same) m in
+    elim both [
+      | inl is ↦ inl (ap (λ (v : ℤ × AbstractState). v.0) is)
+      | inr rest ↦ elim rest [ inl is ↦ inr (inl (ap (λ (v : ℤ × AbstractState). v.0) is)) | inr none ↦ absurd none ]
+    ]
 
 written_leads : (pc : ℕ) (s : AbstractState) (d : Register) (r : Result AbstractValue Cause) (ws : Ways) → written pc s d r ≡ ok ws → AllLead ws (pos pc ∷ [])
 written_leads pc s d r ws h =
@@ -72,7 +80,7 @@ branch_leads pc z s left right sides ws same w m =
     ]
 
 -- one clause an instruction
-pub ways_lead : (l pc : ℕ) (i : Instruction) (a : AbstractState) (ws : Ways) → transfer l pc i a ≡ ok ws → AllLead ws (next_pcs i pc)
+pub ways_lead : (l pc : ℕ) (i : Instruction) (a : AbstractState) (ws : Ways) → transfer l pc i a ≡ ok ws → AllLead ws (called_pcs i pc ++ next_pcs i pc)
 unfolding transfer
 ways_lead l pc (Alu w operation d o) a ws h =
     let u = bind_ok (left_known operation a d) (λ u. bind (operand_known w a o) (λ b. written (pc + 1) a d (arithmetic w operation l u b))) ws h in
@@ -97,7 +105,9 @@ ways_lead l pc (Branch w c left right distance) a ws h =
     let same : branch_ways pc distance a left right sides.0 ≡ ws = (let e : ok (branch_ways pc distance a left right sides.0) ≡ ok ws = sides.2 in cc) in
     branch_leads pc distance a left right sides.0 ws same
 ways_lead l pc (CallHelper number) a ws h = absurd cc
-ways_lead l pc (CallLocal distance) a ws h = absurd cc
+ways_lead l pc (CallLocal distance) a ws h =
+    let same : call_ways pc distance a ≡ ws = (let e : ok (call_ways pc distance a) ≡ ok ws = h in cc) in
+    two_lead (target pc distance) (pos (pc + 1)) (entered a) (returned_from a) ws same
 ways_lead l pc Exit a ws h = returned_leads (get_or a.registers 0 Unset) ws h
 ways_lead l pc (Load size d base offset) a ws h =
     let b = bind_ok (known_register a base) (λ b. written (pc + 1) a d (loaded l a b offset (size_bytes size))) ws h in

@@ -1,4 +1,5 @@
 pub mod Listing
+pub mod Functions
 pub mod Equations
 pub mod Walks
 pub mod Verdict

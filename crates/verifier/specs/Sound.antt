@@ -1,20 +1,44 @@
 -- A program that was accepted never goes wrong: every state that a run of it reaches is described by
--- what is known at its pc, no step traps, and the run exits within the bound.
-use Rattle.std.specs.Prelude.{◌≡◌, ℕ, ◌+◌, ◌<◌, ◌≤◌, pos, List, length, Some, slice_index}
+-- what is known at its pc, in whatever frame and with whatever callers, no step traps, and the run exits
+-- within the bound.
+use Rattle.std.specs.Prelude.{◌≡◌, ℕ, ◌+◌, ◌<◌, ◌≤◌, ℤ, pos, unsigned_abs, List, [], ◌∷◌, length, Some, slice_index}
 use Rattle.bpf_image.specs.Program.{Program, units, IsImage}
 use Rattle.graph_model.specs.Graph.{Graph}
-use Rattle.bpf_model.specs.State.{State, start}
+use Rattle.bpf_model.specs.State.{Partial, Saved, State, start, frame_top, most_frames}
 use Rattle.bpf_model.specs.Step.{Next, Goes, Exits, Traps}
 use Rattle.bpf_model.specs.Run.{after}
 use Rattle.bpf_isa.specs.declared.instruction.Instruction.{Instruction}
+use Rattle.bpf_isa.specs.declared.instruction.Instruction.TheVariants.{CallLocal}
 use Rattle.abstract_state.specs.declared.state.AbstractState.{AbstractState}
-use Rattle.verifier_parts.specs.Described.{DescribesState}
+use Rattle.verifier_parts.specs.Described.{DescribesState, DescribesCaller}
 use Rattle.verifier.specs.Listing.{instruction_at}
 use Rattle.verifier.specs.Equations.{assigned}
-use Rattle.verifier.specs.Walks.{longest, count_from, IsLongest}
-use Rattle.verifier.specs.Verdict.{Accepted, verdict}
+use Rattle.verifier.specs.Walks.{longest, deepest, count_from, frames_from, IsLongest, IsDeepest}
+use Rattle.verifier.specs.Verdict.{Accepted, verdict, most_counted}
 
--- after k steps the run stands at an instruction, as known there, and a walk from there fits in the bound
+-- a caller with so many callers of its own waits behind a call: it is described by what is known at the
+-- call, and the frames from there on fit
+pub record Waits (p : Program) (depth : ℕ) (caller : Saved) (memory : Partial) : Type 0 where
+  pub place : ℕ
+  pub distance : ℤ
+  pub found : instruction_at p place ≡ Some (CallLocal distance)
+  pub returns : caller.return_pc ≡ pos (place + 1)
+  pub abstract_state : AbstractState
+  pub walked : assigned p place ≡ Some abstract_state
+  pub described : DescribesCaller p.record_length (frame_top depth) abstract_state caller.registers memory
+  pub frames : depth + frames_from p (place + 1) ≤ deepest p
+
+abbrev pub AllWait : Program → List Saved → Partial → Type 0
+AllWait p [] memory = Unit {0}
+AllWait p (caller ∷ callers) memory = Waits p (length callers) caller memory × AllWait p callers memory
+
+-- the counts from all the places to which a run will return
+abbrev pub count_behind : Program → List Saved → ℕ
+count_behind p [] = 0
+count_behind p (caller ∷ callers) = count_from p (unsigned_abs caller.return_pc) + count_behind p callers
+
+-- after k steps the run stands at an instruction, as known there; all its callers wait; a walk from there,
+-- and from each of the places to return to, fits in the bound; and so do its frames
 pub record Stands (p : Program) (k : ℕ) (s : State) : Type 0 where
   pub place : ℕ
   pub pc : s.pc ≡ pos place
@@ -24,7 +48,9 @@ pub record Stands (p : Program) (k : ℕ) (s : State) : Type 0 where
   pub abstract_state : AbstractState
   pub walked : assigned p place ≡ Some abstract_state
   pub described : DescribesState p.record_length abstract_state s
-  pub steps : k + count_from p place ≤ longest p
+  pub callers : AllWait p s.callers s.memory
+  pub steps : k + (count_from p place + count_behind p s.callers) ≤ longest p
+  pub frames : length s.callers + frames_from p place ≤ deepest p
 
 -- after so many steps a run stands at a place that is described, or it has exited: it has not trapped
 abbrev pub IsFine : Program → ℕ → Next → Type 0
@@ -49,7 +75,9 @@ pub record IsVerified (p : Program) (bound frames : ℕ) : Type 0 where
   pub image : IsImage p
   pub accepted : verdict p ≡ Accepted bound frames
   pub is_longest : bound ≡ longest p
-  pub few : bound ≤ 4096
-  pub greatest : IsLongest p 0 bound
+  pub few : bound ≤ most_counted
+  pub few_frames : frames ≤ most_frames
+  pub longest_walk : IsLongest p 0 bound
+  pub deepest_nest : IsDeepest p 0 frames
   pub sound : NeverGoesWrong p
   pub exits : AlwaysExits p

@@ -1,12 +1,17 @@
 -- What the code's tables stand for.
-use Rattle.std.specs.Prelude.{◌≡◌, ℕ, ◌<◌, ◌≤◌, ℤ, pos, List, length, Option, Some, None, slice_index_or}
+use Rattle.std.specs.Prelude.{◌≡◌, ℕ, ◌+◌, ◌<◌, ◌≤◌, min, ℤ, pos, Bool, false, List, length, Option, Some, None, slice_index_or}
 use Rattle.std.specs.Global.{Box}
 use Rattle.bpf_image.specs.Program.{Program, units}
 use Rattle.abstract_state.specs.declared.state.AbstractState.{AbstractState}
 use Rattle.verifier_parts.specs.Rules.{Ways}
 use Rattle.verifier_parts.specs.Described.{IsWay}
+use Rattle.bpf_model.specs.State.{most_frames}
+use Rattle.verifier.specs.declared.weights.Measure.{Measure}
+use Rattle.verifier.specs.declared.weights.Measure.TheVariants.{Instructions, Frames}
+use Rattle.verifier.specs.Functions.{is_entry, function_end}
+use Rattle.verifier.specs.Walks.{counted, framed, weight_from}
 use Rattle.verifier.specs.Equations.{come}
-use Rattle.verifier.specs.Verdict.{first_fault, rule_fault}
+use Rattle.verifier.specs.Verdict.{most_counted, first_fault, rule_fault}
 
 abbrev pub boxed_state : Option (Box AbstractState) → Option AbstractState
 boxed_state None = None
@@ -15,6 +20,29 @@ boxed_state (Some b) = Some b.value
 -- what a table of states has at a pc
 abbrev pub state_at : List (Option (Box AbstractState)) → ℕ → Option AbstractState
 state_at states q = boxed_state (slice_index_or states q None)
+
+-- a table that tells of each pc whether a function begins there
+abbrev pub HasEntries : Program → List Bool → Type 0
+HasEntries p entries =
+    (length entries ≡ units p) × ((q : ℕ) → q < units p → slice_index_or entries q false ≡ is_entry p q)
+
+-- a table that tells of each pc where its function ends
+abbrev pub HasEnds : Program → List ℕ → Type 0
+HasEnds p ends = (length ends ≡ units p) × ((q : ℕ) → q < units p → slice_index_or ends q 0 ≡ function_end p q)
+
+-- what a pass weighs walks by
+abbrev pub rule_of : Measure → ℕ → ℕ → ℕ
+rule_of Instructions = counted
+rule_of Frames = framed
+
+-- weights of so much and more are not told apart
+abbrev pub ceiling : Measure → ℕ
+ceiling Instructions = most_counted + 1
+ceiling Frames = most_frames + 1
+
+-- what a table of weights has of a pc
+abbrev pub capped_from : Measure → Program → ℕ → ℕ
+capped_from m p pc = min (weight_from (rule_of m) p pc) (ceiling m)
 
 -- all ways lead to pcs below an end
 abbrev pub LeadInside : ℕ → Ways → Type 0

@@ -1,20 +1,23 @@
 -- The verifier's answer: the first broken rule by pass, pc and cause, or the bound of a program that
 -- breaks none.
-use Rattle.std.specs.Prelude.{◌≡◌, ℕ, zero, suc, ◌+◌, ◌==◌, nat_lt, nat_le, if◌then◌else◌, ℤ, pos, negsuc, ◌⊎◌, Option, Some, None, Result, Ok, Err, is_some}
+use Rattle.std.specs.Prelude.{◌≡◌, ℕ, zero, suc, ◌+◌, nat_lt, nat_le, ◌&&◌, if◌then◌else◌, ℤ, pos, negsuc, ◌⊎◌, Option, Some, None, Result, Ok, Err, is_some}
 use Rattle.std.specs.Option.{option_or}
 use Rattle.bpf_isa.specs.declared.instruction.Instruction.{Instruction}
-use Rattle.bpf_isa.specs.declared.instruction.Instruction.TheVariants.{Jump, Branch, Exit}
+use Rattle.bpf_isa.specs.declared.instruction.Instruction.TheVariants.{Jump, Branch, CallLocal, Exit}
 use Rattle.bpf_isa.specs.Encoding.{units_of}
+use Rattle.bpf_model.specs.State.{most_frames}
 use Rattle.bpf_model.specs.Step.{units_over}
 use Rattle.bpf_image.specs.Program.{Program, units}
 use Rattle.abstract_values.specs.declared.cause.Cause.{Cause}
-use Rattle.abstract_values.specs.declared.cause.Cause.TheVariants.{BadInstruction, JumpOut, JumpBack, FallsOff, TooLong, OutOfMemory}
+use Rattle.abstract_values.specs.declared.cause.Cause.TheVariants.{BadInstruction, JumpOut, JumpBack, CallTarget, FallsOff, TooDeep, TooLong, OutOfMemory}
 use Rattle.abstract_state.specs.declared.state.AbstractState.{AbstractState}
 use Rattle.verifier_parts.specs.Rules.{Ways, target, transfer}
 use Rattle.verifier.specs.declared.refusal.Refusal.{Refusal}
 use Rattle.verifier.specs.Listing.{instruction_at, is_start}
 use Rattle.verifier.specs.Equations.{assigned}
-use Rattle.verifier.specs.Walks.{longest}
+use Rattle.verifier.specs.declared.weights.TheConstants.{MOST_COUNTED}
+use Rattle.verifier.specs.Functions.{start_above, function_end}
+use Rattle.verifier.specs.Walks.{longest, deepest}
 
 -- the least pc below n at which a pass has a fault
 abbrev pub fault_after : Option Refusal → Option Cause → ℕ → Option Refusal
@@ -35,24 +38,31 @@ unknown_cause (Some i) = None
 abbrev pub decoding_fault : Program → ℕ → Option Cause
 decoding_fault p pc = if is_start p pc then unknown_cause (instruction_at p pc) else None
 
--- ---- second pass: where jumps land, and what stands last
+-- ---- second pass: where jumps and calls land, and what stands last in each function
 
--- a jump lands on an instruction, and behind itself
+-- a jump lands on an instruction of its function, and behind itself
 abbrev pub landing_cause : Program → ℕ → ℤ → Option Cause
 landing_cause p pc (pos q) =
-    if is_some (instruction_at p q) then (if nat_le q pc then Some JumpBack else None) else Some JumpOut
+    if is_some (instruction_at p q) && nat_lt q (function_end p pc) then (if nat_le q pc then Some JumpBack else None) else Some JumpOut
 landing_cause p pc (negsuc n) = Some JumpOut
 
--- the last instruction does not go on behind the end
-abbrev pub falling_cause : ℕ → ℕ → Option Cause
-falling_cause next end = if next == end then Some FallsOff else None
+-- a call lands on an instruction above itself
+abbrev pub calling_cause : Option ℕ → Option Cause
+calling_cause None = Some CallTarget
+calling_cause (Some entry) = None
+
+-- the last instruction of a function does not go on behind its end
+abbrev pub falling_cause : Program → ℕ → ℕ → Option Cause
+falling_cause p pc next = if nat_le (function_end p pc) next then Some FallsOff else None
 
 abbrev pub flow_cause : Program → ℕ → Instruction → Option Cause
 flow_cause p pc Exit = None
 flow_cause p pc (Jump distance) = landing_cause p pc (target pc (units_over distance))
 flow_cause p pc (Branch width comparison left right distance) =
-    option_or (landing_cause p pc (target pc distance)) (falling_cause (pc + 1) (units p))
-flow_cause p pc i = falling_cause (pc + units_of i) (units p)
+    option_or (landing_cause p pc (target pc distance)) (falling_cause p pc (pc + 1))
+flow_cause p pc (CallLocal distance) =
+    option_or (calling_cause (start_above p pc (target pc distance))) (falling_cause p pc (pc + 1))
+flow_cause p pc i = falling_cause p pc (pc + units_of i)
 
 abbrev pub flow_at : Program → ℕ → Option Instruction → Option Cause
 flow_at p pc None = None
@@ -61,16 +71,19 @@ flow_at p pc (Some i) = flow_cause p pc i
 abbrev pub flow_fault : Program → ℕ → Option Cause
 flow_fault p pc = flow_at p pc (instruction_at p pc)
 
--- ---- third pass: no walk counts too much
+-- ---- third and fourth pass: no walk has too many frames or counts too much. They are told at pc 0.
+
+abbrev pub frames_fault : Program → Option Refusal
+frames_fault p = if nat_lt most_frames (deepest p) then Some (record { cause = TooDeep; pc = 0 }) else None
 
 -- the greatest count that a run may have
 abbrev pub most_counted : ℕ
-most_counted = 1000000
+most_counted = MOST_COUNTED
 
 abbrev pub length_fault : Program → Option Refusal
 length_fault p = if nat_lt most_counted (longest p) then Some (record { cause = TooLong; pc = 0 }) else None
 
--- ---- fourth pass: at each walked pc the instruction's rules hold of what is known there
+-- ---- fifth pass: at each walked pc the instruction's rules hold of what is known there
 
 abbrev pub broken : Result Ways Cause → Option Cause
 broken (Ok ws) = None
@@ -100,8 +113,9 @@ unfoldable pub verdict : Program → Verdict
 verdict p =
     unless_refused (first_fault (decoding_fault p) (units p))
     (unless_refused (first_fault (flow_fault p) (units p))
+    (unless_refused (frames_fault p)
     (unless_refused (length_fault p)
-    (unless_refused (first_fault (rule_fault p) (units p)) (Accepted (longest p) 1))))
+    (unless_refused (first_fault (rule_fault p) (units p)) (Accepted (longest p) (deepest p))))))
 
 -- a refusal for want of memory: no rule gives it
 abbrev pub no_memory : Refusal

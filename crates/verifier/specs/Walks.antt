@@ -1,53 +1,102 @@
--- Where a run may go, and how many instructions a walk through the code counts, from a pc to an exit.
-use Rattle.std.specs.Prelude.{◌≡◌, ℕ, zero, suc, ◌+◌, ◌-◌, ◌≤◌, max, ℤ, pos, unsigned_abs, List, [], ◌∷◌, ◌⊎◌, Option, Some, None}
+-- Where a run may go; how many instructions a walk counts, from a pc to its function's exit; and how many
+-- frames are live at once on it.
+use Rattle.std.specs.Prelude.{◌≡◌, ℕ, zero, suc, ◌+◌, ◌-◌, ◌≤◌, max, ℤ, pos, unsigned_abs, List, [], ◌∷◌, ◌⊎◌, Bool, true, false, Option, Some, None}
 use Rattle.bpf_isa.specs.declared.instruction.Instruction.{Instruction}
-use Rattle.bpf_isa.specs.declared.instruction.Instruction.TheVariants.{Jump, Branch, Exit}
+use Rattle.bpf_isa.specs.declared.instruction.Instruction.TheVariants.{Jump, Branch, CallLocal, Exit}
 use Rattle.bpf_isa.specs.Encoding.{units_of}
 use Rattle.bpf_model.specs.Step.{units_over}
 use Rattle.bpf_image.specs.Program.{Program, units}
 use Rattle.verifier_parts.specs.Rules.{target}
 use Rattle.verifier.specs.Listing.{instruction_at}
 
--- where a run may go on behind an instruction at a pc: nowhere from an exit
+-- where a function goes on behind an instruction at a pc: nowhere from an exit
 abbrev pub next_pcs : Instruction → ℕ → List ℤ
 next_pcs Exit pc = []
 next_pcs (Jump distance) pc = target pc (units_over distance) ∷ []
 next_pcs (Branch width comparison left right distance) pc = target pc distance ∷ pos (pc + 1) ∷ []
 next_pcs i pc = pos (pc + units_of i) ∷ []
 
+-- where the function begins that an instruction at a pc calls
+abbrev pub called_pcs : Instruction → ℕ → List ℤ
+called_pcs (CallLocal distance) pc = target pc distance ∷ []
+called_pcs _ pc = []
+
+abbrev pub is_call : Instruction → Bool
+is_call (CallLocal distance) = true
+is_call _ = false
+
 abbrev pub IsOneOf : ℤ → List ℤ → Type 0
 IsOneOf z [] = ⊥
 IsOneOf z (x ∷ xs) = (z ≡ x) ⊎ IsOneOf z xs
 
--- a walk from a pc that counts m instructions
+-- ---- walks, and the frames on them
+
+-- a walk from a pc to its function's exit that counts m instructions; a call counts a walk of the function
+-- and a walk of what is behind the call
 pub data IsWalk (p : Program) : ℕ → ℕ → Type 0 where
   at_exit : {pc : ℕ} → instruction_at p pc ≡ Some Exit → IsWalk p pc 1
-  onward : {pc q m : ℕ} → (i : Instruction) → instruction_at p pc ≡ Some i → IsOneOf (pos q) (next_pcs i pc) → IsWalk p q m → IsWalk p pc (1 + m)
+  onward : {pc q m : ℕ} → (i : Instruction) → instruction_at p pc ≡ Some i → is_call i ≡ false → IsOneOf (pos q) (next_pcs i pc) → IsWalk p q m → IsWalk p pc (1 + m)
+  through : {pc entry m n : ℕ} → (distance : ℤ) → instruction_at p pc ≡ Some (CallLocal distance) → target pc distance ≡ pos entry
+      → IsWalk p entry m → IsWalk p (pc + 1) n → IsWalk p pc (1 + (m + n))
+
+-- a walk from a pc on which k frames are live at once, its function's own among them
+pub data IsNest (p : Program) : ℕ → ℕ → Type 0 where
+  ends : {pc : ℕ} → instruction_at p pc ≡ Some Exit → IsNest p pc 1
+  past : {pc q k : ℕ} → (i : Instruction) → instruction_at p pc ≡ Some i → IsOneOf (pos q) (next_pcs i pc) → IsNest p q k → IsNest p pc k
+  into : {pc entry k : ℕ} → (distance : ℤ) → instruction_at p pc ≡ Some (CallLocal distance) → target pc distance ≡ pos entry
+      → IsNest p entry k → IsNest p pc (1 + k)
+
+-- a greatest number of those that are such
+pub record IsGreatestOf (IsSuch : ℕ → Type 0) (m : ℕ) : Type 0 where
+  pub is_such : IsSuch m
+  pub most : (n : ℕ) → IsSuch n → n ≤ m
 
 -- no walk from a pc counts more than m, and one counts m
-pub record IsLongest (p : Program) (pc m : ℕ) : Type 0 where
-  pub walk : IsWalk p pc m
-  pub most : (n : ℕ) → IsWalk p pc n → n ≤ m
+abbrev pub IsLongest : Program → ℕ → ℕ → Type 0
+IsLongest p pc m = IsGreatestOf (IsWalk p pc) m
 
--- the greatest of the counts at some pcs
+-- no walk from a pc has more than k frames, and one has k
+abbrev pub IsDeepest : Program → ℕ → ℕ → Type 0
+IsDeepest p pc k = IsGreatestOf (IsNest p pc) k
+
+-- ---- both as numbers, by one recursion over the code
+
+-- the greatest of the weights at some pcs, 0 of none
 abbrev pub greatest : (ℕ → ℕ) → List ℤ → ℕ
-greatest count [] = 0
-greatest count (q ∷ qs) = max (count (unsigned_abs q)) (greatest count qs)
+greatest weight [] = 0
+greatest weight (q ∷ qs) = max (weight (unsigned_abs q)) (greatest weight qs)
 
--- the count of an instruction at a pc with the greatest behind it
-abbrev pub counted : (ℕ → ℕ) → Option Instruction → ℕ → ℕ
-counted count None pc = 0
-counted count (Some i) pc = 1 + greatest count (next_pcs i pc)
+-- the weight of an instruction at a pc, by the greatest of what it calls and of what is behind it
+abbrev pub weighed : (ℕ → ℕ → ℕ) → (ℕ → ℕ) → Option Instruction → ℕ → ℕ
+weighed rule weight None pc = 0
+weighed rule weight (Some i) pc = rule (greatest weight (called_pcs i pc)) (greatest weight (next_pcs i pc))
 
--- the greatest count from a pc on, of at most n instructions
-unfoldable pub longest_from : Program → ℕ → ℕ → ℕ
-longest_from p zero pc = 0
-longest_from p (suc n) pc = counted (longest_from p n) (instruction_at p pc) pc
+-- the greatest weight from a pc on, over at most n instructions in a row
+unfoldable pub weight_over : (ℕ → ℕ → ℕ) → Program → ℕ → ℕ → ℕ
+weight_over rule p zero pc = 0
+weight_over rule p (suc n) pc = weighed rule (weight_over rule p n) (instruction_at p pc) pc
 
 -- all units behind a pc are enough
-unfoldable pub count_from : Program → ℕ → ℕ
-count_from p pc = longest_from p (units p - pc) pc
+unfoldable pub weight_from : (ℕ → ℕ → ℕ) → Program → ℕ → ℕ
+weight_from rule p pc = weight_over rule p (units p - pc) pc
 
--- the greatest count of a whole run
+-- an instruction counts one more than what it calls and what is behind it
+abbrev pub counted : ℕ → ℕ → ℕ
+counted called next = 1 + (called + next)
+
+-- a call needs one frame more than what it calls; each instruction needs its own
+abbrev pub framed : ℕ → ℕ → ℕ
+framed called next = max (1 + called) next
+
+abbrev pub count_from : Program → ℕ → ℕ
+count_from = weight_from counted
+
+abbrev pub frames_from : Program → ℕ → ℕ
+frames_from = weight_from framed
+
+-- the greatest count of a whole run, and the most frames
 abbrev pub longest : Program → ℕ
-longest p = longest_from p (units p) 0
+longest p = count_from p 0
+
+abbrev pub deepest : Program → ℕ
+deepest p = frames_from p 0

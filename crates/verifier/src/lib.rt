@@ -1,19 +1,22 @@
 //! The verifier: which programs are accepted, by rules over their instructions and by what is known
-//! of every register and stack byte at each of them, and how many instructions a run of an accepted one
-//! takes.
+//! of every register and stack byte at each of them, and how many instructions and
+//! stack frames a run of an accepted one takes.
 #![tactic(auto)]
 
 mod flow;
+mod functions;
 pub mod laws;
-mod lengths;
 mod listing;
+mod places;
 mod refusal;
 mod states;
 #[cfg(test)]
 mod tests;
 mod verified;
 mod walking;
+mod weights;
 
 pub use abstract_values::Cause;
 pub use refusal::Refusal;
 pub use verified::{Verified, verify};
+pub use weights::MOST_COUNTED;

@@ -15,10 +15,7 @@ use std::alloc::Global;
 fn is_known_here(instruction: Instruction) -> bool
     ensures { result ≡ is_known instruction }
 {
-    !matches!(
-        instruction,
-        Instruction::CallHelper { .. } | Instruction::CallLocal { .. }
-    )
+    !matches!(instruction, Instruction::CallHelper { .. })
 }
 
 /// The instruction that the units at a pc spell, if it is known.

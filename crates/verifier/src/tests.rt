@@ -1,3 +1,5 @@
+mod calls;
+
 use super::*;
 use bpf_image::Image;
 use std::alloc::Global;
@@ -14,8 +16,20 @@ const EXIT: u64 = 0x9500_0000_0000_0000;
 /// Loads the record's first byte to r3.
 const LOAD_FIRST: u64 = 0x7113_0000_0000_0000;
 
-/// Verifies a program of these units, and sees that the program comes back whole.
+/// What the verifier answers with frames: the bound and the frames, or the cause and where.
+type Extent = Result<(u32, u8), (Cause, usize)>;
+
+/// Verifies a program of these units that calls no function.
 fn answer(alloc: Global, record_length: u16, units: &[u64]) -> Result<Answer, Fail> {
+    match extent(alloc, record_length, units)? {
+        Ok((bound, 1)) => Ok(Ok(bound)),
+        Ok(_) => Err(Fail::from("not one frame")),
+        Err(refusal) => Ok(Err(refusal)),
+    }
+}
+
+/// Verifies a program of these units, and sees that the program comes back whole.
+fn extent(alloc: Global, record_length: u16, units: &[u64]) -> Result<Extent, Fail> {
     let mut code = Vec::new(alloc);
     for unit in units {
         code.extend_from_slice(&unit.to_be_bytes())?;
@@ -29,10 +43,7 @@ fn answer(alloc: Global, record_length: u16, units: &[u64]) -> Result<Answer, Fa
             if image.code() != code.as_slice() || image.record_length() != record_length {
                 return Err(Fail::from("another program was verified"));
             }
-            if verified.frames() != 1 {
-                return Err(Fail::from("not one frame"));
-            }
-            Ok(Ok(verified.bound()))
+            Ok(Ok((verified.bound(), verified.frames())))
         }
         Err((image, refusal)) => {
             if image.code() != code.as_slice() || image.record_length() != record_length {
@@ -70,10 +81,12 @@ fn one_unit_and_an_exit(rt: HostRuntime) -> Result<(), Fail> {
         (0x0701_0000_ffff_ffff, Err((Cause::OutOfRange, 0))),
         (0x0700_0000_0100_0000, Err((Cause::UnsetRegister, 0))),
         (0xb400_0000_0100_0000, Ok(2)),
-        // 0xff is no instruction; the two calls are not known yet.
+        // 0xff is no instruction; helpers are not known yet; a call as the last instruction of its
+        // function, and one of itself.
         (0xff00_0000_0000_0000, Err((Cause::BadInstruction, 0))),
         (0x8500_0000_0100_0000, Err((Cause::BadInstruction, 0))),
-        (0x8510_0000_0000_0000, Err((Cause::BadInstruction, 0))),
+        (0x8510_0000_0000_0000, Err((Cause::FallsOff, 0))),
+        (0x8510_0000_ffff_ffff, Err((Cause::CallTarget, 0))),
         // Jumps: to the next instruction, past the end, before the start, to themselves.
         (0x0500_0000_0000_0000, Err((Cause::UnsetRegister, 1))),
         (0x0500_0100_0000_0000, Err((Cause::JumpOut, 0))),

@@ -1,18 +1,18 @@
-//! The fourth pass: what is known at each walked pc, and whether the instructions' rules hold of it.
+//! The fifth pass: what is known at each walked pc, and whether the instructions' rules hold of it.
 ghost use Rattle.std.specs.Prelude.{◌≡◌, ◌<◌, ◌≤◌, ◌+◌, ℕ, ℤ, pos, None, Some, IfOk, MatchResult, length};
 ghost use Rattle.bpf_image.specs.Program.{units};
 ghost use Rattle.abstract_state.specs.declared.state.AbstractState.{AbstractState as KnownState};
-ghost use Rattle.verifier_parts.specs.Rules.{Ways, branch_ways};
+ghost use Rattle.verifier_parts.specs.Rules.{Ways, branch_ways, call_ways};
 ghost use Rattle.verifier_parts.specs.Answers.{ways_onward};
 ghost use Rattle.verifier.specs.Listing.{listed};
 ghost use Rattle.verifier.specs.Equations.{joined_ways};
 ghost use Rattle.verifier.specs.Verdict.{first_fault, decoding_fault, flow_fault, rule_fault, unless_memory};
 ghost use Rattle.verifier.specs.Tables.{state_at, LeadInside, IsWalkedTo};
 
-use crate::flow::{length_of, place_at, starting_at};
+use crate::places::{length_of, place_at, starting_at};
 use crate::refusal::Refusal;
 use crate::states::{arrive, arrive_by_side, no_states};
-use abstract_state::AbstractState;
+use abstract_state::{AbstractState, enter_call, return_from_call};
 use abstract_values::Sides;
 use bpf_image::Image;
 use bpf_isa::{Instruction, Operand, Register};
@@ -47,6 +47,27 @@ fn split(
     Ok(())
 }
 
+/// A function is entered, and its caller goes on behind the call.
+fn enter(
+    alloc: Global,
+    states: &mut Vec<Option<Box<AbstractState>>>,
+    pc: usize,
+    distance: i32,
+    state: Box<AbstractState>,
+) -> Result<(), AllocError>
+    requires near { pc ≤ 4096 }
+    requires inside { LeadInside (length states.old.items) (call_ways pc distance state.value) }
+    ensures gone { IfOk result (λ _. (q : ℕ) → state_at states.new.items q ≡ joined_ways (state_at states.old.items q) (call_ways pc distance state.value) q) }
+    ensures same_length { length states.new.items ≡ length states.old.items }
+{
+    let entry = Box::new(alloc, enter_call(&state))?;
+    arrive(states, place_at(pc, distance), entry);
+    let mut state = state;
+    return_from_call(&mut state);
+    arrive(states, (pc + 1) as i64, state);
+    Ok(())
+}
+
 /// A run goes on behind an instruction with what is known there.
 fn go_on(
     alloc: Global,
@@ -75,6 +96,9 @@ fn go_on(
                 ..
             },
         ) => return split(alloc, states, pc, (left, right), distance, sides, state),
+        (Onward::Calls, Instruction::CallLocal { distance }) => {
+            return enter(alloc, states, pc, distance, state);
+        }
         _ => {}
     }
     Ok(())

@@ -1,15 +1,16 @@
 -- A load or a store that the rules allow does not trap, and leaves what they describe.
-use Rattle.std.proofs.Common.{◌≡◌, ℕ, ◌+◌, ◌-◌, ◌^◌, ◌<◌, ◌≤◌, [], true, Some, Result, Ok, Err, refl, ap, subst, ◌∙◌, arith, inl, inr}
+use Rattle.std.proofs.Common.{◌≡◌, ℕ, nat_le, ◌+◌, ◌-◌, ◌^◌, ◌<◌, ◌≤◌, ◌⊎◌, true, length, Some, Result, Ok, Err, refl, ap, subst, ◌∙◌, arith, inl, inr}
 use Rattle.std.specs.Prelude.{ℤ, pos, ◌+ℤ◌, FitsSigned}
 use Rattle.std.specs.Int.{w16}
-use Rattle.std.proofs.lemmas.Bool.{or_left, or_right, and_from, le-leb}
+use Rattle.std.proofs.lemmas.Bool.{or_left, or_right, and_from, and_parts, le-leb, leb-true}
 use Rattle.bpf_isa.specs.declared.register.Register.{Register}
+use Rattle.bpf_isa.specs.declared.instruction.Instruction.{Instruction}
 use Rattle.bpf_isa.specs.declared.instruction.Size.{Size}
 use Rattle.bpf_isa.specs.declared.instruction.SignedSize.{SignedSize}
 use Rattle.bpf_isa.specs.declared.instruction.SignedSize.TheVariants.{SignedByte, SignedHalf, SignedWord}
 use Rattle.bpf_isa.specs.declared.instruction.Extension.TheVariants.{From8To64, From16To64, From32To64}
 use Rattle.bpf_model.specs.Arithmetic.{sign_extended}
-use Rattle.bpf_model.specs.State.{State, stored_all, in_frame, may_access, address_at}
+use Rattle.bpf_model.specs.State.{State, record_base, stored_all, frame_top, frame_bytes, in_frame, may_access, address_at}
 use Rattle.bpf_model.specs.Step.{Goes, load_extension, low_bytes, load, store, put}
 use Rattle.bpf_isa.specs.Sizes.{size_bytes, plain_size}
 use Rattle.bpf_model.proofs.ArithmeticFacts.{extended_fits}
@@ -23,29 +24,37 @@ use Rattle.abstract_state.specs.Described.{IsAllowed}
 use Rattle.abstract_state.proofs.Loads.{load_describes}
 use Rattle.abstract_state.proofs.Stores.{store_describes}
 use Rattle.verifier_parts.specs.Rules.{Ways, onward, written, behind_store}
-use Rattle.verifier_parts.specs.Described.{DescribesState, Follows}
+use Rattle.verifier_parts.specs.Described.{DescribesState, KeepsFrames, Follows, stays}
 use Rattle.verifier_parts.proofs.Parts.{ok, bind_ok, writes_from}
-use Rattle.verifier_parts.proofs.Known.{top}
+use Rattle.verifier_parts.proofs.Known.{top, top_below}
 use Rattle.verifier_parts.proofs.Stored.{stored_number}
 use Rattle.verifier_parts.proofs.Writes.{put_follows}
 
--- an access in the record or in the only frame
-allowed : (l : ℕ) (s : State) (a size : ℕ) → s.callers ≡ [] → IsAllowed l top a size → may_access l s a size ≡ true
-allowed l s a size none (inl within) = or_left _ _ within
-allowed l s a size none (inr inside) =
-    let here : in_frame 0 a size ≡ true = and_from _ _ (le-leb _ _ inside.0) (le-leb _ _ inside.1) in
-    rw none (or_right _ _ (or_left _ _ here))
+-- an access in the record or in the current frame
+allowed : (l : ℕ) (s : State) (a size : ℕ) → IsAllowed l (top s) a size → may_access l s a size ≡ true
+allowed l s a size (inl within) = or_left _ _ within
+allowed l s a size (inr inside) =
+    let here : in_frame (length s.callers) a size ≡ true = and_from _ _ (le-leb _ _ inside.0) (le-leb _ _ inside.1) in
+    or_right _ _ (or_left _ _ here)
+
+-- it lies beside the callers' frames
+apart_below : (l n a size k i : ℕ) → l ≤ 256 → IsAllowed l (frame_top n) a size → k < n → i < frame_bytes → (frame_top k - frame_bytes + i < a) ⊎ (a + size ≤ frame_top k - frame_bytes + i)
+apart_below l n a size k i short (inl within) low lt =
+    let both = and_parts (nat_le record_base a) (nat_le (a + size) (record_base + l)) within in
+    let ends : a + size ≤ record_base + l = leb-true (a + size) (record_base + l) both.1 in
+    inr (omega (arith, ends, short))
+apart_below l n a size k i short (inr inside) low lt = inl (omega (arith, inside.0, low, lt))
 
 -- a plain load
-pub load_follows : (l pc : ℕ) (b : AbstractValue) (z : ℤ) (a : AbstractState) (s : State) (d : Register) (size : Size) (x : ℕ) (ws : Ways) → l ≤ 256 → FitsSigned w16 z → s.pc ≡ pos pc → DescribesState l a s → Describes l top b (Some x) → written (pc + 1) a d (loaded l a b z (size_bytes size)) ≡ ok ws → Follows l (load l s (address_at x z) size (put s 1 d)) ws
-load_follows l pc b z a s d size x ws short fits at described base h =
+pub load_follows : (l pc : ℕ) (i : Instruction) (b : AbstractValue) (z : ℤ) (a : AbstractState) (s : State) (d : Register) (size : Size) (x : ℕ) (ws : Ways) → l ≤ 256 → FitsSigned w16 z → s.pc ≡ pos pc → DescribesState l a s → Describes l (top s) b (Some x) → written (pc + 1) a d (loaded l a b z (size_bytes size)) ≡ ok ws → Follows l i a s ws (load l s (address_at x z) size (put s 1 d))
+load_follows l pc i b z a s d size x ws short fits at described base h =
     let w = writes_from (pc + 1) a d (loaded l a b z (size_bytes size)) ws h in
-    let n = load_describes l top a s.registers s.memory b w.value z size x (omega (arith, short)) (omega arith) (omega arith) fits w.from described.parts base in
-    let may = allowed l s (address_at x z) (size_bytes size) described.no_callers n.1 in
-    rw (may, n.2) (put_follows l pc 1 a s d (ok w.value) n.0 ws at described (subst (λ r. written (pc + 1) a d r ≡ ok ws) w.from h) (λ v e. let same : w.value ≡ v = cc in subst (λ u. Describes l top u (Some n.0)) same n.3))
+    let n = load_describes l (top s) a s.registers s.memory b w.value z size x (omega (arith, short)) (omega arith) (top_below l a s described) fits w.from described.parts base in
+    let may = allowed l s (address_at x z) (size_bytes size) n.1 in
+    rw (may, n.2) (put_follows l pc 1 i a s d (ok w.value) n.0 ws at described (subst (λ r. written (pc + 1) a d r ≡ ok ws) w.from h) (λ v e. let same : w.value ≡ v = cc in subst (λ u. Describes l (top s) u (Some n.0)) same n.3))
 
-any_number : (l n : ℕ) → n < 2 ^ 64 → Describes l top (Number 0 (2 ^ 64 - 1)) (Some n)
-any_number l n lt = (n, refl, omega arith, omega (arith, lt), lt)
+any_number : (l t n : ℕ) → n < 2 ^ 64 → Describes l t (Number 0 (2 ^ 64 - 1)) (Some n)
+any_number l t n lt = (n, refl, omega arith, omega (arith, lt), lt)
 
 -- what a sign-extending load leaves has 64 bits
 extended_64 : (size : SignedSize) (n : ℕ) → sign_extended (load_extension size) n < 2 ^ 64
@@ -58,23 +67,27 @@ any_from : (r : Result AbstractValue Cause) (v : AbstractValue) → any_number_w
 any_from (Ok u) v h = (u, refl, cc)
 any_from (Err cause) v h = absurd cc
 
-pub load_extended_follows : (l pc : ℕ) (b : AbstractValue) (z : ℤ) (a : AbstractState) (s : State) (d : Register) (size : SignedSize) (x : ℕ) (ws : Ways) → l ≤ 256 → FitsSigned w16 z → s.pc ≡ pos pc → DescribesState l a s → Describes l top b (Some x) → written (pc + 1) a d (loaded_signed l a b z size) ≡ ok ws → Follows l (load l s (address_at x z) (plain_size size) (λ n. put s 1 d (sign_extended (load_extension size) n))) ws
-load_extended_follows l pc b z a s d size x ws short fits at described base h =
+pub load_extended_follows : (l pc : ℕ) (i : Instruction) (b : AbstractValue) (z : ℤ) (a : AbstractState) (s : State) (d : Register) (size : SignedSize) (x : ℕ) (ws : Ways) → l ≤ 256 → FitsSigned w16 z → s.pc ≡ pos pc → DescribesState l a s → Describes l (top s) b (Some x) → written (pc + 1) a d (loaded_signed l a b z size) ≡ ok ws → Follows l i a s ws (load l s (address_at x z) (plain_size size) (λ n. put s 1 d (sign_extended (load_extension size) n)))
+load_extended_follows l pc i b z a s d size x ws short fits at described base h =
     let w = writes_from (pc + 1) a d (loaded_signed l a b z size) ws h in
     let u = any_from (loaded l a b z (size_bytes (plain_size size))) w.value w.from in
-    let n = load_describes l top a s.registers s.memory b u.0 z (plain_size size) x (omega (arith, short)) (omega arith) (omega arith) fits u.1 described.parts base in
-    let may = allowed l s (address_at x z) (size_bytes (plain_size size)) described.no_callers n.1 in
+    let n = load_describes l (top s) a s.registers s.memory b u.0 z (plain_size size) x (omega (arith, short)) (omega arith) (top_below l a s described) fits u.1 described.parts base in
+    let may = allowed l s (address_at x z) (size_bytes (plain_size size)) n.1 in
     let m = sign_extended (load_extension size) n.0 in
-    rw (may, n.2) (put_follows l pc 1 a s d (ok w.value) m ws at described (subst (λ r. written (pc + 1) a d r ≡ ok ws) w.from h) (λ v e. let same : Number 0 (2 ^ 64 - 1) ≡ v = (let f : w.value ≡ v = cc in u.2 ∙ f) in subst (λ t. Describes l top t (Some m)) same (any_number l m (extended_64 size n.0))))
+    rw (may, n.2) (put_follows l pc 1 i a s d (ok w.value) m ws at described (subst (λ r. written (pc + 1) a d r ≡ ok ws) w.from h) (λ v e. let same : Number 0 (2 ^ 64 - 1) ≡ v = (let f : w.value ≡ v = cc in u.2 ∙ f) in subst (λ t. Describes l (top s) t (Some m)) same (any_number l (top s) m (extended_64 size n.0))))
 
 -- a store
-pub store_follows : (l pc : ℕ) (b v : AbstractValue) (z : ℤ) (a : AbstractState) (s : State) (size : Size) (x n : ℕ) (ws : Ways) → l ≤ 256 → FitsSigned w16 z → n < 2 ^ 64 → s.pc ≡ pos pc → DescribesState l a s → Describes l top b (Some x) → Describes l top v (Some n) → behind_store (pc + 1) (stored_through l a b z (size_bytes size) v) ≡ ok ws → Follows l (store l s (address_at x z) size n) ws
-store_follows l pc b v z a s size x n ws short fits lt at described base value h =
+pub store_follows : (l pc : ℕ) (i : Instruction) (b v : AbstractValue) (z : ℤ) (a : AbstractState) (s : State) (size : Size) (x n : ℕ) (ws : Ways) → l ≤ 256 → FitsSigned w16 z → n < 2 ^ 64 → s.pc ≡ pos pc → DescribesState l a s → Describes l (top s) b (Some x) → Describes l (top s) v (Some n) → behind_store (pc + 1) (stored_through l a b z (size_bytes size) v) ≡ ok ws → Follows l i a s ws (store l s (address_at x z) size n)
+store_follows l pc i b v z a s size x n ws short fits lt at described base value h =
     let parts = bind_ok (stored_through l a b z (size_bytes size) v) (λ t. ok (onward (pc + 1) t)) ws h in
     let t = parts.0 in
     let ways : onward (pc + 1) t ≡ ws = (let e : ok (onward (pc + 1) t) ≡ ok ws = parts.2 in cc) in
-    let after = stored_all s.memory (address_at x z) (low_bytes size n) in
-    let left = store_describes l top a t s.registers s.memory after b v z size x n (omega (arith, short)) (omega arith) (omega arith) fits lt parts.1 described.parts base value (stored_number s.memory (address_at x z) size n) in
-    let may = allowed l s (address_at x z) (size_bytes size) described.no_callers left.0 in
+    let memory = stored_all s.memory (address_at x z) (low_bytes size n) in
+    let written = stored_number s.memory (address_at x z) size n in
+    let left = store_describes l (top s) a t s.registers s.memory memory b v z size x n (omega (arith, short)) (omega arith) (top_below l a s described) fits lt parts.1 described.parts base value written in
+    let may = allowed l s (address_at x z) (size_bytes size) left.0 in
     let moved : s.pc +ℤ pos 1 ≡ pos (pc + 1) = ap (λ y. y +ℤ pos 1) at in
-    rw may (subst (λ u. Follows l (Goes (record s { pc = s.pc +ℤ pos 1; memory = after })) u) ways ((pos (pc + 1), t), inl refl, moved, record { parts = left.1; no_callers = described.no_callers }))
+    let after : State = record s { pc = s.pc +ℤ pos 1; memory = memory } in
+    let known : DescribesState l t after = record { parts = left.1; frame_register = described.frame_register; few_callers = described.few_callers } in
+    let keeps : KeepsFrames (length s.callers) s.memory memory = λ k j low below. written.outside (frame_top k - frame_bytes + j) (apart_below l (length s.callers) (address_at x z) (size_bytes size) k j short left.0 low below) in
+    rw may (subst (λ u. Follows l i a s u (Goes after)) ways (stays (pos (pc + 1), t) (inl refl) moved known refl keeps))

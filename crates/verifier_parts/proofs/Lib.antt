@@ -4,4 +4,5 @@ pub mod Known
 pub mod Writes
 pub mod Accesses
 pub mod Splits
+pub mod Frames
 pub mod Steps

@@ -22,7 +22,7 @@ use Rattle.abstract_values.specs.declared.value.AbstractValue.TheVariants.{Unset
 use Rattle.abstract_values.specs.Values.{arithmetic, negation, sign_extension, swap_result}
 use Rattle.abstract_values.specs.Narrowing.{narrowed}
 use Rattle.abstract_state.specs.declared.state.AbstractState.{AbstractState}
-use Rattle.abstract_state.specs.States.{register, with_register}
+use Rattle.abstract_state.specs.States.{register, with_register, entered, returned_from}
 use Rattle.abstract_state.specs.Memory.{loaded, loaded_signed, stored_through}
 
 -- goes on with what was found, or breaks the same rule
@@ -102,7 +102,11 @@ abbrev pub branch_ways : ℕ → ℤ → AbstractState → Register → Operand 
 branch_ways pc distance s left right sides =
     side_way s left right (target pc distance) sides.taken ++ side_way s left right (pos (pc + 1)) sides.passed
 
--- ---- instructions
+-- ---- calls and instructions
+
+-- the way into a function, and the way on behind its call
+abbrev pub call_ways : ℕ → ℤ → AbstractState → Ways
+call_ways pc distance s = (target pc distance, entered s) ∷ (pos (pc + 1), returned_from s) ∷ []
 
 -- the result of a function is a number
 abbrev pub returned : AbstractValue → Result Ways Cause
@@ -111,7 +115,7 @@ returned (Number lo hi) = Ok []
 returned (Record lo hi) = Err ResultNotNumber
 returned (Stack offset) = Err ResultNotNumber
 
--- the instruction at a pc: the broken rule of the lowest cause, or the ways onward. Calls come later.
+-- the instruction at a pc: the broken rule of the lowest cause, or the ways onward. Helpers come later.
 unfoldable pub transfer : ℕ → ℕ → Instruction → AbstractState → Result Ways Cause
 transfer record_length pc (Alu width operation destination operand) s =
     bind (left_known operation s destination) (λ a. bind (operand_known width s operand) (λ b.
@@ -127,7 +131,7 @@ transfer record_length pc (Branch width comparison left right distance) s =
     bind (known_register s left) (λ a. bind (operand_known width s right) (λ b.
     bind (branch_sides width comparison left right a b) (λ sides. Ok (branch_ways pc distance s left right sides))))
 transfer record_length pc (CallHelper number) s = Err BadInstruction
-transfer record_length pc (CallLocal distance) s = Err BadInstruction
+transfer record_length pc (CallLocal distance) s = Ok (call_ways pc distance s)
 transfer record_length pc Exit s = returned (slice_index_or s.registers 0 Unset)
 transfer record_length pc (Load size destination base offset) s =
     bind (known_register s base) (λ b. written (pc + 1) s destination (loaded record_length s b offset (size_bytes size)))

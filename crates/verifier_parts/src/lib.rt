@@ -1,5 +1,6 @@
 //! The verifier's rules over one instruction: what it asks of what is known before it, and what is known
-//! on each way behind it. Every step of a run follows one of these ways. No call takes memory.
+//! on each way behind it. Every step of a run follows one of these ways, enters a function or returns from
+//! one. No call takes memory.
 #![tactic(auto)]
 
 mod access;

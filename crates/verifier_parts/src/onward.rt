@@ -12,4 +12,6 @@ pub enum Onward {
     /// It goes on at the target of a branch or with the next instruction, by the sides that have numbers;
     /// each side tells more of the two compared values.
     Splits(Sides),
+    /// It enters the function that is called, and goes on with the next instruction when that returns.
+    Calls,
 }

@@ -45,9 +45,8 @@ pub fn step_over(
             right,
             ..
         } => branch(state, width, comparison, left, right),
-        Instruction::CallHelper { .. } | Instruction::CallLocal { .. } => Err(
-            Cause::BadInstruction,
-        ),
+        Instruction::CallHelper { .. } => Err(Cause::BadInstruction),
+        Instruction::CallLocal { .. } => Ok(Onward::Calls),
         Instruction::Exit => exit(state),
         Instruction::Load {
             size,

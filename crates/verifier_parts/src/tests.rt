@@ -170,7 +170,7 @@ fn other_causes(rt: HostRuntime) -> Result<(), Fail> {
         destination: Register::R10,
         source: Register::R9,
     };
-    assert_eq!(rt; at_entry(call), Err(Cause::BadInstruction));
+    assert_eq!(rt; at_entry(call), Ok(Onward::Calls));
     assert_eq!(rt; at_entry(helper), Err(Cause::BadInstruction));
     assert_eq!(rt; at_entry(wide), Err(Cause::FrameRegister));
     assert_eq!(rt; at_entry(extension), Err(Cause::UnsetRegister));

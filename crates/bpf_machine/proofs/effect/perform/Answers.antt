@@ -1,4 +1,4 @@
-use Rattle.std.proofs.Common.{length, rules, FitsSigned, w16}
+use Rattle.std.proofs.Common.{length, rules, FitsSigned, w16, w32}
 use Rattle.std.proofs.lemmas.Int.{to_z-of_z}
 use Rattle.bpf_machine.proofs.effect.perform.Goals as goal
 
@@ -24,3 +24,8 @@ returns-in-Branch-clause-step c =
 
 pub returns-in-Exit-clause-step : goal.returns-in-Exit-clause-step
 returns-in-Exit-clause-step c = rw c.in-Exit.is (c.exit.ensures (length c.args.bytes.now) c.args.bytes.now)
+
+pub returns-in-CallLocal-clause-step : goal.returns-in-CallLocal-clause-step
+returns-in-CallLocal-clause-step c =
+    let fits : FitsSigned w32 c.in-CallLocal.distance = search rules in
+    rw c.in-CallLocal.is (simp to_z-of_z at (c.call.ensures (length c.args.bytes.now) c.args.bytes.now))

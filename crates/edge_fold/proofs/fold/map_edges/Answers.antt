@@ -1,38 +1,33 @@
 use Rattle.std.proofs.Common.{◌≡◌, ◌+◌, ◌++◌, ◌∷◌, [], List, length, take, get_or, sym, ap, ◌∙◌, length-append, arith}
-use Rattle.std.proofs.Math.Seq.{take-length}
+use Rattle.graph_model.specs.Graph.{degree}
 use Rattle.graph_model.specs.Past.{graph_of}
-use Rattle.script_model.specs.Execution.{exit_numbers, all_numbers}
-use Rattle.edge_fold.specs.declared.outcome.Row.{Row}
-use Rattle.edge_fold.specs.Rows.{row_of, rows_of, rows_text}
+use Rattle.bpf_model.specs.declared.row.Row.{Row}
+use Rattle.bpf_model.specs.EdgeMap.{exit_numbers, all_numbers, row_of, rows_of}
+use Rattle.verifier.specs.Walks.{longest}
 use Rattle.edge_fold.proofs.Reductions.{total_more}
-use Rattle.edge_fold.proofs.RowFacts.{flat_map_more, row_of_some, rows_text_of}
+use Rattle.edge_fold.proofs.RowFacts.{flat_map_more, row_of_some}
 use Rattle.edge_fold.proofs.fold.map_edges.Goals as goal
 
 pub loop-source-preserved : goal.loop-source-preserved
 loop-source-preserved c =
     let p = c.args.program.now in
+    let k = longest c.args.program.now in
     let g = graph_of c.args.version.now in
     let argument = c.args.argument.now in
     let r = c.args.reduction in
     let i = c.loop-source.source-index in
     let v = get_or c.args.frontier.now i 0 in
     let early = take i c.args.frontier.now in
-    let numbers : all_numbers p g argument (take (i + 1) c.args.frontier.now) ≡ all_numbers p g argument early ++ exit_numbers p g argument v =
-    flat_map_more (exit_numbers p g argument) c.args.frontier.now i 0 c.loop-source-test.true in
-    let count = ap length numbers ∙ length-append (all_numbers p g argument early) (exit_numbers p g argument v) in
-    let rows = flat_map_more (row_of p g r argument) c.args.frontier.now i 0 c.loop-source-test.true in
-    let row = row_of_some p g r argument v c.fold_vertex-value.result (omega (arith, c.degree_of-degree.ensures.value)) c.fold_vertex-value.ensures.value in
+    let numbers : all_numbers p k g argument (take (i + 1) c.args.frontier.now) ≡ all_numbers p k g argument early ++ exit_numbers p k g argument v =
+    flat_map_more (exit_numbers p k g argument) c.args.frontier.now i 0 c.loop-source-test.true in
+    let count = ap length numbers ∙ length-append (all_numbers p k g argument early) (exit_numbers p k g argument v) in
+    let rows = flat_map_more (row_of p k g r argument) c.args.frontier.now i 0 c.loop-source-test.true in
+    let value : c.degree-degree.result ≡ degree g v = c.degree-degree.ensures.value ∙ ap (degree g) c.from-in-loop-source.ensures in
+    let row = row_of_some p k g r argument v c.fold_vertex-value.result (omega (arith, value)) c.fold_vertex-value.ensures.value in
     record {
-      edges = omega (arith, count, c.loop-source.invariant.edges, c.from-in-loop-source.ensures, c.degree_of-degree.ensures.value, c.fold_vertex-value.ensures.count);
-      total = total_more r c.loop-source.out.total c.fold_vertex-value.result c.combine.result (all_numbers p g argument early) (exit_numbers p g argument v) _ c.loop-source.invariant.total c.fold_vertex-value.ensures.value numbers c.combine.ensures;
+      edges = omega (arith, count, c.loop-source.invariant.edges, c.from-in-loop-source-2.ensures, value, c.fold_vertex-value.ensures.count);
+      total = total_more r c.loop-source.out.total c.fold_vertex-value.result c.combine.result (all_numbers p k g argument early) (exit_numbers p k g argument v) _ c.loop-source.invariant.total c.fold_vertex-value.ensures.value numbers c.combine.ensures;
       rows = c.in_ok-push.ensures.items ∙ ap (λ (l : List Row). l ++ record { vertex = v; value = c.fold_vertex-value.result } ∷ []) c.loop-source.invariant.rows
-          ∙ ap (λ (l : List Row). rows_of p g r argument early ++ l) (sym row) ∙ sym rows;
-      few = omega (arith, c.loop-source.invariant.few, c.from-in-loop-source.ensures, c.degree_of-degree.ensures.most);
+          ∙ ap (λ (l : List Row). rows_of p k g r argument early ++ l) (sym row) ∙ sym rows;
+      few = omega (arith, c.loop-source.invariant.few, c.from-in-loop-source-2.ensures, c.degree-degree.ensures.small);
     }
-
-pub returns-clause-text : goal.returns-clause-text
-returns-clause-text c =
-    let all : c.loop-source.source-index ≡ length c.args.frontier.now = omega arith in
-    let rows = c.loop-source.invariant.rows ∙ ap (λ n. rows_of c.args.program.now (graph_of c.args.version.now) c.args.reduction c.args.argument.now (take n c.args.frontier.now)) all
-    ∙ ap (rows_of c.args.program.now (graph_of c.args.version.now) c.args.reduction c.args.argument.now) (take-length c.args.frontier.now) in
-    ap rows_text rows ∙ rows_text_of c.args.program.now (graph_of c.args.version.now) c.args.reduction c.args.argument.now c.args.frontier.now

@@ -1,22 +1,21 @@
-use Rattle.std.proofs.Common.{ℕ, ◌+◌, List, ◌++◌, take, drop, ap, subst, ◌∙◌, arith}
+use Rattle.std.proofs.Common.{ℕ, ◌+◌, List, ◌++◌, take, drop, subst, arith}
 use Rattle.script_model.specs.Texts.{fault_text}
 use Rattle.service.specs.Served.{Served}
-use Rattle.service.proofs.Following.{served_line, served_fault}
+use Rattle.service.proofs.Following.{served_step, served_fault}
 use Rattle.service.proofs.lines.execute_first.Goals as goal
 
-pub returns-in-None : goal.returns-in-None
-returns-in-None c =
+pub returns-in-Executed : goal.returns-in-Executed
+returns-in-Executed c =
     let found = c.in-Some.ensures in
-    let done = (rw c.in-None.is at c.in_ok-execute.ensures) in (
+    let done = (rw c.in-Executed.is at c.in_ok-execute.ensures) in (
       omega (arith, found.2),
       omega arith,
       λ read before h.
-          (done.0, done.1, served_line read before (take c.in-Some.end c.args.bytes.now) (drop (c.in-Some.end + 1) c.args.bytes.now) c.args.line c.args.session.now done.0 c.execute.new.self (subst (λ (b : List ℕ). Served read before c.args.line c.args.session.now b) found.1 h) found.0 done.2),
+          (done.0, done.2, served_step read before (take c.in-Some.end c.args.bytes.now) (drop (c.in-Some.end + 1) c.args.bytes.now) c.args.script.now done.0 done.1 c.execute.new.self (subst (λ (b : List ℕ). Served read before c.args.script.now b) found.1 h) found.0 done.3 done.4),
     )
 
-pub returns-in_ok-put_fault-in-Some-2 : goal.returns-in_ok-put_fault-in-Some-2
-returns-in_ok-put_fault-in-Some-2 c read before h =
+pub returns-in-Stopped : goal.returns-in-Stopped
+returns-in-Stopped c read before h =
     let found = c.in-Some.ensures in
-    let done = (rw c.in-Some-2.is at c.in_ok-execute.ensures) in
-    let said = c.in_ok-put_fault-in-Some-2.ensures ∙ ap (λ (t : List ℕ). t ++ fault_text c.in-Some-2.stop.fault c.in-Some-2.stop.line) done.0 in
-    (fault_text c.in-Some-2.stop.fault c.in-Some-2.stop.line, said, served_fault read before (take c.in-Some.end c.args.bytes.now) (drop (c.in-Some.end + 1) c.args.bytes.now) c.args.line c.args.session.now c.in-Some-2.stop.fault c.in-Some-2.stop.line (subst (λ (b : List ℕ). Served read before c.args.line c.args.session.now b) found.1 h) found.0 done.1)
+    let done = (rw c.in-Stopped.is at c.in_ok-execute.ensures) in
+    (fault_text done.0 c.args.script.now.line, done.1, served_fault read before (take c.in-Some.end c.args.bytes.now) (drop (c.in-Some.end + 1) c.args.bytes.now) c.args.script.now done.0 (subst (λ (b : List ℕ). Served read before c.args.script.now b) found.1 h) found.0 done.2)

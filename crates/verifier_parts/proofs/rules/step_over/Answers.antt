@@ -1,4 +1,4 @@
-use Rattle.std.proofs.Common.{rules, refl, inl, inr, FitsSigned, w16, w32}
+use Rattle.std.proofs.Common.{rules, refl, FitsSigned, w16, w32}
 use Rattle.std.proofs.lemmas.Int.{to_z-of_z}
 use Rattle.verifier_parts.specs.Rules.{transfer}
 use Rattle.verifier_parts.proofs.rules.step_over.Goals as goal
@@ -9,11 +9,11 @@ returns-in-Jump c pc = rw c.in-Jump.is refl
 
 pub returns-in-CallHelper : goal.returns-in-CallHelper
 unfolding transfer
-returns-in-CallHelper c pc =
-    elim c.in-CallHelper.is [
-      | inl helper ↦ rw helper.1 refl
-      | inr local ↦ rw local.1 refl
-    ]
+returns-in-CallHelper c pc = rw c.in-CallHelper.is refl
+
+pub returns-in-CallLocal : goal.returns-in-CallLocal
+unfolding transfer
+returns-in-CallLocal c pc = rw c.in-CallLocal.is refl
 
 pub returns-in-Load : goal.returns-in-Load
 returns-in-Load c =

@@ -4,4 +4,4 @@ use Rattle.service.proofs.serving.Serving.until_ended.Goals as goal
 
 pub returns-clause-served : goal.returns-clause-served
 returns-clause-served g c had held served =
-    begins _ _ _ _ c.loop.self.line c.loop.self.session c.loop.self.pending.items errors.OutOfMemory (c.loop.invariant.3 had held served)
+    begins _ _ _ _ c.loop.self errors.OutOfMemory (c.loop.invariant.3 had held served)

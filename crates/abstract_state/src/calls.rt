@@ -1,0 +1,59 @@
+//! What is known where a function of the program is called.
+ghost use Rattle.std.specs.Prelude.{◌≡◌};
+ghost use Rattle.abstract_state.specs.States.{known_of, passed, argument_of, entered, returned_from};
+
+use crate::state::{AbstractState, FRAME_SLOTS};
+use abstract_values::AbstractValue;
+use bpf_model::FRAME_BYTES;
+
+/// What a function is told of a value.
+fn pass(value: AbstractValue) -> AbstractValue
+    ensures { result ≡ passed value }
+{
+    match value {
+        AbstractValue::Stack { .. } => AbstractValue::Unset,
+        _ => value,
+    }
+}
+
+/// What is known where a function begins that is called here: R1 to R5 are passed, but no pointer into the
+/// caller's frame; R10 is the top of a new frame, of which no byte is set. Nothing is known of the rest.
+pub fn enter_call(state: &AbstractState) -> AbstractState
+    ensures { result ≡ entered state.now }
+{
+    let unset = AbstractValue::Unset;
+    let known = &state.registers;
+    AbstractState {
+        registers: [
+            unset,
+            pass(known[1]),
+            pass(known[2]),
+            pass(known[3]),
+            pass(known[4]),
+            pass(known[5]),
+            unset,
+            unset,
+            unset,
+            unset,
+            AbstractValue::Stack { offset: 0 },
+        ],
+        bytes_set: [false; FRAME_BYTES],
+        slots: [AbstractValue::Unset; FRAME_SLOTS],
+    }
+}
+
+/// What is known behind a call: R0 is any number, nothing is known of R1 to R5, and R6 to R10 and the
+/// frame are as they were.
+pub fn return_from_call(state: &mut AbstractState)
+    ensures { state.new ≡ returned_from state.old }
+{
+    let any = AbstractValue::Number {
+        lo: 0,
+        hi: u64::MAX,
+    };
+    let unset = AbstractValue::Unset;
+    let known = state.registers;
+    state.registers = [
+        any, unset, unset, unset, unset, unset, known[6], known[7], known[8], known[9], known[10],
+    ];
+}

@@ -1,0 +1,167 @@
+-- The frames in memory, by the bytes of all frames in a row.
+use Rattle.std.proofs.Common.{◌≡◌, ◌≢◌, ℕ, zero, suc, ◌+◌, ◌-◌, ◌*◌, ◌/◌, ◌%◌, ◌<◌, ◌≤◌, true, false, Bool, cond, nat_le, nat_lt, eqb, List, [], ◌∷◌, length, get_or, set, Option, Some, None, refl, sym, ap, ◌∙◌, arith, inl, inr, ◌⊎◌, eq-eqb}
+use Rattle.std.specs.Prelude.{◌&&◌, ◌||◌}
+use Rattle.std.proofs.Math.Path.{fun_ext}
+use Rattle.std.proofs.lemmas.Bool.{cases_Bool, cases_eq, cases_lt, and_parts, and_from, or_left, or_right, le-leb, lt-leb, leb-true, leb-false, lt-ltb, le-ltb, ne_eqb}
+use Rattle.std.proofs.lemmas.List.{get_or-set_same, get_or-set_other}
+use Rattle.bpf_model.specs.State.{Partial, Saved, stored, cleared, frame_top, frame_bytes, in_frame, in_frames}
+use Rattle.bpf_machine.specs.declared.callers.Kept.{Kept}
+use Rattle.bpf_machine.specs.Seen.{held, stack_byte, memory_of, saved_of, no_caller, callers_of}
+
+-- ---- which frame an access lies in
+
+pub found_inside : (n k j a size : ℕ) → k < n → a ≡ (frame_top k - frame_bytes) + j → j + size ≤ frame_bytes → in_frames n a size ≡ true
+found_inside zero k j a size lt is inside = absurd (omega (arith, lt))
+found_inside (suc n) k j a size lt is inside =
+    elim (cases_eq k n) [
+      | inl same ↦ or_left _ _ (and_from _ _ (le-leb (frame_top n - frame_bytes) a (omega (arith, same, is, inside))) (le-leb (a + size) (frame_top n) (omega (arith, same, is, inside))))
+      | inr other ↦ or_right _ _ (found_inside n k j a size (omega (arith, lt, other)) is inside)
+    ]
+
+-- an access that lies in no frame's room in the right way
+abbrev pub IsOutside : ℕ → ℕ → ℕ → Type 0
+IsOutside n a size =
+    (a < 0x200000000) ⊎ ((n ≤ (a - 0x200000000) / 4096) ⊎ (((a - 0x200000000) % 4096 < 3584) ⊎ (4096 < (a - 0x200000000) % 4096 + size)))
+
+in_no_frame : (n k a size : ℕ) → 1 ≤ size → k < n → IsOutside n a size → in_frame k a size ≡ true → ⊥
+in_no_frame n k a size some lt outside is =
+    let both = and_parts (nat_le (frame_top k - frame_bytes) a) (nat_le (a + size) (frame_top k)) is in
+    let begins : frame_top k - frame_bytes ≤ a = leb-true _ _ both.0 in
+    let ends : a + size ≤ frame_top k = leb-true _ _ both.1 in
+    elim outside [
+      | inl below ↦ omega (arith, begins, below)
+      | inr rest ↦ elim rest [
+        | inl past ↦ omega (arith, begins, ends, past, lt, some)
+        | inr near ↦ elim near [
+          | inl low ↦ omega (arith, begins, ends, low, some)
+          | inr long ↦ omega (arith, begins, ends, long, some)
+        ]
+      ]
+    ]
+
+not_true : (b : Bool) → ((b ≡ true) → ⊥) → b ≡ false
+not_true true h = absurd (h refl)
+not_true false h = refl
+
+pub found_outside : (n m a size : ℕ) → 1 ≤ size → n ≤ m → IsOutside m a size → in_frames n a size ≡ false
+found_outside zero m a size some le outside = refl
+found_outside (suc n) m a size some le outside =
+    let here : in_frame n a size ≡ false = not_true (in_frame n a size) (in_no_frame m n a size some (omega (arith, le)) outside) in
+    rw here (found_outside n m a size some (omega (arith, le)) outside)
+
+-- ---- bytes that are set, and frames that are opened
+
+none_either : (b : Bool) → cond {A = Option ℕ} b None None ≡ None
+none_either true = refl
+none_either false = refl
+
+abbrev address_of : ℕ → ℕ → ℕ
+address_of frame place = (frame_top frame - frame_bytes) + place
+
+stored_at : (bytes : List ℕ) (cells : Partial) (frame place v a : ℕ) → place < frame_bytes → stored (memory_of bytes cells) (address_of frame place) v a ≡ memory_of bytes (stored cells (frame_bytes * frame + place) v) a
+stored_at bytes cells frame place v a inside =
+    elim (cases_eq a (address_of frame place)) [
+      | inl same ↦
+          let test : eqb a (address_of frame place) ≡ true = eq-eqb _ _ same in
+          let above : nat_le 0x200000000 a ≡ true = le-leb _ _ (omega (arith, same)) in
+          let room : nat_le 3584 ((a - 0x200000000) % 4096) ≡ true = le-leb _ _ (omega (arith, same, inside)) in
+          let cell : 512 * ((a - 0x200000000) / 4096) + ((a - 0x200000000) % 4096 - 3584) ≡ 512 * frame + place = omega (arith, same, inside) in
+          let is : eqb (512 * ((a - 0x200000000) / 4096) + ((a - 0x200000000) % 4096 - 3584)) (512 * frame + place) ≡ true = eq-eqb _ _ cell in
+          rw (test, above, room, is) refl
+      | inr other ↦
+          let test : eqb a (address_of frame place) ≡ false = ne_eqb _ _ other in
+          elim (cases_Bool (nat_le 0x200000000 a)) [
+            | inr below ↦ rw (test, below) refl
+            | inl above ↦ elim (cases_Bool (nat_le 3584 ((a - 0x200000000) % 4096))) [
+              | inr low ↦ rw (test, above, low) refl
+              | inl room ↦
+                  let base = leb-true 0x200000000 a above in
+                  let start = leb-true 3584 ((a - 0x200000000) % 4096) room in
+                  let apart : eqb (512 * ((a - 0x200000000) / 4096) + ((a - 0x200000000) % 4096 - 3584)) (512 * frame + place) ≡ false = ne_eqb _ _ (λ e. omega (arith, e, base, start, other, inside)) in
+                  rw (test, above, room, apart) refl
+            ]
+          ]
+    ]
+
+pub stored_seen : (bytes : List ℕ) (cells : Partial) (frame place v : ℕ) → place < frame_bytes → stored (memory_of bytes cells) ((frame_top frame - frame_bytes) + place) v ≡ memory_of bytes (stored cells (frame_bytes * frame + place) v)
+stored_seen bytes cells frame place v inside = fun_ext (λ a. stored_at bytes cells frame place v a inside)
+
+-- whether a place is among those that are cleared
+cleared_in : (m : Partial) (from count x : ℕ) → from ≤ x → x < from + count → cleared m from count x ≡ None
+cleared_in m from count x low high =
+    let both : (nat_le from x && nat_lt x (from + count)) ≡ true = and_from _ _ (le-leb _ _ low) (lt-ltb _ _ high) in
+    rw both refl
+
+cleared_out : (m : Partial) (from count x : ℕ) → (x < from) ⊎ (from + count ≤ x) → cleared m from count x ≡ m x
+cleared_out m from count x (inl low) = (let test : nat_le from x ≡ false = lt-leb _ _ low in rw test refl)
+cleared_out m from count x (inr high) =
+    let test : nat_lt x (from + count) ≡ false = le-ltb _ _ high in
+    let both : (nat_le from x && nat_lt x (from + count)) ≡ false = rw test (and_none (nat_le from x)) in
+    rw both refl
+  where
+    and_none : (b : Bool) → (b && false) ≡ false
+    and_none true = refl
+    and_none false = refl
+
+cleared_at : (bytes : List ℕ) (cells : Partial) (frame a : ℕ) → cleared (memory_of bytes cells) (frame_top frame - frame_bytes) frame_bytes a ≡ memory_of bytes (cleared cells (frame_bytes * frame) frame_bytes) a
+cleared_at bytes cells frame a =
+    elim (cases_Bool (nat_le 0x200000000 a)) [
+      | inr below ↦
+          let low = leb-false 0x200000000 a below in
+          cleared_out (memory_of bytes cells) (frame_top frame - frame_bytes) frame_bytes a (inl (omega (arith, low))) ∙ rw below refl
+      | inl above ↦
+          let base = leb-true 0x200000000 a above in
+          elim (cases_Bool (nat_le 3584 ((a - 0x200000000) % 4096))) [
+            | inr low ↦
+                let start = leb-false 3584 ((a - 0x200000000) % 4096) low in
+                cleared_out (memory_of bytes cells) (frame_top frame - frame_bytes) frame_bytes a (elim (cases_lt a (frame_top frame - frame_bytes)) [ inl lt ↦ inl lt | inr ge ↦ inr (omega (arith, base, start, ge)) ]) ∙ rw (above, low) refl
+            | inl room ↦
+                let start = leb-true 3584 ((a - 0x200000000) % 4096) room in
+                elim (cases_eq ((a - 0x200000000) / 4096) frame) [
+                  | inl same ↦
+                      let inside : memory_of bytes (cleared cells (frame_bytes * frame) frame_bytes) a ≡ None = rw (above, room) (cleared_in cells (frame_bytes * frame) frame_bytes (512 * ((a - 0x200000000) / 4096) + ((a - 0x200000000) % 4096 - 3584)) (omega (arith, same, start)) (omega (arith, same, start))) in
+                      cleared_in (memory_of bytes cells) (frame_top frame - frame_bytes) frame_bytes a (omega (arith, base, start, same)) (omega (arith, base, start, same)) ∙ sym inside
+                  | inr other ↦
+                      let outside : memory_of bytes (cleared cells (frame_bytes * frame) frame_bytes) a ≡ cells (512 * ((a - 0x200000000) / 4096) + ((a - 0x200000000) % 4096 - 3584)) = rw (above, room) (cleared_out cells (frame_bytes * frame) frame_bytes (512 * ((a - 0x200000000) / 4096) + ((a - 0x200000000) % 4096 - 3584)) (elim (cases_lt ((a - 0x200000000) / 4096) frame) [ inl lt ↦ inl (omega (arith, lt, start)) | inr ge ↦ inr (omega (arith, ge, other, start)) ])) in
+                      cleared_out (memory_of bytes cells) (frame_top frame - frame_bytes) frame_bytes a (elim (cases_lt ((a - 0x200000000) / 4096) frame) [ inl lt ↦ inl (omega (arith, lt, start, base)) | inr ge ↦ inr (omega (arith, ge, other, start, base)) ]) ∙ rw (above, room) refl ∙ sym outside
+                ]
+          ]
+    ]
+
+pub cleared_seen : (bytes : List ℕ) (cells : Partial) (frame : ℕ) → cleared (memory_of bytes cells) (frame_top frame - frame_bytes) frame_bytes ≡ memory_of bytes (cleared cells (frame_bytes * frame) frame_bytes)
+cleared_seen bytes cells frame = fun_ext (λ a. cleared_at bytes cells frame a)
+
+-- one byte more is unset
+pub cleared_none : (m : Partial) (from : ℕ) → m ≡ cleared m from 0
+cleared_none m from = fun_ext (λ x. sym (cleared_out m from 0 x (elim (cases_lt x from) [ inl lt ↦ inl lt | inr ge ↦ inr (omega (arith, ge)) ])))
+
+cleared_next : (cells : List (Option ℕ)) (m : Partial) (from k x : ℕ) → from + k < length cells → held cells ≡ cleared m from k → held (set cells (from + k) None) x ≡ cleared m from (k + 1) x
+cleared_next cells m from k x inside so_far =
+    let here : held cells x ≡ cleared m from k x = ap (λ (f : Partial). f x) so_far in
+    elim (cases_eq x (from + k)) [
+      | inl same ↦ ap (λ y. held (set cells (from + k) None) y) same ∙ get_or-set_same cells (from + k) None None inside ∙ sym (cleared_in m from (k + 1) x (omega (arith, same)) (omega (arith, same)))
+      | inr other ↦
+          get_or-set_other cells (from + k) x None None other ∙ here ∙ (elim (cases_lt x from) [
+            | inl low ↦ cleared_out m from k x (inl low) ∙ sym (cleared_out m from (k + 1) x (inl low))
+            | inr ge ↦ elim (cases_lt x (from + k)) [
+              | inl lt ↦ cleared_in m from k x ge lt ∙ sym (cleared_in m from (k + 1) x ge (omega (arith, lt)))
+              | inr past ↦ cleared_out m from k x (inr past) ∙ sym (cleared_out m from (k + 1) x (inr (omega (arith, past, other))))
+            ]
+          ])
+    ]
+
+pub cleared_more : (cells : List (Option ℕ)) (m : Partial) (from k : ℕ) → from + k < length cells → held cells ≡ cleared m from k → held (set cells (from + k) None) ≡ cleared m from (k + 1)
+cleared_more cells m from k inside so_far = fun_ext (λ x. cleared_next cells m from k x inside so_far)
+
+-- ---- callers
+
+pub callers_count : (kept : List Kept) (n : ℕ) → length (callers_of kept n) ≡ n
+callers_count kept zero = refl
+callers_count kept (suc n) = ap suc (callers_count kept n)
+
+pub callers_before : (kept : List Kept) (m n : ℕ) (caller : Kept) → m ≤ n → callers_of (set kept n caller) m ≡ callers_of kept m
+callers_before kept zero n caller le = refl
+callers_before kept (suc m) n caller le =
+    let rest = callers_before kept m n caller (omega (arith, le)) in
+    let here : get_or (set kept n caller) m no_caller ≡ get_or kept m no_caller = get_or-set_other kept n m caller no_caller (λ e. absurd (omega (arith, le, e))) in
+    rw (rest, here) refl

@@ -1,0 +1,5 @@
+/// How many bytes the stack frame of a function has.
+pub const FRAME_BYTES: usize = 512;
+
+/// How many frames may be live at once: those of a function and of all its callers.
+pub const MOST_FRAMES: usize = 8;

@@ -1,0 +1,189 @@
+-- A number that is cut at 2^64 - 1 meets the same tests as the whole one, so a line does the same.
+use Rattle.std.proofs.Common.{◌≡◌, ℕ, ◌<◌, ◌≤◌, Bool, true, false, ltb, leb, ◌&&◌, List, [], ◌∷◌, Option, Some, None, refl, sym, ap, ◌∙◌, arith, inl, inr}
+use Rattle.std.specs.Prelude.{map, nat_lt, option_map, is_some}
+use Rattle.std.specs.List.{list_all}
+use Rattle.std.proofs.lemmas.Bool.{cases_Bool, cases_lt, lt-ltb, le-ltb, ltb-true, leb-true, and_parts}
+use Rattle.bpf_image.specs.Program.{Program}
+use Rattle.bpf_model.specs.declared.reduction.Reduction.{Reduction}
+use Rattle.graph_model.specs.Past.{Past}
+use Rattle.graph_model.specs.declared.edit.Edit.{Edit}
+use Rattle.graph_model.specs.declared.edit.Edit.TheVariants.{Insert, Remove}
+use Rattle.session_model.specs.Session.{Session}
+use Rattle.session_model.specs.Commands.{Command, MakeGraph, PublishBatch, LoadProgram, TakePin, RunProgram}
+use Rattle.session_model.specs.Faults.{is_edit_of, edit_fault, is_vertex_count, is_record_length, AreFewVertices, HasFewVertices}
+use Rattle.session_model.specs.Responses.{response, graph_response, load_response, run_response}
+use Rattle.script_model.specs.State.{OpenBatch, Script}
+use Rattle.script_model.specs.Parsing.{Statement, Asks, BeginBatch, BeginProgram, statement, BatchLine, OneEdit, EndBatch, batch_line}
+use Rattle.script_model.specs.Execution.{Execution, one_edit, inside_batch, begin_program, statement_execution, execution_of, is_comment, with_words, outside}
+use Rattle.script_words.specs.Said.{cut, cut_edit, cut_batch_line, cut_program, cut_command, cut_statement, Saying, Nothing, NoStatement, Makes, found_statement, saying, cut_saying}
+use Rattle.script.specs.Executes.{line_of}
+
+-- ---- numbers
+
+-- a limit up to 2^64 - 1 tells them apart from neither
+pub ltb-cut : (n limit : ℕ) → limit ≤ 1048576 → ltb (cut n) limit ≡ ltb n limit
+ltb-cut n limit small =
+    elim (cases_lt n limit) [
+      | inl below ↦
+          let same : cut n ≡ n = omega arith in
+          rw same refl
+      | inr above ↦
+          let high : limit ≤ cut n = omega arith in
+          le-ltb _ _ high ∙ sym (le-ltb _ _ above)
+    ]
+
+cut_below : (n limit : ℕ) → limit ≤ 1048576 → n < limit → cut n ≡ n
+cut_below n limit small below = omega arith
+
+cut_same : (n : ℕ) → n ≤ 1048576 → cut n ≡ n
+cut_same n le = omega arith
+
+above : (a : Bool) (n limit : ℕ) → limit < n → (a && leb n limit) ≡ false
+above a n limit lt =
+    elim (cases_Bool (a && leb n limit)) [
+      | inl is ↦
+          let below : n ≤ limit = leb-true _ _ (and_parts _ _ is).1 in
+          absurd (omega arith)
+      | inr not_is ↦ not_is
+    ]
+
+below-cut : (limit : ℕ) (vs : List ℕ) → limit ≤ 1048576 → list_all (λ v. nat_lt v limit) (map cut vs) ≡ list_all (λ v. nat_lt v limit) vs
+below-cut limit [] small = refl
+below-cut limit (v ∷ vs) small = rw (ltb-cut v limit small, below-cut limit vs small) refl
+
+same-cut : (limit : ℕ) (vs : List ℕ) → limit ≤ 1048576 → list_all (λ v. nat_lt v limit) vs ≡ true → map cut vs ≡ vs
+same-cut limit [] small all = refl
+same-cut limit (v ∷ vs) small all =
+    let parts = and_parts _ _ all in
+    let first : cut v ≡ v = cut_below v limit small (ltb-true _ _ parts.0) in
+    rw (first, same-cut limit vs small parts.1) refl
+
+-- ---- commands and statements
+
+run_at : (program pin : List ℕ) (reduction : Reduction) (argument : List ℕ) (frontier : List ℕ) (s : Session) (past : Option Past) → s.past ≡ past → AreFewVertices past → run_response program pin reduction argument (map cut frontier) s ≡ run_response program pin reduction argument frontier s
+run_at program pin reduction argument frontier s None past-is small = rw past-is refl
+run_at program pin reduction argument frontier s (Some p) past-is small =
+    elim (cases_Bool (list_all (λ v. nat_lt v p.vertex_count) frontier)) [
+      | inl all ↦ rw (same-cut p.vertex_count frontier small all) refl
+      | inr not_all ↦
+          let other : list_all (λ v. nat_lt v p.vertex_count) (map cut frontier) ≡ false = below-cut p.vertex_count frontier small ∙ not_all in
+          rw (past-is, other, not_all) refl
+    ]
+
+graph-cut : (n : ℕ) (s : Session) → graph_response (cut n) s ≡ graph_response n s
+graph-cut n s =
+    elim (cases_lt 1048576 n) [
+      | inl big ↦
+          let first : is_vertex_count (cut n) ≡ false = above (leb 1 (cut n)) (cut n) 1048576 (omega arith) in
+          let second : is_vertex_count n ≡ false = above (leb 1 n) n 1048576 big in
+          elim (cases_Bool (is_some s.past)) [
+            | inl made ↦ rw made refl
+            | inr none ↦ rw (none, first, second) refl
+          ]
+      | inr small ↦ rw (cut_same n small) refl
+    ]
+
+load-cut : (name code : List ℕ) (n : ℕ) (s : Session) → load_response name (record { code = code; record_length = cut n }) s ≡ load_response name (record { code = code; record_length = n }) s
+load-cut name code n s =
+    elim (cases_lt 256 n) [
+      | inl big ↦
+          let first : is_record_length (cut n) ≡ false = above (leb 16 (cut n)) (cut n) 256 (omega arith) in
+          let second : is_record_length n ≡ false = above (leb 16 n) n 256 big in
+          elim (cases_Bool (is_some s.past)) [
+            | inl made ↦ rw (made, first, second) refl
+            | inr none ↦ rw none refl
+          ]
+      | inr small ↦ rw (cut_same n (omega arith)) refl
+    ]
+
+response-cut : (c : Command) (s : Session) → HasFewVertices s → response (cut_command c) s ≡ response c s
+response-cut (MakeGraph n) s few = graph-cut n s
+response-cut (PublishBatch feed edits) s few = refl
+response-cut (LoadProgram name p) s few = load-cut name p.code p.record_length s
+response-cut (TakePin name) s few = refl
+response-cut (RunProgram program pin reduction argument frontier) s few =
+    run_at program pin reduction argument frontier s s.past refl few
+
+begin_program-cut : (name : List ℕ) (n : ℕ) (s : Script) → begin_program name (cut n) s ≡ begin_program name n s
+begin_program-cut name n s =
+    elim (cases_lt 256 n) [
+      | inl big ↦
+          let first : is_record_length (cut n) ≡ false = above (leb 16 (cut n)) (cut n) 256 (omega arith) in
+          let second : is_record_length n ≡ false = above (leb 16 n) n 256 big in
+          elim (cases_Bool (is_some s.session.past)) [
+            | inl made ↦ rw (made, first, second) refl
+            | inr none ↦ rw none refl
+          ]
+      | inr small ↦ rw (cut_same n (omega arith)) refl
+    ]
+
+statement-cut : (x : Statement) (s : Script) → HasFewVertices s.session → statement_execution (cut_statement x) s ≡ statement_execution x s
+statement-cut (Asks c) s few = ap (λ r. execution_of r s) (response-cut c s.session few)
+statement-cut (BeginBatch feed) s few = refl
+statement-cut (BeginProgram name n) s few = begin_program-cut name n s
+
+line_of-found : (o : Option Statement) (s : Script) → line_of (found_statement o) s ≡ with_words o (λ x. statement_execution x s)
+line_of-found None s = refl
+line_of-found (Some x) s = refl
+
+line_of-saying : (words : List (List ℕ)) (s : Script) → line_of (saying words) s ≡ outside words s
+line_of-saying [] s = refl
+line_of-saying (word ∷ operands) s =
+    elim (cases_Bool (is_comment word)) [
+      | inl is ↦ rw is refl
+      | inr not_is ↦ rw not_is (line_of-found (statement word operands) s)
+    ]
+
+line_of-cut : (x : Saying) (s : Script) → HasFewVertices s.session → line_of (cut_saying x) s ≡ line_of x s
+line_of-cut Nothing s few = refl
+line_of-cut NoStatement s few = refl
+line_of-cut (Makes x) s few = statement-cut x s few
+
+-- a line outside blocks does what it says, whether or not its numbers are cut
+pub outside-cut : (words : List (List ℕ)) (s : Script) → HasFewVertices s.session → line_of (cut_saying (saying words)) s ≡ outside words s
+outside-cut words s few = line_of-cut (saying words) s few ∙ line_of-saying words s
+
+-- ---- edits
+
+insert_in-cut : (u v : ℕ) (past : Past) → past.vertex_count ≤ 1048576 → is_edit_of past (Insert (cut u) (cut v)) ≡ is_edit_of past (Insert u v)
+insert_in-cut u v past small = rw (ltb-cut u past.vertex_count small, ltb-cut v past.vertex_count small) refl
+
+edit_at : (u v : ℕ) (begun : OpenBatch) (s : Script) (past : Option Past) → s.session.past ≡ past → AreFewVertices past → one_edit (Insert (cut u) (cut v)) begun s ≡ one_edit (Insert u v) begun s
+edit_at u v begun s None past-is few = rw past-is refl
+edit_at u v begun s (Some past) past-is few =
+    elim (cases_Bool (is_edit_of past (Insert u v))) [
+      | inl is ↦
+          let ends = and_parts _ _ is in
+          let first : cut u ≡ u = cut_below u past.vertex_count few (ltb-true _ _ ends.0) in
+          let second : cut v ≡ v = cut_below v past.vertex_count few (ltb-true _ _ ends.1) in
+          rw (first, second) refl
+      | inr not_is ↦ rw (past-is, insert_in-cut u v past few, not_is) refl
+    ]
+
+-- what a line says that the code takes as an insertion
+said_insert : (o : Option BatchLine) (u v : ℕ) → Some (OneEdit (Insert u v)) ≡ option_map cut_batch_line o → (a : ℕ) × (b : ℕ) × (o ≡ Some (OneEdit (Insert a b))) × (cut a ≡ u) × (cut b ≡ v)
+said_insert None u v h = absurd cc
+said_insert (Some EndBatch) u v h = absurd cc
+said_insert (Some (OneEdit (Remove a b))) u v h = absurd cc
+said_insert (Some (OneEdit (Insert a b))) u v h = (a, b, refl, cc, cc)
+
+inside_edit : (words : List (List ℕ)) (e : Edit) (begun : OpenBatch) (s : Script) → batch_line words ≡ Some (OneEdit e) → one_edit e begun s ≡ inside_batch words begun s
+inside_edit words e begun s said = rw said refl
+
+-- an insertion inside a batch does what the definitions say of the line
+pub insert_line : (words : List (List ℕ)) (u v : ℕ) (begun : OpenBatch) (s : Script) → Some (OneEdit (Insert u v)) ≡ option_map cut_batch_line (batch_line words) → HasFewVertices s.session → one_edit (Insert u v) begun s ≡ inside_batch words begun s
+insert_line words u v begun s said few =
+    let whole = said_insert (batch_line words) u v said in
+    let cut-is = edit_at whole.0 whole.1 begun s s.session.past refl few in
+    let first = ap (λ (x : ℕ). one_edit (Insert x v) begun s) (sym whole.3) in
+    let second = ap (λ (y : ℕ). one_edit (Insert (cut whole.0) y) begun s) (sym whole.4) in
+    first ∙ second ∙ cut-is ∙ inside_edit words (Insert whole.0 whole.1) begun s whole.2
+
+-- what a line says that the code takes as an end
+said_end : (o : Option BatchLine) → Some EndBatch ≡ option_map cut_batch_line o → o ≡ Some EndBatch
+said_end None h = absurd cc
+said_end (Some EndBatch) h = refl
+said_end (Some (OneEdit e)) h = absurd cc
+
+pub end_line : (words : List (List ℕ)) → Some EndBatch ≡ option_map cut_batch_line (batch_line words) → batch_line words ≡ Some EndBatch
+end_line words said = said_end (batch_line words) said

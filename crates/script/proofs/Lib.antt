@@ -1,0 +1,3 @@
+pub mod ProgramLemmas
+pub mod Cuts
+pub mod Blocks

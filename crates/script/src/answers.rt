@@ -1,0 +1,48 @@
+//! The text of an answer.
+
+ghost use Rattle.std.specs.Prelude.{◌≡◌, ◌++◌, OnOk};
+ghost use Rattle.script_model.specs.Texts.{answer_text};
+ghost use Rattle.session.specs.Kept.{answer_of};
+
+use crate::texts::{
+    put_batch, put_graph, put_image, put_pin, put_program, put_refused, put_rows, put_run,
+};
+use session::Answer;
+use std::alloc::AllocError;
+
+/// Writes the lines of an answer at the end of a text.
+pub fn put_answer(text: &mut Vec<u8>, answer: &Answer) -> Result<(), AllocError>
+    ensures { OnOk result (text.new.items ≡ text.old.items ++ answer_text (answer_of answer.now)) }
+{
+    match answer {
+        Answer::GraphMade { vertices } => put_graph(text, *vertices),
+        Answer::BatchPublished {
+            feed,
+            number,
+            added,
+            removed,
+        } => put_batch(text, *feed, *number, *added, *removed),
+        Answer::ProgramAccepted {
+            name,
+            bound,
+            frames,
+        } => put_program(text, name, u64::from(*bound), u64::from(*frames)),
+        Answer::ProgramRefused { name, refusal } => put_refused(text, name, *refusal),
+        Answer::NoImage { name } => put_image(text, name),
+        Answer::PinTaken {
+            name,
+            number,
+            edges,
+        } => put_pin(text, name, *number, *edges),
+        Answer::EdgesMapped {
+            program,
+            pin,
+            edges,
+            total,
+            rows,
+        } => {
+            put_run(text, program, pin, *edges, *total)?;
+            put_rows(text, rows)
+        }
+    }
+}

@@ -1,0 +1,158 @@
+//! The state of a script, and its lines one by one.
+
+ghost use Rattle.std.specs.Prelude.{◌≡◌, ◌++◌, OnOk, IfOk, true};
+ghost use Rattle.std.specs.List.{list_all};
+ghost use Rattle.script_model.specs.Lexing.{is_plain};
+ghost use Rattle.script_model.specs.State.{new_script};
+ghost use Rattle.script_model.specs.Execution.{execution, block_execution};
+ghost use Rattle.script_model.specs.Script.{end_outcome, next_line};
+ghost use Rattle.script_model.specs.Texts.{fault_text};
+ghost use Rattle.script.specs.Executes.{Executes, Steps};
+
+use crate::block::Block;
+use crate::error::{LineError, ScriptError};
+use crate::texts::put_fault;
+use script_model::{Ending, LineFault, MOST_LINE_BYTES};
+use script_words::{batch_line, is_plain_line, statement_line};
+use session::Session;
+use std::alloc::Global;
+use std::marker::Model;
+
+/// How far a script is: its session, the block that is open, and the number of the next line. Whoever
+/// makes one has to close it.
+pub struct Script {
+    pub(crate) alloc: Global,
+    pub(crate) session: Session,
+    pub(crate) block: Option<Block>,
+    pub(crate) line: u64,
+}
+
+impl Model for Script {
+    ghost use Rattle.script_model.specs.State.{Script as ScriptState};
+    ghost use Rattle.script.specs.Kept.{script_of, IsBlock};
+
+    ghost Value = { ScriptState };
+
+    ghost view = { λ s. script_of s.session s.block s.line };
+
+    ghost invariant = { λ s. IsBlock s.block };
+}
+
+/// What came of a line.
+#[derive(Clone, Copy, Debug, PartialEq, Eq)]
+pub enum Step {
+    /// It was executed.
+    Executed,
+    /// It has a fault, which is written. The script has ended.
+    Stopped,
+}
+
+impl Script {
+    /// The script before its first line. It takes no memory.
+    pub fn new(alloc: Global) -> Script
+        ensures { result ≡ new_script }
+    {
+        Script {
+            alloc,
+            session: Session::new(alloc),
+            block: None,
+            line: 1,
+        }
+    }
+
+    /// Executes the next line, its end left out. What it says, or its fault, goes to the end of the
+    /// text.
+    pub fn execute(&mut self, text: &mut Vec<u8>, bytes: &[u8]) -> Result<Step, ScriptError>
+        ensures { Steps result bytes.now self.old self.new text.old.items text.new.items }
+    {
+        match self.execute_line(text, bytes) {
+            Ok(()) => {
+                self.count_line()?;
+                Ok(Step::Executed)
+            }
+            Err(LineError::Fault(fault)) => {
+                put_fault(text, fault, self.line)?;
+                Ok(Step::Stopped)
+            }
+            Err(LineError::OutOfMemory) => Err(ScriptError::OutOfMemory),
+            Err(LineError::Store) => Err(ScriptError::Store),
+        }
+    }
+
+    /// Writes that the next line is too long. The script has ended.
+    pub fn stop_at_long_line(&self, text: &mut Vec<u8>) -> Result<(), ScriptError>
+        ensures { OnOk result (text.new.items ≡ text.old.items ++ fault_text LineFault.LongLine self.now.line) }
+    {
+        put_fault(text, LineFault::LongLine, self.line)?;
+        Ok(())
+    }
+
+    /// Ends a script whose lines are all executed: a block that is still open is a fault of the line that
+    /// opened it.
+    pub fn finish(&self, text: &mut Vec<u8>) -> Result<Ending, ScriptError>
+        ensures text { OnOk result (text.new.items ≡ text.old.items ++ (end_outcome self.now.block).text) }
+        ensures ending { IfOk result (λ e. e ≡ (end_outcome self.now.block).ending) }
+    {
+        match &self.block {
+            None => Ok(Ending::Complete),
+            Some(block) => {
+                put_fault(text, LineFault::OpenBlock, block.first_line())?;
+                Ok(Ending::Fault)
+            }
+        }
+    }
+
+    /// Lets go of all that the script has made.
+    pub fn close(self) {
+        let Script {
+            alloc: _,
+            session,
+            block: _,
+            line: _,
+        } = self;
+        session.close();
+    }
+
+    /// Moves on to the next line.
+    fn count_line(&mut self) -> Result<(), ScriptError>
+        ensures { OnOk result (self.new ≡ next_line self.old.line self.old) }
+    {
+        // No machine reads 2^64 lines.
+        let Some(next) = self.line.checked_add(1) else {
+            return Err(ScriptError::OutOfMemory);
+        };
+        self.line = next;
+        Ok(())
+    }
+
+    /// Executes a line whose bytes are allowed, inside a block or outside.
+    fn execute_plain(&mut self, text: &mut Vec<u8>, bytes: &[u8]) -> Result<(), LineError>
+        requires { list_all is_plain bytes.now ≡ true }
+        ensures executed { Executes (block_execution self.old.block bytes.now self.old) result text.old.items text.new.items self.new }
+        ensures line { self.new.line ≡ self.old.line }
+    {
+        match self.block.take() {
+            None => {
+                let said = statement_line(self.alloc, bytes)?;
+                self.execute_outside(text, said)
+            }
+            Some(Block::Batch(begun)) => self.execute_in_batch(text, begun, batch_line(bytes)),
+            Some(Block::Program(begun)) => self.execute_in_program(text, begun, bytes),
+        }
+    }
+
+    /// Executes the line of the present number.
+    #[tactic(auto, unfolding(script_model::specs::Execution::execution))]
+    fn execute_line(&mut self, text: &mut Vec<u8>, bytes: &[u8]) -> Result<(), LineError>
+        ensures executed { Executes (execution self.old bytes.now) result text.old.items text.new.items self.new }
+        ensures line { self.new.line ≡ self.old.line }
+    {
+        if bytes.len() > MOST_LINE_BYTES {
+            return Err(LineError::Fault(LineFault::LongLine));
+        }
+        if !is_plain_line(bytes) {
+            return Err(LineError::Fault(LineFault::Words));
+        }
+        self.execute_plain(text, bytes)
+    }
+}

@@ -1,0 +1,102 @@
+//! Lines outside blocks.
+
+ghost use Rattle.std.specs.Prelude.{◌≡◌, None, OnOk};
+ghost use Rattle.session_model.specs.Responses.{response};
+ghost use Rattle.session_model.specs.Faults.{HasFewVertices};
+ghost use Rattle.session.specs.Kept.{command_of};
+ghost use Rattle.script_model.specs.Execution.{execution_of, statement_execution};
+ghost use Rattle.script_words.specs.Said.{said_statement, said_line};
+ghost use Rattle.script.specs.Executes.{Executes, line_of};
+
+use crate::answers::put_answer;
+use crate::error::LineError;
+use crate::script::Script;
+use script_model::LineFault;
+use script_words::{Line, Statement};
+use session::Command;
+
+impl Script {
+    /// Has the session perform a command, and writes its answer.
+    pub(crate) fn perform(
+        &mut self,
+        text: &mut Vec<u8>,
+        command: Command,
+    ) -> Result<(), LineError>
+        requires { self.old.block ≡ None }
+        ensures executed { Executes (execution_of (response (command_of command.entry) self.old.session) self.old) result text.old.items text.new.items self.new }
+        ensures line { self.new.line ≡ self.old.line }
+    {
+        let answer = self.session.perform(command)?;
+        put_answer(text, &answer)?;
+        Ok(())
+    }
+
+    /// Executes a statement.
+    fn execute_statement(
+        &mut self,
+        text: &mut Vec<u8>,
+        statement: Statement,
+    ) -> Result<(), LineError>
+        requires { self.old.block ≡ None }
+        ensures executed { Executes (statement_execution (said_statement statement.entry) self.old) result text.old.items text.new.items self.new }
+        ensures line { self.new.line ≡ self.old.line }
+    {
+        match statement {
+            Statement::Graph { vertices } => self.perform(text, Command::MakeGraph { vertices }),
+            Statement::Batch { feed } => self.begin_batch(feed),
+            Statement::Code {
+                name,
+                record_length,
+                code,
+            } => self.perform(
+                text,
+                Command::LoadProgram {
+                    name,
+                    record_length,
+                    code,
+                },
+            ),
+            Statement::Program {
+                name,
+                record_length,
+            } => self.begin_program(name, record_length),
+            Statement::Pin { name } => self.perform(text, Command::TakePin { name }),
+            Statement::Run {
+                program,
+                pin,
+                reduction,
+                argument,
+                frontier,
+            } => self.perform(
+                text,
+                Command::RunProgram {
+                    program,
+                    pin,
+                    reduction,
+                    argument: &argument,
+                    frontier: &frontier,
+                },
+            ),
+        }
+    }
+
+    /// Executes what a line outside blocks says.
+    pub(crate) fn execute_outside(
+        &mut self,
+        text: &mut Vec<u8>,
+        said: Line,
+    ) -> Result<(), LineError>
+        requires { self.old.block ≡ None }
+        ensures executed { Executes (line_of (said_line said.entry) self.old) result text.old.items text.new.items self.new }
+        ensures line { self.new.line ≡ self.old.line }
+        ensures few { HasFewVertices self.old.session }
+    {
+        // The number of vertices tells that numbers cut at 2^64 - 1 fail the same tests.
+        let _few = self.session.vertex_count();
+        match said {
+            Line::Skipped => Ok(()),
+            Line::Unknown => Err(LineError::Fault(LineFault::Words)),
+            Line::Statement(statement) => self.execute_statement(text, statement),
+        }
+    }
+}

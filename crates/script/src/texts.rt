@@ -1,0 +1,201 @@
+//! The lines that are written.
+
+ghost use Rattle.std.specs.Prelude.{◌≡◌, ◌++◌, codes, OnOk};
+ghost use Rattle.std.specs.Fmt.{decimal};
+ghost use Rattle.std.specs.List.{flat_map};
+ghost use Rattle.script_model.specs.Texts.{
+  newline,
+  graph_text,
+  batch_text,
+  program_text,
+  refused_text,
+  image_text,
+  assembler_text,
+  pin_text,
+  run_text,
+  row_text,
+  feed_text,
+  fault_text,
+};
+
+use bpf_asm::AssembleError;
+use itoa::Buffer;
+use bpf_model::Row;
+use script_model::LineFault;
+use std::alloc::AllocError;
+use verifier::Refusal;
+
+/// Writes bytes at the end of a text.
+fn put(text: &mut Vec<u8>, bytes: &[u8]) -> Result<(), AllocError>
+    ensures { OnOk result (text.new.items ≡ text.old.items ++ bytes.now) }
+{
+    text.extend_from_slice(bytes)?;
+    Ok(())
+}
+
+/// Writes a number in decimal digits.
+fn put_number(text: &mut Vec<u8>, number: u64) -> Result<(), AllocError>
+    ensures { OnOk result (text.new.items ≡ text.old.items ++ decimal number) }
+{
+    let mut buffer = Buffer::new();
+    put(text, buffer.format(number).as_bytes())
+}
+
+/// Writes a label and then a number.
+fn put_field(text: &mut Vec<u8>, label: &[u8], number: u64) -> Result<(), AllocError>
+    ensures { OnOk result (text.new.items ≡ text.old.items ++ (label.now ++ decimal number)) }
+{
+    put(text, label)?;
+    put_number(text, number)
+}
+
+/// Writes a label and then a name.
+fn put_name(text: &mut Vec<u8>, label: &[u8], name: &[u8]) -> Result<(), AllocError>
+    ensures { OnOk result (text.new.items ≡ text.old.items ++ (label.now ++ name.now)) }
+{
+    put(text, label)?;
+    put(text, name)
+}
+
+/// The line of a graph that was made.
+pub fn put_graph(text: &mut Vec<u8>, vertices: u64) -> Result<(), AllocError>
+    ensures { OnOk result (text.new.items ≡ text.old.items ++ graph_text vertices) }
+{
+    put_field(text, b"graph ", vertices)?;
+    put(text, b"\n")
+}
+
+/// What a batch did, at the end of its line.
+fn put_changes(text: &mut Vec<u8>, added: u64, removed: u64) -> Result<(), AllocError>
+    ensures { OnOk result (text.new.items ≡ text.old.items ++ (codes " added " ++ (decimal added ++ (codes " removed " ++ (decimal removed ++ newline))))) }
+{
+    put_field(text, b" added ", added)?;
+    put_field(text, b" removed ", removed)?;
+    put(text, b"\n")
+}
+
+/// The letter of a feed.
+fn feed_letter(feed: u8) -> &'static [u8]
+    ensures { result.now ≡ feed_text feed }
+{
+    if feed == 0 { b"A" } else { b"B" }
+}
+
+/// The line of a batch that was published.
+pub fn put_batch(
+    text: &mut Vec<u8>,
+    feed: u8,
+    number: u64,
+    added: u64,
+    removed: u64,
+) -> Result<(), AllocError>
+    ensures { OnOk result (text.new.items ≡ text.old.items ++ batch_text feed number added removed) }
+{
+    put_name(text, b"batch ", feed_letter(feed))?;
+    put_field(text, b" version ", number)?;
+    put_changes(text, added, removed)?;
+    Ok(())
+}
+
+/// The line of a program that was accepted.
+pub fn put_program(
+    text: &mut Vec<u8>,
+    name: &[u8],
+    bound: u64,
+    frames: u64,
+) -> Result<(), AllocError>
+    ensures { OnOk result (text.new.items ≡ text.old.items ++ program_text name.now bound frames) }
+{
+    put_name(text, b"program ", name)?;
+    put_field(text, b" bound ", bound)?;
+    put_field(text, b" frames ", frames)?;
+    put(text, b"\n")
+}
+
+/// The line of a program that was refused.
+pub fn put_refused(text: &mut Vec<u8>, name: &[u8], refusal: Refusal) -> Result<(), AllocError>
+    ensures { OnOk result (text.new.items ≡ text.old.items ++ refused_text name.now refusal) }
+{
+    put_name(text, b"refused ", name)?;
+    put_field(text, b" cause ", refusal.cause as u64)?;
+    put_field(text, b" pc ", refusal.pc as u64)?;
+    put(text, b"\n")
+}
+
+/// The line of code that has no image, as its length is not allowed.
+pub fn put_image(text: &mut Vec<u8>, name: &[u8]) -> Result<(), AllocError>
+    ensures { OnOk result (text.new.items ≡ text.old.items ++ image_text name.now) }
+{
+    put_name(text, b"image ", name)?;
+    put(text, b" error 4")?;
+    put(text, b"\n")
+}
+
+/// The line of a program whose text means no code.
+pub fn put_assembler(
+    text: &mut Vec<u8>,
+    name: &[u8],
+    error: AssembleError,
+) -> Result<(), AllocError>
+    ensures { OnOk result (text.new.items ≡ text.old.items ++ assembler_text name.now error) }
+{
+    put_name(text, b"assembler ", name)?;
+    put_field(text, b" error ", error.cause as u64)?;
+    put_field(text, b" line ", error.line as u64)?;
+    put(text, b"\n")
+}
+
+/// The line of a pin.
+pub fn put_pin(text: &mut Vec<u8>, name: &[u8], number: u64, edges: u64) -> Result<(), AllocError>
+    ensures { OnOk result (text.new.items ≡ text.old.items ++ pin_text name.now number edges) }
+{
+    put_name(text, b"pin ", name)?;
+    put_field(text, b" version ", number)?;
+    put_field(text, b" edges ", edges)?;
+    put(text, b"\n")
+}
+
+/// The first line of a run.
+pub fn put_run(
+    text: &mut Vec<u8>,
+    program: &[u8],
+    pin: &[u8],
+    edges: u64,
+    total: u64,
+) -> Result<(), AllocError>
+    ensures { OnOk result (text.new.items ≡ text.old.items ++ run_text program.now pin.now edges total) }
+{
+    put_name(text, b"run ", program)?;
+    put_name(text, b" ", pin)?;
+    put_field(text, b" edges ", edges)?;
+    put_field(text, b" total ", total)?;
+    put(text, b"\n")
+}
+
+/// The line of a vertex in a run.
+fn put_row(text: &mut Vec<u8>, row: Row) -> Result<(), AllocError>
+    ensures { OnOk result (text.new.items ≡ text.old.items ++ row_text row) }
+{
+    put_field(text, b"row ", u64::from(row.vertex))?;
+    put_field(text, b" ", row.value)?;
+    put(text, b"\n")
+}
+
+/// The lines of the vertices that have a neighbour.
+pub fn put_rows(text: &mut Vec<u8>, rows: &[Row]) -> Result<(), AllocError>
+    ensures { OnOk result (text.new.items ≡ text.old.items ++ flat_map row_text rows.now) }
+{
+    for row in rows {
+        put_row(text, *row)?;
+    }
+    Ok(())
+}
+
+/// The line of a fault, the last of a script.
+pub fn put_fault(text: &mut Vec<u8>, fault: LineFault, line: u64) -> Result<(), AllocError>
+    ensures { OnOk result (text.new.items ≡ text.old.items ++ fault_text fault line) }
+{
+    put_field(text, b"fault ", fault.number())?;
+    put_field(text, b" line ", line)?;
+    put(text, b"\n")
+}

@@ -1,0 +1,6 @@
+pub mod BatchLemmas
+pub mod BlankLemmas
+pub mod StatementLemmas
+pub mod HexLemmas
+pub mod NumberLemmas
+pub mod WordLemmas

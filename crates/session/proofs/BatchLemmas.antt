@@ -1,0 +1,42 @@
+-- What is answered to a batch, test by test.
+use Rattle.std.proofs.Common.{◌≡◌, ◌+◌, ℕ, Bool, true, false, ltb, leb, List, [], ◌∷◌, Some, refl, ap, ◌∙◌}
+use Rattle.std.specs.List.{list_all}
+use Rattle.std.proofs.lemmas.Bool.{and_parts, ltb-true}
+use Rattle.graph_model.specs.declared.edit.Edit.{Edit}
+use Rattle.graph_model.specs.Edits.{AreEditsBelow, added, removed}
+use Rattle.graph_model.specs.Past.{Past, opening, graph_of, longer, number_of}
+use Rattle.session_model.specs.declared.fault.Fault.TheVariants as faults
+use Rattle.session_model.specs.Session.{Session}
+use Rattle.session_model.specs.Commands.{BatchPublished}
+use Rattle.session_model.specs.Faults.{is_edit_of}
+use Rattle.session_model.specs.Responses.{Answers, Fails, entry_of, publish_response}
+use Rattle.std.proofs.Common.{length}
+
+-- what a test of shown edits says of the graph's
+pub same_test : (passed : Bool) (n : ℕ) (edits shown : List Edit) (past : Past) → passed ≡ list_all (is_edit_of (opening n)) shown → shown ≡ edits → n ≡ past.vertex_count → passed ≡ list_all (is_edit_of past) edits
+same_test passed n edits shown past test same count =
+    test ∙ ap (λ (es : List Edit). list_all (is_edit_of (opening n)) es) same ∙ ap (λ (m : ℕ). list_all (is_edit_of (opening m)) edits) count
+
+-- ends that pass the test are vertices
+pub edits_below : (past : Past) (edits : List Edit) → list_all (is_edit_of past) edits ≡ true → AreEditsBelow past.vertex_count edits
+edits_below past [] all = tt
+edits_below past (e ∷ edits) all =
+    let parts = and_parts _ _ all in
+    let ends = and_parts _ _ parts.0 in
+    ((ltb-true _ _ ends.0, ltb-true _ _ ends.1), edits_below past edits parts.1)
+
+pub batch_outside : (feed : ℕ) (edits : List Edit) (past : Past) (s : Session) → list_all (is_edit_of past) edits ≡ false → publish_response feed edits (record s { past = Some past }) ≡ Fails faults.Range
+batch_outside feed edits past s outside = rw outside refl
+
+pub batch_too_long : (feed : ℕ) (edits : List Edit) (past : Past) (s : Session) → list_all (is_edit_of past) edits ≡ true → ltb 65536 (length edits) ≡ true → publish_response feed edits (record s { past = Some past }) ≡ Fails faults.TooMany
+batch_too_long feed edits past s inside long = rw (inside, long) refl
+
+pub log_full : (feed : ℕ) (edits : List Edit) (past : Past) (s : Session) → list_all (is_edit_of past) edits ≡ true → ltb 65536 (length edits) ≡ false → leb 4096 (number_of past) ≡ true → publish_response feed edits (record s { past = Some past }) ≡ Fails faults.LogFull
+log_full feed edits past s inside short full = rw (inside, short, full) refl
+
+pub batch_published : (feed : ℕ) (edits : List Edit) (past next : Past) (s : Session) (number gained lost : ℕ)
+    → list_all (is_edit_of past) edits ≡ true → ltb 65536 (length edits) ≡ false → leb 4096 (number_of past) ≡ false
+    → next ≡ longer past (entry_of feed edits) → number ≡ number_of past + 1 → gained ≡ added edits (graph_of past) → lost ≡ removed edits (graph_of past)
+    → publish_response feed edits (record s { past = Some past }) ≡ Answers (BatchPublished feed number gained lost) (record s { past = Some next })
+batch_published feed edits past next s number gained lost inside short room next_is number_is gained_is lost_is =
+    rw (inside, short, room, next_is, number_is, gained_is, lost_is) refl

@@ -1,0 +1,3 @@
+pub mod Frontiers
+pub mod BatchLemmas
+pub mod RunLemmas

@@ -1,0 +1,39 @@
+-- What a session keeps, and what commands and answers stand for.
+use Rattle.std.specs.Prelude.{List, map, Option}
+use Rattle.graph_model.specs.Past.{Past}
+use Rattle.session_model.specs.Session.{KeptProgram, KeptPin, Session}
+use Rattle.session_model.specs.Commands.{Command, MakeGraph, PublishBatch, LoadProgram, TakePin, RunProgram, Answer, GraphMade, BatchPublished, ProgramAccepted, ProgramRefused, NoImage, PinTaken, EdgesMapped}
+use Rattle.session.specs.declared.kept.NamedProgram.{NamedProgram}
+use Rattle.session.specs.declared.kept.NamedPin.{NamedPin}
+use Rattle.session.specs.declared.command.Command.{Command as GivenCommand}
+use Rattle.session.specs.declared.command.Command.TheVariants as commands
+use Rattle.session.specs.declared.answer.Answer.{Answer as GivenAnswer}
+use Rattle.session.specs.declared.answer.Answer.TheVariants as answers
+
+abbrev pub kept_program : NamedProgram → KeptProgram
+kept_program p = record { name = p.name.items; program = p.program }
+
+abbrev pub kept_pin : NamedPin → KeptPin
+kept_pin p = record { name = p.name.items; past = p.pin }
+
+abbrev pub session_of : Option Past → List NamedProgram → List NamedPin → Session
+session_of past programs pins =
+    record { past = past; programs = map kept_program programs; pins = map kept_pin pins }
+
+abbrev pub command_of : GivenCommand → Command
+command_of (commands.MakeGraph vertices) = MakeGraph vertices
+command_of (commands.PublishBatch feed edits) = PublishBatch feed edits.items
+command_of (commands.LoadProgram name record_length code) =
+    LoadProgram name.now (record { code = code.items; record_length = record_length })
+command_of (commands.TakePin name) = TakePin name.now
+command_of (commands.RunProgram program pin reduction argument frontier) =
+    RunProgram program.now pin.now reduction argument.now frontier.now
+
+abbrev pub answer_of : GivenAnswer → Answer
+answer_of (answers.GraphMade vertices) = GraphMade vertices
+answer_of (answers.BatchPublished feed number added removed) = BatchPublished feed number added removed
+answer_of (answers.ProgramAccepted name bound frames) = ProgramAccepted name.now bound frames
+answer_of (answers.ProgramRefused name refusal) = ProgramRefused name.now refusal
+answer_of (answers.NoImage name) = NoImage name.now
+answer_of (answers.PinTaken name number edges) = PinTaken name.now number edges
+answer_of (answers.EdgesMapped program pin edges total rows) = EdgesMapped program.now pin.now edges total rows.items

@@ -1,0 +1,4 @@
+pub mod Kept
+pub mod Performs
+pub mod Edits
+pub mod Runs

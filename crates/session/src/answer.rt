@@ -1,0 +1,51 @@
+//! What a session can answer.
+
+use bpf_model::Row;
+use verifier::Refusal;
+
+/// The answer to a command, with the names that the command gave.
+#[derive(Debug, Drop)]
+pub enum Answer<'a> {
+    /// There is a graph of so many vertices now.
+    GraphMade {
+        vertices: u64,
+    },
+    /// A batch is published: the feed it came by, the new version's number, and how many edges it added
+    /// and removed.
+    BatchPublished {
+        feed: u8,
+        number: u64,
+        added: u64,
+        removed: u64,
+    },
+    /// A program is kept: the most instructions that a run executes, and the frames that it needs.
+    ProgramAccepted {
+        name: &'a [u8],
+        bound: u32,
+        frames: u8,
+    },
+    /// A program is not kept, since it breaks a rule.
+    ProgramRefused {
+        name: &'a [u8],
+        refusal: Refusal,
+    },
+    /// A program is not kept, since no image has code of that length.
+    NoImage {
+        name: &'a [u8],
+    },
+    /// The last version has a name: its number, and how many edges it has.
+    PinTaken {
+        name: &'a [u8],
+        number: u64,
+        edges: u64,
+    },
+    /// A program was mapped: how many edges there were, what their numbers reduce to, and a row for each
+    /// vertex of the frontier with a neighbour.
+    EdgesMapped {
+        program: &'a [u8],
+        pin: &'a [u8],
+        edges: u64,
+        total: u64,
+        rows: Vec<Row>,
+    },
+}

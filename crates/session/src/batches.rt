@@ -1,0 +1,118 @@
+//! The batches of a session.
+
+ghost use Rattle.std.specs.Prelude.{◌≡◌, MatchOption, Some, true, false};
+ghost use Rattle.std.specs.List.{list_all};
+ghost use Rattle.graph_model.specs.Past.{opening};
+ghost use Rattle.session_model.specs.Session.{Session as SessionState};
+ghost use Rattle.session_model.specs.Faults.{edit_fault, is_edit_of, HasFewVertices};
+ghost use Rattle.session_model.specs.Responses.{publish_response};
+ghost use Rattle.session.specs.Edits.{edit_of, AddsEdit};
+ghost use Rattle.session.specs.Performs.{Performs};
+
+use crate::answer::Answer;
+use crate::error::CommandError;
+use crate::session::Session;
+use graph_model::{Batch, Edit, MOST_EDITS};
+use session_model::Fault;
+use std::alloc::Global;
+use versions::{PublishError, Publisher};
+
+/// An edit whose vertices are not tested: source and target.
+#[derive(Clone, Copy, Debug, PartialEq, Eq)]
+pub enum GivenEdit {
+    /// The pair is an edge afterwards.
+    Insert(u64, u64),
+    /// The pair is no edge afterwards.
+    Remove(u64, u64),
+}
+
+impl Session {
+    /// Adds an edit to those of a batch that is still to be published. A fault adds nothing: `Order`
+    /// before there is a graph, `Range` where an end is no vertex, `TooMany` after 65,536 edits.
+    pub fn add_edit(&self, edits: &mut Vec<Edit>, edit: GivenEdit) -> Result<(), CommandError>
+        ensures added { AddsEdit (edit_fault (edit_of edit) edits.old.items self.now.past) (edit_of edit) edits.old.items edits.new.items result }
+        ensures few { HasFewVertices self.now }
+    {
+        let Some(publisher) = &self.publisher else {
+            return Err(CommandError::Fault(Fault::Order));
+        };
+        let Some(edit) = edit_below(edit, publisher.vertex_count()) else {
+            return Err(CommandError::Fault(Fault::Range));
+        };
+        if edits.len() >= MOST_EDITS {
+            return Err(CommandError::Fault(Fault::TooMany));
+        }
+        edits.push(edit)?;
+        Ok(())
+    }
+
+    /// Publishes a batch.
+    pub(crate) fn publish_batch<'a>(
+        &mut self,
+        feed: u8,
+        edits: Vec<Edit>,
+    ) -> Result<Answer<'a>, CommandError>
+        ensures { Performs (publish_response feed edits.items self.old) result self.old self.new }
+    {
+        let alloc = self.alloc;
+        let Some(publisher) = &mut self.publisher else {
+            return Err(CommandError::Fault(Fault::Order));
+        };
+        publish(alloc, publisher, feed, edits)
+    }
+}
+
+/// Publishes a batch, where its edits are of the graph and few enough, and the log has room for it.
+fn publish<'a>(
+    alloc: Global,
+    publisher: &mut Publisher,
+    feed: u8,
+    edits: Vec<Edit>,
+) -> Result<Answer<'a>, CommandError>
+    ensures { (s : SessionState) → Performs (publish_response feed edits.items (record s { past = Some publisher.old })) result (record s { past = Some publisher.old }) (record s { past = Some publisher.new }) }
+{
+    if !are_below(&edits, publisher.vertex_count()) {
+        return Err(CommandError::Fault(Fault::Range));
+    }
+    if edits.len() > MOST_EDITS {
+        return Err(CommandError::Fault(Fault::TooMany));
+    }
+    let batch = Batch::new(alloc, edits)?;
+    match publisher.publish(feed, batch) {
+        Ok(receipt) => Ok(Answer::BatchPublished {
+            feed,
+            number: receipt.number(),
+            added: receipt.added(),
+            removed: receipt.removed(),
+        }),
+        Err(PublishError::LogFull) => Err(CommandError::Fault(Fault::LogFull)),
+        Err(PublishError::OutOfMemory) => Err(CommandError::OutOfMemory),
+    }
+}
+
+/// The edit, where its ends are vertices below a number of vertices.
+fn edit_below(edit: GivenEdit, vertices: u32) -> Option<Edit>
+    ensures { MatchOption result (is_edit_of (opening vertices) (edit_of edit) ≡ false) (λ below. (is_edit_of (opening vertices) (edit_of edit) ≡ true) × (below ≡ edit_of edit)) }
+{
+    let vertices = u64::from(vertices);
+    match edit {
+        GivenEdit::Insert(source, target) if source < vertices && target < vertices => {
+            Some(Edit::Insert(source as u32, target as u32))
+        }
+        GivenEdit::Remove(source, target) if source < vertices && target < vertices => {
+            Some(Edit::Remove(source as u32, target as u32))
+        }
+        _ => None,
+    }
+}
+
+/// Whether the ends of all edits are below a number of vertices.
+fn are_below(edits: &[Edit], vertices: u32) -> bool
+    ensures { result ≡ list_all (is_edit_of (opening vertices)) edits.now }
+{
+    edits.iter().all(|edit| match edit {
+        Edit::Insert(source, target) | Edit::Remove(source, target) => {
+            *source < vertices && *target < vertices
+        }
+    })
+}

@@ -1,0 +1,37 @@
+//! What a session can be asked for.
+
+use bpf_model::Reduction;
+use graph_model::Edit;
+
+/// A command. Numbers are tested when it is performed.
+#[derive(Debug, Drop)]
+pub enum Command<'a> {
+    /// A graph of so many vertices.
+    MakeGraph {
+        vertices: u64,
+    },
+    /// A batch of edits, from a feed (0 for A).
+    PublishBatch {
+        feed: u8,
+        edits: Vec<Edit>,
+    },
+    /// A program under a name: the length of its record in bytes, and its code.
+    LoadProgram {
+        name: &'a [u8],
+        record_length: u64,
+        code: Vec<u8>,
+    },
+    /// A name for the last version.
+    TakePin {
+        name: &'a [u8],
+    },
+    /// A program mapped over the edges of a pin, both by their names, with the argument's bytes. An
+    /// empty frontier stands for all vertices.
+    RunProgram {
+        program: &'a [u8],
+        pin: &'a [u8],
+        reduction: Reduction,
+        argument: &'a [u8],
+        frontier: &'a [u64],
+    },
+}

@@ -1,0 +1,53 @@
+//! The frontier of a run: the vertices whose edges are mapped.
+
+ghost use Rattle.std.specs.Prelude.{◌≡◌, ◌≤◌, ◌<◌, length, IfOk, nat_lt, true};
+ghost use Rattle.std.specs.List.{list_all};
+ghost use Rattle.graph_model.specs.Graph.{numbers_below};
+ghost use Rattle.session_model.specs.Faults.{is_ascending};
+
+use std::alloc::{AllocError, Global};
+
+/// Whether each vertex is below a number of vertices.
+pub fn are_below(frontier: &[u64], vertices: u32) -> bool
+    ensures { result ≡ list_all (λ v. nat_lt v vertices) frontier.now }
+{
+    frontier.iter().all(|v| *v < u64::from(vertices))
+}
+
+/// Whether the vertices strictly ascend.
+pub fn is_strictly_ascending(frontier: &[u64]) -> bool
+    ensures { result ≡ is_ascending frontier.now }
+{
+    if frontier.is_empty() {
+        return true;
+    }
+    for i in 1..frontier.len() {
+        if frontier[i - 1] >= frontier[i] {
+            return false;
+        }
+    }
+    true
+}
+
+/// All vertices of a graph, ascending.
+pub fn all_vertices(alloc: Global, vertices: u32) -> Result<Vec<u32>, AllocError>
+    ensures { IfOk result (λ all. all.items ≡ numbers_below vertices) }
+{
+    let mut all = Vec::with_capacity(alloc, vertices as usize)?;
+    for v in 0..vertices {
+        all.push(v)?;
+    }
+    Ok(all)
+}
+
+/// The same vertices in 32 bits, which they fit.
+pub fn narrowed(alloc: Global, frontier: &[u64], vertices: u32) -> Result<Vec<u32>, AllocError>
+    requires { list_all (λ v. nat_lt v vertices) frontier.now ≡ true }
+    ensures { IfOk result (λ narrow. narrow.items ≡ frontier.now) }
+{
+    let mut narrow = Vec::with_capacity(alloc, frontier.len())?;
+    for v in frontier {
+        narrow.push(*v as u32)?;
+    }
+    Ok(narrow)
+}

@@ -1,0 +1,55 @@
+//! Programs and pins under their names.
+
+ghost use Rattle.std.specs.Prelude.{◌≡◌, map};
+ghost use Rattle.std.specs.Option.{option_copied};
+ghost use Rattle.bpf_asm.specs.Lexing.{same_bytes};
+ghost use Rattle.session_model.specs.Session.{program_named, pin_named};
+ghost use Rattle.session.specs.Kept.{kept_program, kept_pin};
+
+use verifier::Verified;
+use versions::Pin;
+
+/// A program that was accepted, under its name.
+#[derive(Drop)]
+pub struct NamedProgram {
+    pub name: Vec<u8>,
+    pub program: Verified,
+}
+
+/// A version that was pinned, under its name.
+#[derive(Drop)]
+pub struct NamedPin {
+    pub name: Vec<u8>,
+    pub pin: Pin,
+}
+
+/// Whether two names are the same.
+fn is_same(a: &[u8], b: &[u8]) -> bool
+    ensures { result ≡ same_bytes a.now b.now }
+{
+    a == b
+}
+
+/// The program of this name.
+pub fn find_program<'a>(programs: &'a [NamedProgram], name: &[u8]) -> Option<&'a Verified>
+    ensures { option_copied result ≡ program_named name.now (map kept_program programs.now) }
+{
+    for kept in programs {
+        if is_same(&kept.name, name) {
+            return Some(&kept.program);
+        }
+    }
+    None
+}
+
+/// The pin of this name.
+pub fn find_pin<'a>(pins: &'a [NamedPin], name: &[u8]) -> Option<&'a Pin>
+    ensures { option_copied result ≡ pin_named name.now (map kept_pin pins.now) }
+{
+    for kept in pins {
+        if is_same(&kept.name, name) {
+            return Some(&kept.pin);
+        }
+    }
+    None
+}

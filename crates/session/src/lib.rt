@@ -1,0 +1,24 @@
+//! A session: it performs commands on a graph that is edited by batches, on programs and on pins, and
+//! answers with data. It knows nothing of a script's bytes, lines and text.
+#![tactic(auto)]
+
+mod answer;
+mod batches;
+mod command;
+mod error;
+mod frontier;
+mod graphs;
+mod kept;
+mod pins;
+mod programs;
+mod runs;
+mod session;
+
+
+
+pub use answer::Answer;
+pub use batches::GivenEdit;
+pub use command::Command;
+pub use error::CommandError;
+pub use session::Session;
+pub use session_model::Fault;

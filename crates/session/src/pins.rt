@@ -1,0 +1,41 @@
+//! The pins of a session.
+
+ghost use Rattle.session_model.specs.Responses.{pin_response};
+ghost use Rattle.session.specs.Performs.{Performs};
+
+use crate::answer::Answer;
+use crate::error::CommandError;
+use crate::kept::{NamedPin, find_pin};
+use crate::session::Session;
+use session_model::{Fault, MOST_KEPT};
+
+impl Session {
+    /// Names the last version.
+    pub(crate) fn take_pin<'a>(&mut self, name: &'a [u8]) -> Result<Answer<'a>, CommandError>
+        ensures { Performs (pin_response name.now self.old) result self.old self.new }
+    {
+        let Some(publisher) = &self.publisher else {
+            return Err(CommandError::Fault(Fault::Order));
+        };
+        if find_pin(&self.pins, name).is_some() {
+            return Err(CommandError::Fault(Fault::Name));
+        }
+        if self.pins.len() >= MOST_KEPT {
+            return Err(CommandError::Fault(Fault::TooMany));
+        }
+        let pin = publisher.pin()?;
+        let version = pin.version();
+        let number = version.number();
+        let edges = version.edge_count();
+        let name_kept = Vec::from_slice(self.alloc, name)?;
+        self.pins.push(NamedPin {
+            name: name_kept,
+            pin,
+        })?;
+        Ok(Answer::PinTaken {
+            name,
+            number,
+            edges,
+        })
+    }
+}

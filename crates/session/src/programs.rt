@@ -1,0 +1,100 @@
+//! The programs of a session.
+
+ghost use Rattle.std.specs.Prelude.{◌≡◌, IfSome, IfNone, is_some};
+ghost use Rattle.bpf_image.specs.Program.{IsRecordLength};
+ghost use Rattle.verifier.specs.Verdict.{verdict};
+ghost use Rattle.session_model.specs.Faults.{program_fault};
+ghost use Rattle.session_model.specs.Responses.{load_response, code_response, verdict_response, is_code};
+ghost use Rattle.session.specs.Performs.{Performs};
+
+use crate::answer::Answer;
+use crate::error::CommandError;
+use crate::kept::{NamedProgram, find_program};
+use crate::session::Session;
+use bpf_image::Image;
+use session_model::{Fault, LEAST_RECORD_LENGTH, MOST_KEPT, MOST_RECORD_LENGTH};
+use verifier::{Cause, verify};
+
+impl Session {
+    /// What is wrong with the name and the record length of a program more: `Order` before there is a
+    /// graph, `Range` where the length is not 16 to 256, `Name` where a program has the name, `TooMany`
+    /// where 256 are kept.
+    pub fn program_fault(&self, name: &[u8], record_length: u64) -> Option<Fault>
+        ensures fault { result ≡ program_fault name.now record_length self.now }
+        ensures length { IfNone result (IsRecordLength record_length) }
+    {
+        if self.publisher.is_none() {
+            return Some(Fault::Order);
+        }
+        if record_length < u64::from(LEAST_RECORD_LENGTH)
+            || record_length > u64::from(MOST_RECORD_LENGTH)
+        {
+            return Some(Fault::Range);
+        }
+        if find_program(&self.programs, name).is_some() {
+            return Some(Fault::Name);
+        }
+        if self.programs.len() >= MOST_KEPT {
+            return Some(Fault::TooMany);
+        }
+        None
+    }
+
+    /// Loads a program, and keeps it where it is accepted.
+    pub(crate) fn load_program<'a>(
+        &mut self,
+        name: &'a [u8],
+        record_length: u64,
+        code: Vec<u8>,
+    ) -> Result<Answer<'a>, CommandError>
+        ensures { Performs (load_response name.now (record { code = code.items; record_length = record_length }) self.old) result self.old self.new }
+    {
+        if let Some(fault) = self.program_fault(name, record_length) {
+            return Err(CommandError::Fault(fault));
+        }
+        match image_of(record_length as u16, code) {
+            None => Ok(Answer::NoImage { name }),
+            Some(image) => self.judge(name, image),
+        }
+    }
+
+    /// Keeps a program where the verifier accepts it, and says what it answered.
+    fn judge<'a>(&mut self, name: &'a [u8], image: Image) -> Result<Answer<'a>, CommandError>
+        ensures { Performs (verdict_response (verdict image) name.now image self.old) result self.old self.new }
+    {
+        match verify(self.alloc, image) {
+            Err((_, refusal)) => {
+                if matches!(refusal.cause, Cause::OutOfMemory) {
+                    return Err(CommandError::OutOfMemory);
+                }
+                Ok(Answer::ProgramRefused { name, refusal })
+            }
+            Ok(program) => {
+                let bound = program.bound();
+                let frames = program.frames();
+                let name_kept = Vec::from_slice(self.alloc, name)?;
+                self.programs.push(NamedProgram {
+                    name: name_kept,
+                    program,
+                })?;
+                Ok(Answer::ProgramAccepted {
+                    name,
+                    bound,
+                    frames,
+                })
+            }
+        }
+    }
+}
+
+/// The image of some code, where its length is allowed.
+fn image_of(record_length: u16, code: Vec<u8>) -> Option<Image>
+    requires { IsRecordLength record_length }
+    ensures made { IfSome result (λ image. image ≡ record { code = code.items; record_length = record_length }) }
+    ensures fits { is_some result ≡ is_code (record { code = code.items; record_length = record_length }) }
+{
+    match Image::new(record_length, code) {
+        Ok(image) => Some(image),
+        Err(_) => None,
+    }
+}

@@ -1,0 +1,88 @@
+//! The state of a session, and its commands one by one.
+
+ghost use Rattle.std.specs.Prelude.{◌≡◌};
+ghost use Rattle.session_model.specs.Session.{new_session};
+ghost use Rattle.session_model.specs.Responses.{response};
+ghost use Rattle.session.specs.Kept.{command_of};
+ghost use Rattle.session.specs.Performs.{Performs};
+
+use crate::answer::Answer;
+use crate::command::Command;
+use crate::error::CommandError;
+use crate::kept::{NamedPin, NamedProgram};
+use crate::runs::Run;
+use std::alloc::Global;
+use std::marker::Model;
+use versions::Publisher;
+
+/// What commands have made so far. Whoever makes one has to close it.
+pub struct Session {
+    pub(crate) alloc: Global,
+    pub(crate) publisher: Option<Publisher>,
+    pub(crate) programs: Vec<NamedProgram>,
+    pub(crate) pins: Vec<NamedPin>,
+}
+
+impl Model for Session {
+    ghost use Rattle.session_model.specs.Session.{Session as SessionState};
+    ghost use Rattle.session.specs.Kept.{session_of};
+
+    ghost Value = { SessionState };
+
+    ghost view = { λ s. session_of s.publisher s.programs.items s.pins.items };
+}
+
+impl Session {
+    /// The session without a graph, a program or a pin. It takes no memory.
+    pub fn new(alloc: Global) -> Session
+        ensures { result ≡ new_session }
+    {
+        Session {
+            alloc,
+            publisher: None,
+            programs: Vec::new(alloc),
+            pins: Vec::new(alloc),
+        }
+    }
+
+    /// Performs a command: the answer is what the definition `response` says, or the fault is. Besides it
+    /// answers `OutOfMemory` for want of memory, and `Store` where a version cannot have one owner more.
+    /// After an error the session is as it was.
+    pub fn perform<'a>(&mut self, command: Command<'a>) -> Result<Answer<'a>, CommandError>
+        ensures { Performs (response (command_of command.entry) self.old) result self.old self.new }
+    {
+        match command {
+            Command::MakeGraph { vertices } => self.make_graph(vertices),
+            Command::PublishBatch { feed, edits } => self.publish_batch(feed, edits),
+            Command::LoadProgram {
+                name,
+                record_length,
+                code,
+            } => self.load_program(name, record_length, code),
+            Command::TakePin { name } => self.take_pin(name),
+            Command::RunProgram {
+                program,
+                pin,
+                reduction,
+                argument,
+                frontier,
+            } => self.run_program(&Run {
+                program,
+                pin,
+                reduction,
+                argument,
+                frontier,
+            }),
+        }
+    }
+
+    /// Ends the session: its graph, programs and pins are let go.
+    pub fn close(self) {
+        let Session {
+            alloc: _,
+            publisher: _,
+            programs: _,
+            pins: _,
+        } = self;
+    }
+}

@@ -1,0 +1,29 @@
+-- What a session can be asked for, and what it can answer.
+use Rattle.std.specs.Prelude.{ℕ, List}
+use Rattle.bpf_image.specs.Program.{Program}
+use Rattle.bpf_model.specs.declared.reduction.Reduction.{Reduction}
+use Rattle.bpf_model.specs.declared.row.Row.{Row}
+use Rattle.graph_model.specs.declared.edit.Edit.{Edit}
+use Rattle.verifier.specs.declared.refusal.Refusal.{Refusal}
+
+pub data Command : Type 0 where
+  -- a graph of so many vertices
+  MakeGraph : (vertices : ℕ) → Command
+  -- a batch of edits, from a feed
+  PublishBatch : (feed : ℕ) (edits : List Edit) → Command
+  -- a program under a name
+  LoadProgram : (name : List ℕ) → Program → Command
+  -- a name for the last version
+  TakePin : (name : List ℕ) → Command
+  -- a program mapped over the edges of a pin; an empty frontier stands for all vertices
+  RunProgram : (program pin : List ℕ) (reduction : Reduction) (argument frontier : List ℕ) → Command
+
+pub data Answer : Type 0 where
+  GraphMade : (vertices : ℕ) → Answer
+  BatchPublished : (feed number added removed : ℕ) → Answer
+  ProgramAccepted : (name : List ℕ) (bound frames : ℕ) → Answer
+  ProgramRefused : (name : List ℕ) → Refusal → Answer
+  -- code of a length that no image may have
+  NoImage : (name : List ℕ) → Answer
+  PinTaken : (name : List ℕ) (number edges : ℕ) → Answer
+  EdgesMapped : (program pin : List ℕ) (edges total : ℕ) → List Row → Answer

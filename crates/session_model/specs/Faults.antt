@@ -1,0 +1,72 @@
+-- What is wrong with a command: the first test that holds.
+use Rattle.std.specs.Prelude.{ℕ, ◌≤◌, ◌+◌, ◌==◌, ◌&&◌, not, nat_le, nat_lt, if◌then◌else◌, Bool, true, List, [], ◌∷◌, length, Option, Some, None, is_some}
+use Rattle.std.specs.List.{list_all}
+use Rattle.graph_model.specs.declared.edit.Edit.{Edit}
+use Rattle.graph_model.specs.Edits.{source_of, target_of}
+use Rattle.graph_model.specs.Past.{Past, number_of}
+use Rattle.session_model.specs.declared.fault.Fault.{Fault}
+use Rattle.session_model.specs.declared.fault.Fault.TheVariants as faults
+use Rattle.graph_model.specs.declared.limits.TheConstants.{MOST_VERTICES, MOST_EDITS, MOST_BATCHES}
+use Rattle.session_model.specs.declared.limits.TheConstants.{MOST_KEPT, LEAST_RECORD_LENGTH, MOST_RECORD_LENGTH}
+use Rattle.session_model.specs.Session.{Session, program_named, pin_named}
+
+-- tests in their order: the first that holds tells the fault
+abbrev pub first_fault : List (Bool × Fault) → Option Fault
+first_fault [] = None
+first_fault (test ∷ tests) = if test.0 then Some test.1 else first_fault tests
+
+abbrev pub is_vertex_count : ℕ → Bool
+is_vertex_count n = nat_le 1 n && nat_le n MOST_VERTICES
+
+-- a graph has no more vertices than it may have
+abbrev pub AreFewVertices : Option Past → Type 0
+AreFewVertices None = Unit {0}
+AreFewVertices (Some past) = past.vertex_count ≤ MOST_VERTICES
+
+abbrev pub HasFewVertices : Session → Type 0
+HasFewVertices s = AreFewVertices s.past
+
+abbrev pub is_record_length : ℕ → Bool
+is_record_length n = nat_le LEAST_RECORD_LENGTH n && nat_le n MOST_RECORD_LENGTH
+
+abbrev pub graph_fault : ℕ → Session → Option Fault
+graph_fault n s = first_fault ((is_some s.past, faults.Order) ∷ (not (is_vertex_count n), faults.Range) ∷ [])
+
+-- both ends of an edit are vertices of the graph that a version shows
+abbrev pub is_edit_of : Past → Edit → Bool
+is_edit_of past e = nat_lt (source_of e) past.vertex_count && nat_lt (target_of e) past.vertex_count
+
+-- an edit more, behind those of a batch
+abbrev pub edit_fault : Edit → List Edit → Option Past → Option Fault
+edit_fault e edits None = Some faults.Order
+edit_fault e edits (Some past) =
+    first_fault ((not (is_edit_of past e), faults.Range) ∷ (nat_le MOST_EDITS (length edits), faults.TooMany) ∷ [])
+
+-- a batch of the graph that a version shows
+abbrev pub batch_fault : List Edit → Past → Option Fault
+batch_fault edits past =
+    first_fault ((not (list_all (is_edit_of past) edits), faults.Range) ∷ (nat_lt MOST_EDITS (length edits), faults.TooMany) ∷ (nat_le MOST_BATCHES (number_of past), faults.LogFull) ∷ [])
+
+-- a program more, under its name, with the length of its record
+abbrev pub program_fault : List ℕ → ℕ → Session → Option Fault
+program_fault name record_length s =
+    first_fault ((not (is_some s.past), faults.Order) ∷ (not (is_record_length record_length), faults.Range) ∷ (is_some (program_named name s.programs), faults.Name) ∷ (nat_le MOST_KEPT (length s.programs), faults.TooMany) ∷ [])
+
+-- a pin more
+abbrev pub pin_fault : List ℕ → Session → Option Fault
+pin_fault name s =
+    first_fault ((not (is_some s.past), faults.Order) ∷ (is_some (pin_named name s.pins), faults.Name) ∷ (nat_le MOST_KEPT (length s.pins), faults.TooMany) ∷ [])
+
+abbrev pub is_ascending : List ℕ → Bool
+is_ascending [] = true
+is_ascending (v ∷ []) = true
+is_ascending (v ∷ w ∷ vs) = nat_lt v w && is_ascending (w ∷ vs)
+
+-- a frontier of vertices of a graph
+abbrev pub vertices_fault : List ℕ → Past → Option Fault
+vertices_fault frontier past = first_fault ((not (list_all (λ v. nat_lt v past.vertex_count) frontier), faults.Range) ∷ [])
+
+-- an argument for a record of this length, and the order of a frontier
+abbrev pub argument_fault : List ℕ → ℕ → List ℕ → Option Fault
+argument_fault argument record_length frontier =
+    first_fault ((not (length argument + 16 == record_length), faults.ArgumentLength) ∷ (not (is_ascending frontier), faults.Frontier) ∷ [])

@@ -1,0 +1,4 @@
+pub mod Session
+pub mod Commands
+pub mod Faults
+pub mod Responses

@@ -1,0 +1,108 @@
+-- What a session answers to a command, and the session after it.
+use Rattle.std.specs.Prelude.{ℕ, ◌+◌, ◌*◌, ◌==◌, ◌&&◌, nat_le, Bool, if◌then◌else◌, List, [], ◌∷◌, ◌++◌, length, Option, Some, None}
+use Rattle.graph_model.specs.declared.edit.Edit.{Edit}
+use Rattle.graph_model.specs.declared.entry.Entry.{Entry}
+use Rattle.graph_model.specs.Graph.{Graph, numbers_below, edge_count}
+use Rattle.graph_model.specs.Edits.{added, removed}
+use Rattle.graph_model.specs.Past.{Past, opening, longer, graph_of, number_of}
+use Rattle.bpf_image.specs.Program.{Program, units}
+use Rattle.bpf_model.specs.declared.reduction.Reduction.{Reduction}
+use Rattle.bpf_model.specs.EdgeMap.{all_numbers, rows_of, reduced}
+use Rattle.verifier.specs.Walks.{longest}
+use Rattle.verifier.specs.Verdict.{Verdict, Accepted, Refused, verdict}
+use Rattle.session_model.specs.declared.fault.Fault.{Fault}
+use Rattle.session_model.specs.declared.fault.Fault.TheVariants as faults
+use Rattle.session_model.specs.Session.{Session, program_named, pin_named}
+use Rattle.session_model.specs.Commands.{Command, MakeGraph, PublishBatch, LoadProgram, TakePin, RunProgram, Answer, GraphMade, BatchPublished, ProgramAccepted, ProgramRefused, NoImage, PinTaken, EdgesMapped}
+use Rattle.session_model.specs.Faults.{graph_fault, batch_fault, program_fault, pin_fault, vertices_fault, argument_fault}
+
+-- an answer with the session after it, or a fault
+pub data Response : Type 0 where
+  Answers : Answer → Session → Response
+  Fails : Fault → Response
+
+-- a fault, or else this
+abbrev pub unless_fault : Option Fault → Response → Response
+unless_fault None response = response
+unless_fault (Some fault) response = Fails fault
+
+-- goes on with what is there, or has a fault
+abbrev pub needing : {A : Type 0} → Option A → Fault → (A → Response) → Response
+needing None fault go = Fails fault
+needing (Some x) fault go = go x
+
+abbrev pub graph_response : ℕ → Session → Response
+graph_response n s = unless_fault (graph_fault n s) (Answers (GraphMade n) (record s { past = Some (opening n) }))
+
+abbrev pub entry_of : ℕ → List Edit → Entry
+entry_of feed edits = record { feed = feed; batch = edits }
+
+-- what a batch does to the graph of a version, as the next version's number and counts
+abbrev pub published_answer : ℕ → List Edit → Past → Answer
+published_answer feed edits past =
+    BatchPublished feed (number_of past + 1) (added edits (graph_of past)) (removed edits (graph_of past))
+
+abbrev pub publish_response : ℕ → List Edit → Session → Response
+publish_response feed edits s =
+    needing s.past faults.Order (λ past.
+    unless_fault (batch_fault edits past)
+    (Answers (published_answer feed edits past) (record s { past = Some (longer past (entry_of feed edits)) })))
+
+-- code of 1 to 4,096 whole units
+abbrev pub is_code : Program → Bool
+is_code p = (8 * units p == length p.code) && nat_le 1 (units p) && nat_le (units p) 4096
+
+-- a program is kept where the verifier accepts it
+abbrev pub verdict_response : Verdict → List ℕ → Program → Session → Response
+verdict_response (Accepted bound frames) name p s =
+    Answers (ProgramAccepted name bound frames) (record s { programs = s.programs ++ record { name = name; program = p } ∷ [] })
+verdict_response (Refused refusal) name p s = Answers (ProgramRefused name refusal) s
+
+-- what becomes of a program whose name and record length are allowed
+abbrev pub code_response : List ℕ → Program → Session → Response
+code_response name p s = if is_code p then verdict_response (verdict p) name p s else Answers (NoImage name) s
+
+abbrev pub load_response : List ℕ → Program → Session → Response
+load_response name p s = unless_fault (program_fault name p.record_length s) (code_response name p s)
+
+abbrev pub pin_response : List ℕ → Session → Response
+pin_response name s =
+    unless_fault (pin_fault name s)
+    (needing s.past faults.Order (λ past.
+    Answers (PinTaken name (number_of past) (edge_count (graph_of past))) (record s { pins = s.pins ++ record { name = name; past = past } ∷ [] })))
+
+-- the vertices whose edges are mapped: those that are named, or all
+abbrev pub frontier_of : List ℕ → Graph → List ℕ
+frontier_of [] g = numbers_below g.vertex_count
+frontier_of (v ∷ vs) g = v ∷ vs
+
+-- a program mapped over the edges of a graph: how many there are, what all their numbers reduce to, and the rows
+abbrev pub map_answer : List ℕ → List ℕ → Program → Graph → Reduction → List ℕ → List ℕ → Answer
+map_answer program pin p g reduction argument frontier =
+    let numbers = all_numbers p (longest p) g argument frontier in
+    EdgesMapped program pin (length numbers) (reduced reduction numbers) (rows_of p (longest p) g reduction argument frontier)
+
+-- a run of a program and a pin that are there
+abbrev pub map_response : List ℕ → List ℕ → Reduction → List ℕ → List ℕ → Program → Past → Session → Response
+map_response program pin reduction argument frontier p past s =
+    unless_fault (argument_fault argument p.record_length frontier)
+    (Answers (map_answer program pin p (graph_of past) reduction argument (frontier_of frontier (graph_of past))) s)
+
+-- a run of a program and a pin, where both are there
+abbrev pub found_response : List ℕ → List ℕ → Reduction → List ℕ → List ℕ → Option Program → Option Past → Session → Response
+found_response program pin reduction argument frontier found kept s =
+    needing found faults.Name (λ p. needing kept faults.Name (λ past. map_response program pin reduction argument frontier p past s))
+
+abbrev pub run_response : List ℕ → List ℕ → Reduction → List ℕ → List ℕ → Session → Response
+run_response program pin reduction argument frontier s =
+    needing s.past faults.Order (λ last.
+    unless_fault (vertices_fault frontier last)
+    (found_response program pin reduction argument frontier (program_named program s.programs) (pin_named pin s.pins) s))
+
+abbrev pub response : Command → Session → Response
+response (MakeGraph n) s = graph_response n s
+response (PublishBatch feed edits) s = publish_response feed edits s
+response (LoadProgram name p) s = load_response name p s
+response (TakePin name) s = pin_response name s
+response (RunProgram program pin reduction argument frontier) s =
+    run_response program pin reduction argument frontier s

@@ -1,0 +1,30 @@
+//! What may be wrong with a command.
+
+use thiserror::Error;
+
+/// What is wrong with a command. The numbers are part of the script language, and a command's faults are
+/// tested in their order, save that a name which has to be there is looked for before what is asked of it.
+#[derive(Clone, Copy, Debug, PartialEq, Eq, Error)]
+pub enum Fault {
+    /// A command before there is a graph, or a second graph.
+    #[error("there is no graph yet, or there is one already")]
+    Order = 3,
+    /// A number of vertices, a record length or a vertex out of its range.
+    #[error("a number is out of its range")]
+    Range = 4,
+    /// A name that is already used, or that is unknown.
+    #[error("a name is used already, or unknown")]
+    Name = 5,
+    /// An argument that does not have the record length less 16 bytes.
+    #[error("the argument does not have the record's length less 16 bytes")]
+    ArgumentLength = 6,
+    /// A frontier that is not strictly ascending.
+    #[error("the frontier does not ascend")]
+    Frontier = 7,
+    /// The 65,537th edit of a batch or line of a program, or a 257th program or pin.
+    #[error("there are as many as there may be")]
+    TooMany = 8,
+    /// A batch where 4,096 are published already.
+    #[error("as many batches are published as may be")]
+    LogFull = 9,
+}

@@ -1,0 +1,9 @@
+//! What the commands of a session mean: a graph that is edited by batches, programs that are kept, and
+//! pins. Definitions (in `specs/`) and the types that they name; nothing here knows of a script's bytes.
+#![tactic(auto)]
+
+mod fault;
+mod limits;
+
+pub use fault::Fault;
+pub use limits::{LEAST_RECORD_LENGTH, MOST_KEPT, MOST_RECORD_LENGTH};

@@ -1,0 +1,178 @@
+//! The third and the fourth pass: how many frames a walk through the code has, and how much it counts.
+ghost use Rattle.std.specs.Prelude.{◌≡◌, ◌<◌, ◌≤◌, ◌+◌, ℕ, min, unsigned_abs, slice_index_or, MatchResult, None};
+ghost use Rattle.std.specs.Option.{option_or};
+ghost use Rattle.bpf_image.specs.Program.{units};
+ghost use Rattle.bpf_model.specs.State.{most_frames};
+ghost use Rattle.verifier.specs.Listing.{listed};
+ghost use Rattle.verifier.specs.Walks.{greatest, next_pcs, called_pcs, longest, deepest};
+ghost use Rattle.verifier.specs.Verdict.{first_fault, decoding_fault, flow_fault, frames_fault, length_fault, most_counted, no_memory, unless_memory};
+ghost use Rattle.verifier.specs.Tables.{rule_of, ceiling as weight_ceiling, capped_from};
+
+use crate::places::{length_of, place_at, starting_at};
+use crate::refusal::Refusal;
+use abstract_values::Cause;
+use bpf_image::Image;
+use bpf_isa::Instruction;
+use bpf_model::MOST_FRAMES;
+use std::alloc::Global;
+
+/// How many instructions a run may count.
+pub const MOST_COUNTED: u32 = 1_000_000;
+
+/// What a pass weighs walks by.
+#[derive(Clone, Copy, Debug, PartialEq, Eq)]
+pub enum Measure {
+    /// How many instructions a walk counts.
+    Instructions,
+    /// How many frames are live at once.
+    Frames,
+}
+
+impl Measure {
+    /// From which weight on weights are not told apart: one more than a run may have. So no sum overflows,
+    /// however much code that no way leads to would count.
+    fn ceiling(self) -> u32
+        ensures { result ≡ weight_ceiling self }
+    {
+        match self {
+            Measure::Instructions => MOST_COUNTED + 1,
+            Measure::Frames => MOST_FRAMES as u32 + 1,
+        }
+    }
+
+    /// The weight of an instruction by those of what it calls and of what is behind it.
+    fn weigh(self, called: u32, next: u32) -> u32
+        requires called { called ≤ weight_ceiling self }
+        requires next { next ≤ weight_ceiling self }
+        ensures { result ≡ min (rule_of self called next) (weight_ceiling self) }
+    {
+        let weight = match self {
+            Measure::Instructions => 1 + called + next,
+            Measure::Frames => (1 + called).max(next),
+        };
+        weight.min(self.ceiling())
+    }
+}
+
+/// The weight at a place, 0 outside.
+fn weight_at(weights: &[u32], place: i64) -> u32
+    ensures { result ≡ slice_index_or weights.now (unsigned_abs place) 0 }
+{
+    let place = place.unsigned_abs() as usize;
+    if place < weights.len() {
+        weights[place]
+    } else {
+        0
+    }
+}
+
+/// The weight of what is called, 0 where nothing is.
+fn weight_called(weights: &[u32], pc: usize, instruction: Instruction) -> u32
+    requires { pc ≤ 4096 }
+    ensures { result ≡ greatest (λ q. slice_index_or weights.now q 0) (called_pcs instruction pc) }
+{
+    match instruction {
+        Instruction::CallLocal { distance } => weight_at(weights, place_at(pc, distance)),
+        _ => 0,
+    }
+}
+
+/// The greatest weight of what may come behind an instruction in its function.
+fn weight_behind(weights: &[u32], pc: usize, instruction: Instruction) -> u32
+    requires { pc ≤ 4096 }
+    ensures { result ≡ greatest (λ q. slice_index_or weights.now q 0) (next_pcs instruction pc) }
+{
+    match instruction {
+        Instruction::Exit => 0,
+        Instruction::Jump { distance } => weight_at(weights, place_at(pc, length_of(distance))),
+        Instruction::Branch { distance, .. } => {
+            let taken = weight_at(weights, place_at(pc, i32::from(distance)));
+            let passed = weight_at(weights, pc as i64 + 1);
+            taken.max(passed)
+        }
+        _ => weight_at(weights, (pc + instruction.units()) as i64),
+    }
+}
+
+/// The greatest weight of a walk from a pc, by the weights that are known of the pcs behind it.
+fn weight_of(
+    measure: Measure,
+    image: &Image,
+    listing: &[Option<Instruction>],
+    weights: &[u32],
+    pc: usize,
+) -> u32
+    requires listing { listing.now ≡ listed image.now (units image.now) }
+    requires decodes { first_fault (decoding_fault image.now) (units image.now) ≡ None }
+    requires flow { first_fault (flow_fault image.now) (units image.now) ≡ None }
+    requires inside { pc < units image.now }
+    requires known { (q : ℕ) → pc + 1 ≤ q → slice_index_or weights.now q 0 ≡ capped_from measure image.now q }
+    ensures { result ≡ capped_from measure image.now pc }
+{
+    match starting_at(image, listing, pc) {
+        None => 0,
+        Some(instruction) => {
+            let called = weight_called(weights, pc, instruction);
+            let behind = weight_behind(weights, pc, instruction);
+            measure.weigh(called, behind)
+        }
+    }
+}
+
+/// The greatest weight of a walk from the start to an exit. The weights are found from the end, as all jumps
+/// and calls go forward.
+fn find_weight(
+    alloc: Global,
+    measure: Measure,
+    image: &Image,
+    listing: &[Option<Instruction>],
+) -> Result<u32, Refusal>
+    requires listing { listing.now ≡ listed image.now (units image.now) }
+    requires decodes { first_fault (decoding_fault image.now) (units image.now) ≡ None }
+    requires flow { first_fault (flow_fault image.now) (units image.now) ≡ None }
+    ensures { MatchResult result (λ weight. weight ≡ capped_from measure image.now 0) (λ refusal. refusal ≡ no_memory) }
+{
+    let end = image.code().len() / 8;
+    let mut weights = vec![in alloc; 0u32; end]?;
+    for behind in 0..end {
+        let pc = end - 1 - behind;
+        weights[pc] = weight_of(measure, image, listing, &weights, pc);
+    }
+    Ok(weights[0])
+}
+
+/// How many instructions a run counts and how many frames it has, both at most.
+#[derive(Clone, Copy, Debug, PartialEq, Eq)]
+pub struct Extent {
+    pub instructions: u32,
+    pub frames: u8,
+}
+
+/// The extent of a program's runs, which no pass refuses.
+pub fn find_extent(
+    alloc: Global,
+    image: &Image,
+    listing: &[Option<Instruction>],
+) -> Result<Extent, Refusal>
+    requires listing { listing.now ≡ listed image.now (units image.now) }
+    requires decodes { first_fault (decoding_fault image.now) (units image.now) ≡ None }
+    requires flow { first_fault (flow_fault image.now) (units image.now) ≡ None }
+    ensures { MatchResult result
+        (λ extent. (extent.instructions ≡ longest image.now) × (extent.frames ≡ deepest image.now) × (longest image.now ≤ most_counted) × (deepest image.now ≤ most_frames))
+        (λ refusal. unless_memory refusal (option_or (frames_fault image.now) (length_fault image.now) ≡ Some refusal)) }
+{
+    let frames = find_weight(alloc, Measure::Frames, image, listing)?;
+    if frames > MOST_FRAMES as u32 {
+        let cause = Cause::TooDeep;
+        return Err(Refusal { cause, pc: 0 });
+    }
+    let instructions = find_weight(alloc, Measure::Instructions, image, listing)?;
+    if instructions > MOST_COUNTED {
+        let cause = Cause::TooLong;
+        return Err(Refusal { cause, pc: 0 });
+    }
+    Ok(Extent {
+        instructions,
+        frames: frames as u8,
+    })
+}
