@@ -48,7 +48,7 @@ fn is_such(version: &Version, number: u64, edges: u64, neighbours: &[u32]) -> bo
 fn lists(version: &Version, neighbours: &[u32]) -> bool {
     let mut rest = neighbours;
     let mut cursor = version.cursor(1);
-    while let Some(slice) = cursor.next_slice() {
+    'slices: while let Some(slice) = cursor.next_slice() {
         match rest.strip_prefix(slice) {
             Some(later) => rest = later,
             None => return false,
