@@ -8,6 +8,3 @@ mod place;
 
 pub use answers::{degree, has_edge, neighbour};
 pub use cursor::Cursor;
-
-#[cfg(test)]
-mod tests;

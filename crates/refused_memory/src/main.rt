@@ -41,16 +41,14 @@ fn batch_of(alloc: Global, edits: &[Edit]) -> Result<Batch, AllocError>
 
 /// Whether a version has this number and number of edges, and vertex 1 these neighbours.
 fn is_such(version: &Version, number: u64, edges: u64, neighbours: &[u32]) -> bool {
-    version.number() == number
-        && version.edge_count() == edges
-        && lists(version, neighbours)
+    version.number() == number && version.edge_count() == edges && lists(version, neighbours)
 }
 
 /// Whether the neighbours of vertex 1 are these.
 fn lists(version: &Version, neighbours: &[u32]) -> bool {
     let mut rest = neighbours;
     let mut cursor = version.cursor(1);
-    while let Some(slice) = cursor.next_slice() {
+    'slices: while let Some(slice) = cursor.next_slice() {
         match rest.strip_prefix(slice) {
             Some(later) => rest = later,
             None => return false,

@@ -1,6 +1,6 @@
 ghost use Rattle.std.specs.Prelude.{◌≡◌, IfOk};
 
-use super::{Batch, Edit, PublishError, Publisher, Store, StoreError, Version};
+use super::{Batch, Edit, PublishError, Store, StoreError, Version};
 use std::alloc::{AllocError, Global};
 use std::test::Fail;
 
@@ -276,20 +276,4 @@ fn ranges_lie_apart(rt: HostRuntime) -> Result<(), Fail> {
     );
     assert_eq!(rt; after.version().edge_count(), 2);
     Ok(())
-}
-
-// Insertions and removals of one pair in turn, so many.
-fn alternating(alloc: Global, count: u32) -> Result<Batch, AllocError>
-    ensures { IfOk result (λ batch. length batch ≡ count × AreEditsBelow 4 batch) }
-{
-    let mut edits = Vec::new(alloc);
-    for place in 0..count {
-        let edit = if place % 2 == 0 {
-            Edit::Insert(0, 1)
-        } else {
-            Edit::Remove(0, 1)
-        };
-        edits.push(edit)?;
-    }
-    Batch::new(alloc, edits)
 }
