@@ -44,7 +44,7 @@ def is_command(command, words):
     if command == "graph":
         return len(words) == 1 and are_numbers(words)
     if command == "batch":
-        return words == ["A"]
+        return words in (["A"], ["B"])
     if command == "pin":
         return len(words) == 1 and are_names(words)
     if command == "program":
@@ -68,16 +68,19 @@ class Session:
     def batch_line(self, words):
         if words == ["end"]:
             test(self.batches >= 4096, LOG_FULL)
-            later = self.edges | set(self.block["edits"])
+            # The last edit that names an edge decides.
+            last = dict(self.block["edits"])
+            later = (self.edges | {edge for edge, stays in last.items() if stays}) - {edge for edge, stays in last.items() if not stays}
             self.batches += 1
-            self.said.append(f"batch A version {self.batches} added {len(later) - len(self.edges)} removed 0")
+            counts = f"added {len(later - self.edges)} removed {len(self.edges - later)}"
+            self.said.append(f"batch {self.block['feed']} version {self.batches} {counts}")
             self.edges, self.block = later, None
             return
-        test(len(words) != 3 or words[0] != "+" or not are_numbers(words[1:]), WORDS)
+        test(len(words) != 3 or words[0] not in "+-" or not are_numbers(words[1:]), WORDS)
         edge = (int(words[1]), int(words[2]))
         test(max(edge) >= self.vertices, RANGE)
         test(len(self.block["edits"]) >= 65536, TOO_MANY)
-        self.block["edits"].append(edge)
+        self.block["edits"].append((edge, words[0] == "+"))
 
     def offer(self, name, length, code):
         """Has code judged as a program."""
@@ -138,7 +141,7 @@ class Session:
             self.vertices = int(words[0])
             self.said.append(f"graph {self.vertices}")
         elif command == "batch":
-            self.block = {"line": line_number, "edits": []}
+            self.block = {"line": line_number, "feed": words[0], "edits": []}
         elif command == "code":
             self.new_program(words[0], int(words[1]))
             self.offer(words[0], int(words[1]), hexadecimal(words[2]))

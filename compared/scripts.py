@@ -19,9 +19,9 @@ GOOD_ARGUMENTS = {
 ODD_ARGUMENTS = ["2147483648", "-2147483649", "18446744073709551616", "[r1+32768]", "[r10-32769]", "???", "[r1 + 4]", "0x", ""]
 ODD_ARGUMENTS += ["+1", "-0x1", "0X1", "[r11]", "[r1+]", "[r1+0x4]", "a" * 32, "a" * 33, "r1 r2", "-", "r1:", "1x", "r01", "[r1--4]"]
 ODD_LINES = ["r1:", "r11:", "x :", "x: exit", ":", "a" * 33 + ":", "end x", "jmp x", "foo r1", "foo r1,", "12 r1", "mov! r0, 1", "#"]
-ODD_COMMANDS = ["list t a -", "home 0", "batch B", "end", "graph 4", "foo", "batch", "pin", "pin a b", "code a 16", "run a", "pin a.b"]
+ODD_COMMANDS = ["list t a -", "home 0", "batch C", "end", "graph 4", "foo", "batch", "pin", "pin a b", "code a 16", "run a", "pin a.b"]
 ODD_COMMANDS += ["\x7f", "a\r", "pin " + "x" * 33, "program p 15", "program p 257", "code p 16 0", "code p 16 -", "code p 16 95", "run n1 n2 avg -"]
-ODD_EDITS = ["- 0 0", "", "# c", "+ 0", "+ 0 0 0", "end x", "+ 0 99999999999999999999", "+ 00 000", "+ -1 0"]
+ODD_EDITS = ["- 0", "-0 0", "", "# c", "+ 0", "+ 0 0 0", "end x", "+ 0 99999999999999999999", "+ 00 000", "+ -1 0"]
 MUTATIONS = b" \n\t#+-09afxzAZ[];:,.\r\x00\xff"
 
 
@@ -203,8 +203,8 @@ class Writer:
             return [f"pin {name}"]
         if kind == "r" and self.programs and self.pins:
             return [self.run(vertices)]
-        edits = [f"+ {self.random.randrange(vertices)} {self.random.randrange(vertices)}" for _ in range(self.random.randrange(6))]
-        return ["batch A", *edits, *([self.choice(ODD_EDITS)] if self.often(0.01) else []), "end"]
+        edits = [f"{self.choice('+++-')} {self.random.randrange(vertices)} {self.random.randrange(vertices)}" for _ in range(self.random.randrange(6))]
+        return [f"batch {self.choice('AAB')}", *edits, *([self.choice(ODD_EDITS)] if self.often(0.01) else []), "end"]
 
     def run(self, vertices):
         program = self.choice(sorted(self.programs))
