@@ -76,7 +76,7 @@ class Session:
             self.said.append(f"batch {self.block['feed']} version {self.batches} {counts}")
             self.edges, self.block = later, None
             return
-        test(len(words) != 3 or words[0] not in "+-" or not are_numbers(words[1:]), WORDS)
+        test(len(words) != 3 or words[0] not in ("+", "-") or not are_numbers(words[1:]), WORDS)
         edge = (int(words[1]), int(words[2]))
         test(max(edge) >= self.vertices, RANGE)
         test(len(self.block["edits"]) >= 65536, TOO_MANY)
