@@ -13,7 +13,7 @@ const fn set(register: u8, number: u8) -> [u8; 8] {
 
 /// Copies a register to R0.
 const fn copy(register: u8) -> [u8; 8] {
-    [0xbf, 16 * register, 0, 0, 0, 0, 0, 0]
+    [0xbf, register << 4, 0, 0, 0, 0, 0, 0]
 }
 
 /// Copies R10 to R1.
@@ -26,7 +26,7 @@ const fn set_byte(number: u8) -> [u8; 8] {
 
 /// Loads the byte below a register to R0.
 const fn load_byte(register: u8) -> [u8; 8] {
-    [0x71, 16 * register, 0xff, 0xff, 0, 0, 0, 0]
+    [0x71, register << 4, 0xff, 0xff, 0, 0, 0, 0]
 }
 
 #[test]
