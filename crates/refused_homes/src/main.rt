@@ -34,8 +34,8 @@ impl Told {
     }
 }
 
-// How many words are put in: enough for a run to move three times, and for a tree to be cut and to grow.
-const WORDS: u32 = 300;
+// How many words are put in: enough for a run to move three times, and for a tree to get a second level.
+const WORDS: u32 = 130;
 
 // Whether a vertex has the words below a number.
 fn has_words(array: &GappedArray, vertex: u8, count: u32) -> bool {

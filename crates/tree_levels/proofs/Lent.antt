@@ -1,5 +1,5 @@
 -- Slices and counts among nodes.
-use Rattle.std.proofs.Common.{◌≡◌, ℕ, ◌+◌, ◌-◌, ◌<◌, ◌≤◌, List, [], ◌∷◌, ◌++◌, length, take, drop, get_or, refl, sym, ap, ◌∙◌, arith, length-append, length-drop, append_assoc}
+use Rattle.std.proofs.Common.{◌≡◌, ℕ, ◌+◌, ◌<◌, ◌≤◌, List, ◌++◌, length, take, drop, get_or, refl, sym, ap, ◌∙◌, arith, length-append, length-drop, append_assoc}
 use Rattle.std.proofs.lemmas.List.{drop-append-le, drop_at, drop-drop, get_or_default}
 use Rattle.std.proofs.lemmas.List.Folds.{length-flat_map-take}
 use Rattle.word_sets.specs.declared.places.TheConstants.{WORD_LIMIT}
@@ -30,12 +30,11 @@ slice_among ns i place left c s lt is e short h =
     let same : get_or ns i nothing ≡ c = sym (is ∙ get_or_default ns i c nothing lt) in
     let whole : joined ns ≡ front ++ (c.words ++ back) = joined_at ns i lt ∙ ap (λ (n : Node). front ++ (n.words ++ back)) same in
     let long : length (drop left c.words) ≡ length s + length (drop (left + length s) c.words) = ap length h.1 ∙ length-append s (drop (left + length s) c.words) in
-    let fits : left + length s ≤ length c.words = omega (arith, length-drop left c.words) in
-    (
+    let fits : left + length s ≤ length c.words = omega (arith, length-drop left c.words) in (
       h.0,
       ap (drop place) whole
-      ∙ drop_behind place left front c.words back e (omega arith)
-      ∙ ap (λ l. l ++ back) h.1
-      ∙ append_assoc s (drop (left + length s) c.words) back
-      ∙ ap (λ l. s ++ l) (sym (ap (drop (place + length s)) whole ∙ drop_behind (place + length s) (left + length s) front c.words back (omega arith) fits)),
+          ∙ drop_behind place left front c.words back e (omega arith)
+          ∙ ap (λ l. l ++ back) h.1
+          ∙ append_assoc s (drop (left + length s) c.words) back
+          ∙ ap (λ l. s ++ l) (sym (ap (drop (place + length s)) whole ∙ drop_behind (place + length s) (left + length s) front c.words back (omega arith) fits)),
     )

@@ -1,20 +1,18 @@
 -- Lists of nodes: their words, where one of them is replaced, and where a word goes.
-use Rattle.std.proofs.Common.{◌≡◌, ℕ, zero, suc, ◌+◌, ◌-◌, ◌*◌, ◌/◌, ◌<◌, ◌≤◌, true, false, List, [], ◌∷◌, ◌++◌, length, take, drop, get_or, set, All, Option, Some, None, option_to_list, option_map, refl, sym, ap, ap₂, subst, ◌∙◌, arith, inl, inr, add-one, length-append, length-drop, append_assoc}
-use Rattle.std.proofs.lemmas.Bool.{cases_lt}
-use Rattle.std.proofs.lemmas.List.{append-nil, take-append-drop, drop_more, drop_all, take_more, get_or_default, length-take-le, get_or-set_same, set_split, set-get_or}
+use Rattle.std.proofs.Common.{◌≡◌, ℕ, zero, suc, ◌+◌, ◌-◌, ◌*◌, ◌/◌, ◌<◌, ◌≤◌, List, [], ◌∷◌, ◌++◌, length, take, drop, get_or, All, Option, Some, None, option_to_list, option_map, refl, sym, ap, ap₂, subst, ◌∙◌, arith, length-append, length-drop, append_assoc}
+use Rattle.std.proofs.lemmas.List.{append-nil, take-append-drop, drop_more, take_more, get_or_default, length-take-le}
 use Rattle.std.proofs.lemmas.List.Concat.{flat_map-append}
-use Rattle.std.proofs.lemmas.List.Elements.{All-append, All-take, All-drop, All-get_or, All-cons, All-nil, All-head, All-tail, All-set, All-same}
+use Rattle.std.proofs.lemmas.List.Elements.{All-append, All-take, All-drop, All-get_or, All-cons, All-nil, All-head, All-tail, All-same}
 use Rattle.std.proofs.Math.Nat.{mul-le-mul_left}
 use Rattle.word_sets.specs.declared.places.TheConstants.{WORD_LIMIT}
 use Rattle.word_sets.specs.Words.{has_word, with_word, without_word, IsWithin, IsSet}
-use Rattle.word_sets.proofs.Within.{IsWithin-length, IsWithin-wider, IsSet-parts, parts}
+use Rattle.word_sets.proofs.Within.{IsSet-parts, parts}
 use Rattle.word_sets.proofs.Members.{IsWithin-with, IsWithin-without}
 use Rattle.word_sets.proofs.Parts.{with_middle, without_middle, has_middle}
 use Rattle.tree_levels.specs.declared.level.TheConstants.{MOST, FEWEST}
 use Rattle.tree_levels.specs.Node.{Node, joined, inner_of, IsChild, IsSound, IsInner}
 use Rattle.tree_levels.specs.Lists.{nothing, first_at, replaced, Mends}
-use Rattle.tree_levels.specs.Changes.{Packs, Shrinks}
-
+use Rattle.tree_levels.specs.Changes.{Packs}
 
 pub joined-append : (ns ms : List Node) → joined (ns ++ ms) ≡ joined ns ++ joined ms
 joined-append ns ms = flat_map-append (λ (n : Node). n.words) ns ms
@@ -219,8 +217,7 @@ pub grown : (least : ℕ) (ns list : List Node) (w i : ℕ) (c a : Node) (ob : O
 grown least ns list w i c a ob f small p is =
     let words : joined list ≡ with_word w (joined ns) = ap joined is ∙ joined-replaced ns i 1 a ob ∙ ap (λ l. joined (take i ns) ++ (l ++ joined (drop (i + 1) ns))) (packs_words least c.size (with_word w c.words) a ob p) ∙ child_words least ns w i c (with_word w) f (with-joined ns w i f.within f.spot) in
     let long : length list + 1 ≡ length ns + (1 + length (option_to_list ob)) = ap (λ l. length l + 1) is ∙ length-replaced ns i 1 a ob (omega (arith, f.within)) in
-    let two : length (option_to_list ob) ≤ 1 = one_at_most ob in
-    (
+    let two : length (option_to_list ob) ≤ 1 = one_at_most ob in (
       record {
         some = omega (arith, f.within);
         fits = omega (arith, f.inner.most);
@@ -238,8 +235,7 @@ halves least n ns ys zs l many half e f =
     let whole : IsSet (joined (take n ns) ++ joined (drop n ns)) = subst IsSet (ap joined (sym (take-append-drop n ns)) ∙ joined-append (take n ns) (drop n ns)) l.set in
     let front : length (take n ns) ≡ n = length-take-le n ns (omega arith) in
     let back : length (drop n ns) ≡ length ns - n = length-drop n ns in
-    let s = IsSet-parts (joined (take n ns)) (joined (drop n ns)) whole in
-    (
+    let s = IsSet-parts (joined (take n ns)) (joined (drop n ns)) whole in (
       subst P (sym e) (record { some = omega arith; most = omega (arith, l.fits); children = All-take (IsChild least) n ns l.children; set = s.0 }),
       subst P (sym f) (record { some = omega arith; most = omega (arith, l.fits); children = All-drop (IsChild least) n ns l.children; set = s.1 }),
     )
@@ -249,8 +245,7 @@ half_packs least n ns ys zs a b l many half e f p q =
     let h = halves least n ns ys zs l many half e f in
     let front : length ys ≡ n = ap length e ∙ length-take-le n ns (omega arith) in
     let back : length zs ≡ length ns - n = ap length f ∙ length-drop n ns in
-    let whole : joined ys ++ joined zs ≡ joined ns = ap₂ (λ k m. joined k ++ joined m) e f ∙ sym (joined-append (take n ns) (drop n ns)) ∙ ap joined (take-append-drop n ns) in
-    (
+    let whole : joined ys ++ joined zs ≡ joined ns = ap₂ (λ k m. joined k ++ joined m) e f ∙ sym (joined-append (take n ns) (drop n ns)) ∙ ap joined (take-append-drop n ns) in (
       ap₂ (λ (k m : Node). k.words ++ m.words) p q ∙ whole,
       subst (IsChild (16 * least)) (sym p) ((sound_inner least ys h.0).child (omega arith)),
       subst (IsChild (16 * least)) (sym q) ((sound_inner least zs h.1).child (omega arith)),
@@ -304,10 +299,10 @@ mends_right least ns list i size n next a ob h lt is enough p made =
     let two : length (option_to_list ob) ≤ 1 = one_at_most ob in
     record {
       words = ap joined made
-      ∙ joined-replaced ns i 2 a ob
-      ∙ ap (λ l. joined (take i ns) ++ (l ++ joined (drop (i + 2) ns))) (packs_words least size (n.words ++ next.words) a ob p)
-      ∙ ap (λ (m : Node). joined (take i ns) ++ ((n.words ++ m.words) ++ joined (drop (i + 2) ns))) is
-      ∙ sym (right_pair ns i n lt);
+          ∙ joined-replaced ns i 2 a ob
+          ∙ ap (λ l. joined (take i ns) ++ (l ++ joined (drop (i + 2) ns))) (packs_words least size (n.words ++ next.words) a ob p)
+          ∙ ap (λ (m : Node). joined (take i ns) ++ ((n.words ++ m.words) ++ joined (drop (i + 2) ns))) is
+          ∙ sym (right_pair ns i n lt);
       children = All-same (IsChild least) list (replaced ns i 2 a ob) made (All-replaced (IsChild least) ns i 2 a ob h (packs_children least size (n.words ++ next.words) a ob enough p));
       most = omega arith;
       fewest = omega arith;
@@ -321,11 +316,11 @@ mends_left least ns list i size n before a ob h pos lt is enough p made =
     let two : length (option_to_list ob) ≤ 1 = one_at_most ob in
     record {
       words = ap joined made
-      ∙ joined-replaced ns j 2 a ob
-      ∙ ap (λ l. joined (take j ns) ++ (l ++ joined (drop (j + 2) ns))) (packs_words least size (before.words ++ n.words) a ob p)
-      ∙ ap (λ (m : Node). joined (take j ns) ++ ((m.words ++ n.words) ++ joined (drop (j + 2) ns))) is
-      ∙ sym (left_pair ns j n (omega arith))
-      ∙ ap (λ k. joined (replaced ns k 1 n None)) e;
+          ∙ joined-replaced ns j 2 a ob
+          ∙ ap (λ l. joined (take j ns) ++ (l ++ joined (drop (j + 2) ns))) (packs_words least size (before.words ++ n.words) a ob p)
+          ∙ ap (λ (m : Node). joined (take j ns) ++ ((m.words ++ n.words) ++ joined (drop (j + 2) ns))) is
+          ∙ sym (left_pair ns j n (omega arith))
+          ∙ ap (λ k. joined (replaced ns k 1 n None)) e;
       children = All-same (IsChild least) list (replaced ns j 2 a ob) made (All-replaced (IsChild least) ns j 2 a ob h (packs_children least size (before.words ++ n.words) a ob enough p));
       most = omega arith;
       fewest = omega arith;
@@ -340,8 +335,7 @@ shrunk_set least ns w i c n f is =
 
 pub mended_inner : (least : ℕ) (ns list : List Node) (w i : ℕ) (c n : Node) → Found least ns w i c → 2 ≤ length ns → n.words ≡ without_word w c.words → Mends least ns i n list → IsInner least list × (joined list ≡ without_word w (joined ns))
 mended_inner least ns list w i c n f two is m =
-    let words : joined list ≡ without_word w (joined ns) = m.words ∙ shrunk_set least ns w i c n f is in
-    (
+    let words : joined list ≡ without_word w (joined ns) = m.words ∙ shrunk_set least ns w i c n f is in (
       record {
         some = omega (arith, m.fewest);
         most = omega (arith, m.most, f.inner.most);

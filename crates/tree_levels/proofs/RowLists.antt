@@ -1,14 +1,13 @@
 -- Rows that are made of a list at once.
-use Rattle.std.proofs.Common.{◌≡◌, ℕ, ◌+◌, ◌-◌, ◌*◌, ◌<◌, ◌≤◌, List, [], ◌∷◌, ◌++◌, length, take, drop, reverse, get_or, All, refl, sym, ap, ap₂, subst, ◌∙◌, arith, length-append, length-drop, append_assoc}
-use Rattle.std.proofs.lemmas.List.{append-nil, take-append-drop, length-take-le, length_push, reverse-append, get_or-reverse, length-reverse}
+use Rattle.std.proofs.Common.{◌≡◌, ℕ, ◌+◌, ◌-◌, ◌*◌, ◌<◌, ◌≤◌, List, [], ◌∷◌, ◌++◌, length, take, drop, reverse, All, sym, ap, ap₂, subst, ◌∙◌, arith, length-drop, append_assoc}
+use Rattle.std.proofs.lemmas.List.{append-nil, take-append-drop, length_push, reverse-append, get_or-reverse, length-reverse}
 use Rattle.std.proofs.lemmas.List.Elements.{All-take, All-drop, All-push}
 use Rattle.word_sets.specs.Words.{IsSet}
 use Rattle.word_sets.proofs.Within.{IsSet-parts}
-use Rattle.tree_levels.specs.declared.level.TheConstants.{MOST, FEWEST}
-use Rattle.tree_levels.specs.Node.{Node, joined, leaf_of, inner_of, IsChild, IsSound, IsLeaf, IsInner}
+use Rattle.tree_levels.specs.declared.level.TheConstants.{MOST}
+use Rattle.tree_levels.specs.Node.{Node, joined, leaf_of, inner_of, IsChild, IsInner}
 use Rattle.tree_levels.specs.Lists.{IsRow}
-use Rattle.tree_levels.proofs.LeafWords.{IsLeaf-take}
-use Rattle.tree_levels.proofs.NodeLists.{joined-append, sound_inner}
+use Rattle.tree_levels.proofs.NodeLists.{joined-append}
 
 -- what is left of the words of a set
 pub rest_set : (row : List Node) (rest words : List ℕ) → joined row ++ rest ≡ words → IsSet words → IsSet rest
@@ -27,8 +26,7 @@ pub last_part : (least n : ℕ) (ns rest part : List Node) → All (IsChild leas
 last_part least n ns rest part h s long e f =
     let whole : joined rest ++ joined part ≡ joined ns = ap₂ (λ a b. joined a ++ joined b) e f ∙ sym (joined-append (take n ns) (drop n ns)) ∙ ap joined (take-append-drop n ns) in
     let size : length part ≡ 32 = ap length f ∙ length-drop n ns ∙ omega arith in
-    let P : List Node → Type 0 = λ l. All (IsChild least) l in
-    (
+    let P : List Node → Type 0 = λ l. All (IsChild least) l in (
       record {
         some = omega arith;
         most = omega arith;

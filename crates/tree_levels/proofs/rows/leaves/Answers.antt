@@ -1,8 +1,7 @@
-use Rattle.std.proofs.Common.{◌≡◌, ◌+◌, ◌<◌, ◌≤◌, ℕ, List, [], ◌∷◌, ◌++◌, length, take, drop, ap, sym, subst, ◌∙◌, arith}
-use Rattle.std.proofs.lemmas.List.{length_push, take_all}
+use Rattle.std.proofs.Common.{◌≡◌, ◌+◌, [], ◌∷◌, ◌++◌, length, ap, sym, subst, ◌∙◌, arith}
+use Rattle.std.proofs.lemmas.List.{length_push}
 use Rattle.std.proofs.lemmas.List.Elements.{All-push, All-same}
-use Rattle.word_sets.specs.Words.{IsSet}
-use Rattle.tree_levels.specs.Node.{Node, joined, leaf_of, IsLeaf, IsChild}
+use Rattle.tree_levels.specs.Node.{joined, leaf_of, IsLeaf, IsChild}
 use Rattle.tree_levels.proofs.LeafWords.{IsLeaf-take}
 use Rattle.tree_levels.proofs.RowLists.{rest_set, next_leaf}
 use Rattle.tree_levels.proofs.rows.leaves.Goals as goal

@@ -1,7 +1,7 @@
-use Rattle.std.proofs.Common.{◌≡◌, ◌+◌, ◌-◌, ◌*◌, ◌<◌, ◌≤◌, List, [], ◌∷◌, ◌++◌, length, take, drop, reverse, ap, sym, subst, ◌∙◌, All, arith}
+use Rattle.std.proofs.Common.{◌≡◌, ◌+◌, ◌-◌, ◌*◌, List, [], ◌∷◌, ◌++◌, length, take, drop, ap, sym, subst, ◌∙◌, All, arith}
 use Rattle.std.proofs.lemmas.List.{length_push}
-use Rattle.std.proofs.lemmas.List.Elements.{All-push, All-same}
-use Rattle.tree_levels.specs.Node.{Node, joined, IsChild, IsInner}
+use Rattle.std.proofs.lemmas.List.Elements.{All-push}
+use Rattle.tree_levels.specs.Node.{Node, IsChild}
 use Rattle.tree_levels.proofs.RowLists.{front_set, last_part, next_node, last_node}
 use Rattle.tree_levels.proofs.rows.nodes.Goals as goal
 
