@@ -26,7 +26,10 @@ fn three_vertices_in_turn(rt: HostRuntime) -> Result<(), Fail> {
             assert!(rt; array.is_open(vertex));
             let word = 2 * (100 - count) + u32::from(vertex);
             assert!(rt; array.insert(vertex, word)?);
-            assert!(rt; is_row(array.words(vertex), word, count as usize), "vertex {vertex} at {count}");
+            assert!(rt;
+                is_row(array.words(vertex), word, count as usize),
+                "vertex {vertex} at {count}"
+            );
         }
     }
     for word in 0..100u32 {

@@ -12,7 +12,10 @@ fn twelve_words(rt: HostRuntime) -> Result<(), Fail> {
         assert!(rt; block.insert(word), "{word}");
     }
     assert!(rt; block.is_full());
-    assert_eq!(rt; block.as_slice(), [0, 1, 2, 3, 4, 5, 6, 7, 8, 9, 10, 1_048_575].as_slice());
+    assert_eq!(rt;
+        block.as_slice(),
+        [0, 1, 2, 3, 4, 5, 6, 7, 8, 9, 10, 1_048_575].as_slice()
+    );
     assert!(rt; block.contains(7));
     assert!(rt; !block.contains(11));
     Ok(())
