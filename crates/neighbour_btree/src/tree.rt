@@ -10,8 +10,8 @@ use std::marker::Model;
 use tree_levels::{Change, Leaf, MOST};
 use word_sets::WORD_LIMIT;
 
-/// A set of words, each below `WORD_LIMIT`, in a tree of at most five levels. Clauses see it as the ascending list of its
-/// words.
+/// A set of words, each below `WORD_LIMIT`, in a tree of at most five levels. Clauses see it as the ascending list of
+/// its words.
 #[derive(Drop)]
 pub struct NeighbourTree {
     root: Root,
