@@ -43,7 +43,8 @@ pub record IsLayout (xs : List ℕ) (segments : ℕ) (runs : List (Option Run)) 
   pub table : length runs ≡ VERTICES
   pub cells : length xs ≡ SEGMENT * segments
   pub fits : (i : ℕ) (r : Run) → slice_index_or runs i None ≡ Some r → Fits xs segments r
-  pub apart : (i j : ℕ) (r s : Run) → i ≢ j → slice_index_or runs i None ≡ Some r → slice_index_or runs j None ≡ Some s → AreApart r s
+  pub apart : (i j : ℕ) (r s : Run) → i ≢ j → slice_index_or runs i None ≡ Some r
+      → slice_index_or runs j None ≡ Some s → AreApart r s
 
 -- and there are at most twice the segments of open runs, and one a vertex
 pub record IsArray (xs : List ℕ) (segments : ℕ) (runs : List (Option Run)) : Type 0 where
@@ -55,7 +56,8 @@ pub record HasRoom (segments : ℕ) (run : Run) (xs ys : List ℕ) (r : Run) : T
   pub same : r.count ≡ run.count
   pub room : r.count < SEGMENT * r.segments
   pub found : ((ys ≡ xs) × (r.segment ≡ run.segment) × (r.segments ≡ run.segments))
-      ⊎ ((ys ≡ xs ++ (words_in xs run ++ replicate (SEGMENT * r.segments - run.count) 0)) × (r.segment ≡ segments) × (r.segments ≡ 2 * run.segments + 1))
+      ⊎ ((ys ≡ xs ++ (words_in xs run ++ replicate (SEGMENT * r.segments - run.count) 0))
+      × (r.segment ≡ segments) × (r.segments ≡ 2 * run.segments + 1))
 
 -- a run that begins at or behind a segment, and has some
 abbrev pub IsBehind : ℕ → Run → Type 0
@@ -66,4 +68,5 @@ abbrev pub IsFirstBelow : ℕ → ℕ → List (Option Run) → Option (ℕ × R
 IsFirstBelow n from runs o =
     MatchOption o
     ((i : ℕ) (r : Run) → i < n → slice_index_or runs i None ≡ Some r → ¬ (IsBehind from r))
-    (λ p. (p.0 < n) × (slice_index_or runs p.0 None ≡ Some p.1) × IsBehind from p.1 × ((i : ℕ) (r : Run) → i < n → slice_index_or runs i None ≡ Some r → IsBehind from r → p.1.segment ≤ r.segment))
+    (λ p. (p.0 < n) × (slice_index_or runs p.0 None ≡ Some p.1) × IsBehind from p.1 × ((i : ℕ) (r : Run)
+    → i < n → slice_index_or runs i None ≡ Some r → IsBehind from r → p.1.segment ≤ r.segment))

@@ -19,7 +19,8 @@ pub fn words_of(cells: &[u32], run: Run) -> &[u32]
 pub fn put_word(cells: &mut Vec<u32>, from: usize, count: usize, at: usize, word: u32)
     requires place { at ≤ count }
     requires room { from + count < vec_len cells.old }
-    ensures { cells.new.items ≡ take from cells.old.items ++ (insert (piece from count cells.old.items) at word ++ drop (from + (count + 1)) cells.old.items) }
+    ensures { cells.new.items ≡ take from cells.old.items
+        ++ (insert (piece from count cells.old.items) at word ++ drop (from + (count + 1)) cells.old.items) }
 {
     let places = &mut cells[from + at..from + count + 1];
     places.rotate_right(1);
@@ -30,7 +31,8 @@ pub fn put_word(cells: &mut Vec<u32>, from: usize, count: usize, at: usize, word
 pub fn take_word(cells: &mut Vec<u32>, from: usize, count: usize, at: usize)
     requires place { at < count }
     requires within { from + count ≤ vec_len cells.old }
-    ensures { cells.new.items ≡ take from cells.old.items ++ ((remove (piece from count cells.old.items) at ++ slice_index (piece from count cells.old.items) at ∷ []) ++ drop (from + count) cells.old.items) }
+    ensures { cells.new.items ≡ take from cells.old.items ++ ((remove (piece from count cells.old.items) at
+        ++ slice_index (piece from count cells.old.items) at ∷ []) ++ drop (from + count) cells.old.items) }
 {
     cells[from + at..from + count].rotate_left(1);
 }
@@ -38,7 +40,8 @@ pub fn take_word(cells: &mut Vec<u32>, from: usize, count: usize, at: usize)
 /// Puts words behind all cells, and then empty cells, `places` in all.
 pub fn append(cells: &mut Vec<u32>, words: &[u32], places: usize) -> Result<(), AllocError>
     requires { length words.now ≤ places }
-    ensures ok { OnOk result (cells.new.items ≡ cells.old.items ++ (words.now ++ replicate (places - length words.now) 0)) }
+    ensures ok { OnOk result (cells.new.items ≡ cells.old.items ++ (words.now
+        ++ replicate (places - length words.now) 0)) }
     ensures err { OnErr result (cells.new.items ≡ cells.old.items) }
 {
     cells.reserve(places)?;
@@ -57,7 +60,8 @@ pub fn append_piece(
 ) -> Result<(), AllocError>
     requires fits { count ≤ places }
     requires within { from + count ≤ vec_len cells.old }
-    ensures ok { OnOk result (cells.new.items ≡ cells.old.items ++ (piece from count cells.old.items ++ replicate (places - count) 0)) }
+    ensures ok { OnOk result (cells.new.items ≡ cells.old.items ++ (piece from count cells.old.items
+        ++ replicate (places - count) 0)) }
     ensures err { OnErr result (cells.new.items ≡ cells.old.items) }
 {
     cells.reserve(places)?;

@@ -57,7 +57,8 @@ fn earlier(
 fn move_words(cells: &mut Vec<u32>, run: Run, segment: usize)
     requires down { segment ≤ run.segment }
     requires within { SEGMENT * run.segment + run.count ≤ vec_len cells.old }
-    ensures { cells.new.items ≡ take (SEGMENT * segment) cells.old.items ++ (words_in cells.old.items run ++ drop (SEGMENT * segment + run.count) cells.old.items) }
+    ensures { cells.new.items ≡ take (SEGMENT * segment) cells.old.items ++ (words_in cells.old.items run
+        ++ drop (SEGMENT * segment + run.count) cells.old.items) }
 {
     let from = SEGMENT * run.segment;
     cells.copy_within(from..from + run.count, SEGMENT * segment);

@@ -55,12 +55,14 @@ Lowers node least old w (Below n) =
 -- a root with a word more, or none where it is there
 abbrev pub RootWith : Root → ℕ → Option Root → Type 0
 RootWith old w None = has_word w (words_of old) ≡ true
-RootWith old w (Some r) = (has_word w (words_of old) ≡ false) × (words_of r ≡ with_word w (words_of old)) × (fewest_of r ≤ (node_of r).size)
+RootWith old w (Some r) = (has_word w (words_of old) ≡ false) × (words_of r ≡ with_word w (words_of old))
+    × (fewest_of r ≤ (node_of r).size)
 
 -- a root with a word less, or none where it is not there
 abbrev pub RootWithout : Root → ℕ → Option Root → Type 0
 RootWithout old w None = has_word w (words_of old) ≡ false
-RootWithout old w (Some r) = (has_word w (words_of old) ≡ true) × (words_of r ≡ without_word w (words_of old)) × (fewest_of r ≤ (node_of r).size)
+RootWithout old w (Some r) = (has_word w (words_of old) ≡ true) × (words_of r ≡ without_word w (words_of old))
+    × (fewest_of r ≤ (node_of r).size)
 
 -- what a change in place leaves of the words
 abbrev pub WordsAdded : List ℕ → List ℕ → ℕ → Change → Type 0

@@ -7,3 +7,6 @@ mod tree;
 
 pub use slices::Slices;
 pub use tree::NeighbourTree;
+
+#[cfg(test)]
+mod tests;

@@ -6,7 +6,7 @@ ghost use Rattle.tree_levels.specs.Changes.{IsSliceAt};
 ghost use Rattle.neighbour_btree.specs.Root.{node_of, fewest_of, words_of, Raises, Lowers, RootWith, RootWithout, WordsAdded, WordsTaken};
 
 use std::alloc::{AllocError, Global};
-use tree_levels::{Change, Grown, Inner, Leaf, Level};
+use tree_levels::{Change, Grown, Inner, Leaf, Level, MOST, leaves, nodes};
 use word_sets::WORD_LIMIT;
 
 /// A root of each of the five levels. Words are below 2^20, so that five are enough.
@@ -70,6 +70,28 @@ fn shrink<C: Level>(alloc: Global, node: &Inner<C>, word: u32) -> Result<Lowered
 }
 
 impl Root {
+    /// The root of a tree of these words, made at once.
+    pub fn of(alloc: Global, words: &[u32]) -> Result<Root, AllocError>
+        requires set { IsSet words.now }
+        requires many { 64 ≤ length words.now }
+        ensures words { IfOk result (λ root. words_of root ≡ words.now) }
+        ensures size { IfOk result (λ root. fewest_of root ≤ (node_of root).size) }
+    {
+        let row = leaves(alloc, words)?;
+        if row.len() <= MOST {
+            let node = Inner::new(alloc, row)?;
+            return Ok(Root::Two(node));
+        }
+        let row = nodes(alloc, row)?;
+        if row.len() <= MOST {
+            let node = Inner::new(alloc, row)?;
+            return Ok(Root::Three(node));
+        }
+        let row = nodes(alloc, row)?;
+        let node = Inner::new(alloc, row)?;
+        Ok(Root::Four(node))
+    }
+
     /// Another owner of the same root.
     pub fn share(&self) -> Result<Root, AllocError>
         ensures { IfOk result (λ root. root ≡ self.now) }

@@ -36,7 +36,8 @@ impl<'a> Slices<'a> {
 
     /// The next words, some at least, or `None` at the end. They lie in the tree, and are not copied.
     pub fn next_slice(&mut self) -> Option<&'a [u32]>
-        ensures { MatchOption result ((self.old ≡ []) × (self.new ≡ [])) (λ slice. (0 < length slice.now) × (self.old ≡ slice.now ++ self.new)) }
+        ensures { MatchOption result ((self.old ≡ []) × (self.new ≡ [])) (λ slice. (0 < length slice.now)
+            × (self.old ≡ slice.now ++ self.new)) }
     {
         if self.place == self.len {
             return None;

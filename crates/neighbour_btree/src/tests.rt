@@ -53,6 +53,19 @@ fn five_thousand_words(rt: HostRuntime) -> Result<(), Fail> {
     Ok(())
 }
 
+// Whether words that a tree was made of are those that it has.
+#[test]
+fn made_at_once(rt: HostRuntime) -> Result<(), Fail> {
+    let few = [3, 5, 1_048_575];
+    let tree = NeighbourTree::of(rt.alloc(), &few)?;
+    assert_eq!(rt; tree.len(), 3);
+    assert!(rt; tree.contains(5));
+    let mut slices = tree.slices();
+    assert_eq!(rt; slices.next_slice(), Some(few.as_slice()));
+    assert_eq!(rt; slices.next_slice(), None);
+    Ok(())
+}
+
 // The same by copies, each of which leaves the tree before it.
 #[test]
 fn each_copy_leaves_the_last(rt: HostRuntime) -> Result<(), Fail> {

@@ -7,11 +7,11 @@ use crate::root::Root;
 use crate::slices::Slices;
 use std::alloc::{AllocError, Global};
 use std::marker::Model;
-use tree_levels::{Change, Leaf};
+use tree_levels::{Change, Leaf, MOST};
 use word_sets::WORD_LIMIT;
 
-/// A set of words, each below `WORD_LIMIT`, in a tree of at most five levels. Clauses see it as the ascending list of its
-/// words.
+/// A set of words, each below `WORD_LIMIT`, in a tree of at most five levels. Clauses see it as the ascending list of
+/// its words.
 #[derive(Drop)]
 pub struct NeighbourTree {
     root: Root,
@@ -38,6 +38,21 @@ impl NeighbourTree {
         Ok(NeighbourTree {
             root: Root::One(leaf),
         })
+    }
+
+    /// The set of these words, made at once.
+    pub fn of(alloc: Global, words: &[u32]) -> Result<NeighbourTree, AllocError>
+        requires { IsSet words.now }
+        ensures { IfOk result (λ tree. tree ≡ words.now) }
+    {
+        if words.len() < MOST {
+            let leaf = Leaf::new(alloc, Vec::from_slice(alloc, words)?)?;
+            return Ok(NeighbourTree {
+                root: Root::One(leaf),
+            });
+        }
+        let root = Root::of(alloc, words)?;
+        Ok(NeighbourTree { root })
     }
 
     /// Another owner of the same words, none of which is copied. Neither sees the other's changes.

@@ -1,19 +1,19 @@
 -- What one child's change makes of its parent.
-use Rattle.std.proofs.Common.{◌≡◌, ℕ, suc, ◌+◌, ◌-◌, ◌*◌, ◌<◌, ◌≤◌, true, false, List, [], ◌∷◌, ◌++◌, length, take, drop, get_or, set, insert, All, Option, Some, None, Result, Ok, Err, IfOk, OnErr, refl, sym, ap, ap₂, subst, ◌∙◌, arith, add-one, length-append, length-set, append_assoc}
-use Rattle.std.proofs.lemmas.List.{append-nil, set_split, set_at, set-get_or, take_more, length-take-le, get_or_default}
+use Rattle.std.proofs.Common.{◌≡◌, ℕ, ◌+◌, ◌-◌, ◌*◌, ◌<◌, List, [], ◌∷◌, ◌++◌, length, take, drop, get_or, set, insert, Some, None, Result, Ok, Err, IfOk, OnErr, sym, ap, subst, ◌∙◌, arith, add-one, length-set, append_assoc}
+use Rattle.std.proofs.lemmas.List.{append-nil, set_split, set_at, set-get_or, take_more, length-take-le}
 use Rattle.std.proofs.lemmas.List.Elements.{All-set}
 use Rattle.word_sets.specs.declared.places.TheConstants.{WORD_LIMIT}
-use Rattle.word_sets.specs.Words.{has_word, with_word, without_word, IsSet}
-use Rattle.word_sets.proofs.Within.{IsWithin-length, IsSet-parts}
+use Rattle.word_sets.specs.Words.{with_word, without_word, IsSet}
+use Rattle.word_sets.proofs.Within.{IsSet-parts}
 use Rattle.word_sets.proofs.Members.{IsWithin-with, IsWithin-without}
 use Rattle.word_sets.proofs.Changes.{length-with, length-without}
-use Rattle.tree_levels.specs.declared.level.TheConstants.{MOST, FEWEST}
+use Rattle.tree_levels.specs.declared.level.TheConstants.{FEWEST}
 use Rattle.tree_levels.specs.declared.change.Change.{Change}
 use Rattle.tree_levels.specs.declared.change.Change.TheVariants.{Same, Changed, Unable}
-use Rattle.tree_levels.specs.Node.{Node, joined, inner_of, IsChild, IsSound, IsEntry, IsInner}
+use Rattle.tree_levels.specs.Node.{Node, joined, inner_of, IsChild, IsEntry, IsInner}
 use Rattle.tree_levels.specs.Lists.{nothing, replaced}
 use Rattle.tree_levels.specs.Changes.{Adds, Takes}
-use Rattle.tree_levels.proofs.NodeLists.{Found, found_has, found_child, shrunk_set, grown, Listed, joined-replaced, joined_at, with-joined, without-joined, sound_inner}
+use Rattle.tree_levels.proofs.NodeLists.{Found, found_has, found_child, joined-replaced, joined_at, with-joined, without-joined, sound_inner}
 
 pub set_one : (ns : List Node) (i : ℕ) (a : Node) → i < length ns → set ns i a ≡ replaced ns i 1 a None
 set_one ns i a lt =

@@ -2,3 +2,4 @@ pub mod LeafWords
 pub mod NodeLists
 pub mod Lent
 pub mod Below
+pub mod RowLists

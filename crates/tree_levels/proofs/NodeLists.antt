@@ -1,19 +1,18 @@
 -- Lists of nodes: their words, where one of them is replaced, and where a word goes.
-use Rattle.std.proofs.Common.{◌≡◌, ℕ, zero, suc, ◌+◌, ◌-◌, ◌*◌, ◌/◌, ◌<◌, ◌≤◌, true, false, List, [], ◌∷◌, ◌++◌, length, take, drop, get_or, set, All, Option, Some, None, option_to_list, option_map, refl, sym, ap, ap₂, subst, ◌∙◌, arith, inl, inr, add-one, length-append, length-drop, append_assoc}
-use Rattle.std.proofs.lemmas.Bool.{cases_lt}
-use Rattle.std.proofs.lemmas.List.{append-nil, take-append-drop, drop_more, drop_all, take_more, get_or_default, length-take-le, get_or-set_same, set_split, set-get_or}
+use Rattle.std.proofs.Common.{◌≡◌, ℕ, zero, suc, ◌+◌, ◌-◌, ◌*◌, ◌/◌, ◌<◌, ◌≤◌, List, [], ◌∷◌, ◌++◌, length, take, drop, get_or, All, Option, Some, None, option_to_list, option_map, refl, sym, ap, ap₂, subst, ◌∙◌, arith, length-append, length-drop, append_assoc}
+use Rattle.std.proofs.lemmas.List.{append-nil, take-append-drop, drop_more, take_more, get_or_default, length-take-le}
 use Rattle.std.proofs.lemmas.List.Concat.{flat_map-append}
-use Rattle.std.proofs.lemmas.List.Elements.{All-append, All-take, All-drop, All-get_or, All-cons, All-nil, All-head, All-tail, All-set, All-same}
+use Rattle.std.proofs.lemmas.List.Elements.{All-append, All-take, All-drop, All-get_or, All-cons, All-nil, All-head, All-tail, All-same}
 use Rattle.std.proofs.Math.Nat.{mul-le-mul_left}
 use Rattle.word_sets.specs.declared.places.TheConstants.{WORD_LIMIT}
 use Rattle.word_sets.specs.Words.{has_word, with_word, without_word, IsWithin, IsSet}
-use Rattle.word_sets.proofs.Within.{IsWithin-length, IsWithin-wider, IsSet-parts, parts}
+use Rattle.word_sets.proofs.Within.{IsSet-parts, parts}
 use Rattle.word_sets.proofs.Members.{IsWithin-with, IsWithin-without}
 use Rattle.word_sets.proofs.Parts.{with_middle, without_middle, has_middle}
 use Rattle.tree_levels.specs.declared.level.TheConstants.{MOST, FEWEST}
 use Rattle.tree_levels.specs.Node.{Node, joined, inner_of, IsChild, IsSound, IsInner}
 use Rattle.tree_levels.specs.Lists.{nothing, first_at, replaced, Mends}
-use Rattle.tree_levels.specs.Changes.{Packs, Shrinks}
+use Rattle.tree_levels.specs.Changes.{Packs}
 
 pub joined-append : (ns ms : List Node) → joined (ns ++ ms) ≡ joined ns ++ joined ms
 joined-append ns ms = flat_map-append (λ (n : Node). n.words) ns ms

@@ -24,7 +24,8 @@ Grows node least old w (New a b) =
 abbrev pub Shrinks : {N : Type 0} → (N → Node) → ℕ → Node → ℕ → Option N → Type 0
 Shrinks node least old w None = has_word w old.words ≡ false
 Shrinks node least old w (Some n) =
-    (has_word w old.words ≡ true) × ((node n).words ≡ without_word w old.words) × (old.size ≤ (node n).size + 1) × IsSound least (node n)
+    (has_word w old.words ≡ true) × ((node n).words ≡ without_word w old.words)
+    × (old.size ≤ (node n).size + 1) × IsSound least (node n)
 
 -- a word put in, in place
 abbrev pub Adds : ℕ → Node → Node → ℕ → Change → Type 0
@@ -37,7 +38,8 @@ Adds least old new w Unable = new ≡ old
 abbrev pub Takes : ℕ → Node → Node → ℕ → Change → Type 0
 Takes least old new w Same = (has_word w old.words ≡ false) × (new ≡ old)
 Takes least old new w Changed =
-    (has_word w old.words ≡ true) × (new.words ≡ without_word w old.words) × (old.size ≤ new.size + 1) × IsSound least new
+    (has_word w old.words ≡ true) × (new.words ≡ without_word w old.words) × (old.size ≤ new.size + 1)
+    × IsSound least new
 Takes least old new w Unable = new ≡ old
 
 -- some of the words from a place on

@@ -41,7 +41,8 @@ fn put<C: Level>(
 ) -> Result<bool, AllocError>
     requires within { at < length children.old.items }
     requires most { length children.old.items ≤ MOST }
-    ensures ok { IfOk result (λ done. MatchBool done (children.new.items ≡ replaced children.old.items at 1 first second) (children.new.items ≡ children.old.items)) }
+    ensures ok { IfOk result (λ done. MatchBool done (children.new.items
+        ≡ replaced children.old.items at 1 first second) (children.new.items ≡ children.old.items)) }
     ensures err { OnErr result (children.new.items ≡ children.old.items) }
     ensures fits { length children.new.items ≤ MOST }
 {
@@ -96,7 +97,8 @@ pub fn insert_owned<C: Level>(
     requires inner { IsInner C.least (items_of children.old) }
     requires word { word < WORD_LIMIT }
     ensures inner { IsInner C.least (items_of children.new) }
-    ensures ok { IfOk result (Adds (16 * C.least) (inner_of (items_of children.old)) (inner_of (items_of children.new)) word) }
+    ensures ok { IfOk result (Adds (16 * C.least) (inner_of (items_of children.old))
+        (inner_of (items_of children.new)) word) }
     ensures err { OnErr result (inner_of (items_of children.new) ≡ inner_of (items_of children.old)) }
 {
     let Some(children) = Arc::get_mut(children) else {
@@ -167,7 +169,8 @@ pub fn remove_owned<C: Level>(
     requires enough { fewest ≤ length (items_of children.old) }
     ensures inner { IsInner C.least (items_of children.new) }
     ensures fewest { fewest ≤ length (items_of children.new) }
-    ensures ok { IfOk result (Takes (16 * C.least) (inner_of (items_of children.old)) (inner_of (items_of children.new)) word) }
+    ensures ok { IfOk result (Takes (16 * C.least) (inner_of (items_of children.old))
+        (inner_of (items_of children.new)) word) }
     ensures err { OnErr result (inner_of (items_of children.new) ≡ inner_of (items_of children.old)) }
 {
     let Some(children) = Arc::get_mut(children) else {

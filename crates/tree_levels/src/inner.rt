@@ -199,7 +199,8 @@ fn packed<C: Level>(
     requires fits { length children.items ≤ 128 }
     requires children { All (IsChild C.least) children.items }
     requires set { IsSet (joined children.items) }
-    ensures { IfOk result (λ pair. Packs (λ (n : Node). n) (16 * C.least) (length children.items) (joined children.items) pair.0 pair.1) }
+    ensures { IfOk result (λ pair. Packs (λ (n : Node). n) (16 * C.least) (length children.items)
+        (joined children.items) pair.0 pair.1) }
 {
     if children.len() <= MOST {
         let node = Inner::new(alloc, children)?;

@@ -64,7 +64,8 @@ pub trait Level: Drop {
     fn join(&self, alloc: Global, right: &Self) -> Result<(Self, Option<Self>), AllocError>
         requires within { IsSet ((node self.now).words ++ (node right.now).words) }
         requires enough { FEWEST ≤ (node self.now).size + (node right.now).size }
-        ensures { IfOk result (λ pair. Packs node least ((node self.now).size + (node right.now).size) ((node self.now).words ++ (node right.now).words) pair.0 pair.1) };
+        ensures { IfOk result (λ pair. Packs node least ((node self.now).size + (node right.now).size)
+            ((node self.now).words ++ (node right.now).words) pair.0 pair.1) };
 
     /// Puts a word in, in place. After an error the node is as it was.
     fn insert(&mut self, alloc: Global, word: u32) -> Result<Change, AllocError>

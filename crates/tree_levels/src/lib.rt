@@ -9,6 +9,7 @@ mod inner;
 mod leaf;
 mod level;
 mod lists;
+mod rows;
 mod search;
 
 pub use change::{Change, Grown};
@@ -16,3 +17,4 @@ pub use child::Child;
 pub use inner::Inner;
 pub use leaf::Leaf;
 pub use level::{FEWEST, Level, MOST};
+pub use rows::{leaves, nodes};

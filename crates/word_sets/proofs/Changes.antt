@@ -1,6 +1,6 @@
 -- When a set stays as it is, how long it is after a change, and that it stays a set.
-use Rattle.std.proofs.Common.{◌≡◌, ℕ, suc, ◌+◌, ◌<◌, ◌≤◌, Bool, true, false, not, ◌||◌, ◌&&◌, cond, eqb, ltb, List, [], ◌∷◌, ◌++◌, length, filter, insert, remove, refl, sym, ap, subst, ◌∙◌, arith, lt-ltb, le-ltb, inl, inr}
-use Rattle.std.proofs.lemmas.Bool.{cases_order, cases_eq, or_parts, or_cases, ne_eqb, eq-eqb, eqb-true, eqb-false}
+use Rattle.std.proofs.Common.{◌≡◌, ℕ, suc, ◌+◌, ◌<◌, true, false, ◌||◌, eqb, ltb, List, [], ◌∷◌, length, filter, insert, remove, refl, sym, ap, subst, ◌∙◌, arith, lt-ltb, le-ltb, inl, inr}
+use Rattle.std.proofs.lemmas.Bool.{cases_order, cases_eq, or_parts, ne_eqb, eq-eqb, eqb-false}
 use Rattle.std.proofs.lemmas.List.{length-append}
 use Rattle.word_sets.specs.declared.places.TheConstants.{WORD_LIMIT}
 use Rattle.word_sets.specs.Words.{has_word, with_word, without_word, IsWithin, IsSet}

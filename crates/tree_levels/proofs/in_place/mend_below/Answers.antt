@@ -1,9 +1,8 @@
-use Rattle.std.proofs.Common.{◌≡◌, ◌++◌, ◌+◌, ◌-◌, ◌*◌, ◌<◌, ◌≤◌, ℕ, List, true, false, Bool, length, get_or, set, Option, None, Some, Ok, option_map, refl, sym, ap, ap₂, subst, ◌∙◌, arith}
+use Rattle.std.proofs.Common.{◌≡◌, List, true, get_or, None, refl, sym, ap, subst, ◌∙◌}
 use Rattle.word_sets.specs.declared.places.TheConstants.{WORD_LIMIT}
-use Rattle.word_sets.specs.Words.{IsSet, has_word, with_word, without_word}
-use Rattle.tree_levels.specs.Node.{Node, joined, inner_of, IsChild, IsInner}
+use Rattle.word_sets.specs.Words.{IsSet, has_word, without_word}
+use Rattle.tree_levels.specs.Node.{Node, joined}
 use Rattle.tree_levels.specs.Lists.{replaced, Mends}
-use Rattle.tree_levels.specs.Changes.{Adds, Takes, Packs}
 use Rattle.word_sets.proofs.Members.{IsWithin-without}
 use Rattle.tree_levels.proofs.NodeLists.{found, found_has, mended_inner, shrunk_set, sound_inner}
 use Rattle.tree_levels.proofs.in_place.mend_below.Goals as goal

@@ -1,5 +1,4 @@
-use Rattle.std.proofs.Common.{◌≡◌, ◌∙◌, sym, ap, Option, Some, None}
-use Rattle.tree_levels.specs.Node.{Node}
+use Rattle.std.proofs.Common.{◌∙◌, sym, ap}
 use Rattle.tree_levels.specs.Lists.{replaced}
 use Rattle.tree_levels.proofs.Below.{set_one, set_two}
 use Rattle.tree_levels.proofs.in_place.put.Goals as goal

@@ -1,9 +1,8 @@
-use Rattle.std.proofs.Common.{◌≡◌, ◌++◌, ◌+◌, ◌-◌, ◌*◌, ◌<◌, ◌≤◌, ℕ, List, true, false, Bool, length, get_or, set, Option, None, Some, Ok, option_map, refl, sym, ap, ap₂, subst, ◌∙◌, arith}
-use Rattle.word_sets.specs.declared.places.TheConstants.{WORD_LIMIT}
-use Rattle.word_sets.specs.Words.{IsSet, has_word, with_word, without_word}
-use Rattle.tree_levels.specs.Node.{Node, joined, inner_of, IsChild, IsInner}
-use Rattle.tree_levels.specs.Lists.{replaced, Mends}
-use Rattle.tree_levels.specs.Changes.{Adds, Takes, Packs}
+use Rattle.std.proofs.Common.{◌≡◌, false, get_or, option_map, refl, sym, ap, ap₂, subst, ◌∙◌}
+use Rattle.word_sets.specs.Words.{has_word, with_word}
+use Rattle.tree_levels.specs.Node.{Node, IsInner}
+use Rattle.tree_levels.specs.Lists.{replaced}
+use Rattle.tree_levels.specs.Changes.{Packs}
 use Rattle.tree_levels.proofs.NodeLists.{found, found_has, grown, packs_nodes, sound_inner}
 use Rattle.tree_levels.proofs.in_place.replace_below.Goals as goal
 

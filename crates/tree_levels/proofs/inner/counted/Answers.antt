@@ -1,4 +1,4 @@
-use Rattle.std.proofs.Common.{◌<◌, ◌+◌, length, ap, arith}
+use Rattle.std.proofs.Common.{length, ap, arith}
 use Rattle.tree_levels.specs.Node.{Node}
 use Rattle.tree_levels.proofs.Lent.{few_words}
 use Rattle.tree_levels.proofs.inner.counted.Goals as goal

@@ -1,6 +1,5 @@
-use Rattle.std.proofs.Common.{◌≡◌, ◌++◌, ◌+◌, ◌-◌, ◌<◌, ◌≤◌, ℕ, List, length, get_or, Option, option_map, sym, ap, ap₂, subst, ◌∙◌, arith}
+use Rattle.std.proofs.Common.{◌≡◌, ◌++◌, ◌+◌, ◌-◌, get_or, option_map, ap₂, ◌∙◌, arith}
 use Rattle.std.proofs.lemmas.List.{get_or_default}
-use Rattle.tree_levels.specs.Node.{Node}
 use Rattle.tree_levels.specs.Lists.{nothing, replaced}
 use Rattle.tree_levels.proofs.NodeLists.{right_set, left_set, mends_right, mends_left, packs_nodes}
 use Rattle.tree_levels.proofs.inner.mended.Goals as goal

@@ -1,4 +1,4 @@
-use Rattle.std.proofs.Common.{◌<◌, ◌≤◌, ◌/◌, length, arith}
+use Rattle.std.proofs.Common.{◌/◌, arith}
 use Rattle.tree_levels.proofs.NodeLists.{Listed, halves, half_packs, whole_packs}
 use Rattle.tree_levels.proofs.inner.packed.Goals as goal
 

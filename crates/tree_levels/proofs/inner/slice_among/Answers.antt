@@ -1,4 +1,4 @@
-use Rattle.std.proofs.Common.{◌<◌, ℕ, length, subst, arith}
+use Rattle.std.proofs.Common.{subst, arith}
 use Rattle.tree_levels.specs.Node.{Node}
 use Rattle.tree_levels.specs.Changes.{IsSliceAt}
 use Rattle.tree_levels.proofs.Lent.{slice_among}

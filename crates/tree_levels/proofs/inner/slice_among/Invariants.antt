@@ -1,4 +1,4 @@
-use Rattle.std.proofs.Common.{◌≡◌, ◌+◌, ◌<◌, length, take}
+use Rattle.std.proofs.Common.{◌≡◌, ◌+◌, length, take}
 use Rattle.tree_levels.specs.Node.{joined}
 use Rattle.tree_levels.proofs.inner.slice_among.Given as goal
 

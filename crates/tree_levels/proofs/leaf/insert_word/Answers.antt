@@ -1,4 +1,4 @@
-use Rattle.std.proofs.Common.{◌≡◌, ℕ, List, Err, subst, arith}
+use Rattle.std.proofs.Common.{ℕ, List, Err, subst, arith}
 use Rattle.word_sets.specs.Words.{IsPlace}
 use Rattle.tree_levels.proofs.LeafWords.{IsLeaf-insert}
 use Rattle.tree_levels.proofs.leaf.insert_word.Goals as goal

@@ -1,4 +1,4 @@
-use Rattle.std.proofs.Common.{◌+◌, ◌/◌, arith}
+use Rattle.std.proofs.Common.{◌/◌, arith}
 use Rattle.tree_levels.proofs.LeafWords.{IsLeaf-take, IsLeaf-drop}
 use Rattle.tree_levels.proofs.leaf.packed.Goals as goal
 

@@ -1,4 +1,4 @@
-use Rattle.std.proofs.Common.{◌≡◌, ℕ, List, Ok, subst, arith}
+use Rattle.std.proofs.Common.{ℕ, List, Ok, subst}
 use Rattle.word_sets.specs.Words.{IsPlace}
 use Rattle.tree_levels.proofs.LeafWords.{IsLeaf-remove}
 use Rattle.tree_levels.proofs.leaf.remove_word.Goals as goal

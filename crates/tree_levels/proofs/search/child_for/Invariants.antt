@@ -1,4 +1,4 @@
-use Rattle.std.proofs.Common.{ℕ, ◌<◌, ◌≤◌, ◌-◌, length}
+use Rattle.std.proofs.Common.{◌<◌, ◌≤◌, ◌-◌, length}
 use Rattle.tree_levels.specs.Lists.{first_at}
 use Rattle.tree_levels.proofs.search.child_for.Given as goal
 

@@ -1,10 +1,6 @@
-use Rattle.std.proofs.Common.{◌≡◌, ◌++◌, ◌+◌, ◌-◌, ◌*◌, ◌<◌, ◌≤◌, ℕ, List, true, false, Bool, length, get_or, set, Option, None, Some, Ok, option_map, refl, sym, ap, ap₂, subst, ◌∙◌, arith}
+use Rattle.std.proofs.Common.{length, ap, arith}
 use Rattle.word_sets.specs.declared.places.TheConstants.{WORD_LIMIT}
-use Rattle.word_sets.specs.Words.{IsSet, has_word, with_word, without_word}
-use Rattle.tree_levels.specs.Node.{Node, joined, inner_of, IsChild, IsInner}
-use Rattle.tree_levels.specs.Lists.{replaced, Mends}
-use Rattle.tree_levels.specs.Changes.{Adds, Takes, Packs}
-use Rattle.tree_levels.specs.declared.change.Change.TheVariants.{Same, Changed, Unable}
+use Rattle.tree_levels.specs.Node.{Node}
 use Rattle.word_sets.proofs.Within.{IsWithin-length}
 use Rattle.tree_levels.proofs.Below.{entry_added}
 use Rattle.tree_levels.proofs.child.Child.insert.Goals as goal

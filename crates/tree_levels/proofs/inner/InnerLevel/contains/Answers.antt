@@ -1,10 +1,8 @@
-use Rattle.std.proofs.Common.{◌≡◌, ◌++◌, ◌+◌, ◌-◌, ◌<◌, ◌≤◌, ℕ, List, Vec, length, get_or, Option, option_map, sym, ap, ap₂, subst, ◌∙◌, arith}
+use Rattle.std.proofs.Common.{◌≡◌, List, Vec, sym, ap, ◌∙◌}
 use Rattle.std.specs.declared.alloc.Global.{Global}
-use Rattle.word_sets.specs.Words.{has_word, with_word, without_word}
-use Rattle.tree_levels.specs.Node.{Node, joined, inner_of}
+use Rattle.word_sets.specs.Words.{has_word}
+use Rattle.tree_levels.specs.Node.{Node}
 use Rattle.tree_levels.specs.Shared.{items_of}
-use Rattle.tree_levels.specs.Lists.{replaced, Mends}
-use Rattle.tree_levels.specs.Changes.{Grows, Packs, Shrinks}
 use Rattle.tree_levels.proofs.NodeLists.{found, found_has}
 use Rattle.tree_levels.proofs.inner.InnerLevel.contains.Goals as goal
 

@@ -1,10 +1,7 @@
-use Rattle.std.proofs.Common.{◌≡◌, ◌++◌, ◌+◌, ◌-◌, ◌<◌, ◌≤◌, ℕ, List, Vec, length, get_or, Option, option_map, sym, ap, ap₂, subst, ◌∙◌, arith}
+use Rattle.std.proofs.Common.{◌≡◌, ◌++◌, List, Vec, ap, ap₂, ◌∙◌}
 use Rattle.std.specs.declared.alloc.Global.{Global}
-use Rattle.word_sets.specs.Words.{has_word, with_word, without_word}
-use Rattle.tree_levels.specs.Node.{Node, joined, inner_of}
+use Rattle.tree_levels.specs.Node.{Node}
 use Rattle.tree_levels.specs.Shared.{items_of}
-use Rattle.tree_levels.specs.Lists.{replaced, Mends}
-use Rattle.tree_levels.specs.Changes.{Grows, Packs, Shrinks}
 use Rattle.std.proofs.lemmas.List.Elements.{All-append, All-same}
 use Rattle.tree_levels.specs.Node.{IsChild}
 use Rattle.tree_levels.proofs.inner.InnerLevel.join.Goals as goal

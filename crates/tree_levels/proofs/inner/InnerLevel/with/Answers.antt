@@ -1,10 +1,10 @@
-use Rattle.std.proofs.Common.{◌≡◌, ◌++◌, ◌+◌, ◌-◌, ◌<◌, ◌≤◌, ℕ, List, Vec, length, get_or, Option, option_map, true, false, ◌*◌, sym, ap, ap₂, subst, ◌∙◌, arith}
+use Rattle.std.proofs.Common.{◌≡◌, List, Vec, length, option_map, true, false, ◌*◌, sym, ap, ap₂, subst, ◌∙◌}
 use Rattle.std.specs.declared.alloc.Global.{Global}
-use Rattle.word_sets.specs.Words.{has_word, with_word, without_word}
-use Rattle.tree_levels.specs.Node.{Node, joined, inner_of}
+use Rattle.word_sets.specs.Words.{has_word, with_word}
+use Rattle.tree_levels.specs.Node.{Node, joined}
 use Rattle.tree_levels.specs.Shared.{items_of}
-use Rattle.tree_levels.specs.Lists.{replaced, Mends}
-use Rattle.tree_levels.specs.Changes.{Grows, Packs, Shrinks}
+use Rattle.tree_levels.specs.Lists.{replaced}
+use Rattle.tree_levels.specs.Changes.{Packs}
 use Rattle.tree_levels.proofs.NodeLists.{found, found_has, grown, packs_nodes, packs_weaker}
 use Rattle.tree_levels.proofs.inner.InnerLevel.with.Goals as goal
 

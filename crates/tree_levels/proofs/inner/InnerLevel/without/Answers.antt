@@ -1,13 +1,12 @@
-use Rattle.std.proofs.Common.{◌≡◌, ◌++◌, ◌+◌, ◌-◌, ◌<◌, ◌≤◌, ℕ, List, Vec, length, get_or, Option, None, option_map, true, false, ◌*◌, sym, ap, ap₂, subst, ◌∙◌, arith}
+use Rattle.std.proofs.Common.{◌≡◌, ◌+◌, ◌≤◌, List, Vec, length, None, true, false, ◌*◌, sym, ap, subst, ◌∙◌, arith}
 use Rattle.std.specs.declared.alloc.Global.{Global}
-use Rattle.word_sets.specs.Words.{has_word, with_word, without_word}
+use Rattle.word_sets.specs.Words.{has_word, without_word}
 use Rattle.word_sets.specs.Words.{IsSet}
 use Rattle.word_sets.specs.declared.places.TheConstants.{WORD_LIMIT}
 use Rattle.word_sets.proofs.Members.{IsWithin-without}
 use Rattle.tree_levels.specs.Node.{Node, joined, inner_of, IsSound}
 use Rattle.tree_levels.specs.Shared.{items_of}
 use Rattle.tree_levels.specs.Lists.{replaced, Mends}
-use Rattle.tree_levels.specs.Changes.{Grows, Packs, Shrinks}
 use Rattle.tree_levels.proofs.NodeLists.{found, found_has, mended_inner, shrunk_set, sound_inner}
 use Rattle.tree_levels.proofs.inner.InnerLevel.without.Goals as goal
 

@@ -1,4 +1,4 @@
-use Rattle.std.proofs.Common.{sym, subst, remove, ap, ◌∙◌, false}
+use Rattle.std.proofs.Common.{sym, subst, remove, ap, ◌∙◌}
 use Rattle.word_sets.specs.Words.{IsSet, has_word}
 use Rattle.word_sets.proofs.Changes.{IsSet-remove, without_absent}
 use Rattle.vertex_block.proofs.block.VertexBlock.remove.Goals as goal
