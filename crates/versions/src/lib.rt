@@ -20,5 +20,3 @@ pub use receipt::Receipt;
 pub use store::Store;
 pub use version::Version;
 
-#[cfg(test)]
-mod tests;
