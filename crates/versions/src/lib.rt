@@ -19,4 +19,3 @@ pub use publisher::Publisher;
 pub use receipt::Receipt;
 pub use store::Store;
 pub use version::Version;
-
