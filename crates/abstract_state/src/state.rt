@@ -10,12 +10,13 @@ pub const FRAME_SLOTS: usize = FRAME_BYTES / 8;
 /// What is known of all registers and of the stack of a frame at a place.
 #[derive(Clone, Copy, Debug, PartialEq, Eq)]
 pub struct AbstractState {
-    /// R0 to R10, by number.
+    /// What was spilled to each aligned slot of eight bytes, from the lowest; `Unset` where nothing was.
+    pub slots: [AbstractValue; FRAME_SLOTS],
+    /// R0 to R10, by number. They part two runs of equal bytes: the library of C fills a long run at a cost
+    /// that two shorter ones do not have.
     pub registers: [AbstractValue; 11],
     /// Which stack bytes are set, from the lowest.
     pub bytes_set: [bool; FRAME_BYTES],
-    /// What was spilled to each aligned slot of eight bytes, from the lowest; `Unset` where nothing was.
-    pub slots: [AbstractValue; FRAME_SLOTS],
 }
 
 impl AbstractState {

@@ -6,6 +6,7 @@ pub mod Weighing
 pub mod Greatest
 pub mod WeightTable
 pub mod EntryTable
+pub mod OneFunction
 pub mod Arrivals
 pub mod WaysAhead
 pub mod Visits

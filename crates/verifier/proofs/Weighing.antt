@@ -24,12 +24,12 @@ greatest_least f z (x ∷ xs) m =
       | inr rest ↦ (let before = greatest_least f z xs rest in omega (arith, before))
     ]
 
-none_over : (f : ℕ → ℕ → ℕ) (p : Program) (n pc : ℕ) → instruction_at p pc ≡ None → weight_over f p n pc ≡ 0
+pub none_over : (f : ℕ → ℕ → ℕ) (p : Program) (n pc : ℕ) → instruction_at p pc ≡ None → weight_over f p n pc ≡ 0
 unfolding weight_over
 none_over f p zero pc none = refl
 none_over f p (suc n) pc none = rw none refl
 
-weighs_at : (f : ℕ → ℕ → ℕ) (p : Program) (n pc : ℕ) (i : Instruction) → instruction_at p pc ≡ Some i → weight_over f p (suc n) pc ≡ f (greatest (weight_over f p n) (called_pcs i pc)) (greatest (weight_over f p n) (next_pcs i pc))
+pub weighs_at : (f : ℕ → ℕ → ℕ) (p : Program) (n pc : ℕ) (i : Instruction) → instruction_at p pc ≡ Some i → weight_over f p (suc n) pc ≡ f (greatest (weight_over f p n) (called_pcs i pc)) (greatest (weight_over f p n) (next_pcs i pc))
 unfolding weight_over
 weighs_at f p n pc i found = rw found refl
 

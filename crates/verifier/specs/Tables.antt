@@ -1,16 +1,18 @@
 -- What the code's tables stand for.
 use Rattle.std.specs.Prelude.{◌≡◌, ℕ, ◌+◌, ◌<◌, ◌≤◌, min, ℤ, pos, Bool, false, List, length, Option, Some, None, slice_index_or}
 use Rattle.std.specs.Global.{Box}
+use Rattle.bpf_isa.specs.declared.instruction.Instruction.{Instruction}
 use Rattle.bpf_image.specs.Program.{Program, units}
 use Rattle.abstract_state.specs.declared.state.AbstractState.{AbstractState}
-use Rattle.verifier_parts.specs.Rules.{Ways}
-use Rattle.verifier_parts.specs.Described.{IsWay}
+use Rattle.verifier_rules.specs.Rules.{Ways}
+use Rattle.verifier_rules.specs.Described.{IsWay}
 use Rattle.bpf_model.specs.State.{most_frames}
 use Rattle.verifier.specs.declared.weights.Measure.{Measure}
 use Rattle.verifier.specs.declared.weights.Measure.TheVariants.{Instructions, Frames}
 use Rattle.verifier.specs.Functions.{is_entry, function_end}
-use Rattle.verifier.specs.Walks.{counted, framed, weight_from}
-use Rattle.verifier.specs.Equations.{come}
+use Rattle.verifier.specs.Listing.{instruction_at}
+use Rattle.verifier.specs.Walks.{is_call, count_rule, frame_rule, weight_from}
+use Rattle.verifier.specs.Equations.{arrivals}
 use Rattle.verifier.specs.Verdict.{most_counted, first_fault, rule_fault}
 
 abbrev pub boxed_state : Option (Box AbstractState) → Option AbstractState
@@ -20,6 +22,15 @@ boxed_state (Some b) = Some b.value
 -- what a table of states has at a pc
 abbrev pub state_at : List (Option (Box AbstractState)) → ℕ → Option AbstractState
 state_at states q = boxed_state (slice_index_or states q None)
+
+-- whether what starts somewhere is a call of a function of the program
+abbrev pub calls_one : Option Instruction → Bool
+calls_one None = false
+calls_one (Some i) = is_call i
+
+-- the whole code is one function
+abbrev pub HasOneFunction : Program → Type 0
+HasOneFunction p = (pc : ℕ) → calls_one (instruction_at p pc) ≡ false
 
 -- a table that tells of each pc whether a function begins there
 abbrev pub HasEntries : Program → List Bool → Type 0
@@ -32,8 +43,8 @@ HasEnds p ends = (length ends ≡ units p) × ((q : ℕ) → q < units p → sli
 
 -- what a pass weighs walks by
 abbrev pub rule_of : Measure → ℕ → ℕ → ℕ
-rule_of Instructions = counted
-rule_of Frames = framed
+rule_of Instructions = count_rule
+rule_of Frames = frame_rule
 
 -- weights of so much and more are not told apart
 abbrev pub ceiling : Measure → ℕ
@@ -41,8 +52,8 @@ ceiling Instructions = most_counted + 1
 ceiling Frames = most_frames + 1
 
 -- what a table of weights has of a pc
-abbrev pub capped_from : Measure → Program → ℕ → ℕ
-capped_from m p pc = min (weight_from (rule_of m) p pc) (ceiling m)
+abbrev pub capped_weight : Measure → Program → ℕ → ℕ
+capped_weight m p pc = min (weight_from (rule_of m) p pc) (ceiling m)
 
 -- all ways lead to pcs below an end
 abbrev pub LeadInside : ℕ → Ways → Type 0
@@ -52,4 +63,4 @@ LeadInside end ws = (w : ℤ × AbstractState) → IsWay w ws → (q : ℕ) × (
 pub record IsWalkedTo (p : Program) (n : ℕ) (states : List (Option (Box AbstractState))) : Type 0 where
   pub fine : first_fault (rule_fault p) n ≡ None
   pub same_length : length states ≡ units p
-  pub come_to : (q : ℕ) → n ≤ q → q < units p → state_at states q ≡ come p n q
+  pub come_to : (q : ℕ) → n ≤ q → q < units p → state_at states q ≡ arrivals p n q

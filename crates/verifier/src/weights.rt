@@ -1,19 +1,19 @@
 //! The third and the fourth pass: how many frames a walk through the code has, and how much it counts.
-ghost use Rattle.std.specs.Prelude.{◌≡◌, ◌<◌, ◌≤◌, ◌+◌, ℕ, min, unsigned_abs, slice_index_or, MatchResult, None};
+ghost use Rattle.std.specs.Prelude.{◌≡◌, ◌<◌, ◌≤◌, ◌+◌, ℕ, min, unsigned_abs, slice_index_or, MatchResult, None, false};
 ghost use Rattle.std.specs.Option.{option_or};
 ghost use Rattle.bpf_image.specs.Program.{units};
 ghost use Rattle.bpf_model.specs.State.{most_frames};
-ghost use Rattle.verifier.specs.Listing.{listed};
+ghost use Rattle.verifier.specs.Listing.{listing_of};
 ghost use Rattle.verifier.specs.Walks.{greatest, next_pcs, called_pcs, longest, deepest};
 ghost use Rattle.verifier.specs.Verdict.{first_fault, decoding_fault, flow_fault, frames_fault, length_fault, most_counted, no_memory, unless_memory};
-ghost use Rattle.verifier.specs.Tables.{rule_of, ceiling as weight_ceiling, capped_from};
+ghost use Rattle.verifier.specs.Tables.{rule_of, ceiling as weight_ceiling, capped_weight};
+ghost use Rattle.verifier.specs.declared.weights.Measure.TheVariants.{Frames};
 
 use crate::places::{length_of, place_at, starting_at};
 use crate::refusal::Refusal;
-use abstract_values::Cause;
 use bpf_image::Image;
 use bpf_isa::Instruction;
-use bpf_model::MOST_FRAMES;
+use bpf_model::{Cause, MOST_FRAMES};
 use std::alloc::Global;
 
 /// How many instructions a run may count.
@@ -102,12 +102,12 @@ fn weight_of(
     weights: &[u32],
     pc: usize,
 ) -> u32
-    requires listing { listing.now ≡ listed image.now (units image.now) }
+    requires listing { listing.now ≡ listing_of image.now (units image.now) }
     requires decodes { first_fault (decoding_fault image.now) (units image.now) ≡ None }
     requires flow { first_fault (flow_fault image.now) (units image.now) ≡ None }
     requires inside { pc < units image.now }
-    requires known { (q : ℕ) → pc + 1 ≤ q → slice_index_or weights.now q 0 ≡ capped_from measure image.now q }
-    ensures { result ≡ capped_from measure image.now pc }
+    requires known { (q : ℕ) → pc + 1 ≤ q → slice_index_or weights.now q 0 ≡ capped_weight measure image.now q }
+    ensures { result ≡ capped_weight measure image.now pc }
 {
     match starting_at(image, listing, pc) {
         None => 0,
@@ -127,10 +127,11 @@ fn find_weight(
     image: &Image,
     listing: &[Option<Instruction>],
 ) -> Result<u32, Refusal>
-    requires listing { listing.now ≡ listed image.now (units image.now) }
+    requires listing { listing.now ≡ listing_of image.now (units image.now) }
     requires decodes { first_fault (decoding_fault image.now) (units image.now) ≡ None }
     requires flow { first_fault (flow_fault image.now) (units image.now) ≡ None }
-    ensures { MatchResult result (λ weight. weight ≡ capped_from measure image.now 0) (λ refusal. refusal ≡ no_memory) }
+    ensures { MatchResult result (λ weight. weight ≡ capped_weight measure image.now 0)
+        (λ refusal. refusal ≡ no_memory) }
 {
     let end = image.code().len() / 8;
     let mut weights = vec![in alloc; 0u32; end]?;
@@ -139,6 +140,27 @@ fn find_weight(
         weights[pc] = weight_of(measure, image, listing, &weights, pc);
     }
     Ok(weights[0])
+}
+
+/// How many frames are live at once at most: one, where no function is called.
+fn find_frames(
+    alloc: Global,
+    image: &Image,
+    listing: &[Option<Instruction>],
+    calls: bool,
+) -> Result<u32, Refusal>
+    requires listing { listing.now ≡ listing_of image.now (units image.now) }
+    requires decodes { first_fault (decoding_fault image.now) (units image.now) ≡ None }
+    requires flow { first_fault (flow_fault image.now) (units image.now) ≡ None }
+    requires calls { calls ≡ false → deepest image.now ≡ 1 }
+    ensures { MatchResult result (λ frames. frames ≡ capped_weight Frames image.now 0)
+        (λ refusal. refusal ≡ no_memory) }
+{
+    if calls {
+        find_weight(alloc, Measure::Frames, image, listing)
+    } else {
+        Ok(1)
+    }
 }
 
 /// How many instructions a run counts and how many frames it has, both at most.
@@ -153,15 +175,19 @@ pub fn find_extent(
     alloc: Global,
     image: &Image,
     listing: &[Option<Instruction>],
+    calls: bool,
 ) -> Result<Extent, Refusal>
-    requires listing { listing.now ≡ listed image.now (units image.now) }
+    requires listing { listing.now ≡ listing_of image.now (units image.now) }
     requires decodes { first_fault (decoding_fault image.now) (units image.now) ≡ None }
     requires flow { first_fault (flow_fault image.now) (units image.now) ≡ None }
+    requires calls { calls ≡ false → deepest image.now ≡ 1 }
     ensures { MatchResult result
-        (λ extent. (extent.instructions ≡ longest image.now) × (extent.frames ≡ deepest image.now) × (longest image.now ≤ most_counted) × (deepest image.now ≤ most_frames))
-        (λ refusal. unless_memory refusal (option_or (frames_fault image.now) (length_fault image.now) ≡ Some refusal)) }
+        (λ extent. (extent.instructions ≡ longest image.now) × (extent.frames ≡ deepest image.now)
+        × (longest image.now ≤ most_counted) × (deepest image.now ≤ most_frames))
+        (λ refusal. unless_memory refusal (option_or (frames_fault image.now) (length_fault image.now)
+        ≡ Some refusal)) }
 {
-    let frames = find_weight(alloc, Measure::Frames, image, listing)?;
+    let frames = find_frames(alloc, image, listing, calls)?;
     if frames > MOST_FRAMES as u32 {
         let cause = Cause::TooDeep;
         return Err(Refusal { cause, pc: 0 });
