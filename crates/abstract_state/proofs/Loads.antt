@@ -10,13 +10,13 @@ use Rattle.bpf_isa.specs.declared.instruction.Size.{Size}
 use Rattle.bpf_isa.specs.declared.instruction.Size.TheVariants.{Byte, Half, Word, Double}
 use Rattle.bpf_model.specs.State.{Partial, record_base, joined_bytes, number_at, address_at}
 use Rattle.bpf_isa.specs.Sizes.{size_bytes}
-use Rattle.abstract_values.specs.declared.cause.Cause.{Cause}
-use Rattle.abstract_values.specs.declared.cause.Cause.TheVariants.{OutOfRange, UnsetStackByte}
+use Rattle.bpf_model.specs.declared.cause.Cause.{Cause}
+use Rattle.bpf_model.specs.declared.cause.Cause.TheVariants.{OutOfRange, UnsetStackByte}
 use Rattle.abstract_values.specs.declared.value.AbstractValue.{AbstractValue}
 use Rattle.abstract_values.specs.declared.value.AbstractValue.TheVariants.{Unset, Number, Record, Stack}
 use Rattle.abstract_values.specs.Described.{Describes}
 use Rattle.abstract_state.specs.declared.state.AbstractState.{AbstractState}
-use Rattle.abstract_state.specs.Memory.{is_in_record, is_in_frame, frame_index, is_slot, is_spilled, are_set, any_of_size, frame_value, frame_loaded, loaded}
+use Rattle.abstract_state.specs.Memory.{is_in_record, is_in_frame, frame_index, is_slot, is_spilled, are_set, any_of_size, frame_value, frame_read, load_result}
 use Rattle.abstract_state.specs.Described.{IsByteAt, DescribesParts, IsAllowed}
 
 abbrev ok : AbstractValue → Result AbstractValue Cause
@@ -126,7 +126,7 @@ pub natural : (u : ℤ) → pos 0 ≤ℤ u → pos (unsigned_abs u) ≡ u
 natural (pos n) h = refl
 natural (negsuc n) h = absurd (omega (arith, ints, h))
 
-record_load : (l top lo hi : ℕ) (s : AbstractState) (registers memory : Partial) (v : AbstractValue) (z : ℤ) (size : Size) (x : ℕ) → l < 2 ^ 16 → FitsSigned w16 z → loaded l s (Record lo hi) z (size_bytes size) ≡ ok v → DescribesParts l top s registers memory → Describes l top (Record lo hi) (Some x) → Gives l top memory (address_at x z) (size_bytes size) v
+record_load : (l top lo hi : ℕ) (s : AbstractState) (registers memory : Partial) (v : AbstractValue) (z : ℤ) (size : Size) (x : ℕ) → l < 2 ^ 16 → FitsSigned w16 z → load_result l s (Record lo hi) z (size_bytes size) ≡ ok v → DescribesParts l top s registers memory → Describes l top (Record lo hi) (Some x) → Gives l top memory (address_at x z) (size_bytes size) v
 record_load l top lo hi s registers memory v z size x short fits h d q =
     elim (cases_Bool (is_in_record l lo hi z (size_bytes size))) [
       | inl is ↦
@@ -139,12 +139,12 @@ record_load l top lo hi s registers memory v z size x short fits h d q =
       | inr not_is ↦ absurd (let e : failed OutOfRange ≡ ok v = (rw not_is at h) in cc)
     ]
 
-frame_load : (l top : ℕ) (offset : ℤ) (s : AbstractState) (registers memory : Partial) (v : AbstractValue) (z : ℤ) (size : Size) (x : ℕ) → 512 ≤ top → top < 2 ^ 64 → FitsSigned w16 z → loaded l s (Stack offset) z (size_bytes size) ≡ ok v → DescribesParts l top s registers memory → Describes l top (Stack offset) (Some x) → Gives l top memory (address_at x z) (size_bytes size) v
+frame_load : (l top : ℕ) (offset : ℤ) (s : AbstractState) (registers memory : Partial) (v : AbstractValue) (z : ℤ) (size : Size) (x : ℕ) → 512 ≤ top → top < 2 ^ 64 → FitsSigned w16 z → load_result l s (Stack offset) z (size_bytes size) ≡ ok v → DescribesParts l top s registers memory → Describes l top (Stack offset) (Some x) → Gives l top memory (address_at x z) (size_bytes size) v
 frame_load l top offset s registers memory v z size x low high fits h d q =
     let place = offset +ℤ z in
     elim (cases_Bool (is_in_frame place (size_bytes size))) [
       | inl is ↦
-          let loads : frame_loaded s (frame_index place) (size_bytes size) ≡ ok v = (rw is at h) in
+          let loads : frame_read s (frame_index place) (size_bytes size) ≡ ok v = (rw is at h) in
           elim (cases_Bool (are_set s.bytes_set (frame_index place) (size_bytes size))) [
             | inl set ↦
                 let value : frame_value s (frame_index place) (size_bytes size) ≡ v = (let e : ok (frame_value s (frame_index place) (size_bytes size)) ≡ ok v = (rw set at loads) in cc) in
@@ -165,7 +165,7 @@ frame_load l top offset s registers memory v z size x low high fits h d q =
 gives_parts : (l top : ℕ) (memory : Partial) (a size : ℕ) (v : AbstractValue) → Gives l top memory a size v → (n : ℕ) × IsAllowed l top a size × (number_at memory a size ≡ Some n) × Describes l top v (Some n)
 gives_parts l top memory a size v g = (g.number, g.allowed, g.there, g.described)
 
-pub load_describes : (l top : ℕ) (s : AbstractState) (registers memory : Partial) (base v : AbstractValue) (z : ℤ) (size : Size) (x : ℕ) → l < 2 ^ 16 → 512 ≤ top → top < 2 ^ 64 → FitsSigned w16 z → loaded l s base z (size_bytes size) ≡ ok v → DescribesParts l top s registers memory → Describes l top base (Some x) → (n : ℕ) × IsAllowed l top (address_at x z) (size_bytes size) × (number_at memory (address_at x z) (size_bytes size) ≡ Some n) × Describes l top v (Some n)
+pub load_describes : (l top : ℕ) (s : AbstractState) (registers memory : Partial) (base v : AbstractValue) (z : ℤ) (size : Size) (x : ℕ) → l < 2 ^ 16 → 512 ≤ top → top < 2 ^ 64 → FitsSigned w16 z → load_result l s base z (size_bytes size) ≡ ok v → DescribesParts l top s registers memory → Describes l top base (Some x) → (n : ℕ) × IsAllowed l top (address_at x z) (size_bytes size) × (number_at memory (address_at x z) (size_bytes size) ≡ Some n) × Describes l top v (Some n)
 load_describes l top s registers memory Unset v z size x short low high fits h d q = absurd cc
 load_describes l top s registers memory (Number lo hi) v z size x short low high fits h d q = absurd cc
 load_describes l top s registers memory (Record lo hi) v z size x short low high fits h d q =

@@ -9,13 +9,13 @@ use Rattle.bpf_isa.specs.declared.instruction.Size.{Size}
 use Rattle.bpf_isa.specs.declared.instruction.Size.TheVariants.{Byte, Half, Word, Double}
 use Rattle.bpf_model.specs.State.{Partial, record_base, number_at, address_at}
 use Rattle.bpf_isa.specs.Sizes.{size_bytes}
-use Rattle.abstract_values.specs.declared.cause.Cause.{Cause}
-use Rattle.abstract_values.specs.declared.cause.Cause.TheVariants.{OutOfRange, PointerUse}
+use Rattle.bpf_model.specs.declared.cause.Cause.{Cause}
+use Rattle.bpf_model.specs.declared.cause.Cause.TheVariants.{OutOfRange, PointerUse}
 use Rattle.abstract_values.specs.declared.value.AbstractValue.{AbstractValue}
 use Rattle.abstract_values.specs.declared.value.AbstractValue.TheVariants.{Unset, Number, Record, Stack}
 use Rattle.abstract_values.specs.Described.{Describes}
 use Rattle.abstract_state.specs.declared.state.AbstractState.{AbstractState}
-use Rattle.abstract_state.specs.Memory.{is_in_record, is_in_frame, frame_index, is_slot, set_from, spills_ended, frame_stored, is_pointer, may_store, stored_through}
+use Rattle.abstract_state.specs.Memory.{is_in_record, is_in_frame, frame_index, is_slot, set_from, without_spills, frame_write, is_pointer, may_store, store_result}
 use Rattle.abstract_state.specs.Described.{IsByteAt, DescribesParts, IsAllowed, IsStored}
 use Rattle.abstract_state.proofs.Loads.{at_most, address_is, natural, place_in}
 
@@ -117,7 +117,7 @@ spilled_whole l top slots before after k n j v low lt whole stored new old =
     ]
 
 -- the slots that another store touches are no longer spilled
-spilled_part : (l top : ℕ) (slots : List AbstractValue) (before after : Partial) (k size n j : ℕ) → 512 ≤ top → 1 ≤ size → size ≤ 8 → IsStored before after (top - 512 + k) size n → Describes l top (get_or slots j Unset) (number_at before (top - 512 + 8 * j) 8) → Describes l top (get_or (spills_ended slots k size) j Unset) (number_at after (top - 512 + 8 * j) 8)
+spilled_part : (l top : ℕ) (slots : List AbstractValue) (before after : Partial) (k size n j : ℕ) → 512 ≤ top → 1 ≤ size → size ≤ 8 → IsStored before after (top - 512 + k) size n → Describes l top (get_or slots j Unset) (number_at before (top - 512 + 8 * j) 8) → Describes l top (get_or (without_spills slots k size) j Unset) (number_at after (top - 512 + 8 * j) 8)
 spilled_part l top slots before after k size n j low some few stored old =
     let first = k / 8 in
     let last = (k + size - 1) / 8 in
@@ -140,7 +140,7 @@ spilled_part l top slots before after k size n j low some few stored old =
     ]
 
 -- every slot after a store in the frame
-spilled_after : (l top : ℕ) (slots : List AbstractValue) (before after : Partial) (k size n j : ℕ) (v : AbstractValue) → 512 ≤ top → n < 2 ^ 64 → 1 ≤ size → size ≤ 8 → IsStored before after (top - 512 + k) size n → Describes l top v (Some n) → Describes l top (get_or slots j Unset) (number_at before (top - 512 + 8 * j) 8) → Describes l top (get_or (cond (is_slot k size) (set slots (k / 8) v) (spills_ended slots k size)) j Unset) (number_at after (top - 512 + 8 * j) 8)
+spilled_after : (l top : ℕ) (slots : List AbstractValue) (before after : Partial) (k size n j : ℕ) (v : AbstractValue) → 512 ≤ top → n < 2 ^ 64 → 1 ≤ size → size ≤ 8 → IsStored before after (top - 512 + k) size n → Describes l top v (Some n) → Describes l top (get_or slots j Unset) (number_at before (top - 512 + 8 * j) 8) → Describes l top (get_or (cond (is_slot k size) (set slots (k / 8) v) (without_spills slots k size)) j Unset) (number_at after (top - 512 + 8 * j) 8)
 spilled_after l top slots before after k size n j v low lt some few stored new old =
     elim (cases_Bool (is_slot k size)) [
       | inl is ↦
@@ -152,7 +152,7 @@ spilled_after l top slots before after k size n j v low lt some few stored new o
       | inr not_is ↦ rw not_is (spilled_part l top slots before after k size n j low some few stored old)
     ]
 
-frame_described : (l top : ℕ) (s : AbstractState) (registers before after : Partial) (k size n : ℕ) (v : AbstractValue) → 512 ≤ top → n < 2 ^ 64 → 1 ≤ size → size ≤ 8 → DescribesParts l top s registers before → IsStored before after (top - 512 + k) size n → Describes l top v (Some n) → DescribesParts l top (frame_stored s k size v) registers after
+frame_described : (l top : ℕ) (s : AbstractState) (registers before after : Partial) (k size n : ℕ) (v : AbstractValue) → 512 ≤ top → n < 2 ^ 64 → 1 ≤ size → size ≤ 8 → DescribesParts l top s registers before → IsStored before after (top - 512 + k) size n → Describes l top v (Some n) → DescribesParts l top (frame_write s k size v) registers after
 frame_described l top s registers before after k size n v low lt some few d stored new = record {
   values = d.values;
   record_set = λ i inside. byte_stays before after (top - 512 + k) size n (record_base + i) stored (d.record_set i inside);
@@ -183,7 +183,7 @@ record_described l top s registers before after place size n short high inside d
 abbrev Leaves : ℕ → ℕ → AbstractState → Partial → Partial → ℕ → ℕ → Type 0
 Leaves l top s registers after a size = IsAllowed l top a size × DescribesParts l top s registers after
 
-record_store : (l top lo hi : ℕ) (s t : AbstractState) (registers before after : Partial) (v : AbstractValue) (z : ℤ) (size : Size) (x n : ℕ) → l < 2 ^ 16 → record_base + 2 ^ 17 ≤ top → FitsSigned w16 z → stored_through l s (Record lo hi) z (size_bytes size) v ≡ ok t → DescribesParts l top s registers before → Describes l top (Record lo hi) (Some x) → IsStored before after (address_at x z) (size_bytes size) n → Leaves l top t registers after (address_at x z) (size_bytes size)
+record_store : (l top lo hi : ℕ) (s t : AbstractState) (registers before after : Partial) (v : AbstractValue) (z : ℤ) (size : Size) (x n : ℕ) → l < 2 ^ 16 → record_base + 2 ^ 17 ≤ top → FitsSigned w16 z → store_result l s (Record lo hi) z (size_bytes size) v ≡ ok t → DescribesParts l top s registers before → Describes l top (Record lo hi) (Some x) → IsStored before after (address_at x z) (size_bytes size) n → Leaves l top t registers after (address_at x z) (size_bytes size)
 record_store l top lo hi s t registers before after v z size x n short high fits h d q stored =
     elim (cases_Bool (is_pointer v)) [
       | inl is ↦ absurd (let e : failed PointerUse ≡ ok t = (rw is at h) in cc)
@@ -204,16 +204,16 @@ record_store l top lo hi s t registers before after v z size x n short high fits
           ]
     ]
 
-frame_store : (l top : ℕ) (offset : ℤ) (s t : AbstractState) (registers before after : Partial) (v : AbstractValue) (z : ℤ) (size : Size) (x n : ℕ) → 512 ≤ top → top < 2 ^ 64 → FitsSigned w16 z → n < 2 ^ 64 → stored_through l s (Stack offset) z (size_bytes size) v ≡ ok t → DescribesParts l top s registers before → Describes l top (Stack offset) (Some x) → Describes l top v (Some n) → IsStored before after (address_at x z) (size_bytes size) n → Leaves l top t registers after (address_at x z) (size_bytes size)
+frame_store : (l top : ℕ) (offset : ℤ) (s t : AbstractState) (registers before after : Partial) (v : AbstractValue) (z : ℤ) (size : Size) (x n : ℕ) → 512 ≤ top → top < 2 ^ 64 → FitsSigned w16 z → n < 2 ^ 64 → store_result l s (Stack offset) z (size_bytes size) v ≡ ok t → DescribesParts l top s registers before → Describes l top (Stack offset) (Some x) → Describes l top v (Some n) → IsStored before after (address_at x z) (size_bytes size) n → Leaves l top t registers after (address_at x z) (size_bytes size)
 frame_store l top offset s t registers before after v z size x n low high fits lt h d q new stored =
     let place = offset +ℤ z in
     let k = frame_index (offset +ℤ z) in
     elim (cases_Bool (may_store v (is_in_frame place (size_bytes size) && is_slot k (size_bytes size)))) [
       | inl may ↦
-          let tests : cond (is_in_frame place (size_bytes size)) (ok (frame_stored s k (size_bytes size) v)) (failed OutOfRange) ≡ ok t = (rw may at h) in
+          let tests : cond (is_in_frame place (size_bytes size)) (ok (frame_write s k (size_bytes size) v)) (failed OutOfRange) ≡ ok t = (rw may at h) in
           elim (cases_Bool (is_in_frame place (size_bytes size))) [
             | inl is ↦
-                let same : frame_stored s k (size_bytes size) v ≡ t = (let e : ok (frame_stored s k (size_bytes size) v) ≡ ok t = (rw is at tests) in cc) in
+                let same : frame_write s k (size_bytes size) v ≡ t = (let e : ok (frame_write s k (size_bytes size) v) ≡ ok t = (rw is at tests) in cc) in
                 let both = and_parts (int_le (negsuc 511) place) (int_le (place +ℤ pos (size_bytes size)) (pos 0)) is in
                 let begins = at_most (negsuc 511) place both.0 in
                 let ends = at_most (place +ℤ pos (size_bytes size)) (pos 0) both.1 in
@@ -231,7 +231,7 @@ frame_store l top offset s t registers before after v z size x n low high fits l
       | inr may_not ↦ absurd (let e : failed PointerUse ≡ ok t = (rw may_not at h) in cc)
     ]
 
-pub store_describes : (l top : ℕ) (s t : AbstractState) (registers before after : Partial) (base v : AbstractValue) (z : ℤ) (size : Size) (x n : ℕ) → l < 2 ^ 16 → record_base + 2 ^ 17 ≤ top → top < 2 ^ 64 → FitsSigned w16 z → n < 2 ^ 64 → stored_through l s base z (size_bytes size) v ≡ ok t → DescribesParts l top s registers before → Describes l top base (Some x) → Describes l top v (Some n) → IsStored before after (address_at x z) (size_bytes size) n → IsAllowed l top (address_at x z) (size_bytes size) × DescribesParts l top t registers after
+pub store_describes : (l top : ℕ) (s t : AbstractState) (registers before after : Partial) (base v : AbstractValue) (z : ℤ) (size : Size) (x n : ℕ) → l < 2 ^ 16 → record_base + 2 ^ 17 ≤ top → top < 2 ^ 64 → FitsSigned w16 z → n < 2 ^ 64 → store_result l s base z (size_bytes size) v ≡ ok t → DescribesParts l top s registers before → Describes l top base (Some x) → Describes l top v (Some n) → IsStored before after (address_at x z) (size_bytes size) n → IsAllowed l top (address_at x z) (size_bytes size) × DescribesParts l top t registers after
 store_describes l top s t registers before after Unset v z size x n short high below fits lt h d q new stored = absurd cc
 store_describes l top s t registers before after (Number lo hi) v z size x n short high below fits lt h d q new stored = absurd cc
 store_describes l top s t registers before after (Record lo hi) v z size x n short high below fits lt h d q new stored =

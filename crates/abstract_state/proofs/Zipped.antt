@@ -1,8 +1,8 @@
 -- Two lists element by element, as a loop over places does it.
 use Rattle.std.proofs.Common.{◌≡◌, ℕ, zero, suc, ◌<◌, List, [], ◌∷◌, ◌++◌, length, take, drop, set, get_or, refl, ap, arith}
-use Rattle.abstract_state.specs.States.{zipped}
+use Rattle.abstract_state.specs.States.{elementwise}
 
-pub zipped_step : {A : Type 0} (f : A → A → A) (z : A) (xs ys : List A) (i : ℕ) → i < length xs → length xs ≡ length ys → take i xs ++ zipped f (drop i xs) (drop i ys) ≡ take (suc i) (set xs i (f (get_or xs i z) (get_or ys i z))) ++ zipped f (drop (suc i) (set xs i (f (get_or xs i z) (get_or ys i z)))) (drop (suc i) ys)
+pub zipped_step : {A : Type 0} (f : A → A → A) (z : A) (xs ys : List A) (i : ℕ) → i < length xs → length xs ≡ length ys → take i xs ++ elementwise f (drop i xs) (drop i ys) ≡ take (suc i) (set xs i (f (get_or xs i z) (get_or ys i z))) ++ elementwise f (drop (suc i) (set xs i (f (get_or xs i z) (get_or ys i z)))) (drop (suc i) ys)
 zipped_step f z [] ys i lt same = absurd (omega (arith, lt))
 zipped_step f z (x ∷ xs) [] i lt same = absurd (omega (arith, same))
 zipped_step f z (x ∷ xs) (y ∷ ys) zero lt same = refl

@@ -7,23 +7,23 @@ use Rattle.bpf_isa.specs.Sizes.{size_bytes}
 use Rattle.abstract_values.specs.declared.value.AbstractValue.{AbstractValue}
 use Rattle.abstract_values.specs.Described.{Describes}
 use Rattle.abstract_state.specs.declared.state.AbstractState.{AbstractState}
-use Rattle.abstract_state.specs.States.{joined_state}
-use Rattle.abstract_state.specs.Memory.{loaded, stored_through}
+use Rattle.abstract_state.specs.States.{join_of_states}
+use Rattle.abstract_state.specs.Memory.{load_result, store_result}
 use Rattle.abstract_state.specs.Described.{DescribesParts, IsAllowed, IsStored}
 
 -- what one of two states describes, their join describes too
 abbrev pub JoinDescribesStates : Type 0
 JoinDescribesStates =
     (record_length top : ℕ) (a b : AbstractState) (registers memory : Partial)
-    → (DescribesParts record_length top a registers memory → DescribesParts record_length top (joined_state a b) registers memory)
-    × (DescribesParts record_length top b registers memory → DescribesParts record_length top (joined_state a b) registers memory)
+    → (DescribesParts record_length top a registers memory → DescribesParts record_length top (join_of_states a b) registers memory)
+    × (DescribesParts record_length top b registers memory → DescribesParts record_length top (join_of_states a b) registers memory)
 
 -- what the rules say of a load describes the number that is there, and the load is allowed
 abbrev pub LoadDescribes : Type 0
 LoadDescribes =
     (record_length top : ℕ) (a : AbstractState) (registers memory : Partial) (base v : AbstractValue) (offset : ℤ) (size : Size) (x : ℕ)
     → record_length < 2 ^ 16 → 512 ≤ top → top < 2 ^ 64 → FitsSigned w16 offset
-    → loaded record_length a base offset (size_bytes size) ≡ Ok v
+    → load_result record_length a base offset (size_bytes size) ≡ Ok v
     → DescribesParts record_length top a registers memory → Describes record_length top base (Some x)
     → (n : ℕ) × IsAllowed record_length top (address_at x offset) (size_bytes size)
     × (number_at memory (address_at x offset) (size_bytes size) ≡ Some n) × Describes record_length top v (Some n)
@@ -34,7 +34,7 @@ abbrev pub StoreDescribes : Type 0
 StoreDescribes =
     (record_length top : ℕ) (a b : AbstractState) (registers before after : Partial) (base v : AbstractValue) (offset : ℤ) (size : Size) (x n : ℕ)
     → record_length < 2 ^ 16 → record_base + 2 ^ 17 ≤ top → top < 2 ^ 64 → FitsSigned w16 offset → n < 2 ^ 64
-    → stored_through record_length a base offset (size_bytes size) v ≡ Ok b
+    → store_result record_length a base offset (size_bytes size) v ≡ Ok b
     → DescribesParts record_length top a registers before
     → Describes record_length top base (Some x) → Describes record_length top v (Some n)
     → IsStored before after (address_at x offset) (size_bytes size) n

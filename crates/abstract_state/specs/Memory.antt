@@ -2,8 +2,8 @@
 use Rattle.std.specs.Prelude.{ℕ, zero, suc, ◌+◌, ◌-◌, ◌*◌, ◌/◌, ◌%◌, ◌^◌, ◌==◌, ◌&&◌, Bool, true, false, if◌then◌else◌, ℤ, pos, negsuc, ◌+ℤ◌, int_le, unsigned_abs, List, Result, Ok, Err, slice_index_or, slice_set}
 use Rattle.bpf_isa.specs.declared.instruction.SignedSize.{SignedSize}
 use Rattle.bpf_isa.specs.Sizes.{size_bytes, plain_size}
-use Rattle.abstract_values.specs.declared.cause.Cause.{Cause}
-use Rattle.abstract_values.specs.declared.cause.Cause.TheVariants.{UnsetRegister, PointerUse, OutOfRange, UnsetStackByte}
+use Rattle.bpf_model.specs.declared.cause.Cause.{Cause}
+use Rattle.bpf_model.specs.declared.cause.Cause.TheVariants.{UnsetRegister, PointerUse, OutOfRange, UnsetStackByte}
 use Rattle.abstract_values.specs.declared.value.AbstractValue.{AbstractValue}
 use Rattle.abstract_values.specs.declared.value.AbstractValue.TheVariants.{Unset, Number, Record, Stack}
 use Rattle.abstract_state.specs.declared.state.AbstractState.{AbstractState}
@@ -45,26 +45,26 @@ abbrev pub frame_value : AbstractState → ℕ → ℕ → AbstractValue
 frame_value s k size =
     if is_slot k size && is_spilled (slice_index_or s.slots (k / 8) Unset) then slice_index_or s.slots (k / 8) Unset else any_of_size size
 
-abbrev pub frame_loaded : AbstractState → ℕ → ℕ → Result AbstractValue Cause
-frame_loaded s k size = if are_set s.bytes_set k size then Ok (frame_value s k size) else Err UnsetStackByte
+abbrev pub frame_read : AbstractState → ℕ → ℕ → Result AbstractValue Cause
+frame_read s k size = if are_set s.bytes_set k size then Ok (frame_value s k size) else Err UnsetStackByte
 
 -- what a load of so many bytes through a value gives
-abbrev pub loaded : ℕ → AbstractState → AbstractValue → ℤ → ℕ → Result AbstractValue Cause
-loaded record_length s Unset offset size = Err UnsetRegister
-loaded record_length s (Number lo hi) offset size = Err PointerUse
-loaded record_length s (Record lo hi) offset size =
+abbrev pub load_result : ℕ → AbstractState → AbstractValue → ℤ → ℕ → Result AbstractValue Cause
+load_result record_length s Unset offset size = Err UnsetRegister
+load_result record_length s (Number lo hi) offset size = Err PointerUse
+load_result record_length s (Record lo hi) offset size =
     if is_in_record record_length lo hi offset size then Ok (any_of_size size) else Err OutOfRange
-loaded record_length s (Stack top) offset size =
-    if is_in_frame (top +ℤ offset) size then frame_loaded s (frame_index (top +ℤ offset)) size else Err OutOfRange
+load_result record_length s (Stack top) offset size =
+    if is_in_frame (top +ℤ offset) size then frame_read s (frame_index (top +ℤ offset)) size else Err OutOfRange
 
 -- a sign-extending load gives any number, where the load is allowed
 abbrev pub any_number_where : Result AbstractValue Cause → Result AbstractValue Cause
 any_number_where (Ok v) = Ok (Number 0 (2 ^ 64 - 1))
 any_number_where (Err cause) = Err cause
 
-abbrev pub loaded_signed : ℕ → AbstractState → AbstractValue → ℤ → SignedSize → Result AbstractValue Cause
-loaded_signed record_length s base offset size =
-    any_number_where (loaded record_length s base offset (size_bytes (plain_size size)))
+abbrev pub load_signed_result : ℕ → AbstractState → AbstractValue → ℤ → SignedSize → Result AbstractValue Cause
+load_signed_result record_length s base offset size =
+    any_number_where (load_result record_length s base offset (size_bytes (plain_size size)))
 
 -- so many bytes from byte k become set
 abbrev pub set_from : List Bool → ℕ → ℕ → List Bool
@@ -72,13 +72,13 @@ set_from flags k zero = flags
 set_from flags k (suc n) = set_from (slice_set flags k true) (k + 1) n
 
 -- what was spilled is no longer known in the slots that the bytes touch, two at most
-abbrev pub spills_ended : List AbstractValue → ℕ → ℕ → List AbstractValue
-spills_ended slots k size = slice_set (slice_set slots (k / 8) Unset) ((k + size - 1) / 8) Unset
+abbrev pub without_spills : List AbstractValue → ℕ → ℕ → List AbstractValue
+without_spills slots k size = slice_set (slice_set slots (k / 8) Unset) ((k + size - 1) / 8) Unset
 
 -- bytes of the frame are written; a slot that is written as a whole keeps the value
-abbrev pub frame_stored : AbstractState → ℕ → ℕ → AbstractValue → AbstractState
-frame_stored s k size v =
-    record s { bytes_set = set_from s.bytes_set k size; slots = if is_slot k size then slice_set s.slots (k / 8) v else spills_ended s.slots k size }
+abbrev pub frame_write : AbstractState → ℕ → ℕ → AbstractValue → AbstractState
+frame_write s k size v =
+    record s { bytes_set = set_from s.bytes_set k size; slots = if is_slot k size then slice_set s.slots (k / 8) v else without_spills s.slots k size }
 
 abbrev pub is_pointer : AbstractValue → Bool
 is_pointer Unset = false
@@ -91,19 +91,19 @@ abbrev pub may_store : AbstractValue → Bool → Bool
 may_store v whole = if is_pointer v then whole else true
 
 -- what is known after a store at a distance from the top of the frame
-abbrev pub stored_in_frame : AbstractState → ℤ → ℕ → AbstractValue → Result AbstractState Cause
-stored_in_frame s place size v =
-    if may_store v (is_in_frame place size && is_slot (frame_index place) size) then (if is_in_frame place size then Ok (frame_stored s (frame_index place) size v) else Err OutOfRange) else Err PointerUse
+abbrev pub frame_store_result : AbstractState → ℤ → ℕ → AbstractValue → Result AbstractState Cause
+frame_store_result s place size v =
+    if may_store v (is_in_frame place size && is_slot (frame_index place) size) then (if is_in_frame place size then Ok (frame_write s (frame_index place) size v) else Err OutOfRange) else Err PointerUse
 
 -- what is known after a store of a value, which is set, through a base
-abbrev pub stored_through : ℕ → AbstractState → AbstractValue → ℤ → ℕ → AbstractValue → Result AbstractState Cause
-stored_through record_length s Unset offset size v = Err UnsetRegister
-stored_through record_length s (Number lo hi) offset size v = Err PointerUse
-stored_through record_length s (Record lo hi) offset size v =
+abbrev pub store_result : ℕ → AbstractState → AbstractValue → ℤ → ℕ → AbstractValue → Result AbstractState Cause
+store_result record_length s Unset offset size v = Err UnsetRegister
+store_result record_length s (Number lo hi) offset size v = Err PointerUse
+store_result record_length s (Record lo hi) offset size v =
     if is_pointer v then Err PointerUse else (if is_in_record record_length lo hi offset size then Ok s else Err OutOfRange)
-stored_through record_length s (Stack top) offset size v = stored_in_frame s (top +ℤ offset) size v
+store_result record_length s (Stack top) offset size v = frame_store_result s (top +ℤ offset) size v
 
 -- an answer of the code and the state that it leaves
-abbrev pub stored_answer : Result (Unit {0}) Cause → AbstractState → Result AbstractState Cause
-stored_answer (Ok done) s = Ok s
-stored_answer (Err cause) s = Err cause
+abbrev pub store_answer : Result (Unit {0}) Cause → AbstractState → Result AbstractState Cause
+store_answer (Ok done) s = Ok s
+store_answer (Err cause) s = Err cause

@@ -5,7 +5,7 @@ use Rattle.bpf_isa.specs.Encoding.{number_of}
 use Rattle.bpf_model.specs.State.{frame_bytes}
 use Rattle.abstract_values.specs.declared.value.AbstractValue.{AbstractValue}
 use Rattle.abstract_values.specs.declared.value.AbstractValue.TheVariants.{Unset, Number, Record, Stack}
-use Rattle.abstract_values.specs.Values.{joined}
+use Rattle.abstract_values.specs.Values.{join_of}
 use Rattle.abstract_state.specs.declared.state.AbstractState.{AbstractState}
 
 abbrev pub register : AbstractState → Register → AbstractValue
@@ -24,39 +24,39 @@ entry_state record_length =
     record { registers = Unset ∷ Record 0 0 ∷ Number record_length record_length ∷ Unset ∷ Unset ∷ Unset ∷ Unset ∷ Unset ∷ Unset ∷ Unset ∷ Stack (pos 0) ∷ []; bytes_set = replicate frame_bytes false; slots = replicate frame_slots Unset }
 
 -- element by element
-abbrev pub zipped : {A : Type 0} → (A → A → A) → List A → List A → List A
-zipped f [] ys = []
-zipped f (x ∷ xs) [] = []
-zipped f (x ∷ xs) (y ∷ ys) = f x y ∷ zipped f xs ys
+abbrev pub elementwise : {A : Type 0} → (A → A → A) → List A → List A → List A
+elementwise f [] ys = []
+elementwise f (x ∷ xs) [] = []
+elementwise f (x ∷ xs) (y ∷ ys) = f x y ∷ elementwise f xs ys
 
 -- what is known where two ways meet: a byte is set that both set, and a slot keeps what is known of both
-abbrev pub joined_state : AbstractState → AbstractState → AbstractState
-joined_state s t =
-    record { registers = zipped joined s.registers t.registers; bytes_set = zipped (λ a b. a && b) s.bytes_set t.bytes_set; slots = zipped joined s.slots t.slots }
+abbrev pub join_of_states : AbstractState → AbstractState → AbstractState
+join_of_states s t =
+    record { registers = elementwise join_of s.registers t.registers; bytes_set = elementwise (λ a b. a && b) s.bytes_set t.bytes_set; slots = elementwise join_of s.slots t.slots }
 
 -- ---- calls of the program's own functions
 
 -- a function is told nothing of a value that points into its caller's frame
-abbrev pub passed : AbstractValue → AbstractValue
-passed Unset = Unset
-passed (Number lo hi) = Number lo hi
-passed (Record lo hi) = Record lo hi
-passed (Stack offset) = Unset
+abbrev pub argument_value : AbstractValue → AbstractValue
+argument_value Unset = Unset
+argument_value (Number lo hi) = Number lo hi
+argument_value (Record lo hi) = Record lo hi
+argument_value (Stack offset) = Unset
 
 -- what is known of the register of a number, and what of it is passed to a function
 abbrev pub known_of : AbstractState → ℕ → AbstractValue
 known_of s r = slice_index_or s.registers r Unset
 
 abbrev pub argument_of : AbstractState → ℕ → AbstractValue
-argument_of s r = passed (known_of s r)
+argument_of s r = argument_value (known_of s r)
 
 -- where a called function begins R1 to R5 are passed, and R10 is the top of its frame, of which no byte is
 -- set
-abbrev pub entered : AbstractState → AbstractState
-entered s =
+abbrev pub callee_state : AbstractState → AbstractState
+callee_state s =
     record { registers = Unset ∷ argument_of s 1 ∷ argument_of s 2 ∷ argument_of s 3 ∷ argument_of s 4 ∷ argument_of s 5 ∷ Unset ∷ Unset ∷ Unset ∷ Unset ∷ Stack (pos 0) ∷ []; bytes_set = replicate frame_bytes false; slots = replicate frame_slots Unset }
 
 -- behind a call R0 is any number and nothing is known of R1 to R5; the rest is as it was
-abbrev pub returned_from : AbstractState → AbstractState
-returned_from s =
+abbrev pub state_behind_call : AbstractState → AbstractState
+state_behind_call s =
     record s { registers = Number 0 (2 ^ 64 - 1) ∷ Unset ∷ Unset ∷ Unset ∷ Unset ∷ Unset ∷ known_of s 6 ∷ known_of s 7 ∷ known_of s 8 ∷ known_of s 9 ∷ known_of s 10 ∷ [] }

@@ -1,6 +1,6 @@
 //! What is known where a function of the program is called.
 ghost use Rattle.std.specs.Prelude.{◌≡◌};
-ghost use Rattle.abstract_state.specs.States.{known_of, passed, argument_of, entered, returned_from};
+ghost use Rattle.abstract_state.specs.States.{known_of, argument_value, argument_of, callee_state, state_behind_call};
 
 use crate::state::{AbstractState, FRAME_SLOTS};
 use abstract_values::AbstractValue;
@@ -8,7 +8,7 @@ use bpf_model::FRAME_BYTES;
 
 /// What a function is told of a value.
 fn pass(value: AbstractValue) -> AbstractValue
-    ensures { result ≡ passed value }
+    ensures { result ≡ argument_value value }
 {
     match value {
         AbstractValue::Stack { .. } => AbstractValue::Unset,
@@ -19,7 +19,7 @@ fn pass(value: AbstractValue) -> AbstractValue
 /// What is known where a function begins that is called here: R1 to R5 are passed, but no pointer into the
 /// caller's frame; R10 is the top of a new frame, of which no byte is set. Nothing is known of the rest.
 pub fn enter_call(state: &AbstractState) -> AbstractState
-    ensures { result ≡ entered state.now }
+    ensures { result ≡ callee_state state.now }
 {
     let unset = AbstractValue::Unset;
     let known = &state.registers;
@@ -45,7 +45,7 @@ pub fn enter_call(state: &AbstractState) -> AbstractState
 /// What is known behind a call: R0 is any number, nothing is known of R1 to R5, and R6 to R10 and the
 /// frame are as they were.
 pub fn return_from_call(state: &mut AbstractState)
-    ensures { state.new ≡ returned_from state.old }
+    ensures { state.new ≡ state_behind_call state.old }
 {
     let any = AbstractValue::Number {
         lo: 0,

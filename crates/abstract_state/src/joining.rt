@@ -1,6 +1,6 @@
 ghost use Rattle.std.specs.Prelude.{◌≡◌, ◌&&◌, length};
-ghost use Rattle.abstract_values.specs.Values.{joined};
-ghost use Rattle.abstract_state.specs.States.{zipped, joined_state};
+ghost use Rattle.abstract_values.specs.Values.{join_of};
+ghost use Rattle.abstract_state.specs.States.{elementwise, join_of_states};
 
 use crate::state::AbstractState;
 use abstract_values::{AbstractValue, join};
@@ -8,7 +8,7 @@ use abstract_values::{AbstractValue, join};
 /// Joins each value with the other's.
 fn join_values(values: &mut [AbstractValue], others: &[AbstractValue])
     requires { length values.old ≡ length others.now }
-    ensures { values.new ≡ zipped joined values.old others.now }
+    ensures { values.new ≡ elementwise join_of values.old others.now }
 {
     for i in 0..values.len() {
         values[i] = join(values[i], others[i]);
@@ -24,7 +24,7 @@ fn are_both(first: bool, second: bool) -> bool
 /// Keeps the flags that are set in both.
 fn keep_set(flags: &mut [bool], others: &[bool])
     requires { length flags.old ≡ length others.now }
-    ensures { flags.new ≡ zipped (λ a b. a && b) flags.old others.now }
+    ensures { flags.new ≡ elementwise (λ a b. a && b) flags.old others.now }
 {
     for i in 0..flags.len() {
         flags[i] = are_both(flags[i], others[i]);
@@ -33,7 +33,7 @@ fn keep_set(flags: &mut [bool], others: &[bool])
 
 /// What is known where one way more comes in. A place with one way needs no join: its state is moved.
 pub fn join_into(state: &mut AbstractState, other: &AbstractState)
-    ensures { state.new ≡ joined_state state.old other.now }
+    ensures { state.new ≡ join_of_states state.old other.now }
 {
     join_values(&mut state.registers, &other.registers);
     keep_set(&mut state.bytes_set, &other.bytes_set);

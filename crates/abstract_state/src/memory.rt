@@ -1,13 +1,13 @@
 //! Loads and stores through what is known of their base (RFC 9669, section 5).
 ghost use Rattle.std.specs.Prelude.{◌≡◌, ◌≤◌, ◌<◌, ◌+◌, ◌+ℤ◌, if◌then◌else◌, Some, None, IfErr, IfSome, negsuc, ◌≤ℤ◌};
 ghost use Rattle.bpf_isa.specs.Sizes.{size_bytes};
-ghost use Rattle.abstract_state.specs.Memory.{is_in_record, is_in_frame, frame_index, is_pointer, loaded, loaded_signed, stored_in_frame, stored_through, stored_answer};
+ghost use Rattle.abstract_state.specs.Memory.{is_in_record, is_in_frame, frame_index, is_pointer, load_result, load_signed_result, frame_store_result, store_result, store_answer};
 
 use crate::stack::{any_number, is_whole_slot, load_frame, store_frame};
 use crate::state::AbstractState;
-use abstract_values::{AbstractValue, Cause};
+use abstract_values::AbstractValue;
 use bpf_isa::{SignedSize, Size};
-use bpf_model::FRAME_BYTES;
+use bpf_model::{Cause, FRAME_BYTES};
 
 /// Whether bytes at an offset from a range of places lie in a record.
 fn is_inside_record(record_length: u16, lo: u16, hi: u16, offset: i16, bytes: usize) -> bool
@@ -63,7 +63,7 @@ pub fn load(
     offset: i16,
     size: Size,
 ) -> Result<AbstractValue, Cause>
-    ensures { result ≡ loaded record_length state.now base offset (size_bytes size) }
+    ensures { result ≡ load_result record_length state.now base offset (size_bytes size) }
 {
     let bytes = usize::from(size.bytes());
     match base {
@@ -91,7 +91,7 @@ pub fn load_signed(
     offset: i16,
     size: SignedSize,
 ) -> Result<AbstractValue, Cause>
-    ensures { result ≡ loaded_signed record_length state.now base offset size }
+    ensures { result ≡ load_signed_result record_length state.now base offset size }
 {
     load(record_length, state, base, offset, size.plain())?;
     Ok(AbstractValue::Number {
@@ -119,7 +119,7 @@ fn store_in_frame(
 ) -> Result<(), Cause>
     requires some { 1 ≤ bytes }
     requires few { bytes ≤ 8 }
-    ensures stored { stored_in_frame state.old (top +ℤ offset) bytes value ≡ stored_answer result state.new }
+    ensures stored { frame_store_result state.old (top +ℤ offset) bytes value ≡ store_answer result state.new }
     ensures unchanged { IfErr result (λ cause. state.new ≡ state.old) }
 {
     match find_in_frame(top, offset, bytes) {
@@ -150,7 +150,8 @@ pub fn store(
     size: Size,
     value: AbstractValue,
 ) -> Result<(), Cause>
-    ensures stored { stored_through record_length state.old base offset (size_bytes size) value ≡ stored_answer result state.new }
+    ensures stored { store_result record_length state.old base offset (size_bytes size) value
+        ≡ store_answer result state.new }
     ensures unchanged { IfErr result (λ cause. state.new ≡ state.old) }
 {
     let bytes = usize::from(size.bytes());

@@ -1,10 +1,10 @@
 //! The bytes and slots of the frame.
 ghost use Rattle.std.specs.Prelude.{◌≡◌, ◌+◌, ◌*◌, ◌-◌, ◌^◌, ◌<◌, ◌≤◌};
-ghost use Rattle.abstract_state.specs.Memory.{is_slot, is_spilled, are_set, any_of_size, frame_value, frame_loaded, set_from, spills_ended, frame_stored};
+ghost use Rattle.abstract_state.specs.Memory.{is_slot, is_spilled, are_set, any_of_size, frame_value, frame_read, set_from, without_spills, frame_write};
 
 use crate::state::{AbstractState, FRAME_SLOTS};
-use abstract_values::{AbstractValue, Cause};
-use bpf_model::FRAME_BYTES;
+use abstract_values::AbstractValue;
+use bpf_model::{Cause, FRAME_BYTES};
 
 /// Whether so many bytes from byte `first` are all set.
 fn are_bytes_set(flags: &[bool; FRAME_BYTES], first: usize, bytes: usize) -> bool
@@ -57,7 +57,7 @@ pub(crate) fn load_frame(
     requires inside { first + bytes ≤ FRAME_BYTES }
     requires some { 1 ≤ bytes }
     requires few { bytes ≤ 8 }
-    ensures { result ≡ frame_loaded state.now first bytes }
+    ensures { result ≡ frame_read state.now first bytes }
 {
     if !are_bytes_set(&state.bytes_set, first, bytes) {
         return Err(Cause::UnsetStackByte);
@@ -73,7 +73,7 @@ pub(crate) fn load_frame(
 fn end_spills(slots: &mut [AbstractValue; FRAME_SLOTS], first: usize, bytes: usize)
     requires inside { first + bytes ≤ FRAME_BYTES }
     requires some { 1 ≤ bytes }
-    ensures { slots.new ≡ spills_ended slots.old first bytes }
+    ensures { slots.new ≡ without_spills slots.old first bytes }
 {
     slots[first / 8] = AbstractValue::Unset;
     slots[(first + bytes - 1) / 8] = AbstractValue::Unset;
@@ -88,7 +88,7 @@ pub(crate) fn store_frame(
 )
     requires inside { first + bytes ≤ FRAME_BYTES }
     requires some { 1 ≤ bytes }
-    ensures { state.new ≡ frame_stored state.old first bytes value }
+    ensures { state.new ≡ frame_write state.old first bytes value }
 {
     set_bytes(&mut state.bytes_set, first, bytes);
     if is_whole_slot(first, bytes) {

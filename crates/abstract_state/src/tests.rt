@@ -1,6 +1,7 @@
 use super::{AbstractState, join_into, load, load_signed, store};
-use abstract_values::{AbstractValue, Cause};
+use abstract_values::AbstractValue;
 use bpf_isa::{Register, SignedSize, Size};
+use bpf_model::Cause;
 use std::test::Fail;
 
 const LENGTH: u16 = 16;

@@ -10,14 +10,14 @@ use Rattle.bpf_isa.specs.declared.instruction.Width.{Width}
 use Rattle.bpf_isa.specs.declared.instruction.Width.TheVariants.{Bits32, Bits64}
 use Rattle.bpf_isa.specs.declared.instruction.Comparison.{Comparison}
 use Rattle.bpf_isa.specs.declared.instruction.Comparison.TheVariants.{Equal, Greater, GreaterOrEqual, SharesBit, NotEqual, GreaterSigned, GreaterOrEqualSigned, Less, LessOrEqual, LessSigned, LessOrEqualSigned}
-use Rattle.bpf_model.specs.Arithmetic.{width_bits, modulus, low, signed, compared, holds}
-use Rattle.abstract_values.specs.declared.cause.Cause.{Cause}
+use Rattle.bpf_model.specs.Arithmetic.{width_bits, modulus, low, signed, comparison_holds, holds}
+use Rattle.bpf_model.specs.declared.cause.Cause.{Cause}
 use Rattle.abstract_values.specs.declared.branch.Sides.{Sides}
 use Rattle.abstract_values.specs.declared.range.Range.{Range}
 use Rattle.abstract_values.specs.declared.value.AbstractValue.{AbstractValue}
 use Rattle.abstract_values.specs.declared.value.AbstractValue.TheVariants.{Unset, Number, Record, Stack}
 use Rattle.abstract_values.specs.Ranges.{range}
-use Rattle.abstract_values.specs.Narrowing.{opposite, without, differing, above, not_below, exchanged, refined, order_limit, is_telling, is_inhabited, inhabited, side, numbers, both_sides, narrowed}
+use Rattle.abstract_values.specs.Narrowing.{opposite, without, differing, above, not_below, exchange_of, refinement, order_limit, is_telling, is_inhabited, if_inhabited, side, numbers, both_sides, narrowing}
 use Rattle.abstract_values.specs.Described.{Describes, DescribesSide, side_of}
 use Rattle.abstract_values.proofs.Below.{either, low_same}
 use Rattle.abstract_values.proofs.Within.{Within, constant_is}
@@ -34,7 +34,7 @@ Pair (Some p) x y = Within p.0 x × Within p.1 y
 inhabited_by : (r : Range) (n : ℕ) → Within r n → is_inhabited r ≡ true
 inhabited_by r n h = le-leb r.lo r.hi (omega (arith, h.0, h.1))
 
-pair_inhabited : (p : Range × Range) (x y : ℕ) → Within p.0 x → Within p.1 y → Pair (inhabited p) x y
+pair_inhabited : (p : Range × Range) (x y : ℕ) → Within p.0 x → Within p.1 y → Pair (if_inhabited p) x y
 pair_inhabited p x y h k =
     let test : (is_inhabited p.0 && is_inhabited p.1) ≡ true = and_from _ _ (inhabited_by p.0 x h) (inhabited_by p.1 y k) in
     rw test (h, k)
@@ -79,11 +79,11 @@ not_below_within : (a b : Range) (x y : ℕ) → Within a x → Within b y → y
 not_below_within a b x y p q h =
     ((omega (arith, p.0, q.0, h), p.1), (q.0, omega (arith, p.1, q.1, h)))
 
-exchange : (p : Range × Range) (x y : ℕ) → Both p y x → Both (exchanged p) x y
+exchange : (p : Range × Range) (x y : ℕ) → Both p y x → Both (exchange_of p) x y
 exchange p x y h = (h.1, h.0)
 
 -- a comparison is one clause here
-refined_within : (w : Width) (c : Comparison) (a b : Range) (x y : ℕ) → Within a x → Within b y → x < order_limit w c → y < order_limit w c → compared w c x y ≡ true → Both (refined c a b) x y
+refined_within : (w : Width) (c : Comparison) (a b : Range) (x y : ℕ) → Within a x → Within b y → x < order_limit w c → y < order_limit w c → comparison_holds w c x y ≡ true → Both (refinement c a b) x y
 refined_within w Equal a b x y p q r s h =
     let same : x ≡ y = eqb-true x y h in
     ((omega (arith, p.0, q.0, same), omega (arith, p.1, q.1, same)), (omega (arith, p.0, q.0, same), omega (arith, p.1, q.1, same)))
@@ -122,7 +122,7 @@ not_at_most : (a b : ℤ) → int_le a b ≡ false → int_lt b a ≡ true
 not_at_most a b h = grind (arith, ints)
 
 -- where a comparison fails, its opposite holds
-opposite_holds : (w : Width) (c : Comparison) (x y : ℕ) → x < order_limit w (opposite c) → compared w c x y ≡ false → compared w (opposite c) x y ≡ true
+opposite_holds : (w : Width) (c : Comparison) (x y : ℕ) → x < order_limit w (opposite c) → comparison_holds w c x y ≡ false → comparison_holds w (opposite c) x y ≡ true
 opposite_holds w Equal x y r h = rw h refl
 opposite_holds w NotEqual x y r h =
     elim (cases_Bool (eqb x y)) [
@@ -140,7 +140,7 @@ opposite_holds w LessOrEqualSigned x y r h = not_at_most (signed w x) (signed w 
 opposite_holds w SharesBit x y r h = absurd (omega (arith, r))
 
 -- the side where a comparison holds
-side_sound : (w : Width) (c : Comparison) (a b : Range) (x y : ℕ) → Within a x → Within b y → (x < order_limit w c → compared w c (low w x) (low w y) ≡ true) → Pair (side w c a b) x y
+side_sound : (w : Width) (c : Comparison) (a b : Range) (x y : ℕ) → Within a x → Within b y → (x < order_limit w c → comparison_holds w c (low w x) (low w y) ≡ true) → Pair (side w c a b) x y
 side_sound w c a b x y p q h =
     elim (cases_Bool (is_telling w c a b)) [
       | inl is ↦
@@ -150,9 +150,9 @@ side_sound w c a b x y p q h =
           let x-same = low_same w x (omega (arith, first, limit_fits w c)) in
           let y-same = low_same w y (omega (arith, second, limit_fits w c)) in
           let test = h first in
-          let compares : compared w c x y ≡ true = (rw (x-same, y-same) at test) in
+          let compares : comparison_holds w c x y ≡ true = (rw (x-same, y-same) at test) in
           let refines = refined_within w c a b x y p q first second compares in
-          rw is (pair_inhabited (refined c a b) x y refines.0 refines.1)
+          rw is (pair_inhabited (refinement c a b) x y refines.0 refines.1)
       | inr not_is ↦ rw not_is (p, q)
     ]
 
@@ -169,7 +169,7 @@ sides_sound w c l top a b x y p q r s true h =
 sides_sound w c l top a b x y p q r s false h =
     numbers_described l top (side w (opposite c) a b) x y r s (side_sound w (opposite c) a b x y p q (λ lt. opposite_holds w c (low w x) (low w y) (low_in w (order_limit w (opposite c)) x lt) h))
 
-pub narrow_describes : (w : Width) (c : Comparison) (l top : ℕ) (a b : AbstractValue) (sides : Sides) (x y : ℕ) → narrowed w c a b ≡ decided sides → Describes l top a (Some x) → Describes l top b (Some y) → DescribesSide l top (side_of sides (holds w c x y)) x y
+pub narrow_describes : (w : Width) (c : Comparison) (l top : ℕ) (a b : AbstractValue) (sides : Sides) (x y : ℕ) → narrowing w c a b ≡ decided sides → Describes l top a (Some x) → Describes l top b (Some y) → DescribesSide l top (side_of sides (holds w c x y)) x y
 narrow_describes w c l top (Number lo hi) (Number lo' hi') sides x y h p q =
     let first = number_within l top lo hi x p in
     let second = number_within l top lo' hi' y q in

@@ -10,14 +10,14 @@ use Rattle.bpf_isa.specs.declared.instruction.Width.TheVariants.{Bits64}
 use Rattle.bpf_isa.specs.declared.instruction.Operation.{Operation}
 use Rattle.bpf_isa.specs.declared.instruction.Operation.TheVariants as operations
 use Rattle.bpf_model.specs.State.{record_base}
-use Rattle.bpf_model.specs.Arithmetic.{low, calculated}
-use Rattle.abstract_values.specs.declared.cause.Cause.{Cause}
-use Rattle.abstract_values.specs.declared.cause.Cause.TheVariants.{OutOfRange}
+use Rattle.bpf_model.specs.Arithmetic.{low, alu_number}
+use Rattle.bpf_model.specs.declared.cause.Cause.{Cause}
+use Rattle.bpf_model.specs.declared.cause.Cause.TheVariants.{OutOfRange}
 use Rattle.abstract_values.specs.declared.range.Range.{Range}
 use Rattle.abstract_values.specs.declared.value.AbstractValue.{AbstractValue}
 use Rattle.abstract_values.specs.declared.value.AbstractValue.TheVariants.{Number, Record, Stack}
 use Rattle.abstract_values.specs.Ranges.{range, is_constant}
-use Rattle.abstract_values.specs.Values.{least_distance, greatest_distance, is_place, record_pointer, stack_pointer, stack_moved, added, subtracted, arithmetic}
+use Rattle.abstract_values.specs.Values.{least_distance, greatest_distance, is_place, record_pointer, stack_pointer, stack_result, sum_result, difference_result, alu_result}
 use Rattle.abstract_values.specs.Described.{Describes}
 use Rattle.abstract_values.proofs.Below.{low_same}
 use Rattle.abstract_values.proofs.Within.{Within, constant_is}
@@ -33,7 +33,7 @@ at_most a b test = grind (arith, ints)
 abbrev Moves : ℕ → ℤ → Type 0
 Moves y d = (d ≡ pos y) ⊎ ((k : ℕ) × (d ≡ negsuc k) × (y + (k + 1) ≡ 2 ^ 64))
 
-sum_at : (x y z : ℕ) (d : ℤ) → x < 2 ^ 64 → y < 2 ^ 64 → z < 2 ^ 64 → Moves y d → pos z ≡ pos x +ℤ d → calculated Bits64 operations.Add x y ≡ z
+sum_at : (x y z : ℕ) (d : ℤ) → x < 2 ^ 64 → y < 2 ^ 64 → z < 2 ^ 64 → Moves y d → pos z ≡ pos x +ℤ d → alu_number Bits64 operations.Add x y ≡ z
 sum_at x y z d p q r (inl e) h =
     let there : z ≡ x + y = omega (arith, ints, h, e) in
     rw (low_same Bits64 x p, low_same Bits64 y q) (omega (arith, there, r))
@@ -41,7 +41,7 @@ sum_at x y z d p q r (inr e) h =
     let there : x + y ≡ 2 ^ 64 + z = omega (arith, ints, h, e.1, e.2) in
     rw (low_same Bits64 x p, low_same Bits64 y q) (omega (arith, there, r))
 
-difference_at : (x y z : ℕ) (d : ℤ) → x < 2 ^ 64 → y < 2 ^ 64 → z < 2 ^ 64 → Moves y d → pos z ≡ pos x -ℤ d → calculated Bits64 operations.Subtract x y ≡ z
+difference_at : (x y z : ℕ) (d : ℤ) → x < 2 ^ 64 → y < 2 ^ 64 → z < 2 ^ 64 → Moves y d → pos z ≡ pos x -ℤ d → alu_number Bits64 operations.Subtract x y ≡ z
 difference_at x y z d p q r (inl e) h =
     let there : x + (2 ^ 64 - y) ≡ 2 ^ 64 + z = omega (arith, ints, h, e, q) in
     rw (low_same Bits64 x p, low_same Bits64 y q) (omega (arith, there, r))
@@ -139,11 +139,11 @@ address top (negsuc n) low high least most =
     record { at = top - (n + 1); is = omega (arith, ints); below = omega (arith, high) }
 
 -- a range moves no stack pointer
-known_constant : (b : Bool) (z : ℤ) (v : AbstractValue) → stack_moved b z ≡ ok v → (b ≡ true) × (stack_pointer z ≡ ok v)
+known_constant : (b : Bool) (z : ℤ) (v : AbstractValue) → stack_result b z ≡ ok v → (b ≡ true) × (stack_pointer z ≡ ok v)
 known_constant true z v h = (refl, h)
 known_constant false z v h = absurd cc
 
-stack_sum : (l top : ℕ) (offset : ℤ) (r : Range) (v : AbstractValue) (x y : ℕ) → 512 ≤ top → top < 2 ^ 64 → stack_moved (is_constant r) (offset +ℤ least_distance r) ≡ ok v → Describes l top (Stack offset) (Some x) → Within r y → y < 2 ^ 64 → Describes l top v (Some (calculated Bits64 operations.Add x y))
+stack_sum : (l top : ℕ) (offset : ℤ) (r : Range) (v : AbstractValue) (x y : ℕ) → 512 ≤ top → top < 2 ^ 64 → stack_result (is_constant r) (offset +ℤ least_distance r) ≡ ok v → Describes l top (Stack offset) (Some x) → Within r y → y < 2 ^ 64 → Describes l top v (Some (alu_number Bits64 operations.Add x y))
 stack_sum l top offset r v x y low high h p inside lt =
     let x-is : x ≡ p.0 = (let e : Some x ≡ Some p.0 = p.1 in cc) in
     let far = distance_of r y inside lt in
@@ -154,7 +154,7 @@ stack_sum l top offset r v x y low high h p inside lt =
     let same = sum_at x y there.at far.d (stack_below l top x offset high p) lt there.below far.moves moved in
     rw same (subst (λ w. Describes l top w (Some there.at)) frame.value (there.at, refl, there.is, frame.least, frame.most))
 
-stack_difference : (l top : ℕ) (offset : ℤ) (r : Range) (v : AbstractValue) (x y : ℕ) → 512 ≤ top → top < 2 ^ 64 → stack_moved (is_constant r) (offset -ℤ least_distance r) ≡ ok v → Describes l top (Stack offset) (Some x) → Within r y → y < 2 ^ 64 → Describes l top v (Some (calculated Bits64 operations.Subtract x y))
+stack_difference : (l top : ℕ) (offset : ℤ) (r : Range) (v : AbstractValue) (x y : ℕ) → 512 ≤ top → top < 2 ^ 64 → stack_result (is_constant r) (offset -ℤ least_distance r) ≡ ok v → Describes l top (Stack offset) (Some x) → Within r y → y < 2 ^ 64 → Describes l top v (Some (alu_number Bits64 operations.Subtract x y))
 stack_difference l top offset r v x y low high h p inside lt =
     let x-is : x ≡ p.0 = (let e : Some x ≡ Some p.0 = p.1 in cc) in
     let far = distance_of r y inside lt in
@@ -166,7 +166,7 @@ stack_difference l top offset r v x y low high h p inside lt =
     rw same (subst (λ w. Describes l top w (Some there.at)) frame.value (there.at, refl, there.is, frame.least, frame.most))
 
 -- a sum on a record pointer
-record_sum : (l top lo hi : ℕ) (r : Range) (v : AbstractValue) (x y : ℕ) → l < 2 ^ 16 → record_pointer l (pos lo +ℤ least_distance r) (pos hi +ℤ greatest_distance r) ≡ ok v → Describes l top (Record lo hi) (Some x) → Within r y → y < 2 ^ 64 → Describes l top v (Some (calculated Bits64 operations.Add x y))
+record_sum : (l top lo hi : ℕ) (r : Range) (v : AbstractValue) (x y : ℕ) → l < 2 ^ 16 → record_pointer l (pos lo +ℤ least_distance r) (pos hi +ℤ greatest_distance r) ≡ ok v → Describes l top (Record lo hi) (Some x) → Within r y → y < 2 ^ 64 → Describes l top v (Some (alu_number Bits64 operations.Add x y))
 record_sum l top lo hi r v x y short h p inside lt =
     let x-is : x ≡ record_base + p.0 = (let e : Some x ≡ Some (record_base + p.0) = p.1 in cc) in
     let far = distance_of r y inside lt in
@@ -175,7 +175,7 @@ record_sum l top lo hi r v x y short h p inside lt =
     let same = sum_at x y (record_base + there.place) far.d (record_below l top lo hi x short p) lt (omega (arith, there.inside, short)) far.moves moved in
     rw same there.described
 
-record_difference : (l top lo hi : ℕ) (r : Range) (v : AbstractValue) (x y : ℕ) → l < 2 ^ 16 → record_pointer l (pos lo -ℤ greatest_distance r) (pos hi -ℤ least_distance r) ≡ ok v → Describes l top (Record lo hi) (Some x) → Within r y → y < 2 ^ 64 → Describes l top v (Some (calculated Bits64 operations.Subtract x y))
+record_difference : (l top lo hi : ℕ) (r : Range) (v : AbstractValue) (x y : ℕ) → l < 2 ^ 16 → record_pointer l (pos lo -ℤ greatest_distance r) (pos hi -ℤ least_distance r) ≡ ok v → Describes l top (Record lo hi) (Some x) → Within r y → y < 2 ^ 64 → Describes l top v (Some (alu_number Bits64 operations.Subtract x y))
 record_difference l top lo hi r v x y short h p inside lt =
     let x-is : x ≡ record_base + p.0 = (let e : Some x ≡ Some (record_base + p.0) = p.1 in cc) in
     let far = distance_of r y inside lt in
@@ -184,7 +184,7 @@ record_difference l top lo hi r v x y short h p inside lt =
     let same = difference_at x y (record_base + there.place) far.d (record_below l top lo hi x short p) lt (omega (arith, there.inside, short)) far.moves moved in
     rw same there.described
 
-add_sound : (l top : ℕ) (a b v : AbstractValue) (x y : ℕ) → l < 2 ^ 16 → 512 ≤ top → top < 2 ^ 64 → added l a b ≡ ok v → Describes l top a (Some x) → Describes l top b (Some y) → Describes l top v (Some (calculated Bits64 operations.Add x y))
+add_sound : (l top : ℕ) (a b v : AbstractValue) (x y : ℕ) → l < 2 ^ 16 → 512 ≤ top → top < 2 ^ 64 → sum_result l a b ≡ ok v → Describes l top a (Some x) → Describes l top b (Some y) → Describes l top v (Some (alu_number Bits64 operations.Add x y))
 add_sound l top (Record lo hi) (Number c d) v x y short low high h p q =
     let inside = number_within l top c d y q in
     record_sum l top lo hi (range c d) v x y short h p inside.0 inside.1
@@ -193,7 +193,7 @@ add_sound l top (Stack offset) (Number c d) v x y short low high h p q =
     stack_sum l top offset (range c d) v x y low high h p inside.0 inside.1
 add_sound l top a b v x y short low high h p q = numbers_sound Bits64 operations.Add l top a b v x y h p q
 
-subtract_sound : (l top : ℕ) (a b v : AbstractValue) (x y : ℕ) → l < 2 ^ 16 → 512 ≤ top → top < 2 ^ 64 → subtracted l a b ≡ ok v → Describes l top a (Some x) → Describes l top b (Some y) → Describes l top v (Some (calculated Bits64 operations.Subtract x y))
+subtract_sound : (l top : ℕ) (a b v : AbstractValue) (x y : ℕ) → l < 2 ^ 16 → 512 ≤ top → top < 2 ^ 64 → difference_result l a b ≡ ok v → Describes l top a (Some x) → Describes l top b (Some y) → Describes l top v (Some (alu_number Bits64 operations.Subtract x y))
 subtract_sound l top (Record lo hi) (Number c d) v x y short low high h p q =
     let inside = number_within l top c d y q in
     record_difference l top lo hi (range c d) v x y short h p inside.0 inside.1
@@ -202,7 +202,7 @@ subtract_sound l top (Stack offset) (Number c d) v x y short low high h p q =
     stack_difference l top offset (range c d) v x y low high h p inside.0 inside.1
 subtract_sound l top a b v x y short low high h p q = numbers_sound Bits64 operations.Subtract l top a b v x y h p q
 
-pub alu_describes : (w : Width) (operation : Operation) (l top : ℕ) (a b v : AbstractValue) (x y : ℕ) → l < 2 ^ 16 → 512 ≤ top → top < 2 ^ 64 → arithmetic w operation l a b ≡ ok v → Describes l top a (Some x) → Describes l top b (Some y) → Describes l top v (Some (calculated w operation x y))
+pub alu_describes : (w : Width) (operation : Operation) (l top : ℕ) (a b v : AbstractValue) (x y : ℕ) → l < 2 ^ 16 → 512 ≤ top → top < 2 ^ 64 → alu_result w operation l a b ≡ ok v → Describes l top a (Some x) → Describes l top b (Some y) → Describes l top v (Some (alu_number w operation x y))
 alu_describes w operations.Move l top a b v x y short low high h p q = move_sound w l top b v x y short high h q
 alu_describes Bits64 operations.Add l top a b v x y short low high h p q = add_sound l top a b v x y short low high h p q
 alu_describes Bits64 operations.Subtract l top a b v x y short low high h p q = subtract_sound l top a b v x y short low high h p q
@@ -212,5 +212,5 @@ alu_describes w operation l top a b v x y short low high h p q = numbers_sound w
 pub pointer_at : (l : ℕ) (lo hi first last : ℤ) (r : Result AbstractValue Cause) → r ≡ record_pointer l lo hi → lo ≡ first → hi ≡ last → r ≡ record_pointer l first last
 pointer_at l lo hi first last r e p q = e ∙ ap (λ z. record_pointer l z hi) p ∙ ap (λ z. record_pointer l first z) q
 
-pub stack_pointer_at : (b : Bool) (offset place : ℤ) (r : Result AbstractValue Cause) → r ≡ stack_pointer offset → b ≡ true → offset ≡ place → r ≡ stack_moved b place
+pub stack_pointer_at : (b : Bool) (offset place : ℤ) (r : Result AbstractValue Cause) → r ≡ stack_pointer offset → b ≡ true → offset ≡ place → r ≡ stack_result b place
 stack_pointer_at b offset place r e test same = rw test (e ∙ ap stack_pointer same)

@@ -19,13 +19,13 @@ use Rattle.bpf_isa.specs.Encoding.{extension_width}
 use Rattle.std.specs.Int.{w8, w16, w32, w64, cast_signed, cast_unsigned, swap_bytes}
 use Rattle.std.proofs.Math.Nat.{le_refl}
 use Rattle.bpf_model.specs.State.{record_base}
-use Rattle.bpf_model.specs.Arithmetic.{modulus, low, calculated, negated, sign_extended, swapped}
-use Rattle.abstract_values.specs.declared.cause.Cause.{Cause}
+use Rattle.bpf_model.specs.Arithmetic.{modulus, low, alu_number, negate_number, move_signed_number, swap_number}
+use Rattle.bpf_model.specs.declared.cause.Cause.{Cause}
 use Rattle.abstract_values.specs.declared.range.Range.{Range}
 use Rattle.abstract_values.specs.declared.value.AbstractValue.{AbstractValue}
 use Rattle.abstract_values.specs.declared.value.AbstractValue.TheVariants.{Unset, Number, Record, Stack}
 use Rattle.abstract_values.specs.Ranges.{range, constant, is_constant, everything, input, computed_range}
-use Rattle.abstract_values.specs.Values.{joined, number, of_number, of_numbers, number_result, moved, exact, negation, sign_extension, swap_result}
+use Rattle.abstract_values.specs.Values.{join_of, number, of_number, of_numbers, number_result, move_result, exact, negate_result, move_signed_result, swap_result}
 use Rattle.abstract_values.specs.Described.{Describes}
 use Rattle.abstract_values.proofs.Below.{either, modulus_most, low_below, low_same, computed_below}
 use Rattle.abstract_values.proofs.Within.{Within, within_everything, constant_is, input_within, computed_within}
@@ -33,7 +33,7 @@ use Rattle.abstract_values.proofs.Within.{Within, within_everything, constant_is
 abbrev pub ok : {A : Type 0} → A → Result A Cause
 ok x = Ok x
 
-stack_joined : (record_length top : ℕ) (a b : ℤ) (x : Option ℕ) → (Describes record_length top (Stack a) x → Describes record_length top (joined (Stack a) (Stack b)) x) × (Describes record_length top (Stack b) x → Describes record_length top (joined (Stack a) (Stack b)) x)
+stack_joined : (record_length top : ℕ) (a b : ℤ) (x : Option ℕ) → (Describes record_length top (Stack a) x → Describes record_length top (join_of (Stack a) (Stack b)) x) × (Describes record_length top (Stack b) x → Describes record_length top (join_of (Stack a) (Stack b)) x)
 stack_joined record_length top a b x =
     elim (cases_Bool (int_eq a b)) [
       | inl is ↦
@@ -42,7 +42,7 @@ stack_joined record_length top a b x =
       | inr not_is ↦ (λ d. rw not_is tt, λ d. rw not_is tt)
     ]
 
-pub join_describes : (record_length top : ℕ) (a b : AbstractValue) (x : Option ℕ) → (Describes record_length top a x → Describes record_length top (joined a b) x) × (Describes record_length top b x → Describes record_length top (joined a b) x)
+pub join_describes : (record_length top : ℕ) (a b : AbstractValue) (x : Option ℕ) → (Describes record_length top a x → Describes record_length top (join_of a b) x) × (Describes record_length top b x → Describes record_length top (join_of a b) x)
 join_describes l t (Number a b) (Number c d) x =
     (λ h. (h.0, h.1, omega (arith, h.2), omega (arith, h.3), h.4), λ h. (h.0, h.1, omega (arith, h.2), omega (arith, h.3), h.4))
 join_describes l t (Record a b) (Record c d) x =
@@ -76,9 +76,9 @@ of_numbers_sound l top f (Stack offset) Unset v x y z h p q go = absurd cc
 of_numbers_sound l top f _ _ v x y z h p q go = absurd cc
 
 -- arithmetic on two numbers
-pub numbers_sound : (w : Width) (operation : Operation) (l top : ℕ) (a b v : AbstractValue) (x y : ℕ) → of_numbers (number_result w operation) a b ≡ ok v → Describes l top a (Some x) → Describes l top b (Some y) → Describes l top v (Some (calculated w operation x y))
+pub numbers_sound : (w : Width) (operation : Operation) (l top : ℕ) (a b v : AbstractValue) (x y : ℕ) → of_numbers (number_result w operation) a b ≡ ok v → Describes l top a (Some x) → Describes l top b (Some y) → Describes l top v (Some (alu_number w operation x y))
 numbers_sound w operation l top a b v x y h p q =
-    of_numbers_sound l top (number_result w operation) a b v x y (calculated w operation x y) h p q (λ r s inside within. number_described l top (computed_range w operation r s) (calculated w operation x y) (computed_within w operation r s x y inside within) (omega (arith, computed_below w operation (low w x) (low w y) (low_below w x) (low_below w y), modulus_most w)))
+    of_numbers_sound l top (number_result w operation) a b v x y (alu_number w operation x y) h p q (λ r s inside within. number_described l top (computed_range w operation r s) (alu_number w operation x y) (computed_within w operation r s x y inside within) (omega (arith, computed_below w operation (low w x) (low w y) (low_below w x) (low_below w y), modulus_most w)))
 
 -- a pointer's address is a number of 64 bits
 pub record_below : (l top lo hi y : ℕ) → l < 2 ^ 16 → Describes l top (Record lo hi) (Some y) → y < 2 ^ 64
@@ -91,7 +91,7 @@ stack_below l top y offset high q =
     let same : y ≡ q.0 = (let e : Some y ≡ Some q.0 = q.1 in cc) in
     omega (arith, ints, same, high, q.2, q.4)
 
-pub move_sound : (w : Width) (l top : ℕ) (b v : AbstractValue) (x y : ℕ) → l < 2 ^ 16 → top < 2 ^ 64 → moved w b ≡ ok v → Describes l top b (Some y) → Describes l top v (Some (calculated w operations.Move x y))
+pub move_sound : (w : Width) (l top : ℕ) (b v : AbstractValue) (x y : ℕ) → l < 2 ^ 16 → top < 2 ^ 64 → move_result w b ≡ ok v → Describes l top b (Some y) → Describes l top v (Some (alu_number w operations.Move x y))
 move_sound w l top Unset v x y short high h q = absurd cc
 move_sound w l top (Number lo hi) v x y short high h q =
     let same : number (input w (range lo hi)) ≡ v = (let e : ok (number (input w (range lo hi))) ≡ ok v = h in cc) in
@@ -113,12 +113,12 @@ exact_sound : (w : Width) (f : ℕ → ℕ) (l top : ℕ) (r : Range) (n : ℕ) 
 exact_sound w f l top r n h lt =
     number_described l top (cond (is_constant r) (constant (f r.lo)) (everything w)) (f n) (either (λ s. Within s (f n)) (is_constant r) (constant (f r.lo)) (everything w) (λ is. let same = constant_is r n h is in rw same (le_refl _, le_refl _)) (λ not_is. within_everything w (f n) lt)) (omega (arith, lt, modulus_most w))
 
-pub negate_describes : (w : Width) (l top : ℕ) (a v : AbstractValue) (x : ℕ) → negation w a ≡ ok v → Describes l top a (Some x) → Describes l top v (Some (negated w x))
+pub negate_describes : (w : Width) (l top : ℕ) (a v : AbstractValue) (x : ℕ) → negate_result w a ≡ ok v → Describes l top a (Some x) → Describes l top v (Some (negate_number w x))
 negate_describes w l top a v x h p =
-    of_number_sound l top (λ r. exact w (negated w) (input w r)) a v x (negated w x) h p (λ r inside lt. let same : negated w (low w x) ≡ negated w x = (rw (low_same w (low w x) (low_below w x)) refl) in subst (λ n. Describes l top (exact w (negated w) (input w r)) (Some n)) same (exact_sound w (negated w) l top (input w r) (low w x) (input_within w r x inside) (low_below w _)))
+    of_number_sound l top (λ r. exact w (negate_number w) (input w r)) a v x (negate_number w x) h p (λ r inside lt. let same : negate_number w (low w x) ≡ negate_number w x = (rw (low_same w (low w x) (low_below w x)) refl) in subst (λ n. Describes l top (exact w (negate_number w) (input w r)) (Some n)) same (exact_sound w (negate_number w) l top (input w r) (low w x) (input_within w r x inside) (low_below w _)))
 
 -- a sign extension looks at the low bits of its width only, and gives a number of it
-extended_low : (e : Extension) (x : ℕ) → sign_extended e (low (extension_width e) x) ≡ sign_extended e x
+extended_low : (e : Extension) (x : ℕ) → move_signed_number e (low (extension_width e) x) ≡ move_signed_number e x
 extended_low From8To32 x =
     let same : (x % 2 ^ 32) % 2 ^ 8 ≡ x % 2 ^ 8 = omega arith in
     ap (λ n. cast_unsigned w32 (cast_signed w8 n)) same
@@ -135,17 +135,17 @@ extended_low From32To64 x =
     let same : (x % 2 ^ 64) % 2 ^ 32 ≡ x % 2 ^ 32 = omega arith in
     ap (λ n. cast_unsigned w64 (cast_signed w32 n)) same
 
-extended_below : (e : Extension) (x : ℕ) → sign_extended e x < modulus (extension_width e)
+extended_below : (e : Extension) (x : ℕ) → move_signed_number e x < modulus (extension_width e)
 extended_below From8To32 x = omega (arith, ints)
 extended_below From16To32 x = omega (arith, ints)
 extended_below From8To64 x = omega (arith, ints)
 extended_below From16To64 x = omega (arith, ints)
 extended_below From32To64 x = omega (arith, ints)
 
-pub move_signed_describes : (e : Extension) (l top : ℕ) (a v : AbstractValue) (x : ℕ) → sign_extension e a ≡ ok v → Describes l top a (Some x) → Describes l top v (Some (sign_extended e x))
+pub move_signed_describes : (e : Extension) (l top : ℕ) (a v : AbstractValue) (x : ℕ) → move_signed_result e a ≡ ok v → Describes l top a (Some x) → Describes l top v (Some (move_signed_number e x))
 move_signed_describes e l top a v x h p =
     let w = extension_width e in
-    of_number_sound l top (λ r. exact w (sign_extended e) (input w r)) a v x (sign_extended e x) h p (λ r inside lt. subst (λ n. Describes l top (exact w (sign_extended e) (input w r)) (Some n)) (extended_low e x) (exact_sound w (sign_extended e) l top (input w r) (low w x) (input_within w r x inside) (extended_below e _)))
+    of_number_sound l top (λ r. exact w (move_signed_number e) (input w r)) a v x (move_signed_number e x) h p (λ r inside lt. subst (λ n. Describes l top (exact w (move_signed_number e) (input w r)) (Some n)) (extended_low e x) (exact_sound w (move_signed_number e) l top (input w r) (low w x) (input_within w r x inside) (extended_below e _)))
 
 swap_below_16 : (n : ℕ) → n < 2 ^ 16 → swap_bytes w16 n < 2 ^ 16
 swap_below_16 n lt = omega arith
@@ -156,7 +156,7 @@ swap_below_32 n lt = omega arith
 swap_below_64 : (n : ℕ) → n < 2 ^ 64 → swap_bytes w64 n < 2 ^ 64
 swap_below_64 n lt = omega arith
 
-swapped_below : (order : ByteOrder) (bits : SwapBits) (x : ℕ) → swapped order bits x < 2 ^ 64
+swapped_below : (order : ByteOrder) (bits : SwapBits) (x : ℕ) → swap_number order bits x < 2 ^ 64
 swapped_below Little Low16 x = omega arith
 swapped_below Little Low32 x = omega arith
 swapped_below Little Low64 x = omega arith
@@ -167,6 +167,6 @@ swapped_below Reversed Low16 x = omega (arith, swap_below_16 (x % 2 ^ 16) (omega
 swapped_below Reversed Low32 x = omega (arith, swap_below_32 (x % 2 ^ 32) (omega arith))
 swapped_below Reversed Low64 x = swap_below_64 (x % 2 ^ 64) (omega arith)
 
-pub swap_describes : (order : ByteOrder) (bits : SwapBits) (l top : ℕ) (a v : AbstractValue) (x : ℕ) → swap_result order bits a ≡ ok v → Describes l top a (Some x) → Describes l top v (Some (swapped order bits x))
+pub swap_describes : (order : ByteOrder) (bits : SwapBits) (l top : ℕ) (a v : AbstractValue) (x : ℕ) → swap_result order bits a ≡ ok v → Describes l top a (Some x) → Describes l top v (Some (swap_number order bits x))
 swap_describes order bits l top a v x h p =
-    of_number_sound l top (exact Bits64 (swapped order bits)) a v x (swapped order bits x) h p (λ r inside lt. exact_sound Bits64 (swapped order bits) l top r x inside (swapped_below order bits x))
+    of_number_sound l top (exact Bits64 (swap_number order bits)) a v x (swap_number order bits x) h p (λ r inside lt. exact_sound Bits64 (swap_number order bits) l top r x inside (swapped_below order bits x))

@@ -7,19 +7,19 @@ use Rattle.bpf_isa.specs.declared.instruction.Comparison.{Comparison}
 use Rattle.bpf_isa.specs.declared.instruction.Extension.{Extension}
 use Rattle.bpf_isa.specs.declared.instruction.ByteOrder.{ByteOrder}
 use Rattle.bpf_isa.specs.declared.instruction.SwapBits.{SwapBits}
-use Rattle.bpf_model.specs.Arithmetic.{calculated, negated, sign_extended, swapped, holds}
+use Rattle.bpf_model.specs.Arithmetic.{alu_number, negate_number, move_signed_number, swap_number, holds}
 use Rattle.abstract_values.specs.declared.branch.Sides.{Sides}
 use Rattle.abstract_values.specs.declared.value.AbstractValue.{AbstractValue}
-use Rattle.abstract_values.specs.Values.{joined, arithmetic, negation, sign_extension, swap_result}
-use Rattle.abstract_values.specs.Narrowing.{narrowed}
+use Rattle.abstract_values.specs.Values.{join_of, alu_result, negate_result, move_signed_result, swap_result}
+use Rattle.abstract_values.specs.Narrowing.{narrowing}
 use Rattle.abstract_values.specs.Described.{Describes, DescribesSide, side_of}
 
 -- what one of two values describes, their join describes too
 abbrev pub JoinDescribes : Type 0
 JoinDescribes =
     (record_length top : ℕ) (a b : AbstractValue) (x : Option ℕ)
-    → (Describes record_length top a x → Describes record_length top (joined a b) x)
-    × (Describes record_length top b x → Describes record_length top (joined a b) x)
+    → (Describes record_length top a x → Describes record_length top (join_of a b) x)
+    × (Describes record_length top b x → Describes record_length top (join_of a b) x)
 
 -- what the rules give describes what the arithmetic makes of two described numbers. A record's length
 -- has 16 bits, and a frame of 512 bytes lies below 2^64.
@@ -27,32 +27,32 @@ abbrev pub AluDescribes : Type 0
 AluDescribes =
     (width : Width) (operation : Operation) (record_length top : ℕ) (a b v : AbstractValue) (x y : ℕ)
     → record_length < 2 ^ 16 → 512 ≤ top → top < 2 ^ 64
-    → arithmetic width operation record_length a b ≡ Ok v
+    → alu_result width operation record_length a b ≡ Ok v
     → Describes record_length top a (Some x) → Describes record_length top b (Some y)
-    → Describes record_length top v (Some (calculated width operation x y))
+    → Describes record_length top v (Some (alu_number width operation x y))
 
 abbrev pub NegateDescribes : Type 0
 NegateDescribes =
     (width : Width) (record_length top : ℕ) (a v : AbstractValue) (x : ℕ)
-    → negation width a ≡ Ok v → Describes record_length top a (Some x)
-    → Describes record_length top v (Some (negated width x))
+    → negate_result width a ≡ Ok v → Describes record_length top a (Some x)
+    → Describes record_length top v (Some (negate_number width x))
 
 abbrev pub MoveSignedDescribes : Type 0
 MoveSignedDescribes =
     (e : Extension) (record_length top : ℕ) (a v : AbstractValue) (x : ℕ)
-    → sign_extension e a ≡ Ok v → Describes record_length top a (Some x)
-    → Describes record_length top v (Some (sign_extended e x))
+    → move_signed_result e a ≡ Ok v → Describes record_length top a (Some x)
+    → Describes record_length top v (Some (move_signed_number e x))
 
 abbrev pub SwapDescribes : Type 0
 SwapDescribes =
     (order : ByteOrder) (bits : SwapBits) (record_length top : ℕ) (a v : AbstractValue) (x : ℕ)
     → swap_result order bits a ≡ Ok v → Describes record_length top a (Some x)
-    → Describes record_length top v (Some (swapped order bits x))
+    → Describes record_length top v (Some (swap_number order bits x))
 
 -- two described numbers are described on the side of a branch that they take
 abbrev pub NarrowDescribes : Type 0
 NarrowDescribes =
     (width : Width) (comparison : Comparison) (record_length top : ℕ) (a b : AbstractValue) (sides : Sides) (x y : ℕ)
-    → narrowed width comparison a b ≡ Ok sides
+    → narrowing width comparison a b ≡ Ok sides
     → Describes record_length top a (Some x) → Describes record_length top b (Some y)
     → DescribesSide record_length top (side_of sides (holds width comparison x y)) x y

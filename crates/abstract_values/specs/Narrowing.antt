@@ -5,7 +5,7 @@ use Rattle.bpf_isa.specs.declared.instruction.Width.{Width}
 use Rattle.bpf_isa.specs.declared.instruction.Comparison.{Comparison}
 use Rattle.bpf_isa.specs.declared.instruction.Comparison.TheVariants.{Equal, Greater, GreaterOrEqual, SharesBit, NotEqual, GreaterSigned, GreaterOrEqualSigned, Less, LessOrEqual, LessSigned, LessOrEqualSigned}
 use Rattle.bpf_model.specs.Arithmetic.{width_bits, modulus}
-use Rattle.abstract_values.specs.declared.cause.Cause.{Cause}
+use Rattle.bpf_model.specs.declared.cause.Cause.{Cause}
 use Rattle.abstract_values.specs.declared.branch.Sides.{Sides}
 use Rattle.abstract_values.specs.declared.range.Range.{Range}
 use Rattle.abstract_values.specs.declared.value.AbstractValue.{AbstractValue}
@@ -46,22 +46,22 @@ above a b = (range (max a.lo (b.lo + 1)) a.hi, range b.lo (min b.hi (a.hi - 1)))
 abbrev pub not_below : Range → Range → Range × Range
 not_below a b = (range (max a.lo b.lo) a.hi, range b.lo (min b.hi a.hi))
 
-abbrev pub exchanged : Range × Range → Range × Range
-exchanged p = (p.1, p.0)
+abbrev pub exchange_of : Range × Range → Range × Range
+exchange_of p = (p.1, p.0)
 
 -- what is known of two numbers for which a comparison holds, where it orders them as whole numbers
-abbrev pub refined : Comparison → Range → Range → Range × Range
-refined Equal a b = (meet a b, meet a b)
-refined NotEqual a b = (differing a b, differing b a)
-refined Greater a b = above a b
-refined GreaterSigned a b = above a b
-refined GreaterOrEqual a b = not_below a b
-refined GreaterOrEqualSigned a b = not_below a b
-refined Less a b = exchanged (above b a)
-refined LessSigned a b = exchanged (above b a)
-refined LessOrEqual a b = exchanged (not_below b a)
-refined LessOrEqualSigned a b = exchanged (not_below b a)
-refined SharesBit a b = (a, b)
+abbrev pub refinement : Comparison → Range → Range → Range × Range
+refinement Equal a b = (meet a b, meet a b)
+refinement NotEqual a b = (differing a b, differing b a)
+refinement Greater a b = above a b
+refinement GreaterSigned a b = above a b
+refinement GreaterOrEqual a b = not_below a b
+refinement GreaterOrEqualSigned a b = not_below a b
+refinement Less a b = exchange_of (above b a)
+refinement LessSigned a b = exchange_of (above b a)
+refinement LessOrEqual a b = exchange_of (not_below b a)
+refinement LessOrEqualSigned a b = exchange_of (not_below b a)
+refinement SharesBit a b = (a, b)
 
 -- numbers below this are compared as whole numbers: with a sign, those of the lower half
 abbrev pub order_limit : Width → Comparison → ℕ
@@ -81,15 +81,15 @@ abbrev pub is_inhabited : Range → Bool
 is_inhabited r = nat_le r.lo r.hi
 
 -- a side is walked where neither range is empty
-abbrev pub inhabited : Range × Range → Option (Range × Range)
-inhabited p = if is_inhabited p.0 && is_inhabited p.1 then Some p else None
+abbrev pub if_inhabited : Range × Range → Option (Range × Range)
+if_inhabited p = if is_inhabited p.0 && is_inhabited p.1 then Some p else None
 
 abbrev pub nonempty : Range → Option Range
 nonempty r = if is_inhabited r then Some r else None
 
 -- the side where a comparison holds
 abbrev pub side : Width → Comparison → Range → Range → Option (Range × Range)
-side w comparison a b = if is_telling w comparison a b then inhabited (refined comparison a b) else Some (a, b)
+side w comparison a b = if is_telling w comparison a b then if_inhabited (refinement comparison a b) else Some (a, b)
 
 abbrev pub numbers : Option (Range × Range) → Option (AbstractValue × AbstractValue)
 numbers None = None
@@ -100,5 +100,5 @@ abbrev pub both_sides : Width → Comparison → Range → Range → Sides
 both_sides w comparison a b =
     record { taken = numbers (side w comparison a b); passed = numbers (side w (opposite comparison) a b) }
 
-abbrev pub narrowed : Width → Comparison → AbstractValue → AbstractValue → Result Sides Cause
-narrowed w comparison = of_numbers (both_sides w comparison)
+abbrev pub narrowing : Width → Comparison → AbstractValue → AbstractValue → Result Sides Cause
+narrowing w comparison = of_numbers (both_sides w comparison)

@@ -10,20 +10,20 @@ use Rattle.bpf_isa.specs.declared.instruction.Extension.{Extension}
 use Rattle.bpf_isa.specs.declared.instruction.ByteOrder.{ByteOrder}
 use Rattle.bpf_isa.specs.declared.instruction.SwapBits.{SwapBits}
 use Rattle.bpf_isa.specs.Encoding.{extension_width}
-use Rattle.bpf_model.specs.Arithmetic.{negated, sign_extended, swapped}
-use Rattle.abstract_values.specs.declared.cause.Cause.{Cause}
-use Rattle.abstract_values.specs.declared.cause.Cause.TheVariants.{UnsetRegister, PointerUse, OutOfRange}
+use Rattle.bpf_model.specs.Arithmetic.{negate_number, move_signed_number, swap_number}
+use Rattle.bpf_model.specs.declared.cause.Cause.{Cause}
+use Rattle.bpf_model.specs.declared.cause.Cause.TheVariants.{UnsetRegister, PointerUse, OutOfRange}
 use Rattle.abstract_values.specs.declared.range.Range.{Range}
 use Rattle.abstract_values.specs.declared.value.AbstractValue.{AbstractValue}
 use Rattle.abstract_values.specs.declared.value.AbstractValue.TheVariants.{Unset, Number, Record, Stack}
 use Rattle.abstract_values.specs.Ranges.{range, constant, is_constant, everything, input, computed_range}
 
 -- the least value that says no more than either (the hull of two ranges)
-abbrev pub joined : AbstractValue → AbstractValue → AbstractValue
-joined (Number a b) (Number c d) = Number (min a c) (max b d)
-joined (Record a b) (Record c d) = Record (min a c) (max b d)
-joined (Stack a) (Stack b) = if int_eq a b then Stack a else Unset
-joined _ _ = Unset
+abbrev pub join_of : AbstractValue → AbstractValue → AbstractValue
+join_of (Number a b) (Number c d) = Number (min a c) (max b d)
+join_of (Record a b) (Record c d) = Record (min a c) (max b d)
+join_of (Stack a) (Stack b) = if int_eq a b then Stack a else Unset
+join_of _ _ = Unset
 
 abbrev pub number : Range → AbstractValue
 number r = Number r.lo r.hi
@@ -45,13 +45,13 @@ of_numbers f (Stack offset) Unset = Err UnsetRegister
 of_numbers f (Stack offset) b = Err PointerUse
 
 -- a move copies in 64 bits what is set; in 32 bits there is no pointer
-abbrev pub moved : Width → AbstractValue → Result AbstractValue Cause
-moved w Unset = Err UnsetRegister
-moved w (Number lo hi) = Ok (number (input w (range lo hi)))
-moved Bits64 (Record lo hi) = Ok (Record lo hi)
-moved Bits64 (Stack offset) = Ok (Stack offset)
-moved Bits32 (Record lo hi) = Err PointerUse
-moved Bits32 (Stack offset) = Err PointerUse
+abbrev pub move_result : Width → AbstractValue → Result AbstractValue Cause
+move_result w Unset = Err UnsetRegister
+move_result w (Number lo hi) = Ok (number (input w (range lo hi)))
+move_result Bits64 (Record lo hi) = Ok (Record lo hi)
+move_result Bits64 (Stack offset) = Ok (Stack offset)
+move_result Bits32 (Record lo hi) = Err PointerUse
+move_result Bits32 (Stack offset) = Err PointerUse
 
 -- how far a number may move a pointer, at least and at most: a constant counts as a signed number
 abbrev pub least_distance : Range → ℤ
@@ -79,46 +79,46 @@ stack_pointer offset =
     if int_le (negsuc 511) offset && int_le offset (pos 0) then Ok (Stack offset) else Err OutOfRange
 
 -- a stack pointer has one offset, so only a constant moves it
-abbrev pub stack_moved : Bool → ℤ → Result AbstractValue Cause
-stack_moved is_known offset = if is_known then stack_pointer offset else Err PointerUse
+abbrev pub stack_result : Bool → ℤ → Result AbstractValue Cause
+stack_result is_known offset = if is_known then stack_pointer offset else Err PointerUse
 
 -- the number that arithmetic on two numbers gives
 abbrev pub number_result : Width → Operation → Range → Range → AbstractValue
 number_result w operation a b = number (computed_range w operation a b)
 
 -- a sum in 64 bits, where the left side may be a pointer
-abbrev pub added : ℕ → AbstractValue → AbstractValue → Result AbstractValue Cause
-added record_length (Record lo hi) (Number c d) =
+abbrev pub sum_result : ℕ → AbstractValue → AbstractValue → Result AbstractValue Cause
+sum_result record_length (Record lo hi) (Number c d) =
     record_pointer record_length (pos lo +ℤ least_distance (range c d)) (pos hi +ℤ greatest_distance (range c d))
-added record_length (Stack offset) (Number c d) =
-    stack_moved (is_constant (range c d)) (offset +ℤ least_distance (range c d))
-added record_length a b = of_numbers (number_result Bits64 operations.Add) a b
+sum_result record_length (Stack offset) (Number c d) =
+    stack_result (is_constant (range c d)) (offset +ℤ least_distance (range c d))
+sum_result record_length a b = of_numbers (number_result Bits64 operations.Add) a b
 
 -- a difference in 64 bits, where the left side may be a pointer
-abbrev pub subtracted : ℕ → AbstractValue → AbstractValue → Result AbstractValue Cause
-subtracted record_length (Record lo hi) (Number c d) =
+abbrev pub difference_result : ℕ → AbstractValue → AbstractValue → Result AbstractValue Cause
+difference_result record_length (Record lo hi) (Number c d) =
     record_pointer record_length (pos lo -ℤ greatest_distance (range c d)) (pos hi -ℤ least_distance (range c d))
-subtracted record_length (Stack offset) (Number c d) =
-    stack_moved (is_constant (range c d)) (offset -ℤ least_distance (range c d))
-subtracted record_length a b = of_numbers (number_result Bits64 operations.Subtract) a b
+difference_result record_length (Stack offset) (Number c d) =
+    stack_result (is_constant (range c d)) (offset -ℤ least_distance (range c d))
+difference_result record_length a b = of_numbers (number_result Bits64 operations.Subtract) a b
 
 -- what an arithmetic instruction makes of its destination and its operand, in a record of this length
-abbrev pub arithmetic : Width → Operation → ℕ → AbstractValue → AbstractValue → Result AbstractValue Cause
-arithmetic w operations.Move record_length a b = moved w b
-arithmetic Bits64 operations.Add record_length a b = added record_length a b
-arithmetic Bits64 operations.Subtract record_length a b = subtracted record_length a b
-arithmetic w operation record_length a b = of_numbers (number_result w operation) a b
+abbrev pub alu_result : Width → Operation → ℕ → AbstractValue → AbstractValue → Result AbstractValue Cause
+alu_result w operations.Move record_length a b = move_result w b
+alu_result Bits64 operations.Add record_length a b = sum_result record_length a b
+alu_result Bits64 operations.Subtract record_length a b = difference_result record_length a b
+alu_result w operation record_length a b = of_numbers (number_result w operation) a b
 
 -- a function of one number is exact for a constant of the width, and else not known
 abbrev pub exact : Width → (ℕ → ℕ) → Range → AbstractValue
 exact w f r = number (if is_constant r then constant (f r.lo) else everything w)
 
-abbrev pub negation : Width → AbstractValue → Result AbstractValue Cause
-negation w = of_number (λ r. exact w (negated w) (input w r))
+abbrev pub negate_result : Width → AbstractValue → Result AbstractValue Cause
+negate_result w = of_number (λ r. exact w (negate_number w) (input w r))
 
-abbrev pub sign_extension : Extension → AbstractValue → Result AbstractValue Cause
-sign_extension e = of_number (λ r. exact (extension_width e) (sign_extended e) (input (extension_width e) r))
+abbrev pub move_signed_result : Extension → AbstractValue → Result AbstractValue Cause
+move_signed_result e = of_number (λ r. exact (extension_width e) (move_signed_number e) (input (extension_width e) r))
 
 -- a swap takes its input whole
 abbrev pub swap_result : ByteOrder → SwapBits → AbstractValue → Result AbstractValue Cause
-swap_result order bits = of_number (exact Bits64 (swapped order bits))
+swap_result order bits = of_number (exact Bits64 (swap_number order bits))

@@ -2,14 +2,14 @@
 ghost use Rattle.std.specs.Prelude.{◌≡◌};
 ghost use Rattle.bpf_isa.specs.declared.instruction.Width.TheVariants.{Bits64};
 ghost use Rattle.bpf_isa.specs.declared.instruction.Operation.TheVariants.{Add, Subtract};
-ghost use Rattle.abstract_values.specs.Values.{of_number, of_numbers, number, number_result, moved, added, subtracted, arithmetic, negation, sign_extension, swap_result};
+ghost use Rattle.abstract_values.specs.Values.{of_number, of_numbers, number, number_result, move_result, sum_result, difference_result, alu_result, negate_result, move_signed_result, swap_result};
 
-use crate::cause::Cause;
 use crate::pointer::{lower_record, lower_stack, raise_record, raise_stack};
 use crate::range::Range;
 use crate::range_rules::{all_numbers, compute_range, constant_range, input_range, is_one_number};
 use crate::value::AbstractValue;
 use bpf_isa::{ByteOrder, Extension, Operation, SwapBits, Width};
+use bpf_model::Cause;
 
 /// The range of a value that must be a number.
 pub(crate) fn number_of(value: AbstractValue) -> Result<Range, Cause>
@@ -58,7 +58,7 @@ fn compute(
 
 /// What a move copies.
 fn copy(width: Width, value: AbstractValue) -> Result<AbstractValue, Cause>
-    ensures { result ≡ moved width value }
+    ensures { result ≡ move_result width value }
 {
     match value {
         AbstractValue::Unset => Err(Cause::UnsetRegister),
@@ -76,7 +76,7 @@ fn add(
     left: AbstractValue,
     right: AbstractValue,
 ) -> Result<AbstractValue, Cause>
-    ensures { result ≡ added record_length left right }
+    ensures { result ≡ sum_result record_length left right }
 {
     if let AbstractValue::Number { lo: low, hi: high } = right {
         let range = Range { lo: low, hi: high };
@@ -95,7 +95,7 @@ fn subtract(
     left: AbstractValue,
     right: AbstractValue,
 ) -> Result<AbstractValue, Cause>
-    ensures { result ≡ subtracted record_length left right }
+    ensures { result ≡ difference_result record_length left right }
 {
     if let AbstractValue::Number { lo: low, hi: high } = right {
         let range = Range { lo: low, hi: high };
@@ -117,7 +117,7 @@ pub fn alu(
     destination: AbstractValue,
     operand: AbstractValue,
 ) -> Result<AbstractValue, Cause>
-    ensures { result ≡ arithmetic width operation record_length destination operand }
+    ensures { result ≡ alu_result width operation record_length destination operand }
 {
     match operation {
         Operation::Move => copy(width, operand),
@@ -135,7 +135,7 @@ pub fn alu(
 
 /// What a sign-extending move makes of its source.
 pub fn move_signed(extension: Extension, source: AbstractValue) -> Result<AbstractValue, Cause>
-    ensures { result ≡ sign_extension extension source }
+    ensures { result ≡ move_signed_result extension source }
 {
     let width = extension.width();
     let range = input_range(width, number_of(source)?);
@@ -147,7 +147,7 @@ pub fn move_signed(extension: Extension, source: AbstractValue) -> Result<Abstra
 
 /// What a negation makes of its destination.
 pub fn negate(width: Width, destination: AbstractValue) -> Result<AbstractValue, Cause>
-    ensures { result ≡ negation width destination }
+    ensures { result ≡ negate_result width destination }
 {
     let range = input_range(width, number_of(destination)?);
     if is_one_number(range) {

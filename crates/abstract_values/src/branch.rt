@@ -1,13 +1,13 @@
 //! What a branch tells of the two numbers that it compares (RFC 9669, section 4.3).
 ghost use Rattle.std.specs.Prelude.{◌≡◌, nat_lt};
-ghost use Rattle.abstract_values.specs.Narrowing.{opposite, meet, without, differing, above, not_below, exchanged, refined, order_limit, inhabited, nonempty, side, numbers, both_sides, narrowed};
+ghost use Rattle.abstract_values.specs.Narrowing.{opposite, meet, without, differing, above, not_below, exchange_of, refinement, order_limit, if_inhabited, nonempty, side, numbers, both_sides, narrowing};
 
 use crate::arithmetic::{numbers_of, value_of};
-use crate::cause::Cause;
 use crate::range::Range;
 use crate::range_rules::{greatest, is_one_number};
 use crate::value::AbstractValue;
 use bpf_isa::{Comparison, Width};
+use bpf_model::Cause;
 
 /// What is known of the two compared values on each side of a branch; `None` where no run goes on by
 /// that side.
@@ -40,7 +40,7 @@ fn negated_comparison(comparison: Comparison) -> Comparison
 
 /// A pair of ranges, unless one of them is empty.
 fn unless_empty(left: Range, right: Range) -> Option<(Range, Range)>
-    ensures { result ≡ inhabited (left, right) }
+    ensures { result ≡ if_inhabited (left, right) }
 {
     if left.lo <= left.hi && right.lo <= right.hi {
         Some((left, right))
@@ -51,7 +51,7 @@ fn unless_empty(left: Range, right: Range) -> Option<(Range, Range)>
 
 /// Two equal numbers.
 fn equal(left: Range, right: Range) -> Option<(Range, Range)>
-    ensures { result ≡ inhabited (meet left right, meet left right) }
+    ensures { result ≡ if_inhabited (meet left right, meet left right) }
 {
     let both = Range {
         lo: left.lo.max(right.lo),
@@ -96,7 +96,7 @@ fn remove_constant(range: Range, other: Range) -> Option<Range>
 
 /// Two different numbers.
 fn unequal(left: Range, right: Range) -> Option<(Range, Range)>
-    ensures { result ≡ inhabited (differing left right, differing right left) }
+    ensures { result ≡ if_inhabited (differing left right, differing right left) }
 {
     let first = remove_constant(left, right)?;
     let second = remove_constant(right, left)?;
@@ -105,7 +105,7 @@ fn unequal(left: Range, right: Range) -> Option<(Range, Range)>
 
 /// The first number above the second.
 fn greater(left: Range, right: Range) -> Option<(Range, Range)>
-    ensures { result ≡ inhabited (above left right) }
+    ensures { result ≡ if_inhabited (above left right) }
 {
     let least = right.lo.checked_add(1)?;
     let first = Range {
@@ -121,7 +121,7 @@ fn greater(left: Range, right: Range) -> Option<(Range, Range)>
 
 /// The first number not below the second.
 fn greater_or_equal(left: Range, right: Range) -> Option<(Range, Range)>
-    ensures { result ≡ inhabited (not_below left right) }
+    ensures { result ≡ if_inhabited (not_below left right) }
 {
     let first = Range {
         lo: left.lo.max(right.lo),
@@ -136,7 +136,7 @@ fn greater_or_equal(left: Range, right: Range) -> Option<(Range, Range)>
 
 /// The first number below the second.
 fn less(left: Range, right: Range) -> Option<(Range, Range)>
-    ensures { result ≡ inhabited (exchanged (above right left)) }
+    ensures { result ≡ if_inhabited (exchange_of (above right left)) }
 {
     let (first, second) = greater(right, left)?;
     Some((second, first))
@@ -144,7 +144,7 @@ fn less(left: Range, right: Range) -> Option<(Range, Range)>
 
 /// The first number not above the second.
 fn less_or_equal(left: Range, right: Range) -> Option<(Range, Range)>
-    ensures { result ≡ inhabited (exchanged (not_below right left)) }
+    ensures { result ≡ if_inhabited (exchange_of (not_below right left)) }
 {
     let (first, second) = greater_or_equal(right, left)?;
     Some((second, first))
@@ -152,7 +152,7 @@ fn less_or_equal(left: Range, right: Range) -> Option<(Range, Range)>
 
 /// What is known of two numbers for which a comparison holds that orders them as whole numbers.
 fn refine(comparison: Comparison, left: Range, right: Range) -> Option<(Range, Range)>
-    ensures { result ≡ inhabited (refined comparison left right) }
+    ensures { result ≡ if_inhabited (refinement comparison left right) }
 {
     match comparison {
         Comparison::Equal => equal(left, right),
@@ -229,7 +229,7 @@ pub fn narrow(
     left: AbstractValue,
     right: AbstractValue,
 ) -> Result<Sides, Cause>
-    ensures { result ≡ narrowed width comparison left right }
+    ensures { result ≡ narrowing width comparison left right }
 {
     let (left, right) = numbers_of(left, right)?;
     Ok(sides_of(width, comparison, left, right))

@@ -1,11 +1,11 @@
 ghost use Rattle.std.specs.Prelude.{◌≡◌};
-ghost use Rattle.abstract_values.specs.Values.{joined};
+ghost use Rattle.abstract_values.specs.Values.{join_of};
 
 use crate::value::AbstractValue;
 
 /// What is known where two ways meet: the least value that says no more than either.
 pub fn join(left: AbstractValue, right: AbstractValue) -> AbstractValue
-    ensures { result ≡ joined left right }
+    ensures { result ≡ join_of left right }
 {
     match left {
         AbstractValue::Unset => AbstractValue::Unset,

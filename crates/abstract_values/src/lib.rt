@@ -4,7 +4,6 @@
 
 mod arithmetic;
 mod branch;
-mod cause;
 mod joining;
 pub mod laws;
 mod pointer;
@@ -16,6 +15,5 @@ mod value;
 
 pub use arithmetic::{alu, move_signed, negate, swap};
 pub use branch::{Sides, narrow};
-pub use cause::Cause;
 pub use joining::join;
 pub use value::AbstractValue;

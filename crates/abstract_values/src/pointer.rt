@@ -1,12 +1,12 @@
 //! Pointers moved by numbers.
 ghost use Rattle.std.specs.Prelude.{◌≡◌, pos, ◌+ℤ◌, ◌-ℤ◌};
 ghost use Rattle.abstract_values.specs.Ranges.{is_constant};
-ghost use Rattle.abstract_values.specs.Values.{IsShort, least_distance, greatest_distance, is_place, record_pointer, stack_pointer, stack_moved};
+ghost use Rattle.abstract_values.specs.Values.{IsShort, least_distance, greatest_distance, is_place, record_pointer, stack_pointer, stack_result};
 
-use crate::cause::Cause;
 use crate::range::Range;
 use crate::range_rules::is_one_number;
 use crate::value::AbstractValue;
+use bpf_model::Cause;
 
 /// How far a number may move a pointer, at least and at most.
 fn distances(range: Range) -> (i128, i128)
@@ -63,7 +63,8 @@ pub(crate) fn raise_record(
     hi: u16,
     range: Range,
 ) -> Result<AbstractValue, Cause>
-    ensures { result ≡ record_pointer record_length (pos lo +ℤ least_distance range) (pos hi +ℤ greatest_distance range) }
+    ensures { result ≡ record_pointer record_length (pos lo +ℤ least_distance range)
+        (pos hi +ℤ greatest_distance range) }
 {
     let (least, greatest) = distances(range);
     point_into_record(
@@ -80,7 +81,8 @@ pub(crate) fn lower_record(
     hi: u16,
     range: Range,
 ) -> Result<AbstractValue, Cause>
-    ensures { result ≡ record_pointer record_length (pos lo -ℤ greatest_distance range) (pos hi -ℤ least_distance range) }
+    ensures { result ≡ record_pointer record_length (pos lo -ℤ greatest_distance range)
+        (pos hi -ℤ least_distance range) }
 {
     let (least, greatest) = distances(range);
     point_into_record(
@@ -92,7 +94,7 @@ pub(crate) fn lower_record(
 
 /// A stack pointer moved up by a number, which must be a constant.
 pub(crate) fn raise_stack(offset: i16, range: Range) -> Result<AbstractValue, Cause>
-    ensures { result ≡ stack_moved (is_constant range) (offset +ℤ least_distance range) }
+    ensures { result ≡ stack_result (is_constant range) (offset +ℤ least_distance range) }
 {
     if !is_one_number(range) {
         return Err(Cause::PointerUse);
@@ -103,7 +105,7 @@ pub(crate) fn raise_stack(offset: i16, range: Range) -> Result<AbstractValue, Ca
 
 /// A stack pointer moved down by a number, which must be a constant.
 pub(crate) fn lower_stack(offset: i16, range: Range) -> Result<AbstractValue, Cause>
-    ensures { result ≡ stack_moved (is_constant range) (offset -ℤ least_distance range) }
+    ensures { result ≡ stack_result (is_constant range) (offset -ℤ least_distance range) }
 {
     if !is_one_number(range) {
         return Err(Cause::PointerUse);

@@ -1,5 +1,6 @@
-use super::{AbstractValue, Cause, Sides, alu, join, move_signed, narrow, negate, swap};
+use super::{AbstractValue, Sides, alu, join, move_signed, narrow, negate, swap};
 use bpf_isa::{ByteOrder, Comparison, Extension, Operation, SwapBits, Width};
+use bpf_model::Cause;
 use std::test::Fail;
 
 const LENGTH: u16 = 40;

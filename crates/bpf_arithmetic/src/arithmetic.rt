@@ -1,5 +1,5 @@
 ghost use Rattle.std.specs.Prelude.{◌≡◌, ◌%◌, ◌^◌};
-ghost use Rattle.bpf_model.specs.Arithmetic.{calculated, negated, sign_extended, swapped};
+ghost use Rattle.bpf_model.specs.Arithmetic.{alu_number, negate_number, move_signed_number, swap_number};
 
 use crate::{long, short};
 use bpf_isa::{ByteOrder, Extension, Operation, SwapBits, Width};
@@ -14,7 +14,7 @@ pub fn low_half(x: u64) -> u32
 /// What an arithmetic instruction makes of its destination and its operand. Of 32 bits, the upper half
 /// of the result is zero.
 pub fn calculate(width: Width, operation: Operation, x: u64, y: u64) -> u64
-    ensures { result ≡ calculated width operation x y }
+    ensures { result ≡ alu_number width operation x y }
 {
     match width {
         Width::Bits32 => u64::from(short::compute(operation, low_half(x), low_half(y))),
@@ -24,7 +24,7 @@ pub fn calculate(width: Width, operation: Operation, x: u64, y: u64) -> u64
 
 /// The negative of a number, in a width.
 pub fn negate(width: Width, x: u64) -> u64
-    ensures { result ≡ negated width x }
+    ensures { result ≡ negate_number width x }
 {
     match width {
         Width::Bits32 => u64::from(low_half(x).wrapping_neg()),
@@ -34,7 +34,7 @@ pub fn negate(width: Width, x: u64) -> u64
 
 /// The low bits of a number, extended by their sign (RFC 9669, section 4.1).
 pub fn extend_sign(extension: Extension, x: u64) -> u64
-    ensures { result ≡ sign_extended extension x }
+    ensures { result ≡ move_signed_number extension x }
 {
     let byte = ((x & 0xff) as u8).cast_signed();
     let half = ((x & 0xffff) as u16).cast_signed();
@@ -49,7 +49,7 @@ pub fn extend_sign(extension: Extension, x: u64) -> u64
 
 /// The low bits of a number with their bytes reversed.
 fn reverse_bytes(bits: SwapBits, x: u64) -> u64
-    ensures { result ≡ swapped ByteOrder.Reversed bits x }
+    ensures { result ≡ swap_number ByteOrder.Reversed bits x }
 {
     match bits {
         SwapBits::Low16 => u64::from(((x & 0xffff) as u16).swap_bytes()),
@@ -60,7 +60,7 @@ fn reverse_bytes(bits: SwapBits, x: u64) -> u64
 
 /// The low bits of a number in a byte order (RFC 9669, section 4.2). Registers are little-endian.
 pub fn swap(order: ByteOrder, bits: SwapBits, x: u64) -> u64
-    ensures { result ≡ swapped order bits x }
+    ensures { result ≡ swap_number order bits x }
 {
     match order {
         ByteOrder::Little => keep_low(bits, x),
@@ -70,7 +70,7 @@ pub fn swap(order: ByteOrder, bits: SwapBits, x: u64) -> u64
 
 /// The low bits of a number.
 fn keep_low(bits: SwapBits, x: u64) -> u64
-    ensures { result ≡ swapped ByteOrder.Little bits x }
+    ensures { result ≡ swap_number ByteOrder.Little bits x }
 {
     match bits {
         SwapBits::Low16 => x & 0xffff,

@@ -1,13 +1,13 @@
 //! Arithmetic and comparison in 32 bits.
 ghost use Rattle.std.specs.Prelude.{◌≡◌};
 ghost use Rattle.bpf_isa.specs.declared.instruction.Width.TheVariants.{Bits32};
-ghost use Rattle.bpf_model.specs.Arithmetic.{computed, compared};
+ghost use Rattle.bpf_model.specs.Arithmetic.{operation_number, comparison_holds};
 
 use bpf_isa::{Comparison, Operation};
 
 /// What an operation makes of two numbers of 32 bits (RFC 9669, section 4.1).
 pub fn compute(operation: Operation, x: u32, y: u32) -> u32
-    ensures { result ≡ computed Bits32 operation x y }
+    ensures { result ≡ operation_number Bits32 operation x y }
 {
     match operation {
         Operation::Add => x.wrapping_add(y),
@@ -29,7 +29,7 @@ pub fn compute(operation: Operation, x: u32, y: u32) -> u32
 
 /// The quotient of signed numbers of 32 bits, cut towards zero; by zero it is 0.
 fn divide(x: u32, y: u32) -> u32
-    ensures { result ≡ computed Bits32 Operation.DivideSigned x y }
+    ensures { result ≡ operation_number Bits32 Operation.DivideSigned x y }
 {
     if y == 0 {
         return 0;
@@ -40,7 +40,7 @@ fn divide(x: u32, y: u32) -> u32
 
 /// The remainder of signed numbers of 32 bits, with the sign of the dividend; by zero it is that.
 fn remainder(x: u32, y: u32) -> u32
-    ensures { result ≡ computed Bits32 Operation.ModuloSigned x y }
+    ensures { result ≡ operation_number Bits32 Operation.ModuloSigned x y }
 {
     if y == 0 {
         return x;
@@ -51,7 +51,7 @@ fn remainder(x: u32, y: u32) -> u32
 
 /// Whether a comparison holds of two numbers of 32 bits.
 pub fn compare(comparison: Comparison, x: u32, y: u32) -> bool
-    ensures { result ≡ compared Bits32 comparison x y }
+    ensures { result ≡ comparison_holds Bits32 comparison x y }
 {
     match comparison {
         Comparison::Equal => x == y,

@@ -6,7 +6,7 @@ use Rattle.std.proofs.lemmas.Bool.Decides.{nat_tests}
 use Rattle.std.proofs.lemmas.List.{drop_all, take-append-drop, drop-drop}
 use Rattle.std.proofs.lemmas.List.Folds.{list_any-append}
 use Rattle.bpf_isa.specs.Encoding.{spelling, units_of}
-use Rattle.bpf_asm.specs.declared.errors.Cause.{Cause}
+use Rattle.bpf_asm.specs.declared.errors.TextCause.{TextCause}
 use Rattle.bpf_asm.specs.declared.errors.AssembleError.{AssembleError}
 use Rattle.bpf_asm.specs.declared.placed.Placed.{Placed}
 use Rattle.bpf_asm.specs.declared.placed.Target.{Target}
@@ -75,7 +75,7 @@ code_labelled items bytes pc m true rest code line =
     simp next
 
 code_plain : (items : List Item) (pc line : ℕ) (i : Item) (rest : List Item) (front behind : List ℕ) → item_bytes items pc i ≡ Ok front → code_from items (line + 1) (pc + item_units i) rest ≡ Ok behind → code_from items line pc (i ∷ rest) ≡ Ok (front ++ behind)
-code_plain items pc line i rest front behind here next = ap (λ (r : Result (List ℕ) Cause). bytes_first line r (code_from items (line + 1) (pc + item_units i) rest)) here ∙ ap (bytes_first line (Ok front)) next
+code_plain items pc line i rest front behind here next = ap (λ (r : Result (List ℕ) TextCause). bytes_first line r (code_from items (line + 1) (pc + item_units i) rest)) here ∙ ap (bytes_first line (Ok front)) next
 
 abbrev some_bytes : List ℕ → Result (List ℕ) AssembleError
 some_bytes bytes = Ok bytes

@@ -12,7 +12,7 @@ use Rattle.bpf_asm.specs.declared.item.Jumping.TheVariants as jumpings
 use Rattle.bpf_asm.specs.declared.placed.Target.{Target}
 use Rattle.bpf_asm.specs.declared.placed.Target.TheVariants.{At}
 use Rattle.bpf_asm.specs.Statements.{Item}
-use Rattle.bpf_asm.specs.Assembly.{place, distance, jump_to, resolved, spelled, item_bytes}
+use Rattle.bpf_asm.specs.Assembly.{place, distance, jump_to, jump_instruction, spelling_of, item_bytes}
 use Rattle.bpf_asm.specs.Writing.{label_text, distance_of, landing, target_of, target_text}
 use Rattle.bpf_asm.proofs.Instructions.{item_for}
 
@@ -51,10 +51,10 @@ IsResolved all pc (Some n) = IsLabelled all pc n
 found : (all : List Item) (pc : ℕ) (n : ℤ) (at : IsLabelled all pc n) → place (target_text (landing (pos (pc + 1) +ℤ n))) all ≡ Some at.unit
 found all pc n at = ap (λ (t : Target). place (target_text t) all) at.lands ∙ at.stands
 
-goes_back : (all : List Item) (pc : ℕ) (n : ℤ) (jumping : Jumping) (i : Instruction) (at : IsLabelled all pc n) → jump_to jumping (pc + 1) at.unit ≡ Some i → spelled (resolved jumping (pc + 1) (place (target_text (landing (pos (pc + 1) +ℤ n))) all)) ≡ Ok (spelling i)
+goes_back : (all : List Item) (pc : ℕ) (n : ℤ) (jumping : Jumping) (i : Instruction) (at : IsLabelled all pc n) → jump_to jumping (pc + 1) at.unit ≡ Some i → spelling_of (jump_instruction jumping (pc + 1) (place (target_text (landing (pos (pc + 1) +ℤ n))) all)) ≡ Ok (spelling i)
 goes_back all pc n jumping i at jumps =
     let here = found all pc n at in
-    ap (λ (o : Option ℕ). spelled (resolved jumping (pc + 1) o)) here ∙ simp jumps
+    ap (λ (o : Option ℕ). spelling_of (jump_instruction jumping (pc + 1) o)) here ∙ simp jumps
 
 near_again : (all : List Item) (pc : ℕ) (n : ℤ) (at : IsLabelled all pc n) → pc < 4096 → distance (2 ^ 15) (pc + 1) at.unit ≡ Some n
 near_again all pc n at small = distance_again (2 ^ 15) (pc + 1) at.unit n (omega arith) (omega (arith, at.small)) (landed (pos (pc + 1) +ℤ n) at.unit at.lands)

@@ -6,7 +6,7 @@ use Rattle.std.proofs.lemmas.Bool.{cases_lt}
 use Rattle.std.specs.Borrow.{Bor}
 use Rattle.std.proofs.lemmas.Bool.Decides.{nat_tests}
 use Rattle.bpf_asm.specs.Said.{parts_behind}
-use Rattle.bpf_asm.specs.Lexing.{is_empty, arguments, Argument, argument, trimmed, all_arguments, with_argument, parts, gathered, More}
+use Rattle.bpf_asm.specs.Lexing.{is_empty, arguments, Argument, argument, without_blanks, all_arguments, with_argument, parts, argument_list, More}
 use Rattle.bpf_asm.proofs.Parts.{split_none, split_first}
 
 with_some : (first : Option Argument) (rest : Option (List Argument)) → with_argument first rest ≢ Some []
@@ -15,7 +15,7 @@ with_some (Some a) None = λ e. cc
 with_some (Some a) (Some others) = λ e. cc
 
 all_some : (first : List ℕ) (others : List (List ℕ)) (texts : List (List ℕ)) → texts ≡ first ∷ others → all_arguments texts ≢ Some []
-all_some first others texts is = λ e. with_some (argument (trimmed first)) (all_arguments others) (sym (ap all_arguments is) ∙ e)
+all_some first others texts is = λ e. with_some (argument (without_blanks first)) (all_arguments others) (sym (ap all_arguments is) ∙ e)
 
 -- a text has a part, so it has an argument where it has any
 pub never_empty : (text : List ℕ) → all_arguments (parts 44 text) ≢ Some []
@@ -24,19 +24,19 @@ never_empty text = elim (cases_lt (position_or_len (λ (b : ℕ). b == 44) text)
   | inr none ↦ all_some text [] (parts 44 text) (split_none (λ (b : ℕ). b == 44) text none)
 ]
 
-gathered_more : (a b c : Argument) (rest : Option (List Argument)) → is_some rest ≡ true → rest ≢ Some [] → option_map gathered (with_argument (Some a) (with_argument (Some b) (with_argument (Some c) rest))) ≡ Some More
+gathered_more : (a b c : Argument) (rest : Option (List Argument)) → is_some rest ≡ true → rest ≢ Some [] → option_map argument_list (with_argument (Some a) (with_argument (Some b) (with_argument (Some c) rest))) ≡ Some More
 gathered_more a b c None some more = absurd (cc)
 gathered_more a b c (Some []) some more = absurd (more refl)
 gathered_more a b c (Some (d ∷ others)) some more = refl
 
-gathered_none : (a b c : Argument) (rest : Option (List Argument)) → is_some rest ≡ false → option_map gathered (with_argument (Some a) (with_argument (Some b) (with_argument (Some c) rest))) ≡ None
+gathered_none : (a b c : Argument) (rest : Option (List Argument)) → is_some rest ≡ false → option_map argument_list (with_argument (Some a) (with_argument (Some b) (with_argument (Some c) rest))) ≡ None
 gathered_none a b c None none = refl
 gathered_none a b c (Some others) none = absurd (cc)
 
-pub four : (a b c : Argument) (text : List ℕ) → is_some (all_arguments (parts 44 text)) ≡ true → option_map gathered (with_argument (Some a) (with_argument (Some b) (with_argument (Some c) (all_arguments (parts 44 text))))) ≡ Some More
+pub four : (a b c : Argument) (text : List ℕ) → is_some (all_arguments (parts 44 text)) ≡ true → option_map argument_list (with_argument (Some a) (with_argument (Some b) (with_argument (Some c) (all_arguments (parts 44 text))))) ≡ Some More
 four a b c text some = gathered_more a b c (all_arguments (parts 44 text)) some (never_empty text)
 
-pub not_four : (a b c : Argument) (text : List ℕ) → is_some (all_arguments (parts 44 text)) ≡ false → option_map gathered (with_argument (Some a) (with_argument (Some b) (with_argument (Some c) (all_arguments (parts 44 text))))) ≡ None
+pub not_four : (a b c : Argument) (text : List ℕ) → is_some (all_arguments (parts 44 text)) ≡ false → option_map argument_list (with_argument (Some a) (with_argument (Some b) (with_argument (Some c) (all_arguments (parts 44 text))))) ≡ None
 not_four a b c text none = gathered_none a b c (all_arguments (parts 44 text)) none
 
 some_text : (text : List ℕ) (none : Bool) → none ≡ (length text == 0) → none ≡ false → is_empty text ≡ false
@@ -50,4 +50,4 @@ behind text a q r first is = first ∙ ap (λ (o : Option (Bor (List ℕ))). wit
 pub arguments_more : (text : List ℕ) (none : Bool) (a b c : Argument) (q q' q'' : Option (Bor (List ℕ))) (r r' r'' : Bor (List ℕ)) → none ≡ (length text == 0) → none ≡ false → all_arguments (parts 44 text) ≡ with_argument (Some a) (all_arguments (parts_behind 44 q)) → q ≡ Some r → all_arguments (parts 44 r.now) ≡ with_argument (Some b) (all_arguments (parts_behind 44 q')) → q' ≡ Some r' → all_arguments (parts 44 r'.now) ≡ with_argument (Some c) (all_arguments (parts_behind 44 q'')) → q'' ≡ Some r'' → is_some (all_arguments (parts 44 r''.now)) ≡ true → Some More ≡ arguments text
 arguments_more text none a b c q q' q'' r r' r'' empty some first is second is' third is'' all =
     let whole = behind text a q r first is ∙ ap (with_argument (Some a)) (behind r.now b q' r' second is') ∙ ap (λ (o : Option (List Argument)). with_argument (Some a) (with_argument (Some b) o)) (behind r'.now c q'' r'' third is'') in
-    sym (simp (some_text text none empty some) (ap (option_map gathered) whole ∙ four a b c r''.now all))
+    sym (simp (some_text text none empty some) (ap (option_map argument_list) whole ∙ four a b c r''.now all))

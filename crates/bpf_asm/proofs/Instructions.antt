@@ -28,7 +28,7 @@ use Rattle.bpf_asm.specs.declared.word.Word.{Word}
 use Rattle.bpf_asm.specs.declared.word.Word.TheVariants as words
 use Rattle.bpf_asm.specs.declared.item.Jumping.TheVariants as jumpings
 use Rattle.bpf_asm.specs.declared.placed.Target.{Target}
-use Rattle.bpf_asm.specs.Lexing.{is_word, Argument, Held, Counted, Addressed, Named, gathered}
+use Rattle.bpf_asm.specs.Lexing.{is_word, Argument, Held, Counted, Addressed, Named, argument_list}
 use Rattle.bpf_asm.specs.Words.{word}
 use Rattle.bpf_asm.specs.Statements.{Item, Plain, Goes, item, statement}
 use Rattle.bpf_asm.specs.Writing.{operation_word, comparison_word, width_mark, extension_word, order_word, swap_mark, word_text, operand_text, distance_of, target_of, target_text, operand_texts, statement_text}
@@ -44,68 +44,68 @@ pub record IsWordOf (text : List ℕ) (k : Word) : Type 0 where
   pub is : is_word text ≡ true
   pub known : word text ≡ Some k
 
-short_operation : (o : Operation) → IsWordOf (operation_word o ++ width_mark Bits32) (words.Arithmetic Bits32 o)
+short_operation : (o : Operation) → IsWordOf (operation_word o ++ width_mark Bits32) (words.Alu Bits32 o)
 short_operation Add = record { is = refl; known = refl }
 short_operation _ = record { is = refl; known = refl }
 
-long_operation : (o : Operation) → IsWordOf (operation_word o ++ width_mark Bits64) (words.Arithmetic Bits64 o)
+long_operation : (o : Operation) → IsWordOf (operation_word o ++ width_mark Bits64) (words.Alu Bits64 o)
 long_operation Add = record { is = refl; known = refl }
 long_operation _ = record { is = refl; known = refl }
 
-operation_read : (w : Width) (o : Operation) → IsWordOf (operation_word o ++ width_mark w) (words.Arithmetic w o)
+operation_read : (w : Width) (o : Operation) → IsWordOf (operation_word o ++ width_mark w) (words.Alu w o)
 operation_read Bits32 o = short_operation o
 operation_read Bits64 o = long_operation o
 
-short_comparison : (c : Comparison) → IsWordOf (comparison_word c ++ width_mark Bits32) (words.Branching Bits32 c)
+short_comparison : (c : Comparison) → IsWordOf (comparison_word c ++ width_mark Bits32) (words.Branch Bits32 c)
 short_comparison Equal = record { is = refl; known = refl }
 short_comparison _ = record { is = refl; known = refl }
 
-long_comparison : (c : Comparison) → IsWordOf (comparison_word c ++ width_mark Bits64) (words.Branching Bits64 c)
+long_comparison : (c : Comparison) → IsWordOf (comparison_word c ++ width_mark Bits64) (words.Branch Bits64 c)
 long_comparison Equal = record { is = refl; known = refl }
 long_comparison _ = record { is = refl; known = refl }
 
-comparison_read : (w : Width) (c : Comparison) → IsWordOf (comparison_word c ++ width_mark w) (words.Branching w c)
+comparison_read : (w : Width) (c : Comparison) → IsWordOf (comparison_word c ++ width_mark w) (words.Branch w c)
 comparison_read Bits32 c = short_comparison c
 comparison_read Bits64 c = long_comparison c
 
-extension_read : (e : Extension) → IsWordOf (extension_word e) (words.Extend e)
+extension_read : (e : Extension) → IsWordOf (extension_word e) (words.MoveSigned e)
 extension_read From8To32 = record { is = refl; known = refl }
 extension_read _ = record { is = refl; known = refl }
 
-little_read : (bits : SwapBits) → IsWordOf (order_word Little ++ swap_mark bits) (words.Swapping Little bits)
+little_read : (bits : SwapBits) → IsWordOf (order_word Little ++ swap_mark bits) (words.Swap Little bits)
 little_read Low16 = record { is = refl; known = refl }
 little_read _ = record { is = refl; known = refl }
 
-big_read : (bits : SwapBits) → IsWordOf (order_word Big ++ swap_mark bits) (words.Swapping Big bits)
+big_read : (bits : SwapBits) → IsWordOf (order_word Big ++ swap_mark bits) (words.Swap Big bits)
 big_read Low16 = record { is = refl; known = refl }
 big_read _ = record { is = refl; known = refl }
 
-reversed_read : (bits : SwapBits) → IsWordOf (order_word Reversed ++ swap_mark bits) (words.Swapping Reversed bits)
+reversed_read : (bits : SwapBits) → IsWordOf (order_word Reversed ++ swap_mark bits) (words.Swap Reversed bits)
 reversed_read Low16 = record { is = refl; known = refl }
 reversed_read _ = record { is = refl; known = refl }
 
-swap_read : (order : ByteOrder) (bits : SwapBits) → IsWordOf (order_word order ++ swap_mark bits) (words.Swapping order bits)
+swap_read : (order : ByteOrder) (bits : SwapBits) → IsWordOf (order_word order ++ swap_mark bits) (words.Swap order bits)
 swap_read Little bits = little_read bits
 swap_read Big bits = big_read bits
 swap_read Reversed bits = reversed_read bits
 
 -- the word of an instruction
 abbrev pub word_for : Instruction → Word
-word_for (Alu width operation destination right) = words.Arithmetic width operation
-word_for (MoveSigned extension destination source) = words.Extend extension
-word_for (Negate width destination) = words.Negation width
-word_for (Swap order bits destination) = words.Swapping order bits
+word_for (Alu width operation destination right) = words.Alu width operation
+word_for (MoveSigned extension destination source) = words.MoveSigned extension
+word_for (Negate width destination) = words.Negate width
+word_for (Swap order bits destination) = words.Swap order bits
 word_for (Jump (distances.Near distance)) = words.JumpNear
 word_for (Jump (distances.Far distance)) = words.JumpFar
-word_for (Branch width comparison left right distance) = words.Branching width comparison
-word_for (CallHelper number) = words.HelperCall
-word_for (CallLocal distance) = words.LocalCall
-word_for Exit = words.Return
-word_for (Load size destination base offset) = words.Loading size
-word_for (LoadSigned size destination base offset) = words.LoadingSigned size
-word_for (Store size base offset immediate) = words.Storing size
-word_for (StoreRegister size base offset source) = words.StoringRegister size
-word_for (Wide destination value) = words.WideLoad
+word_for (Branch width comparison left right distance) = words.Branch width comparison
+word_for (CallHelper number) = words.CallHelper
+word_for (CallLocal distance) = words.CallLocal
+word_for Exit = words.Exit
+word_for (Load size destination base offset) = words.Load size
+word_for (LoadSigned size destination base offset) = words.LoadSigned size
+word_for (Store size base offset immediate) = words.Store size
+word_for (StoreRegister size base offset source) = words.StoreRegister size
+word_for (Wide destination value) = words.Wide
 
 word_read : (i : Instruction) → IsWordOf (word_text i) (word_for i)
 word_read (Alu width operation destination right) = operation_read width operation
@@ -121,22 +121,22 @@ word_read (CallLocal distance) = record { is = refl; known = refl }
 word_read Exit = record { is = refl; known = refl }
 word_read (Load size destination base offset) = load_read size
   where
-    load_read : (size : Size) → IsWordOf (word_text (Load size destination base offset)) (words.Loading size)
+    load_read : (size : Size) → IsWordOf (word_text (Load size destination base offset)) (words.Load size)
     load_read Byte = record { is = refl; known = refl }
     load_read _ = record { is = refl; known = refl }
 word_read (LoadSigned size destination base offset) = load_read size
   where
-    load_read : (size : SignedSize) → IsWordOf (word_text (LoadSigned size destination base offset)) (words.LoadingSigned size)
+    load_read : (size : SignedSize) → IsWordOf (word_text (LoadSigned size destination base offset)) (words.LoadSigned size)
     load_read SignedByte = record { is = refl; known = refl }
     load_read _ = record { is = refl; known = refl }
 word_read (Store size base offset immediate) = store_read size
   where
-    store_read : (size : Size) → IsWordOf (word_text (Store size base offset immediate)) (words.Storing size)
+    store_read : (size : Size) → IsWordOf (word_text (Store size base offset immediate)) (words.Store size)
     store_read Byte = record { is = refl; known = refl }
     store_read _ = record { is = refl; known = refl }
 word_read (StoreRegister size base offset source) = store_read size
   where
-    store_read : (size : Size) → IsWordOf (word_text (StoreRegister size base offset source)) (words.StoringRegister size)
+    store_read : (size : Size) → IsWordOf (word_text (StoreRegister size base offset source)) (words.StoreRegister size)
     store_read Byte = record { is = refl; known = refl }
     store_read _ = record { is = refl; known = refl }
 word_read (Wide destination value) = record { is = refl; known = refl }
@@ -213,7 +213,7 @@ item_for (Store size base offset immediate) target = Plain (Store size base offs
 item_for (StoreRegister size base offset source) target = Plain (StoreRegister size base offset source)
 item_for (Wide destination value) target = Plain (Wide destination value)
 
-statement_is : (i : Instruction) (target : Target) → InstructionFits i → statement (word_for i) (gathered (arguments_for i target)) ≡ Ok (item_for i target)
+statement_is : (i : Instruction) (target : Target) → InstructionFits i → statement (word_for i) (argument_list (arguments_for i target)) ≡ Ok (item_for i target)
 statement_is (Alu width operation destination (Immediate n)) target fits = simp (immediate_again n fits)
 statement_is (Alu width operation destination (Source r)) target fits = refl
 statement_is (MoveSigned extension destination source) target fits = refl

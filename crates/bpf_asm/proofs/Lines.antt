@@ -4,11 +4,11 @@ use Rattle.std.specs.Prelude.{nat_lt, Option, Some, None, Result, Ok, Err, if◌
 use Rattle.std.specs.Str.{bytes_eq}
 use Rattle.std.proofs.lemmas.Bool.{cases_Bool}
 use Rattle.std.proofs.lemmas.Slice.Eq.{bytes_eq-Decides}
-use Rattle.bpf_asm.specs.declared.errors.Cause.{Cause}
-use Rattle.bpf_asm.specs.declared.errors.Cause.TheVariants.{TooLong, DoubleLabel}
+use Rattle.bpf_asm.specs.declared.errors.TextCause.{TextCause}
+use Rattle.bpf_asm.specs.declared.errors.TextCause.TheVariants.{TooLong, DoubleLabel}
 use Rattle.bpf_asm.specs.Lexing.{same_bytes}
 use Rattle.bpf_asm.specs.Statements.{Item, Labelled}
-use Rattle.bpf_asm.specs.Assembly.{item_units, units, is_label, place_from, place, fitting, admitted}
+use Rattle.bpf_asm.specs.Assembly.{item_units, units, is_label, place_from, place, fitting, admission}
 use Rattle.bpf_asm.specs.Said.{IsRead}
 use Rattle.bpf_asm.proofs.Bytes.{same_bytes-pointwise}
 
@@ -69,10 +69,10 @@ read_label before name n places after none new read = record {
 
 -- ---- faults
 
-pub label_new : (before : List Item) (name : List ℕ) → place name before ≡ None → admitted before (Labelled name) ≡ Ok (Labelled name)
+pub label_new : (before : List Item) (name : List ℕ) → place name before ≡ None → admission before (Labelled name) ≡ Ok (Labelled name)
 label_new before name none = simp none
 
-pub label_old : (before : List Item) (name : List ℕ) (found : Option ℕ) → found ≡ place name before → is_some found ≡ true → admitted before (Labelled name) ≡ Err DoubleLabel
+pub label_old : (before : List Item) (name : List ℕ) (found : Option ℕ) → found ≡ place name before → is_some found ≡ true → admission before (Labelled name) ≡ Err DoubleLabel
 label_old before name None is some = absurd (cc)
 label_old before name (Some n) is some = simp (sym is)
 
@@ -80,10 +80,10 @@ pub some_none : (found : Option ℕ) → is_some found ≡ false → found ≡ N
 some_none None none = refl
 some_none (Some n) none = absurd (cc)
 
-abbrev ok_units : ℕ → Result ℕ Cause
+abbrev ok_units : ℕ → Result ℕ TextCause
 ok_units n = Ok n
 
-abbrev no_units : Cause → Result ℕ Cause
+abbrev no_units : TextCause → Result ℕ TextCause
 no_units cause = Err cause
 
 pub fits : (before : List Item) (i : Item) (n m : ℕ) → n ≡ units before → (if nat_lt 4096 (n + item_units i) then Err TooLong else Ok (n + item_units i)) ≡ Ok m → (fitting before i ≡ Ok i) × (m ≡ n + item_units i)
@@ -96,7 +96,7 @@ fits before i n m total is = elim (cases_Bool (nat_lt 4096 (n + item_units i))) 
       (simp same, more)
 ]
 
-pub fits_not : (before : List Item) (i : Item) (n : ℕ) (cause : Cause) → n ≡ units before → (if nat_lt 4096 (n + item_units i) then Err TooLong else Ok (n + item_units i)) ≡ Err cause → (fitting before i ≡ Err cause) × (cause ≡ TooLong)
+pub fits_not : (before : List Item) (i : Item) (n : ℕ) (cause : TextCause) → n ≡ units before → (if nat_lt 4096 (n + item_units i) then Err TooLong else Ok (n + item_units i)) ≡ Err cause → (fitting before i ≡ Err cause) × (cause ≡ TooLong)
 fits_not before i n cause total is = elim (cases_Bool (nat_lt 4096 (n + item_units i))) [
   | inl long ↦
       let e : no_units TooLong ≡ no_units cause = (simp long at is) in

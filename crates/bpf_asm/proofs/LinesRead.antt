@@ -11,7 +11,7 @@ use Rattle.bpf_asm.specs.declared.errors.AssembleError.{AssembleError}
 use Rattle.bpf_asm.specs.declared.placed.Placed.{Placed}
 use Rattle.bpf_asm.specs.declared.placed.Target.{Target}
 use Rattle.bpf_asm.specs.Statements.{Item, Labelled, item}
-use Rattle.bpf_asm.specs.Assembly.{item_units, units, place, fitting, admitted, checked, items_from}
+use Rattle.bpf_asm.specs.Assembly.{item_units, units, place, fitting, admission, reading_admission, items_from}
 use Rattle.bpf_asm.specs.Writing.{label_text, statement_text}
 use Rattle.bpf_asm.specs.Listing.{is_target, target}
 use Rattle.bpf_asm.specs.Laws.{StandFrom}
@@ -33,7 +33,7 @@ Unplaced before pc = (k : ℕ) → pc ≤ k → k < 2 ^ 64 → place (label_text
 label_read : (before : List Item) (m : Bool) (k : ℕ) (lines : List (List ℕ)) → k < 2 ^ 64 → place (label_text k) before ≡ None → items_from before (label_first m k lines) ≡ items_from (before ++ labelled m k []) lines
 label_read before false k lines small none = ap (λ (x : List Item). items_from x lines) (sym (append-nil before))
 label_read before true k lines small none =
-    read_one before (label_text k ++ (58 ∷ [])) lines (Labelled (label_text k)) (ap (checked before) (item_label (label_text k) (label_is_name k small)) ∙ label_new before (label_text k) none)
+    read_one before (label_text k ++ (58 ∷ [])) lines (Labelled (label_text k)) (ap (reading_admission before) (item_label (label_text k) (label_is_name k small)) ∙ label_new before (label_text k) none)
 
 label_units : (before : List Item) (m : Bool) (k : ℕ) → units (before ++ labelled m k []) ≡ units before
 label_units before false k = ap units (append-nil before)
@@ -50,7 +50,7 @@ fitting_is before i fits =
     let small : nat_lt 4096 (units before + item_units i) ≡ false = grind (arith, nat_tests) in
     simp small
 
-admitted_is : (before : List Item) (i : Instruction) (t : Target) → admitted before (item_for i t) ≡ fitting before (item_for i t)
+admitted_is : (before : List Item) (i : Instruction) (t : Target) → admission before (item_for i t) ≡ fitting before (item_for i t)
 admitted_is before (Jump (distances.Near distance)) t = refl
 admitted_is before (Jump (distances.Far distance)) t = refl
 admitted_is before (Alu width operation destination right) t = refl
@@ -58,7 +58,7 @@ admitted_is before _ t = refl
 
 statement_read : (before : List Item) (line : List ℕ) (lines : List (List ℕ)) (i : Instruction) (t : Target) → item line ≡ Ok (item_for i t) → units before + units_of i ≤ 4096 → items_from before (line ∷ lines) ≡ items_from (before ++ (item_for i t ∷ [])) lines
 statement_read before line lines i t says fits =
-    read_one before line lines (item_for i t) (ap (checked before) says ∙ admitted_is before i t ∙ fitting_is before (item_for i t) (omega (arith, units_for i t)))
+    read_one before line lines (item_for i t) (ap (reading_admission before) says ∙ admitted_is before i t ∙ fitting_is before (item_for i t) (omega (arith, units_for i t)))
 
 -- ---- all lines
 

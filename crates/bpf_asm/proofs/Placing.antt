@@ -6,7 +6,7 @@ use Rattle.bpf_isa.specs.declared.instruction.Instruction.{Instruction}
 use Rattle.bpf_isa.specs.declared.decode_error.DecodeError.{DecodeError}
 use Rattle.bpf_isa.specs.declared.instruction.Instruction.TheVariants.{Wide}
 use Rattle.bpf_isa.specs.Encoding.{units_of}
-use Rattle.bpf_isa.specs.Reading.{decoded, units_in}
+use Rattle.bpf_isa.specs.Reading.{decoding, units_in}
 use Rattle.bpf_asm.specs.declared.placed.Placed.{Placed}
 use Rattle.bpf_asm.specs.declared.errors.DisassembleError.{DisassembleError}
 use Rattle.bpf_asm.specs.declared.errors.DisassembleError.TheVariants.{BadCode}
@@ -23,15 +23,15 @@ after_first placed pc i units (Ok others) = ap (λ (x : List Placed). Ok x) (sym
 after_first placed pc i units (Err e) = refl
 
 -- before the code's end stands an instruction or none
-from_more : (most : ℕ) (code : List ℕ) (pc : ℕ) → 8 * pc < length code → 0 < most → placed_from most code pc ≡ placed_first pc (decoded code pc) (placed_from (most - 1) code (pc + units_in (decoded code pc)))
+from_more : (most : ℕ) (code : List ℕ) (pc : ℕ) → 8 * pc < length code → 0 < most → placed_from most code pc ≡ placed_first pc (decoding code pc) (placed_from (most - 1) code (pc + units_in (decoding code pc)))
 from_more zero code pc inside some = absurd (omega arith)
 from_more (suc most) code pc inside some = grind (arith, nat_tests)
 
-pub after_one : (placed : List Placed) (most : ℕ) (code : List ℕ) (pc : ℕ) (i : Instruction) (units : ℕ) → 8 * pc < length code → 0 < most → decoded code pc ≡ Ok (i, units) → after placed (placed_from most code pc) ≡ after (placed ++ (record { pc = pc; instruction = i } ∷ [])) (placed_from (most - 1) code (pc + units))
+pub after_one : (placed : List Placed) (most : ℕ) (code : List ℕ) (pc : ℕ) (i : Instruction) (units : ℕ) → 8 * pc < length code → 0 < most → decoding code pc ≡ Ok (i, units) → after placed (placed_from most code pc) ≡ after (placed ++ (record { pc = pc; instruction = i } ∷ [])) (placed_from (most - 1) code (pc + units))
 after_one placed most code pc i units inside some is =
     rw (from_more most code pc inside some, is) (after_first placed pc i units (placed_from (most - 1) code (pc + units)))
 
-pub after_bad : (placed : List Placed) (most : ℕ) (code : List ℕ) (pc : ℕ) (e : DecodeError) → 8 * pc < length code → 0 < most → decoded code pc ≡ Err e → after placed (placed_from most code pc) ≡ Err (BadCode pc)
+pub after_bad : (placed : List Placed) (most : ℕ) (code : List ℕ) (pc : ℕ) (e : DecodeError) → 8 * pc < length code → 0 < most → decoding code pc ≡ Err e → after placed (placed_from most code pc) ≡ Err (BadCode pc)
 after_bad placed most code pc e inside some is = rw (from_more most code pc inside some, is) refl
 
 pub after_end : (placed : List Placed) (most : ℕ) (code : List ℕ) (pc : ℕ) → length code ≤ 8 * pc → after placed (placed_from most code pc) ≡ after placed (Ok [])

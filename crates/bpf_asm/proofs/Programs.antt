@@ -7,22 +7,22 @@ use Rattle.std.proofs.lemmas.Bool.Decides.{nat_tests}
 use Rattle.bpf_isa.specs.declared.instruction.Instruction.{Instruction}
 use Rattle.bpf_isa.specs.declared.decode_error.DecodeError.{DecodeError}
 use Rattle.bpf_isa.specs.Encoding.{IsCodeAt, units_of}
-use Rattle.bpf_isa.specs.Reading.{decoded, units_in}
+use Rattle.bpf_isa.specs.Reading.{decoding, units_in}
 use Rattle.bpf_asm.specs.declared.errors.DisassembleError.{DisassembleError}
 use Rattle.bpf_asm.specs.declared.errors.DisassembleError.TheVariants.{TooLong}
 use Rattle.bpf_asm.specs.declared.placed.Placed.{Placed}
 use Rattle.bpf_asm.specs.declared.placed.Target.{Target}
 use Rattle.bpf_asm.specs.declared.placed.Target.TheVariants.{Nowhere, Before, At}
-use Rattle.bpf_asm.specs.Listing.{placed_first, placed_from, instructions, is_start, target, jumps_out, first_out, listing, unless_out, listed, disassembled}
+use Rattle.bpf_asm.specs.Listing.{placed_first, placed_from, instructions, is_start, target, jumps_out, first_out, listing, unless_out, listing_of_placed, disassembly}
 use Rattle.bpf_asm.specs.Laws.{StandFrom, LandsIn, IsProgram}
 use Rattle.bpf_asm.proofs.Placing.{units_some}
 use Rattle.bpf_asm.proofs.LabelPlaces.{stand_end}
 
 -- what is decoded stands in the code, and the other way round
 pub record Decodes (code : List ℕ) : Type 0 where
-  pub stands : (pc : ℕ) (i : Instruction) (units : ℕ) → decoded code pc ≡ Ok (i, units) → IsCodeAt code pc i units
-  pub inside : (pc : ℕ) (i : Instruction) (units : ℕ) → decoded code pc ≡ Ok (i, units) → 8 * (pc + units) ≤ length code
-  pub only : (pc : ℕ) (i : Instruction) (units : ℕ) → IsCodeAt code pc i units → decoded code pc ≡ Ok (i, units)
+  pub stands : (pc : ℕ) (i : Instruction) (units : ℕ) → decoding code pc ≡ Ok (i, units) → IsCodeAt code pc i units
+  pub inside : (pc : ℕ) (i : Instruction) (units : ℕ) → decoding code pc ≡ Ok (i, units) → 8 * (pc + units) ≤ length code
+  pub only : (pc : ℕ) (i : Instruction) (units : ℕ) → IsCodeAt code pc i units → decoding code pc ≡ Ok (i, units)
 
 abbrev some_placed : List Placed → Result (List Placed) DisassembleError
 some_placed placed = Ok placed
@@ -57,11 +57,11 @@ none_out : (all placed : List Placed) → AllByRecursion (λ (p : Placed). Lands
 none_out all [] lands = refl
 none_out all (p ∷ placed) lands = simp (lands_inside all (target p) lands.0, none_out all placed lands.1)
 
-pub program_listed : (code : List ℕ) (all : List Placed) → Decodes code → IsProgram code all → disassembled code ≡ Ok (listing all)
+pub program_listed : (code : List ℕ) (all : List Placed) → Decodes code → IsProgram code all → disassembly code ≡ Ok (listing all)
 program_listed code all d program =
     let small : nat_lt 32768 (length code) ≡ false = grind (arith, nat_tests, program.short) in
     let placed = placed_again code (length code) 0 all d program.stands (omega arith) in
-    simp small (ap listed placed ∙ ap (λ (o : Option ℕ). unless_out o all) (none_out all all program.lands))
+    simp small (ap listing_of_placed placed ∙ ap (λ (o : Option ℕ). unless_out o all) (none_out all all program.lands))
 
 -- ---- from a text to the program
 
@@ -89,11 +89,11 @@ placed_stand code (suc most) pc placed d is within enough = elim (cases_Bool (na
       let same : length code ≡ 8 * pc = grind (arith, nat_tests) in
       ended code pc placed (simp end at is) same
   | inr more ↦
-      let has = has_first pc (decoded code pc) (placed_from most code (pc + units_in (decoded code pc))) placed (simp more at is) in
+      let has = has_first pc (decoding code pc) (placed_from most code (pc + units_in (decoding code pc))) placed (simp more at is) in
       let i = has.found.0 in
       let at = d.stands pc i has.found.1 has.first in
       let units = ap units_in has.first in
-      let same : pc + units_in (decoded code pc) ≡ pc + units_of i = ap (λ (n : ℕ). pc + n) (units ∙ sym at.units_are) in
+      let same : pc + units_in (decoding code pc) ≡ pc + units_of i = ap (λ (n : ℕ). pc + n) (units ∙ sym at.units_are) in
       let behind : placed_from most code (pc + units_of i) ≡ Ok has.others = ap (λ (n : ℕ). placed_from most code n) (sym same) ∙ has.behind in
       let inside : 8 * (pc + units_of i) ≤ length code = omega (arith, d.inside pc i has.found.1 has.first, at.units_are) in
       let rest = placed_stand code most (pc + units_of i) has.others d behind inside (omega (arith, units_some i)) in
@@ -127,26 +127,26 @@ no_out : (all : List Placed) (o : Option ℕ) (text : List ℕ) → unless_out o
 no_out all None text is = (refl, (cc))
 no_out all (Some pc) text is = absurd (cc)
 
-is_listed : (r : Result (List Placed) DisassembleError) (text : List ℕ) → listed r ≡ Ok text → IsListed r text
+is_listed : (r : Result (List Placed) DisassembleError) (text : List ℕ) → listing_of_placed r ≡ Ok text → IsListed r text
 is_listed (Ok all) text is =
     let none = no_out all (first_out all all) text is in
     record { all = all; placed = refl; inside = none.0; is = none.1 }
 is_listed (Err e) text is = absurd (cc)
 
 -- what has a text is a program, whose text it is
-pub listed_program : (code text : List ℕ) → Decodes code → disassembled code ≡ Ok text → (all : List Placed) × IsProgram code all × (listing all ≡ text)
+pub listed_program : (code text : List ℕ) → Decodes code → disassembly code ≡ Ok text → (all : List Placed) × IsProgram code all × (listing all ≡ text)
 listed_program code text d is = elim (cases_Bool (nat_lt 32768 (length code))) [
   | inl long ↦ absurd (let e : no_text ≡ some_text text = (simp long at is) in cc)
   | inr short ↦
-      let listed = is_listed (instructions code) text (simp short at is) in
+      let listing_of_placed = is_listed (instructions code) text (simp short at is) in
       let small : length code ≤ 32768 = grind (arith, nat_tests) in (
-        listed.all,
+        listing_of_placed.all,
         record {
           short = small;
-          stands = placed_stand code (length code) 0 listed.all d listed.placed (omega arith) (omega arith);
-          lands = all_land listed.all listed.all listed.inside;
+          stands = placed_stand code (length code) 0 listing_of_placed.all d listing_of_placed.placed (omega arith) (omega arith);
+          lands = all_land listing_of_placed.all listing_of_placed.all listing_of_placed.inside;
         },
-        listed.is,
+        listing_of_placed.is,
       )
 ]
   where

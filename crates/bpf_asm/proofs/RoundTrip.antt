@@ -4,7 +4,7 @@ use Rattle.std.specs.Prelude.{Ok}
 use Rattle.std.specs.List.{AllByRecursion}
 use Rattle.bpf_isa.specs.Encoding.{units_of}
 use Rattle.bpf_asm.specs.declared.placed.Placed.{Placed}
-use Rattle.bpf_asm.specs.Assembly.{items_from, coded, assembled}
+use Rattle.bpf_asm.specs.Assembly.{items_from, code_of_items, assembly}
 use Rattle.bpf_asm.specs.Writing.{distance_of}
 use Rattle.bpf_asm.specs.Listing.{target, listing}
 use Rattle.bpf_asm.specs.Laws.{StandFrom, LandsIn, IsProgram}
@@ -37,10 +37,10 @@ all_one_line code all pc (p ∷ placed) short stands from lands marks =
     } in
     (one, all_one_line code all (pc + units_of p.instruction) placed short stands from.2 lands.1 marks.1)
 
-pub program_assembles : (code : List ℕ) (all : List Placed) → IsProgram code all → assembled (listing all) ≡ Ok code
+pub program_assembles : (code : List ℕ) (all : List Placed) → IsProgram code all → assembly (listing all) ≡ Ok code
 program_assembles code all program =
     let marks = marked all [] all refl in
     let lines = lines_are all all (all_one_line code all 0 all program.short program.stands program.stands program.lands marks) in
     let read = lines_read code all program.short program.stands (all_spoken code all 0 all program.short program.stands program.stands program.lands marks) in
     let again = code_again code all 0 all program.short program.stands (all_resolved code all all program.short program.stands program.lands marks) 1 in
-    ap (λ (x : List (List ℕ)). coded (items_from [] x)) lines ∙ ap coded read ∙ again
+    ap (λ (x : List (List ℕ)). code_of_items (items_from [] x)) lines ∙ ap code_of_items read ∙ again

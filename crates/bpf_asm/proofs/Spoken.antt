@@ -7,7 +7,7 @@ use Rattle.std.proofs.lemmas.Bool.Decides.{nat_tests}
 use Rattle.std.proofs.lemmas.List.{take_all, length-append}
 use Rattle.std.proofs.Math.Seq.{take-append_seam, drop-append_seam}
 use Rattle.bpf_asm.specs.declared.word.Word.{Word}
-use Rattle.bpf_asm.specs.Lexing.{is_blank, is_letter, is_word_byte, is_empty, is_word, is_name, parts, without_end, without_front, trimmed, said_part, Argument, argument, Arguments, all_arguments, gathered, arguments}
+use Rattle.bpf_asm.specs.Lexing.{is_blank, is_letter, is_word_byte, is_empty, is_word, is_name, parts, without_end, without_front, without_blanks, said_part, Argument, argument, Arguments, all_arguments, argument_list, arguments}
 use Rattle.bpf_asm.specs.Words.{word}
 use Rattle.bpf_asm.specs.Statements.{Labelled, item, said, statement, word_line, ends_in_colon, label_line}
 use Rattle.bpf_asm.specs.Writing.{others_text, operands_text}
@@ -33,7 +33,7 @@ end_same b (c ∷ text) other =
     let rest = end_same c text other in
     simp (some, rest)
 
-pub trim_same : (b : ℕ) (text : List ℕ) → is_blank b ≡ false → is_blank (last_or b text) ≡ false → trimmed (b ∷ text) ≡ b ∷ text
+pub trim_same : (b : ℕ) (text : List ℕ) → is_blank b ≡ false → is_blank (last_or b text) ≡ false → without_blanks (b ∷ text) ≡ b ∷ text
 trim_same b text first last =
     let front : without_front (b ∷ text) ≡ b ∷ text = simp first in
     ap without_end front ∙ end_same b text last
@@ -43,7 +43,7 @@ pub said_same : (b : ℕ) (text : List ℕ) → list_all is_inner (b ∷ text) �
 said_same b text inner first last =
     let none = all_weaker is_inner (λ c. not (c == 59)) (b ∷ text) (λ c is. (and_parts (not (c == 10)) (not (c == 59)) is).1) inner in
     let whole : take (position_or_len (λ c. c == 59) (b ∷ text)) (b ∷ text) ≡ b ∷ text = take_all (position_or_len (λ c. c == 59) (b ∷ text)) (b ∷ text) (omega (arith, position_none (λ c. c == 59) (b ∷ text) none)) in
-    ap trimmed whole ∙ trim_same b text first last
+    ap without_blanks whole ∙ trim_same b text first last
 
 pub colon_is : (b : ℕ) (text : List ℕ) → ends_in_colon (b ∷ text) ≡ (last_or b text == 58)
 colon_is b text =
@@ -75,7 +75,7 @@ parts_others text (o ∷ texts) (a ∷ as') solid read =
     let rest = parts_others o texts as' read.0.solid read.1 in
     split_at (λ b. b == 44) text 44 (32 ∷ (o ++ others_text texts)) (no_commas text solid) refl ∙ simp rest
 
-trim_blank : (text : List ℕ) (a : Argument) → Reads text a → trimmed (32 ∷ text) ≡ text
+trim_blank : (text : List ℕ) (a : Argument) → Reads text a → without_blanks (32 ∷ text) ≡ text
 trim_blank [] a reads = absurd (let e = reads.some in cc)
 trim_blank (b ∷ text) a reads =
     let solid = and_parts (is_solid b) (list_all is_solid text) reads.solid in
@@ -90,14 +90,14 @@ all_read (text ∷ texts) (a ∷ as') read =
     let others = all_read texts as' read.1 in
     simp (first, others)
 
-pub arguments_read : (texts : List (List ℕ)) (as' : List Argument) → AllRead texts as' → arguments (operands_text texts) ≡ Some (gathered as')
+pub arguments_read : (texts : List (List ℕ)) (as' : List Argument) → AllRead texts as' → arguments (operands_text texts) ≡ Some (argument_list as')
 arguments_read [] [] read = refl
 arguments_read [] (a ∷ as') read = absurd read
 arguments_read (text ∷ texts) [] read = absurd read
 arguments_read (text ∷ texts) (a ∷ as') read =
     let cut = parts_others text texts as' read.0.solid read.1 in
     let whole : parts 44 (32 ∷ (text ++ others_text texts)) ≡ map (λ o. 32 ∷ o) (text ∷ texts) = simp cut in
-    ap (λ (x : List (List ℕ)). option_map gathered (all_arguments x)) whole ∙ ap (option_map gathered) (all_read (text ∷ texts) (a ∷ as') read)
+    ap (λ (x : List (List ℕ)). option_map argument_list (all_arguments x)) whole ∙ ap (option_map argument_list) (all_read (text ∷ texts) (a ∷ as') read)
 
 -- ---- the whole line
 
@@ -166,7 +166,7 @@ line_said b text line =
     ap said same ∙ simp colon
 
 -- a word and operands say its statement
-pub item_statement : (w : List ℕ) (k : Word) (texts : List (List ℕ)) (as' : List Argument) → is_word w ≡ true → word w ≡ Some k → AllRead texts as' → item (w ++ operands_text texts) ≡ statement k (gathered as')
+pub item_statement : (w : List ℕ) (k : Word) (texts : List (List ℕ)) (as' : List Argument) → is_word w ≡ true → word w ≡ Some k → AllRead texts as' → item (w ++ operands_text texts) ≡ statement k (argument_list as')
 item_statement [] k texts as' is known read = absurd (cc)
 item_statement (b ∷ w) k texts as' is known read =
     let solid = solid_word b w is in
@@ -179,7 +179,7 @@ item_statement (b ∷ w) k texts as' is known read =
     let at = blank_at (b ∷ w) texts solid in
     let front : take (position_or_len is_blank ((b ∷ w) ++ operands_text texts)) ((b ∷ w) ++ operands_text texts) ≡ b ∷ w = ap (λ (n : ℕ). take n ((b ∷ w) ++ operands_text texts)) at ∙ take-append_seam (b ∷ w) (operands_text texts) in
     let behind : drop (position_or_len is_blank ((b ∷ w) ++ operands_text texts)) ((b ∷ w) ++ operands_text texts) ≡ operands_text texts = ap (λ (n : ℕ). drop n ((b ∷ w) ++ operands_text texts)) at ∙ drop-append_seam (b ∷ w) (operands_text texts) in
-    line_said b (w ++ operands_text texts) line ∙ ap (λ (x : List ℕ). word_line x (drop (position_or_len is_blank ((b ∷ w) ++ operands_text texts)) ((b ∷ w) ++ operands_text texts))) front ∙ ap (word_line (b ∷ w)) behind ∙ spoken (b ∷ w) (operands_text texts) k (gathered as') is known (arguments_read texts as' read)
+    line_said b (w ++ operands_text texts) line ∙ ap (λ (x : List ℕ). word_line x (drop (position_or_len is_blank ((b ∷ w) ++ operands_text texts)) ((b ∷ w) ++ operands_text texts))) front ∙ ap (word_line (b ∷ w)) behind ∙ spoken (b ∷ w) (operands_text texts) k (argument_list as') is known (arguments_read texts as' read)
   where
     spoken : (w rest : List ℕ) (k : Word) (as' : Arguments) → is_word w ≡ true → word w ≡ Some k → arguments rest ≡ Some as' → word_line w rest ≡ statement k as'
     spoken w rest k as' is known read = simp (is, known, read)

@@ -4,8 +4,8 @@ use Rattle.bpf_isa.specs.declared.instruction.Distance.TheVariants.{Near, Far}
 use Rattle.bpf_isa.specs.declared.instruction.Instruction.{Instruction}
 use Rattle.bpf_isa.specs.declared.instruction.Instruction.TheVariants as instructions
 use Rattle.bpf_isa.specs.Encoding.{spelling, units_of}
-use Rattle.bpf_asm.specs.declared.errors.Cause.{Cause}
-use Rattle.bpf_asm.specs.declared.errors.Cause.TheVariants.{DoubleLabel, UnknownLabel, TooLong, OutOfMemory}
+use Rattle.bpf_asm.specs.declared.errors.TextCause.{TextCause}
+use Rattle.bpf_asm.specs.declared.errors.TextCause.TheVariants.{DoubleLabel, UnknownLabel, TooLong, OutOfMemory}
 use Rattle.bpf_asm.specs.declared.errors.AssembleError.{AssembleError}
 use Rattle.bpf_asm.specs.declared.item.Jumping.{Jumping}
 use Rattle.bpf_asm.specs.declared.item.Jumping.TheVariants as jumpings
@@ -38,22 +38,22 @@ abbrev pub place : List ℕ → List Item → Option ℕ
 place name items = place_from 0 name items
 
 -- a statement behind some lines, if the code is not too long with it
-abbrev pub fitting : List Item → Item → Result Item Cause
+abbrev pub fitting : List Item → Item → Result Item TextCause
 fitting before i = if nat_lt 4096 (units before + item_units i) then Err TooLong else Ok i
 
 -- a line behind some lines, unless that is a fault
-abbrev pub admitted : List Item → Item → Result Item Cause
-admitted before Blank = Ok Blank
-admitted before (Labelled name) = if is_none (place name before) then Ok (Labelled name) else Err DoubleLabel
-admitted before (Plain i) = fitting before (Plain i)
-admitted before (Goes jumping name) = fitting before (Goes jumping name)
+abbrev pub admission : List Item → Item → Result Item TextCause
+admission before Blank = Ok Blank
+admission before (Labelled name) = if is_none (place name before) then Ok (Labelled name) else Err DoubleLabel
+admission before (Plain i) = fitting before (Plain i)
+admission before (Goes jumping name) = fitting before (Goes jumping name)
 
-abbrev pub checked : List Item → Result Item Cause → Result Item Cause
-checked before (Ok i) = admitted before i
-checked before (Err cause) = Err cause
+abbrev pub reading_admission : List Item → Result Item TextCause → Result Item TextCause
+reading_admission before (Ok i) = admission before i
+reading_admission before (Err cause) = Err cause
 
 -- goes on behind a line, or tells its fault
-abbrev pub after_line : List Item → Result Item Cause → (Item → Result (List Item) AssembleError) → Result (List Item) AssembleError
+abbrev pub after_line : List Item → Result Item TextCause → (Item → Result (List Item) AssembleError) → Result (List Item) AssembleError
 after_line before (Ok i) go = go i
 after_line before (Err cause) go = Err (record { line = length before + 1; cause = cause })
 
@@ -61,7 +61,7 @@ after_line before (Err cause) go = Err (record { line = length before + 1; cause
 abbrev pub items_from : List Item → List (List ℕ) → Result (List Item) AssembleError
 items_from before [] = Ok before
 items_from before (line ∷ lines) =
-    after_line before (checked before (item line)) (λ i. items_from (before ++ (i ∷ [])) lines)
+    after_line before (reading_admission before (item line)) (λ i. items_from (before ++ (i ∷ [])) lines)
 
 abbrev pub items : List ℕ → Result (List Item) AssembleError
 items text = items_from [] (parts 10 text)
@@ -80,22 +80,22 @@ jump_to jumpings.Call next to = option_map instructions.CallLocal (distance (2 ^
 jump_to (jumpings.Branch width comparison left right) next to =
     option_map (instructions.Branch width comparison left right) (distance (2 ^ 15) next to)
 
-abbrev pub resolved : Jumping → ℕ → Option ℕ → Result Instruction Cause
-resolved jumping next None = Err UnknownLabel
-resolved jumping next (Some to) = in_range (jump_to jumping next to)
+abbrev pub jump_instruction : Jumping → ℕ → Option ℕ → Result Instruction TextCause
+jump_instruction jumping next None = Err UnknownLabel
+jump_instruction jumping next (Some to) = in_range (jump_to jumping next to)
 
-abbrev pub spelled : Result Instruction Cause → Result (List ℕ) Cause
-spelled (Ok i) = Ok (spelling i)
-spelled (Err cause) = Err cause
+abbrev pub spelling_of : Result Instruction TextCause → Result (List ℕ) TextCause
+spelling_of (Ok i) = Ok (spelling i)
+spelling_of (Err cause) = Err cause
 
 -- the bytes of a line whose code begins at a pc
-abbrev pub item_bytes : List Item → ℕ → Item → Result (List ℕ) Cause
+abbrev pub item_bytes : List Item → ℕ → Item → Result (List ℕ) TextCause
 item_bytes all pc Blank = Ok []
 item_bytes all pc (Labelled name) = Ok []
 item_bytes all pc (Plain i) = Ok (spelling i)
-item_bytes all pc (Goes jumping name) = spelled (resolved jumping (pc + 1) (place name all))
+item_bytes all pc (Goes jumping name) = spelling_of (jump_instruction jumping (pc + 1) (place name all))
 
-abbrev pub bytes_first : ℕ → Result (List ℕ) Cause → Result (List ℕ) AssembleError → Result (List ℕ) AssembleError
+abbrev pub bytes_first : ℕ → Result (List ℕ) TextCause → Result (List ℕ) AssembleError → Result (List ℕ) AssembleError
 bytes_first line (Ok bytes) (Ok code) = Ok (bytes ++ code)
 bytes_first line (Ok bytes) (Err e) = Err e
 bytes_first line (Err cause) code = Err (record { line = line; cause = cause })
@@ -105,15 +105,15 @@ abbrev pub code_from : List Item → ℕ → ℕ → List Item → Result (List 
 code_from all line pc [] = Ok []
 code_from all line pc (i ∷ lines) = bytes_first line (item_bytes all pc i) (code_from all (line + 1) (pc + item_units i) lines)
 
-abbrev pub coded : Result (List Item) AssembleError → Result (List ℕ) AssembleError
-coded (Ok all) = code_from all 1 0 all
-coded (Err e) = Err e
+abbrev pub code_of_items : Result (List Item) AssembleError → Result (List ℕ) AssembleError
+code_of_items (Ok all) = code_from all 1 0 all
+code_of_items (Err e) = Err e
 
 -- the code that a text means, or its first fault
-abbrev pub assembled : List ℕ → Result (List ℕ) AssembleError
-assembled text = coded (items text)
+abbrev pub assembly : List ℕ → Result (List ℕ) AssembleError
+assembly text = code_of_items (items text)
 
-abbrev pub unless_memory : Cause → Type 0 → Type 0
+abbrev pub unless_memory : TextCause → Type 0 → Type 0
 unless_memory OutOfMemory P = ⊤
 unless_memory _ P = P
 

@@ -5,8 +5,8 @@ use Rattle.bpf_isa.specs.Encoding.{IsCodeAt, units_of}
 use Rattle.bpf_asm.specs.declared.placed.Placed.{Placed}
 use Rattle.bpf_asm.specs.declared.placed.Target.{Target}
 use Rattle.bpf_asm.specs.declared.placed.Target.TheVariants.{Nowhere, Before, At}
-use Rattle.bpf_asm.specs.Assembly.{assembled}
-use Rattle.bpf_asm.specs.Listing.{disassembled, is_start, target}
+use Rattle.bpf_asm.specs.Assembly.{assembly}
+use Rattle.bpf_asm.specs.Listing.{disassembly, is_start, target}
 
 -- these instructions stand one behind another, from a pc to the end of the code
 abbrev pub StandFrom : List ℕ → ℕ → List Placed → Type 0
@@ -29,9 +29,9 @@ pub record IsProgram (code : List ℕ) (placed : List Placed) : Type 0 where
 -- each program has a text, and that text means the program's code
 abbrev pub ProgramHasText : List ℕ → Type 0
 ProgramHasText code =
-    (placed : List Placed) → IsProgram code placed → (text : List ℕ) × (disassembled code ≡ Ok text) × (assembled text ≡ Ok code)
+    (placed : List Placed) → IsProgram code placed → (text : List ℕ) × (disassembly code ≡ Ok text) × (assembly text ≡ Ok code)
 
 -- whatever has a text is a program, and its text means that code
 abbrev pub TextMeansCode : List ℕ → Type 0
 TextMeansCode code =
-    (text : List ℕ) → disassembled code ≡ Ok text → (assembled text ≡ Ok code) × ((placed : List Placed) × IsProgram code placed)
+    (text : List ℕ) → disassembly code ≡ Ok text → (assembly text ≡ Ok code) × ((placed : List Placed) × IsProgram code placed)

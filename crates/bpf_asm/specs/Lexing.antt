@@ -52,12 +52,12 @@ without_end [] = []
 without_end (b ∷ text) = if list_all is_blank (b ∷ text) then [] else b ∷ without_end text
 
 -- a text without the blanks at both ends
-abbrev pub trimmed : List ℕ → List ℕ
-trimmed text = without_end (without_front text)
+abbrev pub without_blanks : List ℕ → List ℕ
+without_blanks text = without_end (without_front text)
 
 -- a line without its comment, which begins at `;`, and without blanks at both ends
 abbrev pub said_part : List ℕ → List ℕ
-said_part line = trimmed (take (position_or_len (λ b. b == 59) line) line)
+said_part line = without_blanks (take (position_or_len (λ b. b == 59) line) line)
 
 -- ---- words and names
 
@@ -147,8 +147,8 @@ pub data Argument : Type 0 where
   Addressed : (base : Register) (offset : Numeral) → Argument
   Named : List ℕ → Argument
 
-abbrev pub addressed : Register × Numeral → Argument
-addressed (base, offset) = Addressed base offset
+abbrev pub address_argument : Register × Numeral → Argument
+address_argument (base, offset) = Addressed base offset
 
 abbrev pub name : List ℕ → Option (List ℕ)
 name text = if is_name text then Some text else None
@@ -156,7 +156,7 @@ name text = if is_name text then Some text else None
 -- the form that a text has
 abbrev pub argument : List ℕ → Option Argument
 argument text =
-    option_or (option_map Held (register_named text)) (option_or (option_map Counted (number text)) (option_or (option_map addressed (memory text)) (option_map Named (name text))))
+    option_or (option_map Held (register_named text)) (option_or (option_map Counted (number text)) (option_or (option_map address_argument (memory text)) (option_map Named (name text))))
 
 abbrev pub with_argument : Option Argument → Option (List Argument) → Option (List Argument)
 with_argument None others = None
@@ -165,7 +165,7 @@ with_argument (Some argument) (Some others) = Some (argument ∷ others)
 
 abbrev pub all_arguments : List (List ℕ) → Option (List Argument)
 all_arguments [] = Some []
-all_arguments (text ∷ texts) = with_argument (argument (trimmed text)) (all_arguments texts)
+all_arguments (text ∷ texts) = with_argument (argument (without_blanks text)) (all_arguments texts)
 
 -- no instruction has more than three
 pub data Arguments : Type 0 where
@@ -175,13 +175,13 @@ pub data Arguments : Type 0 where
   Three : (first second third : Argument) → Arguments
   More : Arguments
 
-abbrev pub gathered : List Argument → Arguments
-gathered [] = Zero
-gathered (a ∷ []) = One a
-gathered (a ∷ b ∷ []) = Two a b
-gathered (a ∷ b ∷ c ∷ []) = Three a b c
-gathered (a ∷ b ∷ c ∷ d ∷ others) = More
+abbrev pub argument_list : List Argument → Arguments
+argument_list [] = Zero
+argument_list (a ∷ []) = One a
+argument_list (a ∷ b ∷ []) = Two a b
+argument_list (a ∷ b ∷ c ∷ []) = Three a b c
+argument_list (a ∷ b ∷ c ∷ d ∷ others) = More
 
 -- the arguments behind a word, between commas
 abbrev pub arguments : List ℕ → Option Arguments
-arguments text = if is_empty text then Some Zero else option_map gathered (all_arguments (parts 44 text))
+arguments text = if is_empty text then Some Zero else option_map argument_list (all_arguments (parts 44 text))

@@ -3,7 +3,7 @@ use Rattle.std.specs.Prelude.{ℕ, zero, suc, ◌+◌, ◌*◌, ◌≡◌, ◌==
 use Rattle.std.specs.List.{flat_map, list_any}
 use Rattle.bpf_isa.specs.declared.instruction.Instruction.{Instruction}
 use Rattle.bpf_isa.specs.declared.decode_error.DecodeError.{DecodeError}
-use Rattle.bpf_isa.specs.Reading.{decoded, units_in}
+use Rattle.bpf_isa.specs.Reading.{decoding, units_in}
 use Rattle.bpf_asm.specs.declared.placed.Placed.{Placed}
 use Rattle.bpf_asm.specs.declared.placed.Target.{Target}
 use Rattle.bpf_asm.specs.declared.placed.Target.TheVariants.{Nowhere, Before, At}
@@ -24,7 +24,7 @@ abbrev pub placed_from : ℕ → List ℕ → ℕ → Result (List Placed) Disas
 placed_from zero code pc = Ok []
 placed_from (suc most) code pc =
     if nat_le (length code) (8 * pc) then Ok []
-    else placed_first pc (decoded code pc) (placed_from most code (pc + units_in (decoded code pc)))
+    else placed_first pc (decoding code pc) (placed_from most code (pc + units_in (decoding code pc)))
 
 abbrev pub instructions : List ℕ → Result (List Placed) DisassembleError
 instructions code = placed_from (length code) code 0
@@ -74,13 +74,13 @@ abbrev pub unless_out : Option ℕ → List Placed → Result (List ℕ) Disasse
 unless_out None placed = Ok (listing placed)
 unless_out (Some pc) placed = Err (JumpOut pc)
 
-abbrev pub listed : Result (List Placed) DisassembleError → Result (List ℕ) DisassembleError
-listed (Ok placed) = unless_out (first_out placed placed) placed
-listed (Err e) = Err e
+abbrev pub listing_of_placed : Result (List Placed) DisassembleError → Result (List ℕ) DisassembleError
+listing_of_placed (Ok placed) = unless_out (first_out placed placed) placed
+listing_of_placed (Err e) = Err e
 
 -- the text of a code, or why there is none
-abbrev pub disassembled : List ℕ → Result (List ℕ) DisassembleError
-disassembled code = if nat_lt 32768 (length code) then Err TooLong else listed (instructions code)
+abbrev pub disassembly : List ℕ → Result (List ℕ) DisassembleError
+disassembly code = if nat_lt 32768 (length code) then Err TooLong else listing_of_placed (instructions code)
 
 -- the error that the definition gives, if there was memory
 abbrev pub Refuses : {A : Type 0} → DisassembleError → Result A DisassembleError → Type 0

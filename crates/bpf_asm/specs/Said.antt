@@ -5,9 +5,9 @@ use Rattle.bpf_isa.specs.declared.register.Register.{Register}
 use Rattle.bpf_asm.specs.declared.numeral.Numeral.{Numeral as CodeNumeral}
 use Rattle.bpf_asm.specs.declared.argument.Argument.{Argument as CodeArgument}
 use Rattle.bpf_asm.specs.declared.argument.Argument.TheVariants as argument_forms
-use Rattle.bpf_asm.specs.declared.arguments.Arguments.{Arguments as CodeArguments}
-use Rattle.bpf_asm.specs.declared.arguments.Arguments.TheVariants as argument_counts
-use Rattle.bpf_asm.specs.declared.errors.Cause.{Cause}
+use Rattle.bpf_asm.specs.declared.statement_arguments.Arguments.{Arguments as CodeArguments}
+use Rattle.bpf_asm.specs.declared.statement_arguments.Arguments.TheVariants as argument_counts
+use Rattle.bpf_asm.specs.declared.errors.TextCause.{TextCause}
 use Rattle.bpf_asm.specs.declared.item.Item.{Item as CodeItem}
 use Rattle.bpf_asm.specs.declared.item.Item.TheVariants as items
 use Rattle.bpf_asm.specs.Assembly.{place, units, item_bytes, item_units}
@@ -44,7 +44,7 @@ said_item (items.Label name) = Labelled name.now
 said_item (items.Plain i) = Plain i
 said_item (items.Goes jumping name) = Goes jumping name.now
 
-abbrev pub said_line : Result CodeItem Cause → Result Item Cause
+abbrev pub said_line : Result CodeItem TextCause → Result Item TextCause
 said_line (Ok item) = Ok (said_item item)
 said_line (Err e) = Err e
 

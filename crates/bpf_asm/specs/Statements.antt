@@ -14,10 +14,10 @@ use Rattle.bpf_isa.specs.declared.instruction.Instruction.{Instruction}
 use Rattle.bpf_isa.specs.declared.instruction.Instruction.TheVariants.{Alu, MoveSigned, Negate, Swap, CallHelper, Exit, Load, LoadSigned, Store, StoreRegister, Wide}
 use Rattle.bpf_asm.specs.declared.numeral.Base.{Base}
 use Rattle.bpf_asm.specs.declared.numeral.Base.TheVariants.{Ten, Sixteen}
-use Rattle.bpf_asm.specs.declared.errors.Cause.{Cause}
-use Rattle.bpf_asm.specs.declared.errors.Cause.TheVariants.{Syntax, UnknownName, NumberRange}
+use Rattle.bpf_asm.specs.declared.errors.TextCause.{TextCause}
+use Rattle.bpf_asm.specs.declared.errors.TextCause.TheVariants.{Syntax, UnknownName, NumberRange}
 use Rattle.bpf_asm.specs.declared.word.Word.{Word}
-use Rattle.bpf_asm.specs.declared.word.Word.TheVariants.{Arithmetic, Extend, Negation, Swapping, JumpNear, JumpFar, LocalCall, Branching, HelperCall, Return, Loading, LoadingSigned, Storing, StoringRegister, WideLoad}
+use Rattle.bpf_asm.specs.declared.word.Word.TheVariants as words
 use Rattle.bpf_asm.specs.declared.item.Jumping.{Jumping}
 use Rattle.bpf_asm.specs.declared.item.Jumping.TheVariants.{Near, Far, Call, Branch}
 use Rattle.bpf_asm.specs.Lexing.{Numeral, Argument, Held, Counted, Addressed, Named, Arguments, Zero, One, Two, Three, arguments, is_word, is_name, is_empty, is_blank, said_part}
@@ -41,13 +41,13 @@ digits_from base n (b ∷ digits) = digits_from base (base * n + digit_value b) 
 abbrev pub magnitude : Numeral → ℕ
 magnitude n = digits_from (base_number n.base) 0 n.digits
 
-abbrev pub negated : ℕ → ℤ
-negated zero = pos 0
-negated (suc n) = negsuc n
+abbrev pub negative : ℕ → ℤ
+negative zero = pos 0
+negative (suc n) = negsuc n
 
 -- a number from -limit to limit - 1
 abbrev pub signed_below : ℕ → Bool → ℕ → Option ℤ
-signed_below limit true n = if nat_le n limit then Some (negated n) else None
+signed_below limit true n = if nat_le n limit then Some (negative n) else None
 signed_below limit false n = if nat_lt n limit then Some (pos n) else None
 
 abbrev pub immediate_of : Numeral → Option ℤ
@@ -65,24 +65,24 @@ wide_of n = unsigned_below (2 ^ 64) n.negative (magnitude n)
 
 -- ---- instructions
 
-abbrev pub in_range : {A : Type 0} → Option A → Result A Cause
+abbrev pub in_range : {A : Type 0} → Option A → Result A TextCause
 in_range None = Err NumberRange
 in_range (Some x) = Ok x
 
 -- a register or a number
-abbrev pub operand : Argument → Result Operand Cause
+abbrev pub operand : Argument → Result Operand TextCause
 operand (Held r) = Ok (Source r)
 operand (Counted n) = in_range (option_map Immediate (immediate_of n))
 operand (Addressed base offset) = Err Syntax
 operand (Named text) = Err Syntax
 
-abbrev pub with_operand : (Operand → Instruction) → Result Operand Cause → Result Instruction Cause
+abbrev pub with_operand : (Operand → Instruction) → Result Operand TextCause → Result Instruction TextCause
 with_operand go (Ok right) = Ok (go right)
 with_operand go (Err e) = Err e
 
-abbrev pub arithmetic : Width → Operation → Arguments → Result Instruction Cause
-arithmetic width operation (Two (Held destination) right) = with_operand (Alu width operation destination) (operand right)
-arithmetic width operation _ = Err Syntax
+abbrev pub alu : Width → Operation → Arguments → Result Instruction TextCause
+alu width operation (Two (Held destination) right) = with_operand (Alu width operation destination) (operand right)
+alu width operation _ = Err Syntax
 
 -- two registers
 abbrev pub register_pair : Arguments → Option (Register × Register)
@@ -94,47 +94,47 @@ abbrev pub one_register : Arguments → Option Register
 one_register (One (Held destination)) = Some destination
 one_register _ = None
 
-abbrev pub in_form : {A : Type 0} → Option A → Result A Cause
+abbrev pub in_form : {A : Type 0} → Option A → Result A TextCause
 in_form None = Err Syntax
 in_form (Some x) = Ok x
 
 abbrev pub extension_to : Extension → Register × Register → Instruction
 extension_to extension (destination, source) = MoveSigned extension destination source
 
-abbrev pub helper_call : Arguments → Result Instruction Cause
-helper_call (One (Counted n)) = in_range (option_map CallHelper (immediate_of n))
-helper_call _ = Err Syntax
+abbrev pub call_helper : Arguments → Result Instruction TextCause
+call_helper (One (Counted n)) = in_range (option_map CallHelper (immediate_of n))
+call_helper _ = Err Syntax
 
-abbrev pub return_alone : Arguments → Result Instruction Cause
-return_alone Zero = Ok Exit
-return_alone _ = Err Syntax
+abbrev pub exit : Arguments → Result Instruction TextCause
+exit Zero = Ok Exit
+exit _ = Err Syntax
 
-abbrev pub load : Size → Arguments → Result Instruction Cause
+abbrev pub load : Size → Arguments → Result Instruction TextCause
 load size (Two (Held destination) (Addressed base offset)) = in_range (option_map (Load size destination base) (offset_of offset))
 load size _ = Err Syntax
 
-abbrev pub signed_load : SignedSize → Arguments → Result Instruction Cause
-signed_load size (Two (Held destination) (Addressed base offset)) =
+abbrev pub load_signed : SignedSize → Arguments → Result Instruction TextCause
+load_signed size (Two (Held destination) (Addressed base offset)) =
     in_range (option_map (LoadSigned size destination base) (offset_of offset))
-signed_load size _ = Err Syntax
+load_signed size _ = Err Syntax
 
-abbrev pub stored : Size → Register → Option ℤ → Option ℤ → Option Instruction
-stored size base None immediate = None
-stored size base (Some offset) None = None
-stored size base (Some offset) (Some immediate) = Some (Store size base offset immediate)
+abbrev pub store_of : Size → Register → Option ℤ → Option ℤ → Option Instruction
+store_of size base None immediate = None
+store_of size base (Some offset) None = None
+store_of size base (Some offset) (Some immediate) = Some (Store size base offset immediate)
 
-abbrev pub store : Size → Arguments → Result Instruction Cause
-store size (Two (Addressed base offset) (Counted n)) = in_range (stored size base (offset_of offset) (immediate_of n))
+abbrev pub store : Size → Arguments → Result Instruction TextCause
+store size (Two (Addressed base offset) (Counted n)) = in_range (store_of size base (offset_of offset) (immediate_of n))
 store size _ = Err Syntax
 
-abbrev pub register_store : Size → Arguments → Result Instruction Cause
-register_store size (Two (Addressed base offset) (Held source)) =
+abbrev pub store_register : Size → Arguments → Result Instruction TextCause
+store_register size (Two (Addressed base offset) (Held source)) =
     in_range (option_map (λ n. StoreRegister size base n source) (offset_of offset))
-register_store size _ = Err Syntax
+store_register size _ = Err Syntax
 
-abbrev pub wide_load : Arguments → Result Instruction Cause
-wide_load (Two (Held destination) (Counted n)) = in_range (option_map (Wide destination) (wide_of n))
-wide_load _ = Err Syntax
+abbrev pub wide : Arguments → Result Instruction TextCause
+wide (Two (Held destination) (Counted n)) = in_range (option_map (Wide destination) (wide_of n))
+wide _ = Err Syntax
 
 -- ---- what a line says
 
@@ -145,64 +145,64 @@ pub data Item : Type 0 where
   -- it goes to the label of this name
   Goes : Jumping → List ℕ → Item
 
-abbrev pub plain : Result Instruction Cause → Result Item Cause
+abbrev pub plain : Result Instruction TextCause → Result Item TextCause
 plain (Ok i) = Ok (Plain i)
 plain (Err e) = Err e
 
-abbrev pub goes : Jumping → Arguments → Result Item Cause
+abbrev pub goes : Jumping → Arguments → Result Item TextCause
 goes jumping (One (Named name)) = Ok (Goes jumping name)
 goes jumping _ = Err Syntax
 
-abbrev pub branch_to : Width → Comparison → Register → List ℕ → Result Operand Cause → Result Item Cause
+abbrev pub branch_to : Width → Comparison → Register → List ℕ → Result Operand TextCause → Result Item TextCause
 branch_to width comparison left name (Ok right) = Ok (Goes (Branch width comparison left right) name)
 branch_to width comparison left name (Err e) = Err e
 
-abbrev pub branch : Width → Comparison → Arguments → Result Item Cause
+abbrev pub branch : Width → Comparison → Arguments → Result Item TextCause
 branch width comparison (Three (Held left) right (Named name)) = branch_to width comparison left name (operand right)
 branch width comparison _ = Err Syntax
 
-abbrev pub statement : Word → Arguments → Result Item Cause
-statement (Arithmetic width operation) a = plain (arithmetic width operation a)
-statement (Extend extension) a = plain (in_form (option_map (extension_to extension) (register_pair a)))
-statement (Negation width) a = plain (in_form (option_map (Negate width) (one_register a)))
-statement (Swapping order bits) a = plain (in_form (option_map (Swap order bits) (one_register a)))
-statement JumpNear a = goes Near a
-statement JumpFar a = goes Far a
-statement LocalCall a = goes Call a
-statement (Branching width comparison) a = branch width comparison a
-statement HelperCall a = plain (helper_call a)
-statement Return a = plain (return_alone a)
-statement (Loading size) a = plain (load size a)
-statement (LoadingSigned size) a = plain (signed_load size a)
-statement (Storing size) a = plain (store size a)
-statement (StoringRegister size) a = plain (register_store size a)
-statement WideLoad a = plain (wide_load a)
+abbrev pub statement : Word → Arguments → Result Item TextCause
+statement (words.Alu width operation) a = plain (alu width operation a)
+statement (words.MoveSigned extension) a = plain (in_form (option_map (extension_to extension) (register_pair a)))
+statement (words.Negate width) a = plain (in_form (option_map (Negate width) (one_register a)))
+statement (words.Swap order bits) a = plain (in_form (option_map (Swap order bits) (one_register a)))
+statement words.JumpNear a = goes Near a
+statement words.JumpFar a = goes Far a
+statement words.CallLocal a = goes Call a
+statement (words.Branch width comparison) a = branch width comparison a
+statement words.CallHelper a = plain (call_helper a)
+statement words.Exit a = plain (exit a)
+statement (words.Load size) a = plain (load size a)
+statement (words.LoadSigned size) a = plain (load_signed size a)
+statement (words.Store size) a = plain (store size a)
+statement (words.StoreRegister size) a = plain (store_register size a)
+statement words.Wide a = plain (wide a)
 
-abbrev pub with_word : Option Word → Arguments → Result Item Cause
+abbrev pub with_word : Option Word → Arguments → Result Item TextCause
 with_word None a = Err UnknownName
 with_word (Some w) a = statement w a
 
-abbrev pub with_arguments : Option Word → Option Arguments → Result Item Cause
+abbrev pub with_arguments : Option Word → Option Arguments → Result Item TextCause
 with_arguments w None = Err Syntax
 with_arguments w (Some a) = with_word w a
 
 -- a word and what stands behind it
-abbrev pub word_line : List ℕ → List ℕ → Result Item Cause
+abbrev pub word_line : List ℕ → List ℕ → Result Item TextCause
 word_line text rest = if is_word text then with_arguments (word text) (arguments rest) else Err Syntax
 
-abbrev pub label_line : List ℕ → Result Item Cause
+abbrev pub label_line : List ℕ → Result Item TextCause
 label_line name = if is_name name then Ok (Labelled name) else Err Syntax
 
 -- the last byte is `:`
 abbrev pub ends_in_colon : List ℕ → Bool
 ends_in_colon text = slice_index text (length text - 1) == 58
 
-abbrev pub said : List ℕ → Result Item Cause
+abbrev pub said : List ℕ → Result Item TextCause
 said text =
     if is_empty text then Ok Blank
     else (if ends_in_colon text then label_line (take (length text - 1) text)
     else word_line (take (position_or_len is_blank text) text) (drop (position_or_len is_blank text) text))
 
 -- what a line says, or its first fault
-abbrev pub item : List ℕ → Result Item Cause
+abbrev pub item : List ℕ → Result Item TextCause
 item line = said (said_part line)

@@ -13,13 +13,13 @@ use Rattle.bpf_isa.specs.declared.instruction.Extension.TheVariants.{From8To32, 
 use Rattle.bpf_isa.specs.declared.instruction.ByteOrder.TheVariants.{Little, Big, Reversed}
 use Rattle.bpf_isa.specs.declared.instruction.SwapBits.TheVariants.{Low16, Low32, Low64}
 use Rattle.bpf_asm.specs.declared.word.Word as statement_words
-use Rattle.bpf_asm.specs.declared.word.Word.TheVariants.{Arithmetic, Extend, Negation, Swapping, JumpNear, JumpFar, LocalCall, Branching, HelperCall, Return, Loading, LoadingSigned, Storing, StoringRegister, WideLoad}
+use Rattle.bpf_asm.specs.declared.word.Word.TheVariants as words
 use Rattle.bpf_asm.specs.Lexing.{same_bytes}
 
 -- what a table has at a text
-abbrev pub looked : {A : Type 0} → List (List ℕ × A) → List ℕ → Option A
-looked [] text = None
-looked (entry ∷ entries) text = if same_bytes text entry.0 then Some entry.1 else looked entries text
+abbrev pub lookup : {A : Type 0} → List (List ℕ × A) → List ℕ → Option A
+lookup [] text = None
+lookup (entry ∷ entries) text = if same_bytes text entry.0 then Some entry.1 else lookup entries text
 
 abbrev pub operations : List (List ℕ × Operation)
 operations =
@@ -31,14 +31,14 @@ comparisons =
 
 abbrev pub accesses : List (List ℕ × statement_words.Word)
 accesses =
-    (codes "ldxb", Loading Byte) ∷ (codes "ldxh", Loading Half) ∷ (codes "ldxw", Loading Word) ∷ (codes "ldxdw", Loading Double) ∷ (codes "ldxsb", LoadingSigned SignedByte) ∷ (codes "ldxsh", LoadingSigned SignedHalf) ∷ (codes "ldxsw", LoadingSigned SignedWord) ∷ (codes "stb", Storing Byte) ∷ (codes "sth", Storing Half) ∷ (codes "stw", Storing Word) ∷ (codes "stdw", Storing Double) ∷ (codes "stxb", StoringRegister Byte) ∷ (codes "stxh", StoringRegister Half) ∷ (codes "stxw", StoringRegister Word) ∷ (codes "stxdw", StoringRegister Double) ∷ (codes "lddw", WideLoad) ∷ []
+    (codes "ldxb", words.Load Byte) ∷ (codes "ldxh", words.Load Half) ∷ (codes "ldxw", words.Load Word) ∷ (codes "ldxdw", words.Load Double) ∷ (codes "ldxsb", words.LoadSigned SignedByte) ∷ (codes "ldxsh", words.LoadSigned SignedHalf) ∷ (codes "ldxsw", words.LoadSigned SignedWord) ∷ (codes "stb", words.Store Byte) ∷ (codes "sth", words.Store Half) ∷ (codes "stw", words.Store Word) ∷ (codes "stdw", words.Store Double) ∷ (codes "stxb", words.StoreRegister Byte) ∷ (codes "stxh", words.StoreRegister Half) ∷ (codes "stxw", words.StoreRegister Word) ∷ (codes "stxdw", words.StoreRegister Double) ∷ (codes "lddw", words.Wide) ∷ []
 
 abbrev pub flows : List (List ℕ × statement_words.Word)
-flows = (codes "exit", Return) ∷ (codes "ja", JumpNear) ∷ (codes "ja32", JumpFar) ∷ (codes "call", HelperCall) ∷ (codes "calllocal", LocalCall) ∷ []
+flows = (codes "exit", words.Exit) ∷ (codes "ja", words.JumpNear) ∷ (codes "ja32", words.JumpFar) ∷ (codes "call", words.CallHelper) ∷ (codes "calllocal", words.CallLocal) ∷ []
 
 abbrev pub changes : List (List ℕ × statement_words.Word)
 changes =
-    (codes "neg", Negation Bits64) ∷ (codes "neg32", Negation Bits32) ∷ (codes "le16", Swapping Little Low16) ∷ (codes "le32", Swapping Little Low32) ∷ (codes "le64", Swapping Little Low64) ∷ (codes "be16", Swapping Big Low16) ∷ (codes "be32", Swapping Big Low32) ∷ (codes "be64", Swapping Big Low64) ∷ (codes "swap16", Swapping Reversed Low16) ∷ (codes "swap32", Swapping Reversed Low32) ∷ (codes "swap64", Swapping Reversed Low64) ∷ (codes "movsx8", Extend From8To64) ∷ (codes "movsx16", Extend From16To64) ∷ (codes "movsx32", Extend From32To64) ∷ (codes "mov32sx8", Extend From8To32) ∷ (codes "mov32sx16", Extend From16To32) ∷ []
+    (codes "neg", words.Negate Bits64) ∷ (codes "neg32", words.Negate Bits32) ∷ (codes "le16", words.Swap Little Low16) ∷ (codes "le32", words.Swap Little Low32) ∷ (codes "le64", words.Swap Little Low64) ∷ (codes "be16", words.Swap Big Low16) ∷ (codes "be32", words.Swap Big Low32) ∷ (codes "be64", words.Swap Big Low64) ∷ (codes "swap16", words.Swap Reversed Low16) ∷ (codes "swap32", words.Swap Reversed Low32) ∷ (codes "swap64", words.Swap Reversed Low64) ∷ (codes "movsx8", words.MoveSigned From8To64) ∷ (codes "movsx16", words.MoveSigned From16To64) ∷ (codes "movsx32", words.MoveSigned From32To64) ∷ (codes "mov32sx8", words.MoveSigned From8To32) ∷ (codes "mov32sx16", words.MoveSigned From16To32) ∷ []
 
 -- a word of 32 bits ends in `32`
 abbrev pub is_short : List ℕ → Bool
@@ -53,4 +53,4 @@ stem text = if is_short text then take (length text - 2) text else text
 -- the word that a text is
 abbrev pub word : List ℕ → Option statement_words.Word
 word text =
-    option_or (option_map (Arithmetic (width_of text)) (looked operations (stem text))) (option_or (looked accesses text) (option_or (option_map (Branching (width_of text)) (looked comparisons (stem text))) (option_or (looked flows text) (looked changes text))))
+    option_or (option_map (words.Alu (width_of text)) (lookup operations (stem text))) (option_or (lookup accesses text) (option_or (option_map (words.Branch (width_of text)) (lookup comparisons (stem text))) (option_or (lookup flows text) (lookup changes text))))

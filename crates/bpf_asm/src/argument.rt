@@ -1,7 +1,7 @@
 ghost use Rattle.std.specs.Prelude.{◌≡◌, ◌∷◌, List, [], ℕ, Option, Some, None, option_map, MatchOption};
 ghost use Rattle.std.specs.List.{position_or_len};
 ghost use Rattle.bpf_asm.specs.Lexing.{
-  addressed,
+  address_argument,
   all_arguments,
   argument as argument_of,
   arguments as arguments_of,
@@ -11,11 +11,11 @@ ghost use Rattle.bpf_asm.specs.Lexing.{
   parts,
   place as place_of,
   register_named as register_named_of,
-  trimmed as trimmed_of,
+  without_blanks as without_blanks_of,
 };
 ghost use Rattle.bpf_asm.specs.Said.{said_argument, said_arguments, said_numeral, said_place};
 
-use crate::lexing::{is_name, position_of, register_named, trimmed};
+use crate::lexing::{is_name, position_of, register_named, without_blanks};
 use crate::numeral::{Numeral, displacement, number};
 use bpf_isa::Register;
 

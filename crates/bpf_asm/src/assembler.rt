@@ -1,5 +1,5 @@
 ghost use Rattle.std.specs.Prelude.{◌≡◌, Ok, MatchResult};
-ghost use Rattle.bpf_asm.specs.Assembly.{assembled, Faults};
+ghost use Rattle.bpf_asm.specs.Assembly.{assembly, Faults};
 
 use crate::coding::code_of_lines;
 use crate::errors::AssembleError;
@@ -13,7 +13,7 @@ use std::alloc::Global;
 /// has at most 4,096 units. Only then, again line by line, it is tested that each label to which a
 /// statement goes is there and near enough.
 pub fn assemble(alloc: Global, text: &str) -> Result<Vec<u8>, AssembleError>
-    ensures { MatchResult result (λ code. assembled text.now ≡ Ok code.items) (λ e. Faults e (assembled text.now)) }
+    ensures { MatchResult result (λ code. assembly text.now ≡ Ok code.items) (λ e. Faults e (assembly text.now)) }
 {
     let parsed = read_lines(alloc, text.as_bytes())?;
     code_of_lines(alloc, &parsed.items, &parsed.labels)

@@ -1,13 +1,13 @@
 ghost use Rattle.std.specs.Prelude.{◌≡◌, ◌<◌, ◌≤◌, ◌^◌, ◌+◌, ◌++◌, ℕ, List, map, Ok, Err, IfOk, MatchResult};
 ghost use Rattle.std.specs.Str.{bytes_eq};
 ghost use Rattle.std.specs.HashMap as hash;
-ghost use Rattle.bpf_asm.specs.Assembly.{code_from, item_bytes, place, resolved as resolved_of, unless_memory, Faults};
+ghost use Rattle.bpf_asm.specs.Assembly.{code_from, item_bytes, place, jump_instruction as jump_instruction_of, unless_memory, Faults};
 ghost use Rattle.bpf_isa.specs.Encoding.{spelling, units_of};
 ghost use Rattle.bpf_asm.specs.Said.{said_item, IsWritten};
 ghost use Rattle.bpf_asm.specs.Statements.{Item as SaidItem};
 
 use crate::distance::jump_to;
-use crate::errors::{AssembleError, Cause};
+use crate::errors::{AssembleError, TextCause};
 use crate::item::{Item, Jumping};
 use crate::labels::place_of;
 use bpf_isa::{Instruction, encode};
@@ -15,31 +15,39 @@ use std::alloc::Global;
 use std::collections::HashMap;
 
 /// The instruction that goes to a label, before this next unit.
-fn resolved(jumping: Jumping, next: usize, place: Option<usize>) -> Result<Instruction, Cause>
-    ensures exact { result ≡ resolved_of jumping next place }
+fn jump_instruction(
+    jumping: Jumping,
+    next: usize,
+    place: Option<usize>,
+) -> Result<Instruction, TextCause>
+    ensures exact { result ≡ jump_instruction_of jumping next place }
     ensures one { IfOk result (λ i. units_of i ≡ 1) }
 {
     let Some(place) = place else {
-        return Err(Cause::UnknownLabel);
+        return Err(TextCause::UnknownLabel);
     };
     match jump_to(jumping, next, place) {
         Some(instruction) => Ok(instruction),
-        None => Err(Cause::NumberRange),
+        None => Err(TextCause::NumberRange),
     }
 }
 
 /// Writes an instruction at the end of a code, and gives the unit behind it.
 #[tactic(auto, using(crate::proofs::CodeOfLines::units_few))]
-fn put_instruction(code: &mut Vec<u8>, pc: usize, instruction: Instruction) -> Result<usize, Cause>
+fn put_instruction(
+    code: &mut Vec<u8>,
+    pc: usize,
+    instruction: Instruction,
+) -> Result<usize, TextCause>
     requires { pc < 2 ^ 63 }
     ensures { MatchResult result
         (λ next. (code.new.items ≡ code.old.items ++ spelling instruction) × (next ≡ pc + units_of instruction))
-        (λ e. e ≡ Cause.OutOfMemory) }
+        (λ e. e ≡ TextCause.OutOfMemory) }
 {
     let (bytes, count) = encode(&instruction);
     match code.extend_from_slice(&bytes[..count]) {
         Ok(()) => Ok(pc + instruction.units()),
-        Err(_) => Err(Cause::OutOfMemory),
+        Err(_) => Err(TextCause::OutOfMemory),
     }
 }
 
@@ -49,7 +57,7 @@ fn put_item(
     labels: &HashMap<&[u8], usize>,
     pc: usize,
     item: Item,
-) -> Result<usize, Cause>
+) -> Result<usize, TextCause>
     requires { pc < 2 ^ 63 }
     ensures { (all : List SaidItem) → ((q : List ℕ) → hash.get_by (λ k. bytes_eq q k.now) labels.now ≡ place q all)
         → MatchResult result
@@ -63,7 +71,7 @@ fn put_item(
             Err(cause) => Err(cause),
         },
         Item::Goes(jumping, name) => {
-            let instruction = match resolved(jumping, pc + 1, place_of(labels, name)) {
+            let instruction = match jump_instruction(jumping, pc + 1, place_of(labels, name)) {
                 Ok(instruction) => instruction,
                 Err(cause) => return Err(cause),
             };

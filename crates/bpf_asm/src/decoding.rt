@@ -16,7 +16,8 @@ pub(crate) struct Decoded {
 /// Marks a unit.
 pub(crate) fn mark(marks: &mut Vec<bool>, unit: usize)
     requires { unit < length marks.old.items }
-    ensures marked { (k : ℕ) → slice_index_or marks.new.items k false ≡ (slice_index_or marks.old.items k false || (unit == k)) }
+    ensures marked { (k : ℕ) → slice_index_or marks.new.items k false
+        ≡ (slice_index_or marks.old.items k false || (unit == k)) }
     ensures same_length { length marks.new.items ≡ length marks.old.items }
 {
     marks[unit] = true;

@@ -1,5 +1,5 @@
 ghost use Rattle.std.specs.Prelude.{◌≡◌, ◌++◌, ℕ, List, [], false, slice_index_or, string_bytes, codes, if◌then◌else◌, Ok, IfOk, OnOk, MatchResult};
-ghost use Rattle.bpf_asm.specs.Listing.{disassembled, is_target, label_line, lines_of, listing, Refuses};
+ghost use Rattle.bpf_asm.specs.Listing.{disassembly, is_target, label_line, lines_of, listing, Refuses};
 ghost use Rattle.bpf_asm.specs.Writing.{statement_text};
 
 use crate::decoding::{decode_all, is_marked};
@@ -16,7 +16,8 @@ const MOST_BYTES: usize = 32_768;
 fn put_lines(text: &mut String, placed: Placed, is_labelled: bool) -> Result<(), AllocError>
     ensures { OnOk result (string_bytes text.new
         ≡ string_bytes text.old
-        ++ ((if is_labelled then label_line placed.pc else []) ++ (statement_text placed.pc placed.instruction ++ codes "\n"))) }
+        ++ ((if is_labelled then label_line placed.pc else [])
+        ++ (statement_text placed.pc placed.instruction ++ codes "\n"))) }
 {
     if is_labelled {
         put_label_line(text, usize::from(placed.pc))?;
@@ -44,8 +45,8 @@ fn write_listing(alloc: Global, placed: &[Placed], targets: &[bool]) -> Result<S
 /// no instruction stands, the jump or local call at a pc goes where no instruction starts. Each pc
 /// is the first such.
 pub fn disassemble(alloc: Global, code: &[u8]) -> Result<String, DisassembleError>
-    ensures { MatchResult result (λ text. disassembled code.now ≡ Ok (string_bytes text))
-        (λ e. Refuses e (disassembled code.now)) }
+    ensures { MatchResult result (λ text. disassembly code.now ≡ Ok (string_bytes text))
+        (λ e. Refuses e (disassembly code.now)) }
 {
     if code.len() > MOST_BYTES {
         return Err(DisassembleError::TooLong);

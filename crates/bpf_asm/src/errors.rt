@@ -1,5 +1,5 @@
 ghost use Rattle.std.specs.Prelude.{◌≡◌};
-ghost use Rattle.bpf_asm.specs.declared.errors.Cause.TheVariants as causes;
+ghost use Rattle.bpf_asm.specs.declared.errors.TextCause.TheVariants as causes;
 ghost use Rattle.bpf_asm.specs.declared.errors.DisassembleError.TheVariants as disassembling;
 
 use std::alloc::{AllocError, AllocFailed};
@@ -7,7 +7,7 @@ use thiserror::Error;
 
 /// What is wrong with a line of a text.
 #[derive(Clone, Copy, Debug, PartialEq, Eq, Error)]
-pub enum Cause {
+pub enum TextCause {
     /// The line is not a word with arguments or a label, or they are not those of its word.
     #[error("the line is not a statement or a label")]
     Syntax = 1,
@@ -37,7 +37,7 @@ pub enum Cause {
 pub struct AssembleError {
     /// The line, counted from 1. Where there is no memory it says nothing.
     pub line: usize,
-    pub cause: Cause,
+    pub cause: TextCause,
 }
 
 impl From<AllocError> for AssembleError {
@@ -46,7 +46,7 @@ impl From<AllocError> for AssembleError {
     fn from(_e: AllocError) -> AssembleError {
         AssembleError {
             line: 0,
-            cause: Cause::OutOfMemory,
+            cause: TextCause::OutOfMemory,
         }
     }
 }
@@ -57,7 +57,7 @@ impl<T: Drop> From<AllocFailed<T>> for AssembleError {
     fn from(_e: AllocFailed<T>) -> AssembleError {
         AssembleError {
             line: 0,
-            cause: Cause::OutOfMemory,
+            cause: TextCause::OutOfMemory,
         }
     }
 }

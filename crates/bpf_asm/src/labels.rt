@@ -1,11 +1,11 @@
 ghost use Rattle.std.specs.Prelude.{◌≡◌, ◌≤◌, ◌+◌, nat_lt, Ok, Err, ◌++◌, ◌∷◌, ℕ, List, [], Option, Some, ⊤, if◌then◌else◌, OnOk, IfOk, MatchResult};
 ghost use Rattle.std.specs.Str.{bytes_eq};
 ghost use Rattle.std.specs.HashMap as hash;
-ghost use Rattle.bpf_asm.specs.Assembly.{admitted, unless_memory};
+ghost use Rattle.bpf_asm.specs.Assembly.{admission, unless_memory};
 ghost use Rattle.bpf_asm.specs.Said.{said_item, IsRead};
 ghost use Rattle.bpf_asm.specs.Statements.{Item as SaidItem, Labelled};
 
-use crate::errors::Cause;
+use crate::errors::TextCause;
 use crate::item::Item;
 use std::collections::HashMap;
 
@@ -20,14 +20,18 @@ pub(crate) fn place_of(labels: &HashMap<&[u8], usize>, name: &[u8]) -> Option<us
 }
 
 /// Adds a label.
-fn add<'a>(labels: &mut HashMap<&'a [u8], usize>, name: &'a [u8], unit: usize) -> Result<(), Cause>
+fn add<'a>(
+    labels: &mut HashMap<&'a [u8], usize>,
+    name: &'a [u8],
+    unit: usize,
+) -> Result<(), TextCause>
     ensures added { OnOk result ((q : List ℕ) → hash.get_by (λ k. bytes_eq q k.now) labels.new
         ≡ (if bytes_eq name.now q then Some unit else hash.get_by (λ k. bytes_eq q k.now) labels.old)) }
-    ensures full { MatchResult result (λ _. ⊤) (λ e. e ≡ Cause.OutOfMemory) }
+    ensures full { MatchResult result (λ _. ⊤) (λ e. e ≡ TextCause.OutOfMemory) }
 {
     match labels.insert(name, unit) {
         Ok(_) => Ok(()),
-        Err(_) => Err(Cause::OutOfMemory),
+        Err(_) => Err(TextCause::OutOfMemory),
     }
 }
 
@@ -36,16 +40,16 @@ fn admit_label<'a>(
     labels: &mut HashMap<&'a [u8], usize>,
     units: usize,
     name: &'a [u8],
-) -> Result<(), Cause>
+) -> Result<(), TextCause>
     ensures admits { MatchResult result
         (λ _. (before : List SaidItem) → IsRead before units (λ q. hash.get_by (λ k. bytes_eq q k.now) labels.old)
-        → (admitted before (Labelled name.now) ≡ Ok (Labelled name.now))
+        → (admission before (Labelled name.now) ≡ Ok (Labelled name.now))
         × IsRead (before ++ (Labelled name.now ∷ [])) units (λ q. hash.get_by (λ k. bytes_eq q k.now) labels.new))
         (λ cause. (before : List SaidItem) → IsRead before units (λ q. hash.get_by (λ k. bytes_eq q k.now) labels.old)
-        → unless_memory cause (admitted before (Labelled name.now) ≡ Err cause)) }
+        → unless_memory cause (admission before (Labelled name.now) ≡ Err cause)) }
 {
     if place_of(labels, name).is_some() {
-        return Err(Cause::DoubleLabel);
+        return Err(TextCause::DoubleLabel);
     }
     match add(labels, name, units) {
         Ok(()) => Ok(()),
@@ -54,13 +58,13 @@ fn admit_label<'a>(
 }
 
 /// The units with those of one more instruction, if they are not too many.
-fn longer(units: usize, more: usize) -> Result<usize, Cause>
+fn longer(units: usize, more: usize) -> Result<usize, TextCause>
     requires { units ≤ 4096 }
-    ensures exact { result ≡ (if nat_lt 4096 (units + more) then Err Cause.TooLong else Ok (units + more)) }
+    ensures exact { result ≡ (if nat_lt 4096 (units + more) then Err TextCause.TooLong else Ok (units + more)) }
     ensures small { IfOk result (λ n. n ≤ 4096) }
 {
     if more > MOST_UNITS - units {
-        return Err(Cause::TooLong);
+        return Err(TextCause::TooLong);
     }
     Ok(units + more)
 }
@@ -70,15 +74,15 @@ pub(crate) fn admit<'a>(
     labels: &mut HashMap<&'a [u8], usize>,
     units: usize,
     item: Item<'a>,
-) -> Result<usize, Cause>
+) -> Result<usize, TextCause>
     requires { units ≤ 4096 }
     ensures small { IfOk result (λ n. n ≤ 4096) }
     ensures admits { MatchResult result
         (λ n. (before : List SaidItem) → IsRead before units (λ q. hash.get_by (λ k. bytes_eq q k.now) labels.old)
-        → (admitted before (said_item item.entry) ≡ Ok (said_item item.entry))
+        → (admission before (said_item item.entry) ≡ Ok (said_item item.entry))
         × IsRead (before ++ (said_item item.entry ∷ [])) n (λ q. hash.get_by (λ k. bytes_eq q k.now) labels.new))
         (λ cause. (before : List SaidItem) → IsRead before units (λ q. hash.get_by (λ k. bytes_eq q k.now) labels.old)
-        → unless_memory cause (admitted before (said_item item.entry) ≡ Err cause)) }
+        → unless_memory cause (admission before (said_item item.entry) ≡ Err cause)) }
 {
     match item {
         Item::Blank => Ok(units),

@@ -11,7 +11,7 @@ ghost use Rattle.bpf_asm.specs.Lexing.{
   parts,
   register_named as register_named_of,
   said_part as said_part_of,
-  trimmed as trimmed_of,
+  without_blanks as without_blanks_of,
   without_end as without_end_of,
   without_front as without_front_of,
 };
@@ -93,8 +93,8 @@ fn without_end(text: &[u8]) -> &[u8]
 }
 
 /// A text without the blanks at both ends.
-pub(crate) fn trimmed(text: &[u8]) -> &[u8]
-    ensures { result.now ≡ trimmed_of text.now }
+pub(crate) fn without_blanks(text: &[u8]) -> &[u8]
+    ensures { result.now ≡ without_blanks_of text.now }
 {
     without_end(without_front(text))
 }
@@ -103,7 +103,7 @@ pub(crate) fn trimmed(text: &[u8]) -> &[u8]
 pub(crate) fn said_part(line: &[u8]) -> &[u8]
     ensures { result.now ≡ said_part_of line.now }
 {
-    trimmed(&line[..position_of(line, b';')])
+    without_blanks(&line[..position_of(line, b';')])
 }
 
 /// Whether a text has only letters, digits and `_`.

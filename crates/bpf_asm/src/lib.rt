@@ -2,7 +2,6 @@
 #![tactic(auto)]
 
 mod argument;
-mod arguments;
 mod assembler;
 mod coding;
 mod decoding;
@@ -20,13 +19,14 @@ mod parsed;
 mod part;
 mod placed;
 mod statement;
+mod statement_arguments;
 mod targets;
 #[cfg(test)]
 mod tests;
 mod word;
-mod words;
+mod word_texts;
 mod writing;
 
 pub use assembler::assemble;
 pub use disassembler::disassemble;
-pub use errors::{AssembleError, Cause, DisassembleError};
+pub use errors::{AssembleError, DisassembleError, TextCause};

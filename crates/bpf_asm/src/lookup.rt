@@ -1,6 +1,6 @@
 ghost use Rattle.std.specs.Prelude.{◌≡◌};
 ghost use Rattle.bpf_asm.specs.Lexing.{same_bytes};
-ghost use Rattle.bpf_asm.specs.Words.{accesses, changes, comparisons, flows, is_short, looked, operations, stem, width_of, word as word_of_text};
+ghost use Rattle.bpf_asm.specs.Words.{accesses, changes, comparisons, flows, is_short, lookup, operations, stem, width_of, word as word_of_text};
 
 use crate::word::Word;
 use bpf_isa::{ByteOrder, Comparison, Extension, Operation, SignedSize, Size, SwapBits, Width};
@@ -14,7 +14,7 @@ fn is_text(text: &[u8], expected: &str) -> bool
 
 /// The operation of a word of 64 bits.
 fn operation(text: &[u8]) -> Option<Operation>
-    ensures { result ≡ looked operations text.now }
+    ensures { result ≡ lookup operations text.now }
 {
     if is_text(text, "mov") {
         return Some(Operation::Move);
@@ -63,7 +63,7 @@ fn operation(text: &[u8]) -> Option<Operation>
 
 /// The comparison of a word of 64 bits.
 fn comparison(text: &[u8]) -> Option<Comparison>
-    ensures { result ≡ looked comparisons text.now }
+    ensures { result ≡ lookup comparisons text.now }
 {
     if is_text(text, "jeq") {
         return Some(Comparison::Equal);
@@ -103,65 +103,65 @@ fn comparison(text: &[u8]) -> Option<Comparison>
 
 /// The word of a load or a store.
 fn access(text: &[u8]) -> Option<Word>
-    ensures { result ≡ looked accesses text.now }
+    ensures { result ≡ lookup accesses text.now }
 {
     if is_text(text, "ldxb") {
-        return Some(Word::Loading(Size::Byte));
+        return Some(Word::Load(Size::Byte));
     }
     if is_text(text, "ldxh") {
-        return Some(Word::Loading(Size::Half));
+        return Some(Word::Load(Size::Half));
     }
     if is_text(text, "ldxw") {
-        return Some(Word::Loading(Size::Word));
+        return Some(Word::Load(Size::Word));
     }
     if is_text(text, "ldxdw") {
-        return Some(Word::Loading(Size::Double));
+        return Some(Word::Load(Size::Double));
     }
     if is_text(text, "ldxsb") {
-        return Some(Word::LoadingSigned(SignedSize::SignedByte));
+        return Some(Word::LoadSigned(SignedSize::SignedByte));
     }
     if is_text(text, "ldxsh") {
-        return Some(Word::LoadingSigned(SignedSize::SignedHalf));
+        return Some(Word::LoadSigned(SignedSize::SignedHalf));
     }
     if is_text(text, "ldxsw") {
-        return Some(Word::LoadingSigned(SignedSize::SignedWord));
+        return Some(Word::LoadSigned(SignedSize::SignedWord));
     }
     if is_text(text, "stb") {
-        return Some(Word::Storing(Size::Byte));
+        return Some(Word::Store(Size::Byte));
     }
     if is_text(text, "sth") {
-        return Some(Word::Storing(Size::Half));
+        return Some(Word::Store(Size::Half));
     }
     if is_text(text, "stw") {
-        return Some(Word::Storing(Size::Word));
+        return Some(Word::Store(Size::Word));
     }
     if is_text(text, "stdw") {
-        return Some(Word::Storing(Size::Double));
+        return Some(Word::Store(Size::Double));
     }
     if is_text(text, "stxb") {
-        return Some(Word::StoringRegister(Size::Byte));
+        return Some(Word::StoreRegister(Size::Byte));
     }
     if is_text(text, "stxh") {
-        return Some(Word::StoringRegister(Size::Half));
+        return Some(Word::StoreRegister(Size::Half));
     }
     if is_text(text, "stxw") {
-        return Some(Word::StoringRegister(Size::Word));
+        return Some(Word::StoreRegister(Size::Word));
     }
     if is_text(text, "stxdw") {
-        return Some(Word::StoringRegister(Size::Double));
+        return Some(Word::StoreRegister(Size::Double));
     }
     if is_text(text, "lddw") {
-        return Some(Word::WideLoad);
+        return Some(Word::Wide);
     }
     None
 }
 
 /// The word of a jump without a test, of a call or of a return.
 fn flow(text: &[u8]) -> Option<Word>
-    ensures { result ≡ looked flows text.now }
+    ensures { result ≡ lookup flows text.now }
 {
     if is_text(text, "exit") {
-        return Some(Word::Return);
+        return Some(Word::Exit);
     }
     if is_text(text, "ja") {
         return Some(Word::JumpNear);
@@ -170,65 +170,65 @@ fn flow(text: &[u8]) -> Option<Word>
         return Some(Word::JumpFar);
     }
     if is_text(text, "call") {
-        return Some(Word::HelperCall);
+        return Some(Word::CallHelper);
     }
     if is_text(text, "calllocal") {
-        return Some(Word::LocalCall);
+        return Some(Word::CallLocal);
     }
     None
 }
 
 /// The word that changes one register by no operation.
 fn change(text: &[u8]) -> Option<Word>
-    ensures { result ≡ looked changes text.now }
+    ensures { result ≡ lookup changes text.now }
 {
     if is_text(text, "neg") {
-        return Some(Word::Negation(Width::Bits64));
+        return Some(Word::Negate(Width::Bits64));
     }
     if is_text(text, "neg32") {
-        return Some(Word::Negation(Width::Bits32));
+        return Some(Word::Negate(Width::Bits32));
     }
     if is_text(text, "le16") {
-        return Some(Word::Swapping(ByteOrder::Little, SwapBits::Low16));
+        return Some(Word::Swap(ByteOrder::Little, SwapBits::Low16));
     }
     if is_text(text, "le32") {
-        return Some(Word::Swapping(ByteOrder::Little, SwapBits::Low32));
+        return Some(Word::Swap(ByteOrder::Little, SwapBits::Low32));
     }
     if is_text(text, "le64") {
-        return Some(Word::Swapping(ByteOrder::Little, SwapBits::Low64));
+        return Some(Word::Swap(ByteOrder::Little, SwapBits::Low64));
     }
     if is_text(text, "be16") {
-        return Some(Word::Swapping(ByteOrder::Big, SwapBits::Low16));
+        return Some(Word::Swap(ByteOrder::Big, SwapBits::Low16));
     }
     if is_text(text, "be32") {
-        return Some(Word::Swapping(ByteOrder::Big, SwapBits::Low32));
+        return Some(Word::Swap(ByteOrder::Big, SwapBits::Low32));
     }
     if is_text(text, "be64") {
-        return Some(Word::Swapping(ByteOrder::Big, SwapBits::Low64));
+        return Some(Word::Swap(ByteOrder::Big, SwapBits::Low64));
     }
     if is_text(text, "swap16") {
-        return Some(Word::Swapping(ByteOrder::Reversed, SwapBits::Low16));
+        return Some(Word::Swap(ByteOrder::Reversed, SwapBits::Low16));
     }
     if is_text(text, "swap32") {
-        return Some(Word::Swapping(ByteOrder::Reversed, SwapBits::Low32));
+        return Some(Word::Swap(ByteOrder::Reversed, SwapBits::Low32));
     }
     if is_text(text, "swap64") {
-        return Some(Word::Swapping(ByteOrder::Reversed, SwapBits::Low64));
+        return Some(Word::Swap(ByteOrder::Reversed, SwapBits::Low64));
     }
     if is_text(text, "movsx8") {
-        return Some(Word::Extend(Extension::From8To64));
+        return Some(Word::MoveSigned(Extension::From8To64));
     }
     if is_text(text, "movsx16") {
-        return Some(Word::Extend(Extension::From16To64));
+        return Some(Word::MoveSigned(Extension::From16To64));
     }
     if is_text(text, "movsx32") {
-        return Some(Word::Extend(Extension::From32To64));
+        return Some(Word::MoveSigned(Extension::From32To64));
     }
     if is_text(text, "mov32sx8") {
-        return Some(Word::Extend(Extension::From8To32));
+        return Some(Word::MoveSigned(Extension::From8To32));
     }
     if is_text(text, "mov32sx16") {
-        return Some(Word::Extend(Extension::From16To32));
+        return Some(Word::MoveSigned(Extension::From16To32));
     }
     None
 }
@@ -257,13 +257,13 @@ pub(crate) fn word(text: &[u8]) -> Option<Word>
 {
     let (width, stem) = width_and_stem(text);
     if let Some(operation) = operation(stem) {
-        return Some(Word::Arithmetic(width, operation));
+        return Some(Word::Alu(width, operation));
     }
     if let Some(word) = access(text) {
         return Some(word);
     }
     if let Some(comparison) = comparison(stem) {
-        return Some(Word::Branching(width, comparison));
+        return Some(Word::Branch(width, comparison));
     }
     match flow(text) {
         Some(word) => Some(word),

@@ -182,7 +182,8 @@ fn with_digit(base: u64, number: u64, digit: u64) -> Option<u64>
 
 /// The number that digits spell, if it is below 2^64.
 fn magnitude(numeral: Numeral) -> Option<u64>
-    ensures { result ≡ (if nat_lt (magnitude_of (said_numeral numeral.entry)) (2 ^ 64) then Some (magnitude_of (said_numeral numeral.entry)) else None) }
+    ensures { result ≡ (if nat_lt (magnitude_of (said_numeral numeral.entry)) (2 ^ 64) then Some
+        (magnitude_of (said_numeral numeral.entry)) else None) }
 {
     let base = base_number(numeral.base);
     let mut number = 0;
@@ -227,7 +228,7 @@ pub(crate) fn offset(numeral: Numeral) -> Option<i16>
 }
 
 /// The number, if it is from 0 to 2^64 - 1.
-pub(crate) fn wide(numeral: Numeral) -> Option<u64>
+pub(crate) fn wide_value(numeral: Numeral) -> Option<u64>
     ensures { result ≡ wide_of (said_numeral numeral.entry) }
 {
     let number = magnitude(numeral)?;

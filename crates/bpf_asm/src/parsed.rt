@@ -1,11 +1,11 @@
 ghost use Rattle.std.specs.Prelude.{◌≡◌, ◌≤◌, ◌++◌, ◌∷◌, ℕ, List, [], map, Ok, Err, IfOk, MatchResult};
 ghost use Rattle.std.specs.Str.{bytes_eq};
 ghost use Rattle.std.specs.HashMap as hash;
-ghost use Rattle.bpf_asm.specs.Assembly.{checked, items as items_of, unless_memory, place, Faults};
+ghost use Rattle.bpf_asm.specs.Assembly.{reading_admission, items as items_of, unless_memory, place, Faults};
 ghost use Rattle.bpf_asm.specs.Said.{said_item, IsRead};
 ghost use Rattle.bpf_asm.specs.Statements.{item, Item as SaidItem};
 
-use crate::errors::{AssembleError, Cause};
+use crate::errors::{AssembleError, TextCause};
 use crate::item::Item;
 use crate::labels::admit;
 use crate::line::item_in;
@@ -25,15 +25,15 @@ fn admitted<'a>(
     labels: &mut HashMap<&'a [u8], usize>,
     units: usize,
     line: &'a [u8],
-) -> Result<(Item<'a>, usize), Cause>
+) -> Result<(Item<'a>, usize), TextCause>
     requires { units ≤ 4096 }
     ensures small { IfOk result (λ found. found.1 ≤ 4096) }
     ensures admits { MatchResult result
         (λ found. (before : List SaidItem) → IsRead before units (λ q. hash.get_by (λ k. bytes_eq q k.now) labels.old)
-        → (checked before (item line.now) ≡ Ok (said_item found.0))
+        → (reading_admission before (item line.now) ≡ Ok (said_item found.0))
         × IsRead (before ++ (said_item found.0 ∷ [])) found.1 (λ q. hash.get_by (λ k. bytes_eq q k.now) labels.new))
         (λ cause. (before : List SaidItem) → IsRead before units (λ q. hash.get_by (λ k. bytes_eq q k.now) labels.old)
-        → unless_memory cause (checked before (item line.now) ≡ Err cause)) }
+        → unless_memory cause (reading_admission before (item line.now) ≡ Err cause)) }
 {
     let item = match item_in(line) {
         Ok(item) => item,

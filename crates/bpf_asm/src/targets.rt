@@ -14,7 +14,8 @@ pub(crate) fn find_targets(
 ) -> Result<Vec<bool>, DisassembleError>
     requires { (k : ℕ) → slice_index_or starts.now k false ≡ is_start k placed.now }
     ensures { MatchResult result
-        (λ targets. (first_out placed.now placed.now ≡ None) × ((k : ℕ) → slice_index_or targets.items k false ≡ is_target k placed.now))
+        (λ targets. (first_out placed.now placed.now ≡ None)
+        × ((k : ℕ) → slice_index_or targets.items k false ≡ is_target k placed.now))
         (λ e. Refuses e (unless_out (first_out placed.now placed.now) placed.now)) }
 {
     let mut targets = vec![in alloc; false; starts.len()]?;

@@ -97,7 +97,7 @@ fn assert_fault(
     alloc: Global,
     parts: &str,
     line: usize,
-    cause: Cause,
+    cause: TextCause,
 ) -> Result<(), Fail> {
     let text = with_line_ends(alloc, parts)?;
     match assemble(alloc, text.as_str()) {
@@ -110,36 +110,36 @@ fn assert_fault(
 #[test]
 fn faults(rt: HostRuntime) -> Result<(), Fail> {
     let cases = [
-        ("mov r0, 7/jmp x", 2, Cause::UnknownName),
-        ("ja x", 1, Cause::UnknownLabel),
-        ("mov r0, 2147483648", 1, Cause::NumberRange),
-        ("mov r0, -2147483649", 1, Cause::NumberRange),
-        ("ldxw r0, [r1+32768]", 1, Cause::NumberRange),
-        ("ldxw r0, [r1-32769]", 1, Cause::NumberRange),
-        ("lddw r0, 18446744073709551616", 1, Cause::NumberRange),
-        ("lddw r0, -1", 1, Cause::NumberRange),
-        ("mov r11, 1", 1, Cause::Syntax),
-        ("exit/x:/x:", 3, Cause::DoubleLabel),
+        ("mov r0, 7/jmp x", 2, TextCause::UnknownName),
+        ("ja x", 1, TextCause::UnknownLabel),
+        ("mov r0, 2147483648", 1, TextCause::NumberRange),
+        ("mov r0, -2147483649", 1, TextCause::NumberRange),
+        ("ldxw r0, [r1+32768]", 1, TextCause::NumberRange),
+        ("ldxw r0, [r1-32769]", 1, TextCause::NumberRange),
+        ("lddw r0, 18446744073709551616", 1, TextCause::NumberRange),
+        ("lddw r0, -1", 1, TextCause::NumberRange),
+        ("mov r11, 1", 1, TextCause::Syntax),
+        ("exit/x:/x:", 3, TextCause::DoubleLabel),
         // The form of all arguments is looked at before the word, and the word before their number.
-        ("foo ???", 1, Cause::Syntax),
-        ("foo [r1 + 4]", 1, Cause::Syntax),
-        ("foo 0x", 1, Cause::Syntax),
-        ("foo r1,", 1, Cause::Syntax),
-        ("foo r1", 1, Cause::UnknownName),
-        ("foo r1, 2, [r3], x, r5", 1, Cause::UnknownName),
-        ("12 r1", 1, Cause::Syntax),
-        ("mov! r0, 1", 1, Cause::Syntax),
-        ("# x", 1, Cause::Syntax),
-        ("r1:", 1, Cause::Syntax),
-        ("x: exit", 1, Cause::Syntax),
-        ("mov r0, 0X1", 1, Cause::Syntax),
-        ("mov r0, -0x1", 1, Cause::Syntax),
-        ("mov r0, +1", 1, Cause::Syntax),
-        ("add r0, r1, r2, r3", 1, Cause::Syntax),
+        ("foo ???", 1, TextCause::Syntax),
+        ("foo [r1 + 4]", 1, TextCause::Syntax),
+        ("foo 0x", 1, TextCause::Syntax),
+        ("foo r1,", 1, TextCause::Syntax),
+        ("foo r1", 1, TextCause::UnknownName),
+        ("foo r1, 2, [r3], x, r5", 1, TextCause::UnknownName),
+        ("12 r1", 1, TextCause::Syntax),
+        ("mov! r0, 1", 1, TextCause::Syntax),
+        ("# x", 1, TextCause::Syntax),
+        ("r1:", 1, TextCause::Syntax),
+        ("x: exit", 1, TextCause::Syntax),
+        ("mov r0, 0X1", 1, TextCause::Syntax),
+        ("mov r0, -0x1", 1, TextCause::Syntax),
+        ("mov r0, +1", 1, TextCause::Syntax),
+        ("add r0, r1, r2, r3", 1, TextCause::Syntax),
         // The form of all arguments is looked at before their ranges.
-        ("stw [r1+40000], r1", 1, Cause::Syntax),
+        ("stw [r1+40000], r1", 1, TextCause::Syntax),
         // A line before a line, and all lines before labels that are not there.
-        ("ja x/mov r0, 2147483648/foo", 2, Cause::NumberRange),
+        ("ja x/mov r0, 2147483648/foo", 2, TextCause::NumberRange),
     ];
     for (parts, line, cause) in &cases {
         assert_fault(&rt, rt.alloc(), parts, *line, *cause)?;
@@ -165,7 +165,7 @@ fn longest_code(rt: HostRuntime) -> Result<(), Fail> {
             assemble(rt.alloc(), longer.as_str()).err(),
             Some(AssembleError {
                 line: 4097,
-                cause: Cause::TooLong,
+                cause: TextCause::TooLong,
             }),
             "{statement}"
         );
@@ -212,7 +212,7 @@ fn refused_code(rt: HostRuntime) -> Result<(), Fail> {
 fn refused_memory(rt: HostRuntime) {
     match assemble(rt.alloc(), "x:\nja x") {
         Ok(code) => assert_eq!(rt; code.as_slice(), [5, 0, 0xff, 0xff, 0, 0, 0, 0].as_slice()),
-        Err(error) => assert_eq!(rt; error.cause, Cause::OutOfMemory),
+        Err(error) => assert_eq!(rt; error.cause, TextCause::OutOfMemory),
     }
     match disassemble(rt.alloc(), &[0x95, 0, 0, 0, 0, 0, 0, 0]) {
         Ok(text) => assert_eq!(rt; text.as_str(), "exit\n"),
@@ -224,7 +224,7 @@ fn refused_memory(rt: HostRuntime) {
 fn errors_have_texts(rt: HostRuntime) -> Result<(), Fail> {
     let error = AssembleError {
         line: 4,
-        cause: Cause::UnknownName,
+        cause: TextCause::UnknownName,
     };
     let text = format!(in rt.alloc(); "{error}")?;
     assert_eq!(rt; text.as_str(), "line 4: no statement has this word");

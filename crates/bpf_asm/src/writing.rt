@@ -16,7 +16,7 @@ ghost use Rattle.bpf_asm.specs.Writing.{
 ghost use Rattle.bpf_asm.specs.Listing.{label_line};
 
 use crate::placed::{Placed, Target};
-use crate::words::{
+use crate::word_texts::{
     mark_of_signed_size, mark_of_size, mark_of_swap, mark_of_width, name_of_register,
     word_of_comparison, word_of_extension, word_of_jump, word_of_operation, word_of_order,
 };
@@ -195,7 +195,8 @@ fn put_operands(
     instruction: Instruction,
     target: Target,
 ) -> Result<(), AllocError>
-    ensures { OnOk result (string_bytes text.new ≡ string_bytes text.old ++ operands_text (operand_texts instruction target)) }
+    ensures { OnOk result (string_bytes text.new ≡ string_bytes text.old
+        ++ operands_text (operand_texts instruction target)) }
 {
     match instruction {
         Instruction::Alu {
@@ -266,7 +267,8 @@ fn put_operands(
 
 /// Writes the statement of an instruction.
 pub(crate) fn put_statement(text: &mut String, placed: Placed) -> Result<(), AllocError>
-    ensures { OnOk result (string_bytes text.new ≡ string_bytes text.old ++ statement_text placed.pc placed.instruction) }
+    ensures { OnOk result (string_bytes text.new ≡ string_bytes text.old
+        ++ statement_text placed.pc placed.instruction) }
 {
     put_word(text, placed.instruction)?;
     put_operands(text, placed.instruction, placed.target())

@@ -8,7 +8,7 @@ use Rattle.std.proofs.lemmas.Slice.Eq.{slice_eq-Decides}
 use Rattle.bpf_image.specs.declared.image_error.ImageError.{ImageError}
 use Rattle.bpf_image.specs.declared.image_error.ImageError.TheVariants.{Magic, Length, RecordLength, CodeLength}
 use Rattle.bpf_image.specs.Format.{magic, record_field, units_field, HasMagic, HasCounts, IsWhole}
-use Rattle.bpf_image.specs.Reading.{tested, from_code, from_units, from_record_length, from_length, header_of}
+use Rattle.bpf_image.specs.Reading.{after_test, from_code, from_units, from_record_length, from_length, header_of}
 
 -- ---- the tests
 
@@ -23,7 +23,7 @@ within low high n test =
 
 -- ---- what a tested result says
 
-ok_parts : (test : Bool) (fault : ImageError) (next : Result ℕ ImageError) (n : ℕ) → tested test fault next ≡ Ok n → (test ≡ true) × (next ≡ Ok n)
+ok_parts : (test : Bool) (fault : ImageError) (next : Result ℕ ImageError) (n : ℕ) → after_test test fault next ≡ Ok n → (test ≡ true) × (next ≡ Ok n)
 ok_parts true fault next n h = (refl, h)
 ok_parts false fault next n h = absurd cc
 

@@ -6,23 +6,23 @@ use Rattle.bpf_image.specs.declared.image_error.ImageError.TheVariants.{Magic, L
 use Rattle.bpf_image.specs.Format.{magic, record_field, units_field}
 
 -- goes on where a test holds
-abbrev pub tested : Bool → ImageError → Result ℕ ImageError → Result ℕ ImageError
-tested true error next = next
-tested false error next = Err error
+abbrev pub after_test : Bool → ImageError → Result ℕ ImageError → Result ℕ ImageError
+after_test true error next = next
+after_test false error next = Err error
 
 -- the record length of an image's bytes, or the first fault: the tests from the last one to the first
 abbrev pub from_code : List ℕ → Result ℕ ImageError
-from_code bytes = tested (length bytes == 8 + 8 * units_field bytes) Length (Ok (record_field bytes))
+from_code bytes = after_test (length bytes == 8 + 8 * units_field bytes) Length (Ok (record_field bytes))
 
 abbrev pub from_units : List ℕ → Result ℕ ImageError
-from_units bytes = tested (nat_le 1 (units_field bytes) && nat_le (units_field bytes) 4096) CodeLength (from_code bytes)
+from_units bytes = after_test (nat_le 1 (units_field bytes) && nat_le (units_field bytes) 4096) CodeLength (from_code bytes)
 
 abbrev pub from_record_length : List ℕ → Result ℕ ImageError
 from_record_length bytes =
-    tested (nat_le 16 (record_field bytes) && nat_le (record_field bytes) 256) RecordLength (from_units bytes)
+    after_test (nat_le 16 (record_field bytes) && nat_le (record_field bytes) 256) RecordLength (from_units bytes)
 
 abbrev pub from_length : List ℕ → Result ℕ ImageError
-from_length bytes = tested (nat_le 8 (length bytes)) Length (from_record_length bytes)
+from_length bytes = after_test (nat_le 8 (length bytes)) Length (from_record_length bytes)
 
 abbrev pub header_of : List ℕ → Result ℕ ImageError
-header_of bytes = tested (starts_with nat_eq bytes magic) Magic (from_length bytes)
+header_of bytes = after_test (starts_with nat_eq bytes magic) Magic (from_length bytes)

@@ -13,7 +13,7 @@ use Rattle.bpf_isa.specs.declared.decode_error.DecodeError.{DecodeError}
 use Rattle.bpf_isa.specs.declared.decode_error.DecodeError.TheVariants.{Truncated, UnknownOpcode, UnusedField, BadRegister, BadWide}
 use Rattle.bpf_isa.specs.Encoding.{Fields, units_of}
 use Rattle.bpf_isa.specs.DecodeErrors.{Field, value_at, fields_at, HasRow, IsTruncated, UnusedAreZero, HasRegisters, IsSecondUnit, IsDecodeError}
-use Rattle.bpf_isa.specs.Reading.{register_at, row_at, row_unused, all_zero, instruction_of, is_second_unit, joined, with_registers, read_row, no_fields, second_at, is_cut, decoded}
+use Rattle.bpf_isa.specs.Reading.{register_at, row_at, row_unused, all_zero, instruction_of, is_second_unit, wide_instruction, with_registers, read_row, no_fields, second_at, is_cut, decoding}
 use Rattle.bpf_isa.proofs.Tables.{chosen}
 use Rattle.bpf_isa.proofs.RowLaws.{row_for, row_has, row_again}
 use Rattle.bpf_isa.proofs.DecodedLaws.{done, failed, same_failed, not_failed, second_there}
@@ -51,8 +51,8 @@ whole_to code pc h = record {
   next = false_from_ne_true _ (λ e. h (truncated_from_cut code pc e));
 }
 
-decoded_cut : (code : List ℕ) (pc : ℕ) → IsTruncated code pc → decoded code pc ≡ Err Truncated
-unfolding decoded
+decoded_cut : (code : List ℕ) (pc : ℕ) → IsTruncated code pc → decoding code pc ≡ Err Truncated
+unfolding decoding
 decoded_cut code pc h =
     elim (cases_Bool (leb (length code / 8) pc)) [
       | inl over ↦ cond-true _ _ _ over
@@ -63,8 +63,8 @@ decoded_cut code pc h =
           ]
     ]
 
-decoded_whole : (code : List ℕ) (pc : ℕ) → IsWhole code pc → decoded code pc ≡ read_row (row_at (fields_at code pc)) (fields_at code pc) (second_at code pc)
-unfolding decoded
+decoded_whole : (code : List ℕ) (pc : ℕ) → IsWhole code pc → decoding code pc ≡ read_row (row_at (fields_at code pc)) (fields_at code pc) (second_at code pc)
+unfolding decoding
 decoded_whole code pc h = cond-false _ _ _ h.inside ∙ cond-false _ _ _ h.next
 
 second_unit_from : (f : Fields) → is_second_unit f ≡ true → IsSecondUnit f
@@ -103,7 +103,7 @@ register_below n r e = omega (arith, register_has n r e, register_limit r)
 
 -- ---- an error that is given applies
 
-bad_wide_from : (code : List ℕ) (pc : ℕ) (row : Row) (d s : Register) (e : DecodeError) → ¬ IsTruncated code pc → row_at (fields_at code pc) ≡ Some row → all_zero (row_unused row) (fields_at code pc) ≡ true → HasRegisters (fields_at code pc) → joined row d s (fields_at code pc) (second_at code pc) ≡ Err e → IsDecodeError code pc e
+bad_wide_from : (code : List ℕ) (pc : ℕ) (row : Row) (d s : Register) (e : DecodeError) → ¬ IsTruncated code pc → row_at (fields_at code pc) ≡ Some row → all_zero (row_unused row) (fields_at code pc) ≡ true → HasRegisters (fields_at code pc) → wide_instruction row d s (fields_at code pc) (second_at code pc) ≡ Err e → IsDecodeError code pc e
 bad_wide_from code pc row d s e whole row_is zeros numbers r =
     let first : Fields = fields_at code pc in
     let second : Fields = second_at code pc in
@@ -140,7 +140,7 @@ row_from code pc (Some row) e whole row_is r =
       | inr h ↦ subst (IsDecodeError code pc) (same_failed UnusedField e h.1) (whole, (instruction_of row R0 R0 first 0, row_has first row row_is R0 R0 0, λ z. true≢false (sym (zeros_to row R0 R0 first 0 z) ∙ h.0)))
     ]
 
-pub IsDecodeError-decoded : (code : List ℕ) (pc : ℕ) (e : DecodeError) → decoded code pc ≡ Err e → IsDecodeError code pc e
+pub IsDecodeError-decoded : (code : List ℕ) (pc : ℕ) (e : DecodeError) → decoding code pc ≡ Err e → IsDecodeError code pc e
 IsDecodeError-decoded code pc e r =
     elim (cases_Bool (leb (length code / 8) pc)) [
       | inl over ↦
@@ -157,7 +157,7 @@ IsDecodeError-decoded code pc e r =
 
 -- ---- an error that applies is given
 
-decoded_row : (code : List ℕ) (pc : ℕ) (o : Option Row) → ¬ IsTruncated code pc → row_at (fields_at code pc) ≡ o → decoded code pc ≡ read_row o (fields_at code pc) (second_at code pc)
+decoded_row : (code : List ℕ) (pc : ℕ) (o : Option Row) → ¬ IsTruncated code pc → row_at (fields_at code pc) ≡ o → decoding code pc ≡ read_row o (fields_at code pc) (second_at code pc)
 decoded_row code pc o whole h =
     decoded_whole code pc (whole_to code pc whole) ∙ ap (λ (r : Option Row). read_row r (fields_at code pc) (second_at code pc)) h
 
@@ -190,7 +190,7 @@ bad_wide row first second h e =
     let j : Instruction = instruction_of row d.0 s.0 first second.immediate in
     ap (λ (o : Option Register). with_registers o (register_at first.source) row first second) d.1 ∙ ap (λ (o : Option Register). with_registers (Some d.0) o row first second) s.1 ∙ cond-false _ (done (j, units_of j)) (failed BadWide) e
 
-pub decoded-IsDecodeError : (code : List ℕ) (pc : ℕ) (e : DecodeError) → IsDecodeError code pc e → decoded code pc ≡ Err e
+pub decoded-IsDecodeError : (code : List ℕ) (pc : ℕ) (e : DecodeError) → IsDecodeError code pc e → decoding code pc ≡ Err e
 decoded-IsDecodeError code pc Truncated h = decoded_cut code pc h
 decoded-IsDecodeError code pc UnknownOpcode h =
     decoded_row code pc None h.0 (no_row (fields_at code pc) (row_at (fields_at code pc)) refl h.1) ∙ read_unknown _ _

@@ -16,9 +16,9 @@ use Rattle.bpf_isa.specs.declared.instruction.Distance.TheVariants.{Near, Far}
 use Rattle.bpf_isa.specs.declared.instruction.Instruction.{Instruction}
 use Rattle.bpf_isa.specs.declared.instruction.Instruction.TheVariants.{Alu, MoveSigned, Negate, Swap, Jump, Branch, CallHelper, CallLocal, Exit, Load, LoadSigned, Store, StoreRegister, Wide}
 use Rattle.bpf_isa.specs.declared.row.Row.{Row}
-use Rattle.bpf_isa.specs.declared.row.Row.TheVariants.{ImmediateAlu, RegisterAlu, SignedMove, Negation, ByteSwap, NearJump, FarJump, ImmediateBranch, RegisterBranch, HelperCall, LocalCall, Return, PlainLoad, SignedLoad, ImmediateStore, RegisterStore, WideLoad}
+use Rattle.bpf_isa.specs.declared.row.Row.TheVariants as rows
 use Rattle.bpf_isa.specs.Encoding.{Fields, unit_bytes, fields_of, number_of, operation_offset, InstructionFits}
-use Rattle.bpf_isa.specs.DecodeErrors.{Field, SourceField, ImmediateField, value_at, operation_choosing, operation_unused, unused, HasRow}
+use Rattle.bpf_isa.specs.DecodeErrors.{Field, SourceField, ImmediateField, value_at, operation_choosing, operation_unused, unused_fields, HasRow}
 use Rattle.bpf_isa.specs.Reading.{registers, register_at, row_unused, all_zero, instruction_of}
 use Rattle.bpf_isa.proofs.Tables.{entry, looked_has}
 use Rattle.bpf_isa.proofs.RowLaws.{row_for}
@@ -149,7 +149,7 @@ test_from_zero [] f h = refl
 test_from_zero (field ∷ fields) f h =
     and_from (eqb (value_at field f) 0) (all_zero fields f) (eq-eqb _ _ h.0) (test_from_zero fields f h.1)
 
-pub unused-row : (i : Instruction) → unused i ≡ row_unused (row_for i)
+pub unused-row : (i : Instruction) → unused_fields i ≡ row_unused (row_for i)
 unused-row (Alu width operation d (Immediate n)) = refl
 unused-row (Alu width operation d (Source s)) = refl
 unused-row (MoveSigned extension d s) = refl
@@ -168,24 +168,24 @@ unused-row (Store size b o n) = refl
 unused-row (StoreRegister size b o s) = refl
 unused-row (Wide d v) = refl
 
-pub unused-instruction : (row : Row) (d s : Register) (f : Fields) (upper : ℕ) → unused (instruction_of row d s f upper) ≡ row_unused row
-unused-instruction (ImmediateAlu width operation) d s f upper = refl
-unused-instruction (RegisterAlu width operation) d s f upper = refl
-unused-instruction (SignedMove extension) d s f upper = refl
-unused-instruction (Negation width) d s f upper = refl
-unused-instruction (ByteSwap order bits) d s f upper = refl
-unused-instruction NearJump d s f upper = refl
-unused-instruction FarJump d s f upper = refl
-unused-instruction (ImmediateBranch width comparison) d s f upper = refl
-unused-instruction (RegisterBranch width comparison) d s f upper = refl
-unused-instruction HelperCall d s f upper = refl
-unused-instruction LocalCall d s f upper = refl
-unused-instruction Return d s f upper = refl
-unused-instruction (PlainLoad size) d s f upper = refl
-unused-instruction (SignedLoad size) d s f upper = refl
-unused-instruction (ImmediateStore size) d s f upper = refl
-unused-instruction (RegisterStore size) d s f upper = refl
-unused-instruction WideLoad d s f upper = refl
+pub unused-instruction : (row : Row) (d s : Register) (f : Fields) (upper : ℕ) → unused_fields (instruction_of row d s f upper) ≡ row_unused row
+unused-instruction (rows.ImmediateAlu width operation) d s f upper = refl
+unused-instruction (rows.RegisterAlu width operation) d s f upper = refl
+unused-instruction (rows.MoveSigned extension) d s f upper = refl
+unused-instruction (rows.Negate width) d s f upper = refl
+unused-instruction (rows.Swap order bits) d s f upper = refl
+unused-instruction rows.NearJump d s f upper = refl
+unused-instruction rows.FarJump d s f upper = refl
+unused-instruction (rows.ImmediateBranch width comparison) d s f upper = refl
+unused-instruction (rows.RegisterBranch width comparison) d s f upper = refl
+unused-instruction rows.CallHelper d s f upper = refl
+unused-instruction rows.CallLocal d s f upper = refl
+unused-instruction rows.Exit d s f upper = refl
+unused-instruction (rows.Load size) d s f upper = refl
+unused-instruction (rows.LoadSigned size) d s f upper = refl
+unused-instruction (rows.Store size) d s f upper = refl
+unused-instruction (rows.StoreRegister size) d s f upper = refl
+unused-instruction rows.Wide d s f upper = refl
 
 -- ---- an instruction's fields are those that it was made of
 
@@ -215,23 +215,23 @@ pub record HasNumbers (d s : Register) (f : Fields) : Type 0 where
   pub source : number_of s ≡ f.source
 
 pub fields_of-instruction : (row : Row) (d s : Register) (f : Fields) (upper : ℕ) → HasRow (instruction_of row d s f upper) f → AllByRecursion (λ x. value_at x f ≡ 0) (row_unused row) → HasNumbers d s f → FieldsFit f → fields_of (instruction_of row d s f upper) ≡ f
-fields_of-instruction (ImmediateAlu width operation) d s f upper h z n fits = same_fields (fields_of (instruction_of (ImmediateAlu width operation) d s f upper)) f h.0 n.destination (sym (operation_rest (operation_choosing operation) f SourceField z)) (operation_offset_is operation (fields_of (instruction_of (ImmediateAlu width operation) d s f upper)) f _ refl h.1 z) (of_z-to_z w32 f.immediate fits.immediate)
-fields_of-instruction (RegisterAlu width operation) d s f upper h z n fits = same_fields (fields_of (instruction_of (RegisterAlu width operation) d s f upper)) f h.0 n.destination n.source (operation_offset_is operation (fields_of (instruction_of (RegisterAlu width operation) d s f upper)) f _ refl h.1 z) (sym (operation_rest (operation_choosing operation) f ImmediateField z))
-fields_of-instruction (SignedMove extension) d s f upper h z n fits = same_fields (fields_of (instruction_of (SignedMove extension) d s f upper)) f h.0 n.destination n.source h.1 (sym z.0)
-fields_of-instruction (Negation width) d s f upper h z n fits = same_fields (fields_of (instruction_of (Negation width) d s f upper)) f h.0 n.destination (sym z.0) (sym z.1.0) (sym z.1.1.0)
-fields_of-instruction (ByteSwap order bits) d s f upper h z n fits = same_fields (fields_of (instruction_of (ByteSwap order bits) d s f upper)) f h.0 n.destination (sym z.0) (sym z.1.0) (h.1)
-fields_of-instruction NearJump d s f upper h z n fits = same_fields (fields_of (instruction_of NearJump d s f upper)) f h.0 (sym z.0) (sym z.1.0) (of_z-to_z w16 f.offset fits.offset) (sym z.1.1.0)
-fields_of-instruction FarJump d s f upper h z n fits = same_fields (fields_of (instruction_of FarJump d s f upper)) f h.0 (sym z.0) (sym z.1.0) (sym z.1.1.0) (of_z-to_z w32 f.immediate fits.immediate)
-fields_of-instruction (ImmediateBranch width comparison) d s f upper h z n fits = same_fields (fields_of (instruction_of (ImmediateBranch width comparison) d s f upper)) f h.0 n.destination (sym z.0) (of_z-to_z w16 f.offset fits.offset) (of_z-to_z w32 f.immediate fits.immediate)
-fields_of-instruction (RegisterBranch width comparison) d s f upper h z n fits = same_fields (fields_of (instruction_of (RegisterBranch width comparison) d s f upper)) f h.0 n.destination n.source (of_z-to_z w16 f.offset fits.offset) (sym z.0)
-fields_of-instruction HelperCall d s f upper h z n fits = same_fields (fields_of (instruction_of HelperCall d s f upper)) f h.0 (sym z.0) h.1 (sym z.1.0) (of_z-to_z w32 f.immediate fits.immediate)
-fields_of-instruction LocalCall d s f upper h z n fits = same_fields (fields_of (instruction_of LocalCall d s f upper)) f h.0 (sym z.0) h.1 (sym z.1.0) (of_z-to_z w32 f.immediate fits.immediate)
-fields_of-instruction Return d s f upper h z n fits = same_fields (fields_of (instruction_of Return d s f upper)) f h.0 (sym z.0) (sym z.1.0) (sym z.1.1.0) (sym z.1.1.1.0)
-fields_of-instruction (PlainLoad size) d s f upper h z n fits = same_fields (fields_of (instruction_of (PlainLoad size) d s f upper)) f h.0 n.destination n.source (of_z-to_z w16 f.offset fits.offset) (sym z.0)
-fields_of-instruction (SignedLoad size) d s f upper h z n fits = same_fields (fields_of (instruction_of (SignedLoad size) d s f upper)) f h.0 n.destination n.source (of_z-to_z w16 f.offset fits.offset) (sym z.0)
-fields_of-instruction (ImmediateStore size) d s f upper h z n fits = same_fields (fields_of (instruction_of (ImmediateStore size) d s f upper)) f h.0 n.destination (sym z.0) (of_z-to_z w16 f.offset fits.offset) (of_z-to_z w32 f.immediate fits.immediate)
-fields_of-instruction (RegisterStore size) d s f upper h z n fits = same_fields (fields_of (instruction_of (RegisterStore size) d s f upper)) f h.0 n.destination n.source (of_z-to_z w16 f.offset fits.offset) (sym z.0)
-fields_of-instruction WideLoad d s f upper h z n fits = same_fields (fields_of (instruction_of WideLoad d s f upper)) f h.0 n.destination h.1 (sym z.0) (let low : (f.immediate + 2 ^ 32 * upper) % 2 ^ 32 ≡ f.immediate = omega (arith, fits.immediate) in low)
+fields_of-instruction (rows.ImmediateAlu width operation) d s f upper h z n fits = same_fields (fields_of (instruction_of (rows.ImmediateAlu width operation) d s f upper)) f h.0 n.destination (sym (operation_rest (operation_choosing operation) f SourceField z)) (operation_offset_is operation (fields_of (instruction_of (rows.ImmediateAlu width operation) d s f upper)) f _ refl h.1 z) (of_z-to_z w32 f.immediate fits.immediate)
+fields_of-instruction (rows.RegisterAlu width operation) d s f upper h z n fits = same_fields (fields_of (instruction_of (rows.RegisterAlu width operation) d s f upper)) f h.0 n.destination n.source (operation_offset_is operation (fields_of (instruction_of (rows.RegisterAlu width operation) d s f upper)) f _ refl h.1 z) (sym (operation_rest (operation_choosing operation) f ImmediateField z))
+fields_of-instruction (rows.MoveSigned extension) d s f upper h z n fits = same_fields (fields_of (instruction_of (rows.MoveSigned extension) d s f upper)) f h.0 n.destination n.source h.1 (sym z.0)
+fields_of-instruction (rows.Negate width) d s f upper h z n fits = same_fields (fields_of (instruction_of (rows.Negate width) d s f upper)) f h.0 n.destination (sym z.0) (sym z.1.0) (sym z.1.1.0)
+fields_of-instruction (rows.Swap order bits) d s f upper h z n fits = same_fields (fields_of (instruction_of (rows.Swap order bits) d s f upper)) f h.0 n.destination (sym z.0) (sym z.1.0) (h.1)
+fields_of-instruction rows.NearJump d s f upper h z n fits = same_fields (fields_of (instruction_of rows.NearJump d s f upper)) f h.0 (sym z.0) (sym z.1.0) (of_z-to_z w16 f.offset fits.offset) (sym z.1.1.0)
+fields_of-instruction rows.FarJump d s f upper h z n fits = same_fields (fields_of (instruction_of rows.FarJump d s f upper)) f h.0 (sym z.0) (sym z.1.0) (sym z.1.1.0) (of_z-to_z w32 f.immediate fits.immediate)
+fields_of-instruction (rows.ImmediateBranch width comparison) d s f upper h z n fits = same_fields (fields_of (instruction_of (rows.ImmediateBranch width comparison) d s f upper)) f h.0 n.destination (sym z.0) (of_z-to_z w16 f.offset fits.offset) (of_z-to_z w32 f.immediate fits.immediate)
+fields_of-instruction (rows.RegisterBranch width comparison) d s f upper h z n fits = same_fields (fields_of (instruction_of (rows.RegisterBranch width comparison) d s f upper)) f h.0 n.destination n.source (of_z-to_z w16 f.offset fits.offset) (sym z.0)
+fields_of-instruction rows.CallHelper d s f upper h z n fits = same_fields (fields_of (instruction_of rows.CallHelper d s f upper)) f h.0 (sym z.0) h.1 (sym z.1.0) (of_z-to_z w32 f.immediate fits.immediate)
+fields_of-instruction rows.CallLocal d s f upper h z n fits = same_fields (fields_of (instruction_of rows.CallLocal d s f upper)) f h.0 (sym z.0) h.1 (sym z.1.0) (of_z-to_z w32 f.immediate fits.immediate)
+fields_of-instruction rows.Exit d s f upper h z n fits = same_fields (fields_of (instruction_of rows.Exit d s f upper)) f h.0 (sym z.0) (sym z.1.0) (sym z.1.1.0) (sym z.1.1.1.0)
+fields_of-instruction (rows.Load size) d s f upper h z n fits = same_fields (fields_of (instruction_of (rows.Load size) d s f upper)) f h.0 n.destination n.source (of_z-to_z w16 f.offset fits.offset) (sym z.0)
+fields_of-instruction (rows.LoadSigned size) d s f upper h z n fits = same_fields (fields_of (instruction_of (rows.LoadSigned size) d s f upper)) f h.0 n.destination n.source (of_z-to_z w16 f.offset fits.offset) (sym z.0)
+fields_of-instruction (rows.Store size) d s f upper h z n fits = same_fields (fields_of (instruction_of (rows.Store size) d s f upper)) f h.0 n.destination (sym z.0) (of_z-to_z w16 f.offset fits.offset) (of_z-to_z w32 f.immediate fits.immediate)
+fields_of-instruction (rows.StoreRegister size) d s f upper h z n fits = same_fields (fields_of (instruction_of (rows.StoreRegister size) d s f upper)) f h.0 n.destination n.source (of_z-to_z w16 f.offset fits.offset) (sym z.0)
+fields_of-instruction rows.Wide d s f upper h z n fits = same_fields (fields_of (instruction_of rows.Wide d s f upper)) f h.0 n.destination h.1 (sym z.0) (let low : (f.immediate + 2 ^ 32 * upper) % 2 ^ 32 ≡ f.immediate = omega (arith, fits.immediate) in low)
 
 pub fits_signed_16 : (n : ℕ) → n < 2 ^ 16 → FitsSigned w16 (cast_signed w16 n)
 fits_signed_16 n h = search rules
@@ -240,20 +240,20 @@ pub fits_signed_32 : (n : ℕ) → n < 2 ^ 32 → FitsSigned w32 (cast_signed w3
 fits_signed_32 n h = search rules
 
 pub instruction_fits : (row : Row) (d s : Register) (f : Fields) (upper : ℕ) → FieldsFit f → upper < 2 ^ 32 → InstructionFits (instruction_of row d s f upper)
-instruction_fits (ImmediateAlu width operation) d s f upper fits h = fits_signed_32 f.immediate fits.immediate
-instruction_fits (RegisterAlu width operation) d s f upper fits h = tt
-instruction_fits (SignedMove extension) d s f upper fits h = tt
-instruction_fits (Negation width) d s f upper fits h = tt
-instruction_fits (ByteSwap order bits) d s f upper fits h = tt
-instruction_fits NearJump d s f upper fits h = fits_signed_16 f.offset fits.offset
-instruction_fits FarJump d s f upper fits h = fits_signed_32 f.immediate fits.immediate
-instruction_fits (ImmediateBranch width comparison) d s f upper fits h = (fits_signed_32 f.immediate fits.immediate, fits_signed_16 f.offset fits.offset)
-instruction_fits (RegisterBranch width comparison) d s f upper fits h = (tt, fits_signed_16 f.offset fits.offset)
-instruction_fits HelperCall d s f upper fits h = fits_signed_32 f.immediate fits.immediate
-instruction_fits LocalCall d s f upper fits h = fits_signed_32 f.immediate fits.immediate
-instruction_fits Return d s f upper fits h = tt
-instruction_fits (PlainLoad size) d s f upper fits h = fits_signed_16 f.offset fits.offset
-instruction_fits (SignedLoad size) d s f upper fits h = fits_signed_16 f.offset fits.offset
-instruction_fits (ImmediateStore size) d s f upper fits h = (fits_signed_16 f.offset fits.offset, fits_signed_32 f.immediate fits.immediate)
-instruction_fits (RegisterStore size) d s f upper fits h = fits_signed_16 f.offset fits.offset
-instruction_fits WideLoad d s f upper fits h = omega (arith, fits.immediate)
+instruction_fits (rows.ImmediateAlu width operation) d s f upper fits h = fits_signed_32 f.immediate fits.immediate
+instruction_fits (rows.RegisterAlu width operation) d s f upper fits h = tt
+instruction_fits (rows.MoveSigned extension) d s f upper fits h = tt
+instruction_fits (rows.Negate width) d s f upper fits h = tt
+instruction_fits (rows.Swap order bits) d s f upper fits h = tt
+instruction_fits rows.NearJump d s f upper fits h = fits_signed_16 f.offset fits.offset
+instruction_fits rows.FarJump d s f upper fits h = fits_signed_32 f.immediate fits.immediate
+instruction_fits (rows.ImmediateBranch width comparison) d s f upper fits h = (fits_signed_32 f.immediate fits.immediate, fits_signed_16 f.offset fits.offset)
+instruction_fits (rows.RegisterBranch width comparison) d s f upper fits h = (tt, fits_signed_16 f.offset fits.offset)
+instruction_fits rows.CallHelper d s f upper fits h = fits_signed_32 f.immediate fits.immediate
+instruction_fits rows.CallLocal d s f upper fits h = fits_signed_32 f.immediate fits.immediate
+instruction_fits rows.Exit d s f upper fits h = tt
+instruction_fits (rows.Load size) d s f upper fits h = fits_signed_16 f.offset fits.offset
+instruction_fits (rows.LoadSigned size) d s f upper fits h = fits_signed_16 f.offset fits.offset
+instruction_fits (rows.Store size) d s f upper fits h = (fits_signed_16 f.offset fits.offset, fits_signed_32 f.immediate fits.immediate)
+instruction_fits (rows.StoreRegister size) d s f upper fits h = fits_signed_16 f.offset fits.offset
+instruction_fits rows.Wide d s f upper fits h = omega (arith, fits.immediate)

@@ -26,31 +26,31 @@ use Rattle.bpf_isa.specs.declared.instruction.Distance.TheVariants.{Near, Far}
 use Rattle.bpf_isa.specs.declared.instruction.Instruction.{Instruction}
 use Rattle.bpf_isa.specs.declared.instruction.Instruction.TheVariants.{Alu, MoveSigned, Negate, Swap, Jump, Branch, CallHelper, CallLocal, Exit, Load, LoadSigned, Store, StoreRegister, Wide}
 use Rattle.bpf_isa.specs.declared.row.Row.{Row}
-use Rattle.bpf_isa.specs.declared.row.Row.TheVariants.{ImmediateAlu, RegisterAlu, SignedMove, Negation, ByteSwap, NearJump, FarJump, ImmediateBranch, RegisterBranch, HelperCall, LocalCall, Return, PlainLoad, SignedLoad, ImmediateStore, RegisterStore, WideLoad}
+use Rattle.bpf_isa.specs.declared.row.Row.TheVariants as rows
 use Rattle.bpf_isa.specs.Encoding.{Fields, fields_of, alu_class, jump_class, operation_code, operation_offset, comparison_code, size_bits, signed_size_bits, extension_width, extension_bits, swap_opcode, swap_bits}
 use Rattle.bpf_isa.specs.DecodeErrors.{value_at, operation_choosing, HasRow}
-use Rattle.bpf_isa.specs.Reading.{looked, divisions, operations, operation_at, comparisons, comparison_at, sizes, size_at, signed_sizes, signed_size_at, extensions, extension_at, swaps, swap_bits_at, swap_row, immediate_swap, register_swap, immediate_alu, move_row, register_alu, alu_row, jump_of, calls, call_row, return_row, immediate_jump, jump_row, load_row, wide_row, classes, class_row, row_at, instruction_of}
+use Rattle.bpf_isa.specs.Reading.{lookup, divisions, operations, operation_at, comparisons, comparison_at, sizes, size_at, signed_sizes, signed_size_at, extensions, extension_at, swaps, swap_bits_at, swap_row, immediate_swap, register_swap, immediate_alu, move_row, register_alu, alu_row, jump_of, calls, call_row, return_row, immediate_jump, jump_row, load_row, wide_row, classes, class_row, row_at, instruction_of}
 use Rattle.bpf_isa.proofs.Tables.{chosen, entry, looked_has, mapped}
 
 -- the row of an instruction
 abbrev pub row_for : Instruction → Row
-row_for (Alu width operation destination (Immediate n)) = ImmediateAlu width operation
-row_for (Alu width operation destination (Source r)) = RegisterAlu width operation
-row_for (MoveSigned extension destination source) = SignedMove extension
-row_for (Negate width destination) = Negation width
-row_for (Swap order bits destination) = ByteSwap order bits
-row_for (Jump (Near n)) = NearJump
-row_for (Jump (Far n)) = FarJump
-row_for (Branch width comparison left (Immediate n) distance) = ImmediateBranch width comparison
-row_for (Branch width comparison left (Source r) distance) = RegisterBranch width comparison
-row_for (CallHelper number) = HelperCall
-row_for (CallLocal distance) = LocalCall
-row_for Exit = Return
-row_for (Load size destination base offset) = PlainLoad size
-row_for (LoadSigned size destination base offset) = SignedLoad size
-row_for (Store size base offset immediate) = ImmediateStore size
-row_for (StoreRegister size base offset source) = RegisterStore size
-row_for (Wide destination value) = WideLoad
+row_for (Alu width operation destination (Immediate n)) = rows.ImmediateAlu width operation
+row_for (Alu width operation destination (Source r)) = rows.RegisterAlu width operation
+row_for (MoveSigned extension destination source) = rows.MoveSigned extension
+row_for (Negate width destination) = rows.Negate width
+row_for (Swap order bits destination) = rows.Swap order bits
+row_for (Jump (Near n)) = rows.NearJump
+row_for (Jump (Far n)) = rows.FarJump
+row_for (Branch width comparison left (Immediate n) distance) = rows.ImmediateBranch width comparison
+row_for (Branch width comparison left (Source r) distance) = rows.RegisterBranch width comparison
+row_for (CallHelper number) = rows.CallHelper
+row_for (CallLocal distance) = rows.CallLocal
+row_for Exit = rows.Exit
+row_for (Load size destination base offset) = rows.Load size
+row_for (LoadSigned size destination base offset) = rows.LoadSigned size
+row_for (Store size base offset immediate) = rows.Store size
+row_for (StoreRegister size base offset source) = rows.StoreRegister size
+row_for (Wide destination value) = rows.Wide
 
 -- ---- from fields to the row that they have
 
@@ -61,11 +61,11 @@ OffsetIs operation offset = MatchOption (operation_choosing operation) ⊤ (λ f
 abbrev HasOperation : ℕ → ℕ → Operation → Type 0
 HasOperation offset code operation = (operation_code operation ≡ code) × OffsetIs operation offset
 
-division_has : (code : ℕ) (unsigned signed : Operation) (offset : ℕ) (x : Operation) → HasOperation 0 code unsigned → HasOperation 1 code signed → looked (divisions unsigned signed) offset ≡ Some x → HasOperation offset code x
+division_has : (code : ℕ) (unsigned signed : Operation) (offset : ℕ) (x : Operation) → HasOperation 0 code unsigned → HasOperation 1 code signed → lookup (divisions unsigned signed) offset ≡ Some x → HasOperation offset code x
 division_has code unsigned signed offset x p q e =
     looked_has (λ n y. HasOperation n code y) (divisions unsigned signed) offset x (entry (HasOperation 0 code) unsigned p, (entry (HasOperation 1 code) signed q, tt)) e
 
-move_has : (offset : ℕ) (x : Operation) → looked ((0, Some Move) ∷ []) offset ≡ Some x → HasOperation offset 11 x
+move_has : (offset : ℕ) (x : Operation) → lookup ((0, Some Move) ∷ []) offset ≡ Some x → HasOperation offset 11 x
 move_has offset x e =
     looked_has (λ n y. HasOperation n 11 y) ((0, Some Move) ∷ []) offset x (entry (HasOperation 0 11) Move (refl, refl), tt) e
 
@@ -126,7 +126,7 @@ offset_chooses ShiftRightSigned g f e h = tt
 
 swap_has : (order : ByteOrder) (f : Fields) (row : Row) → f.opcode ≡ swap_opcode order → swap_row order f.immediate ≡ Some row → Has f row
 swap_has order f row o e =
-    let m = mapped (ByteSwap order) (swap_bits_at f.immediate) row e in
+    let m = mapped (rows.Swap order) (swap_bits_at f.immediate) row e in
     subst (Has f) m.2 (λ d s upper. (sym o, swap_bits_has f.immediate m.0 m.1))
 
 immediate_swap_has : (width : Width) (code : ℕ) (f : Fields) (row : Row) → f.opcode ≡ 16 * code + alu_class width → code ≡ 13 → immediate_swap width f.immediate ≡ Some row → Has f row
@@ -139,13 +139,13 @@ register_swap_has Bits64 code f row o c e = absurd cc
 
 immediate_alu_has : (width : Width) (code : ℕ) (f : Fields) (row : Row) → f.opcode ≡ 16 * code + alu_class width → immediate_alu width code f ≡ Some row → Has f row
 immediate_alu_has width code f row o e =
-    elim (chosen (eqb code 8) (Some (Negation width)) (cond (eqb code 13) (immediate_swap width f.immediate) (option_map (ImmediateAlu width) (operation_at code f.offset))) (Some row) e) [
-      | inl h ↦ let c = eqb-true code 8 h.0 in subst (Has f) (same_Some (Negation width) row h.1) (λ d s upper. (omega arith, tt))
+    elim (chosen (eqb code 8) (Some (rows.Negate width)) (cond (eqb code 13) (immediate_swap width f.immediate) (option_map (rows.ImmediateAlu width) (operation_at code f.offset))) (Some row) e) [
+      | inl h ↦ let c = eqb-true code 8 h.0 in subst (Has f) (same_Some (rows.Negate width) row h.1) (λ d s upper. (omega arith, tt))
       | inr h ↦
-          elim (chosen (eqb code 13) (immediate_swap width f.immediate) (option_map (ImmediateAlu width) (operation_at code f.offset)) (Some row) h.1) [
+          elim (chosen (eqb code 13) (immediate_swap width f.immediate) (option_map (rows.ImmediateAlu width) (operation_at code f.offset)) (Some row) h.1) [
             | inl k ↦ immediate_swap_has width code f row o (eqb-true code 13 k.0) k.1
             | inr k ↦
-                let m = mapped (ImmediateAlu width) (operation_at code f.offset) row k.1 in
+                let m = mapped (rows.ImmediateAlu width) (operation_at code f.offset) row k.1 in
                 let p = operation_has code f.offset m.0 m.1 in
                 subst (Has f) m.2 (λ d s upper. (omega (arith, p.0), offset_chooses m.0 (fields_of (Alu width m.0 d (Immediate (cast_signed w32 f.immediate)))) f refl p.1))
           ]
@@ -153,12 +153,12 @@ immediate_alu_has width code f row o e =
 
 move_row_has : (width : Width) (code : ℕ) (f : Fields) (row : Row) → f.opcode ≡ 16 * code + 8 + alu_class width → code ≡ 11 → move_row width f.offset ≡ Some row → Has f row
 move_row_has width code f row o c e =
-    elim (chosen (eqb f.offset 0) (Some (RegisterAlu width Move)) (option_map SignedMove (extension_at width f.offset)) (Some row) e) [
+    elim (chosen (eqb f.offset 0) (Some (rows.RegisterAlu width Move)) (option_map rows.MoveSigned (extension_at width f.offset)) (Some row) e) [
       | inl h ↦
           let z = eqb-true f.offset 0 h.0 in
-          subst (Has f) (same_Some (RegisterAlu width Move) row h.1) (λ d s upper. (omega arith, sym z))
+          subst (Has f) (same_Some (rows.RegisterAlu width Move) row h.1) (λ d s upper. (omega arith, sym z))
       | inr h ↦
-          let m = mapped SignedMove (extension_at width f.offset) row h.1 in
+          let m = mapped rows.MoveSigned (extension_at width f.offset) row h.1 in
           let p = extension_has width f.offset m.0 m.1 in
           let class : alu_class (extension_width m.0) ≡ alu_class width = ap alu_class p.0 in
           subst (Has f) m.2 (λ d s upper. (omega (arith, class), p.1))
@@ -166,13 +166,13 @@ move_row_has width code f row o c e =
 
 register_alu_has : (width : Width) (code : ℕ) (f : Fields) (row : Row) → f.opcode ≡ 16 * code + 8 + alu_class width → register_alu width code f ≡ Some row → Has f row
 register_alu_has width code f row o e =
-    elim (chosen (eqb code 11) (move_row width f.offset) (cond (eqb code 13) (register_swap width f.immediate) (option_map (RegisterAlu width) (operation_at code f.offset))) (Some row) e) [
+    elim (chosen (eqb code 11) (move_row width f.offset) (cond (eqb code 13) (register_swap width f.immediate) (option_map (rows.RegisterAlu width) (operation_at code f.offset))) (Some row) e) [
       | inl h ↦ move_row_has width code f row o (eqb-true code 11 h.0) h.1
       | inr h ↦
-          elim (chosen (eqb code 13) (register_swap width f.immediate) (option_map (RegisterAlu width) (operation_at code f.offset)) (Some row) h.1) [
+          elim (chosen (eqb code 13) (register_swap width f.immediate) (option_map (rows.RegisterAlu width) (operation_at code f.offset)) (Some row) h.1) [
             | inl k ↦ register_swap_has width code f row o (eqb-true code 13 k.0) k.1
             | inr k ↦
-                let m = mapped (RegisterAlu width) (operation_at code f.offset) row k.1 in
+                let m = mapped (rows.RegisterAlu width) (operation_at code f.offset) row k.1 in
                 let p = operation_has code f.offset m.0 m.1 in
                 subst (Has f) m.2 (λ d s upper. (omega (arith, p.0), offset_chooses m.0 (fields_of (Alu width m.0 d (Source s))) f refl p.1))
           ]
@@ -188,11 +188,11 @@ alu_has width high f row o e =
 call_has : (width : Width) (f : Fields) (row : Row) → f.opcode ≡ 128 + jump_class width → call_row width f.source ≡ Some row → Has f row
 call_has Bits32 f row o e = absurd cc
 call_has Bits64 f row o e =
-    looked_has (λ n x. n ≡ f.source → Has f x) calls f.source row (entry (λ x. 0 ≡ f.source → Has f x) HelperCall (λ h d s upper. (sym o, h)), (entry (λ x. 1 ≡ f.source → Has f x) LocalCall (λ h d s upper. (sym o, h)), tt)) e refl
+    looked_has (λ n x. n ≡ f.source → Has f x) calls f.source row (entry (λ x. 0 ≡ f.source → Has f x) rows.CallHelper (λ h d s upper. (sym o, h)), (entry (λ x. 1 ≡ f.source → Has f x) rows.CallLocal (λ h d s upper. (sym o, h)), tt)) e refl
 
 return_has : (width : Width) (f : Fields) (row : Row) → f.opcode ≡ 144 + jump_class width → return_row width ≡ Some row → Has f row
 return_has Bits32 f row o e = absurd cc
-return_has Bits64 f row o e = subst (Has f) (same_Some Return row e) (λ d s upper. (sym o, tt))
+return_has Bits64 f row o e = subst (Has f) (same_Some rows.Exit row e) (λ d s upper. (sym o, tt))
 
 jump_of_has : (width : Width) (f : Fields) → f.opcode ≡ jump_class width → Has f (jump_of width)
 jump_of_has Bits32 f o d s upper = (sym o, tt)
@@ -200,7 +200,7 @@ jump_of_has Bits64 f o d s upper = (sym o, tt)
 
 immediate_jump_has : (width : Width) (code : ℕ) (f : Fields) (row : Row) → f.opcode ≡ 16 * code + jump_class width → immediate_jump width code f.source ≡ Some row → Has f row
 immediate_jump_has width code f row o e =
-    let branch : Option Row = option_map (ImmediateBranch width) (comparison_at code) in
+    let branch : Option Row = option_map (rows.ImmediateBranch width) (comparison_at code) in
     let ending : Option Row = cond (eqb code 9) (return_row width) branch in
     elim (chosen (eqb code 0) (Some (jump_of width)) (cond (eqb code 8) (call_row width f.source) ending) (Some row) e) [
       | inl h ↦ let c = eqb-true code 0 h.0 in subst (Has f) (same_Some (jump_of width) row h.1) (jump_of_has width f (omega arith))
@@ -211,7 +211,7 @@ immediate_jump_has width code f row o e =
                 elim (chosen (eqb code 9) (return_row width) branch (Some row) k.1) [
                   | inl l ↦ let c = eqb-true code 9 l.0 in return_has width f row (omega arith) l.1
                   | inr l ↦
-                      let m = mapped (ImmediateBranch width) (comparison_at code) row l.1 in
+                      let m = mapped (rows.ImmediateBranch width) (comparison_at code) row l.1 in
                       let p = comparison_has code m.0 m.1 in
                       subst (Has f) m.2 (λ d s upper. (omega (arith, p), tt))
                 ]
@@ -220,47 +220,47 @@ immediate_jump_has width code f row o e =
 
 jump_has : (width : Width) (high : ℕ) (f : Fields) (row : Row) → f.opcode ≡ 8 * high + jump_class width → jump_row width high f ≡ Some row → Has f row
 jump_has width high f row o e =
-    elim (chosen (eqb (high % 2) 0) (immediate_jump width (high / 2) f.source) (option_map (RegisterBranch width) (comparison_at (high / 2))) (Some row) e) [
+    elim (chosen (eqb (high % 2) 0) (immediate_jump width (high / 2) f.source) (option_map (rows.RegisterBranch width) (comparison_at (high / 2))) (Some row) e) [
       | inl h ↦ let z = eqb-true (high % 2) 0 h.0 in immediate_jump_has width (high / 2) f row (omega arith) h.1
       | inr h ↦
           let z = eqb-false (high % 2) 0 h.0 in
-          let m = mapped (RegisterBranch width) (comparison_at (high / 2)) row h.1 in
+          let m = mapped (rows.RegisterBranch width) (comparison_at (high / 2)) row h.1 in
           let p = comparison_has (high / 2) m.0 m.1 in
           subst (Has f) m.2 (λ d s upper. (omega (arith, p), tt))
     ]
 
 load_has : (high : ℕ) (f : Fields) (row : Row) → f.opcode ≡ 8 * high + 1 → load_row high ≡ Some row → Has f row
 load_has high f row o e =
-    elim (chosen (ltb high 16) (option_map PlainLoad (size_at high)) (option_map SignedLoad (signed_size_at high)) (Some row) e) [
+    elim (chosen (ltb high 16) (option_map rows.Load (size_at high)) (option_map rows.LoadSigned (signed_size_at high)) (Some row) e) [
       | inl h ↦
-          let m = mapped PlainLoad (size_at high) row h.1 in
+          let m = mapped rows.Load (size_at high) row h.1 in
           let p = size_has high m.0 m.1 in
           subst (Has f) m.2 (λ d s upper. (omega (arith, p), tt))
       | inr h ↦
-          let m = mapped SignedLoad (signed_size_at high) row h.1 in
+          let m = mapped rows.LoadSigned (signed_size_at high) row h.1 in
           let p = signed_size_has high m.0 m.1 in
           subst (Has f) m.2 (λ d s upper. (omega (arith, p), tt))
     ]
 
-store_has : (high : ℕ) (f : Fields) (row : Row) → f.opcode ≡ 8 * high + 2 → option_map ImmediateStore (size_at high) ≡ Some row → Has f row
+store_has : (high : ℕ) (f : Fields) (row : Row) → f.opcode ≡ 8 * high + 2 → option_map rows.Store (size_at high) ≡ Some row → Has f row
 store_has high f row o e =
-    let m = mapped ImmediateStore (size_at high) row e in
+    let m = mapped rows.Store (size_at high) row e in
     let p = size_has high m.0 m.1 in
     subst (Has f) m.2 (λ d s upper. (omega (arith, p), tt))
 
-register_store_has : (high : ℕ) (f : Fields) (row : Row) → f.opcode ≡ 8 * high + 3 → option_map RegisterStore (size_at high) ≡ Some row → Has f row
+register_store_has : (high : ℕ) (f : Fields) (row : Row) → f.opcode ≡ 8 * high + 3 → option_map rows.StoreRegister (size_at high) ≡ Some row → Has f row
 register_store_has high f row o e =
-    let m = mapped RegisterStore (size_at high) row e in
+    let m = mapped rows.StoreRegister (size_at high) row e in
     let p = size_has high m.0 m.1 in
     subst (Has f) m.2 (λ d s upper. (omega (arith, p), tt))
 
 wide_has : (high : ℕ) (f : Fields) (row : Row) → f.opcode ≡ 8 * high → wide_row high f.source ≡ Some row → Has f row
 wide_has high f row o e =
-    elim (chosen (eqb high 3) (looked ((0, Some WideLoad) ∷ []) f.source) None (Some row) e) [
+    elim (chosen (eqb high 3) (lookup ((0, Some rows.Wide) ∷ []) f.source) None (Some row) e) [
       | inl h ↦
           let c = eqb-true high 3 h.0 in
           let is : 24 ≡ f.opcode = omega arith in
-          looked_has (λ n x. n ≡ f.source → Has f x) ((0, Some WideLoad) ∷ []) f.source row (entry (λ x. 0 ≡ f.source → Has f x) WideLoad (λ z d s upper. (is, z)), tt) h.1 refl
+          looked_has (λ n x. n ≡ f.source → Has f x) ((0, Some rows.Wide) ∷ []) f.source row (entry (λ x. 0 ≡ f.source → Has f x) rows.Wide (λ z d s upper. (is, z)), tt) h.1 refl
       | inr h ↦ let no : ⊥ = (let q = h.1 in cc) in absurd no
     ]
 
@@ -316,11 +316,11 @@ jump_even width code f =
     let q : 2 * code / 2 ≡ code = omega arith in
     cond-true (eqb ((2 * code) % 2) 0) _ _ (ap (λ n. eqb n 0) z) ∙ ap (λ n. immediate_jump width n f.source) q
 
-jump_odd : (width : Width) (code : ℕ) (f : Fields) → jump_row width (2 * code + 1) f ≡ option_map (RegisterBranch width) (comparison_at code)
+jump_odd : (width : Width) (code : ℕ) (f : Fields) → jump_row width (2 * code + 1) f ≡ option_map (rows.RegisterBranch width) (comparison_at code)
 jump_odd width code f =
     let z : (2 * code + 1) % 2 ≡ 1 = omega arith in
     let q : (2 * code + 1) / 2 ≡ code = omega arith in
-    cond-false (eqb ((2 * code + 1) % 2) 0) _ _ (ap (λ n. eqb n 0) z) ∙ ap (λ n. option_map (RegisterBranch width) (comparison_at n)) q
+    cond-false (eqb ((2 * code + 1) % 2) 0) _ _ (ap (λ n. eqb n 0) z) ∙ ap (λ n. option_map (rows.RegisterBranch width) (comparison_at n)) q
 
 -- the opcodes of arithmetic, and those of jumps
 alu_k : (width : Width) (code : ℕ) (f : Fields) → f.opcode ≡ 16 * code + alu_class width → row_at f ≡ immediate_alu width code f
@@ -335,55 +335,55 @@ jump_k : (width : Width) (code : ℕ) (f : Fields) → f.opcode ≡ 16 * code + 
 jump_k Bits32 code f o = class_at 6 (2 * code) f (omega arith) (lit< tt) ∙ jump_even Bits32 code f
 jump_k Bits64 code f o = class_at 5 (2 * code) f (omega arith) (lit< tt) ∙ jump_even Bits64 code f
 
-jump_x : (width : Width) (code : ℕ) (f : Fields) → f.opcode ≡ 16 * code + 8 + jump_class width → row_at f ≡ option_map (RegisterBranch width) (comparison_at code)
+jump_x : (width : Width) (code : ℕ) (f : Fields) → f.opcode ≡ 16 * code + 8 + jump_class width → row_at f ≡ option_map (rows.RegisterBranch width) (comparison_at code)
 jump_x Bits32 code f o = class_at 6 (2 * code + 1) f (omega arith) (lit< tt) ∙ jump_odd Bits32 code f
 jump_x Bits64 code f o = class_at 5 (2 * code + 1) f (omega arith) (lit< tt) ∙ jump_odd Bits64 code f
 
-immediate_again : (width : Width) (operation : Operation) (f : Fields) → OffsetIs operation f.offset → immediate_alu width (operation_code operation) f ≡ Some (ImmediateAlu width operation)
+immediate_again : (width : Width) (operation : Operation) (f : Fields) → OffsetIs operation f.offset → immediate_alu width (operation_code operation) f ≡ Some (rows.ImmediateAlu width operation)
 immediate_again width Add f h = refl
 immediate_again width Subtract f h = refl
 immediate_again width Multiply f h = refl
-immediate_again width Divide f h = ap (λ n. option_map (ImmediateAlu width) (looked (divisions Divide DivideSigned) n)) (sym h)
-immediate_again width DivideSigned f h = ap (λ n. option_map (ImmediateAlu width) (looked (divisions Divide DivideSigned) n)) (sym h)
+immediate_again width Divide f h = ap (λ n. option_map (rows.ImmediateAlu width) (lookup (divisions Divide DivideSigned) n)) (sym h)
+immediate_again width DivideSigned f h = ap (λ n. option_map (rows.ImmediateAlu width) (lookup (divisions Divide DivideSigned) n)) (sym h)
 immediate_again width Or f h = refl
 immediate_again width And f h = refl
 immediate_again width ShiftLeft f h = refl
 immediate_again width ShiftRight f h = refl
-immediate_again width Modulo f h = ap (λ n. option_map (ImmediateAlu width) (looked (divisions Modulo ModuloSigned) n)) (sym h)
-immediate_again width ModuloSigned f h = ap (λ n. option_map (ImmediateAlu width) (looked (divisions Modulo ModuloSigned) n)) (sym h)
+immediate_again width Modulo f h = ap (λ n. option_map (rows.ImmediateAlu width) (lookup (divisions Modulo ModuloSigned) n)) (sym h)
+immediate_again width ModuloSigned f h = ap (λ n. option_map (rows.ImmediateAlu width) (lookup (divisions Modulo ModuloSigned) n)) (sym h)
 immediate_again width Xor f h = refl
-immediate_again width Move f h = ap (λ n. option_map (ImmediateAlu width) (looked ((0, Some Move) ∷ []) n)) (sym h)
+immediate_again width Move f h = ap (λ n. option_map (rows.ImmediateAlu width) (lookup ((0, Some Move) ∷ []) n)) (sym h)
 immediate_again width ShiftRightSigned f h = refl
 
-register_again : (width : Width) (operation : Operation) (f : Fields) → OffsetIs operation f.offset → register_alu width (operation_code operation) f ≡ Some (RegisterAlu width operation)
+register_again : (width : Width) (operation : Operation) (f : Fields) → OffsetIs operation f.offset → register_alu width (operation_code operation) f ≡ Some (rows.RegisterAlu width operation)
 register_again width Add f h = refl
 register_again width Subtract f h = refl
 register_again width Multiply f h = refl
-register_again width Divide f h = ap (λ n. option_map (RegisterAlu width) (looked (divisions Divide DivideSigned) n)) (sym h)
-register_again width DivideSigned f h = ap (λ n. option_map (RegisterAlu width) (looked (divisions Divide DivideSigned) n)) (sym h)
+register_again width Divide f h = ap (λ n. option_map (rows.RegisterAlu width) (lookup (divisions Divide DivideSigned) n)) (sym h)
+register_again width DivideSigned f h = ap (λ n. option_map (rows.RegisterAlu width) (lookup (divisions Divide DivideSigned) n)) (sym h)
 register_again width Or f h = refl
 register_again width And f h = refl
 register_again width ShiftLeft f h = refl
 register_again width ShiftRight f h = refl
-register_again width Modulo f h = ap (λ n. option_map (RegisterAlu width) (looked (divisions Modulo ModuloSigned) n)) (sym h)
-register_again width ModuloSigned f h = ap (λ n. option_map (RegisterAlu width) (looked (divisions Modulo ModuloSigned) n)) (sym h)
+register_again width Modulo f h = ap (λ n. option_map (rows.RegisterAlu width) (lookup (divisions Modulo ModuloSigned) n)) (sym h)
+register_again width ModuloSigned f h = ap (λ n. option_map (rows.RegisterAlu width) (lookup (divisions Modulo ModuloSigned) n)) (sym h)
 register_again width Xor f h = refl
 register_again width Move f h = ap (λ n. move_row width n) (sym h)
 register_again width ShiftRightSigned f h = refl
 
-move_again : (extension : Extension) (f : Fields) → extension_bits extension ≡ f.offset → register_alu (extension_width extension) 11 f ≡ Some (SignedMove extension)
+move_again : (extension : Extension) (f : Fields) → extension_bits extension ≡ f.offset → register_alu (extension_width extension) 11 f ≡ Some (rows.MoveSigned extension)
 move_again From8To32 f h = ap (λ n. move_row Bits32 n) (sym h)
 move_again From16To32 f h = ap (λ n. move_row Bits32 n) (sym h)
 move_again From8To64 f h = ap (λ n. move_row Bits64 n) (sym h)
 move_again From16To64 f h = ap (λ n. move_row Bits64 n) (sym h)
 move_again From32To64 f h = ap (λ n. move_row Bits64 n) (sym h)
 
-swap_again : (order : ByteOrder) (bits : SwapBits) (immediate : ℕ) → swap_bits bits ≡ immediate → swap_row order immediate ≡ Some (ByteSwap order bits)
+swap_again : (order : ByteOrder) (bits : SwapBits) (immediate : ℕ) → swap_bits bits ≡ immediate → swap_row order immediate ≡ Some (rows.Swap order bits)
 swap_again order Low16 immediate h = ap (swap_row order) (sym h)
 swap_again order Low32 immediate h = ap (swap_row order) (sym h)
 swap_again order Low64 immediate h = ap (swap_row order) (sym h)
 
-immediate_branch_again : (width : Width) (comparison : Comparison) (source : ℕ) → immediate_jump width (comparison_code comparison) source ≡ Some (ImmediateBranch width comparison)
+immediate_branch_again : (width : Width) (comparison : Comparison) (source : ℕ) → immediate_jump width (comparison_code comparison) source ≡ Some (rows.ImmediateBranch width comparison)
 immediate_branch_again width Equal source = refl
 immediate_branch_again width Greater source = refl
 immediate_branch_again width GreaterOrEqual source = refl
@@ -396,7 +396,7 @@ immediate_branch_again width LessOrEqual source = refl
 immediate_branch_again width LessSigned source = refl
 immediate_branch_again width LessOrEqualSigned source = refl
 
-register_branch_again : (width : Width) (comparison : Comparison) → option_map (RegisterBranch width) (comparison_at (comparison_code comparison)) ≡ Some (RegisterBranch width comparison)
+register_branch_again : (width : Width) (comparison : Comparison) → option_map (rows.RegisterBranch width) (comparison_at (comparison_code comparison)) ≡ Some (rows.RegisterBranch width comparison)
 register_branch_again width Equal = refl
 register_branch_again width Greater = refl
 register_branch_again width GreaterOrEqual = refl
@@ -409,24 +409,24 @@ register_branch_again width LessOrEqual = refl
 register_branch_again width LessSigned = refl
 register_branch_again width LessOrEqualSigned = refl
 
-load_again : (size : Size) (f : Fields) → 0x61 + size_bits size ≡ f.opcode → row_at f ≡ Some (PlainLoad size)
+load_again : (size : Size) (f : Fields) → 0x61 + size_bits size ≡ f.opcode → row_at f ≡ Some (rows.Load size)
 load_again Word f o = class_at 1 12 f (sym o) (lit< tt)
 load_again Half f o = class_at 1 13 f (sym o) (lit< tt)
 load_again Byte f o = class_at 1 14 f (sym o) (lit< tt)
 load_again Double f o = class_at 1 15 f (sym o) (lit< tt)
 
-signed_load_again : (size : SignedSize) (f : Fields) → 0x81 + signed_size_bits size ≡ f.opcode → row_at f ≡ Some (SignedLoad size)
+signed_load_again : (size : SignedSize) (f : Fields) → 0x81 + signed_size_bits size ≡ f.opcode → row_at f ≡ Some (rows.LoadSigned size)
 signed_load_again SignedWord f o = class_at 1 16 f (sym o) (lit< tt)
 signed_load_again SignedHalf f o = class_at 1 17 f (sym o) (lit< tt)
 signed_load_again SignedByte f o = class_at 1 18 f (sym o) (lit< tt)
 
-store_again : (size : Size) (f : Fields) → 0x62 + size_bits size ≡ f.opcode → row_at f ≡ Some (ImmediateStore size)
+store_again : (size : Size) (f : Fields) → 0x62 + size_bits size ≡ f.opcode → row_at f ≡ Some (rows.Store size)
 store_again Word f o = class_at 2 12 f (sym o) (lit< tt)
 store_again Half f o = class_at 2 13 f (sym o) (lit< tt)
 store_again Byte f o = class_at 2 14 f (sym o) (lit< tt)
 store_again Double f o = class_at 2 15 f (sym o) (lit< tt)
 
-register_store_again : (size : Size) (f : Fields) → 0x63 + size_bits size ≡ f.opcode → row_at f ≡ Some (RegisterStore size)
+register_store_again : (size : Size) (f : Fields) → 0x63 + size_bits size ≡ f.opcode → row_at f ≡ Some (rows.StoreRegister size)
 register_store_again Word f o = class_at 3 12 f (sym o) (lit< tt)
 register_store_again Half f o = class_at 3 13 f (sym o) (lit< tt)
 register_store_again Byte f o = class_at 3 14 f (sym o) (lit< tt)

@@ -4,7 +4,7 @@ use Rattle.std.specs.Prelude.{◌⊎◌, option_map}
 use Rattle.std.specs.List.{AllByRecursion}
 use Rattle.std.proofs.lemmas.Bool.{eqb-true}
 use Rattle.std.proofs.lemmas.Option.{same_Some}
-use Rattle.bpf_isa.specs.Reading.{looked}
+use Rattle.bpf_isa.specs.Reading.{lookup}
 
 -- which way a test went
 pub chosen : {A : Type 0} (b : Bool) (x y z : A) → cond b x y ≡ z → ((b ≡ true) × (x ≡ z)) ⊎ ((b ≡ false) × (y ≡ z))
@@ -15,10 +15,10 @@ chosen false x y z e = inr (refl, e)
 pub entry : {A : Type 0} (P : A → Type 0) (a : A) → P a → (x : A) → Some a ≡ Some x → P x
 entry P a p x e = subst P (same_Some a x e) p
 
-pub looked_has : {A : Type 0} (P : ℕ → A → Type 0) (entries : List (ℕ × Option A)) (n : ℕ) (a : A) → AllByRecursion (λ e. (x : A) → e.1 ≡ Some x → P e.0 x) entries → looked entries n ≡ Some a → P n a
+pub looked_has : {A : Type 0} (P : ℕ → A → Type 0) (entries : List (ℕ × Option A)) (n : ℕ) (a : A) → AllByRecursion (λ e. (x : A) → e.1 ≡ Some x → P e.0 x) entries → lookup entries n ≡ Some a → P n a
 looked_has P [] n a all e = absurd cc
 looked_has P (first ∷ entries) n a all e =
-    elim (chosen (eqb n first.0) first.1 (looked entries n) (Some a) e) [
+    elim (chosen (eqb n first.0) first.1 (lookup entries n) (Some a) e) [
       | inl h ↦ subst (λ (k : ℕ). P k a) (sym (eqb-true _ _ h.0)) (all.0 a h.1)
       | inr h ↦ looked_has P entries n a all.1 h.1
     ]

@@ -81,22 +81,22 @@ distance_unused (Near n) = ImmediateField
 distance_unused (Far n) = OffsetField
 
 -- the fields that an instruction does not use, in the first unit
-abbrev pub unused : Instruction → List Field
-unused (Alu width operation destination operand) =
+abbrev pub unused_fields : Instruction → List Field
+unused_fields (Alu width operation destination operand) =
     operation_unused (operation_choosing operation) (operand_unused operand ∷ [])
-unused (MoveSigned extension destination source) = ImmediateField ∷ []
-unused (Negate width destination) = SourceField ∷ OffsetField ∷ ImmediateField ∷ []
-unused (Swap order bits destination) = SourceField ∷ OffsetField ∷ []
-unused (Jump distance) = DestinationField ∷ SourceField ∷ distance_unused distance ∷ []
-unused (Branch width comparison left right distance) = operand_unused right ∷ []
-unused (CallHelper number) = DestinationField ∷ OffsetField ∷ []
-unused (CallLocal distance) = DestinationField ∷ OffsetField ∷ []
-unused Exit = DestinationField ∷ SourceField ∷ OffsetField ∷ ImmediateField ∷ []
-unused (Load size destination base offset) = ImmediateField ∷ []
-unused (LoadSigned size destination base offset) = ImmediateField ∷ []
-unused (Store size base offset immediate) = SourceField ∷ []
-unused (StoreRegister size base offset source) = ImmediateField ∷ []
-unused (Wide destination value) = OffsetField ∷ []
+unused_fields (MoveSigned extension destination source) = ImmediateField ∷ []
+unused_fields (Negate width destination) = SourceField ∷ OffsetField ∷ ImmediateField ∷ []
+unused_fields (Swap order bits destination) = SourceField ∷ OffsetField ∷ []
+unused_fields (Jump distance) = DestinationField ∷ SourceField ∷ distance_unused distance ∷ []
+unused_fields (Branch width comparison left right distance) = operand_unused right ∷ []
+unused_fields (CallHelper number) = DestinationField ∷ OffsetField ∷ []
+unused_fields (CallLocal distance) = DestinationField ∷ OffsetField ∷ []
+unused_fields Exit = DestinationField ∷ SourceField ∷ OffsetField ∷ ImmediateField ∷ []
+unused_fields (Load size destination base offset) = ImmediateField ∷ []
+unused_fields (LoadSigned size destination base offset) = ImmediateField ∷ []
+unused_fields (Store size base offset immediate) = SourceField ∷ []
+unused_fields (StoreRegister size base offset source) = ImmediateField ∷ []
+unused_fields (Wide destination value) = OffsetField ∷ []
 
 -- the instruction's row has these fields' opcode, and what the choosing field says
 abbrev pub HasRow : Instruction → Fields → Type 0
@@ -112,7 +112,7 @@ IsTruncated code pc =
 
 -- every field that the row does not use is zero
 abbrev pub UnusedAreZero : Instruction → Fields → Type 0
-UnusedAreZero i f = AllByRecursion (λ field. value_at field f ≡ 0) (unused i)
+UnusedAreZero i f = AllByRecursion (λ field. value_at field f ≡ 0) (unused_fields i)
 
 -- the register fields are those of registers; one that is not used or that chooses the row is below 11 anyway
 abbrev pub HasRegisters : Fields → Type 0

@@ -9,24 +9,24 @@ ghost use Rattle.bpf_isa.specs.Reading.{
   offset_test,
   instruction_of,
   is_second_unit,
-  joined,
+  wide_instruction,
   read_row,
   no_fields,
   second_at,
   is_cut,
-  decoded,
+  decoding,
 };
 
 use crate::code_unit::{CodeUnit, unit_at};
 use crate::decode_error::DecodeError;
 use crate::instruction::{Distance, Instruction, Operand, Operation};
 use crate::making::{
-    alu, branch, jump, load, local_call, register_store, signed_load, signed_move, store, swap,
-    wide_load,
+    alu, branch, call_local, jump, load, load_signed, move_signed, store, store_register, swap,
+    wide,
 };
 use crate::register::Register;
 use crate::row::Row;
-use crate::rows::row_of;
+use crate::row_table::row_of;
 
 /// The opcode of the one instruction that takes two units.
 const WIDE: u8 = 0x18;
@@ -82,19 +82,19 @@ fn is_unused_zero(row: Row, unit: &CodeUnit) -> bool
         Row::RegisterAlu { operation, .. } => {
             is_offset_allowed(operation, unit.offset) && no_immediate
         }
-        Row::SignedMove { .. } => no_immediate,
-        Row::Negation { .. } => no_source && no_offset && no_immediate,
-        Row::ByteSwap { .. } => no_source && no_offset,
+        Row::MoveSigned { .. } => no_immediate,
+        Row::Negate { .. } => no_source && no_offset && no_immediate,
+        Row::Swap { .. } => no_source && no_offset,
         Row::NearJump => no_destination && no_source && no_immediate,
         Row::FarJump => no_destination && no_source && no_offset,
         Row::ImmediateBranch { .. } => no_source,
         Row::RegisterBranch { .. } => no_immediate,
-        Row::HelperCall | Row::LocalCall => no_destination && no_offset,
-        Row::Return => no_destination && no_source && no_offset && no_immediate,
-        Row::PlainLoad { .. } | Row::SignedLoad { .. } => no_immediate,
-        Row::ImmediateStore { .. } => no_source,
-        Row::RegisterStore { .. } => no_immediate,
-        Row::WideLoad => no_offset,
+        Row::CallHelper | Row::CallLocal => no_destination && no_offset,
+        Row::Exit => no_destination && no_source && no_offset && no_immediate,
+        Row::Load { .. } | Row::LoadSigned { .. } => no_immediate,
+        Row::Store { .. } => no_source,
+        Row::StoreRegister { .. } => no_immediate,
+        Row::Wide => no_offset,
     }
 }
 
@@ -114,9 +114,9 @@ fn instruction_from(row: Row, registers: Registers, unit: &CodeUnit, upper: u32)
     match row {
         Row::ImmediateAlu { width, operation } => alu(width, operation, destination, number),
         Row::RegisterAlu { width, operation } => alu(width, operation, destination, register),
-        Row::SignedMove { extension } => signed_move(extension, destination, source),
-        Row::Negation { width } => Instruction::Negate { width, destination },
-        Row::ByteSwap { order, bits } => swap(order, bits, destination),
+        Row::MoveSigned { extension } => move_signed(extension, destination, source),
+        Row::Negate { width } => Instruction::Negate { width, destination },
+        Row::Swap { order, bits } => swap(order, bits, destination),
         Row::NearJump => jump(Distance::Near(offset)),
         Row::FarJump => jump(Distance::Far(immediate)),
         Row::ImmediateBranch { width, comparison } => {
@@ -125,14 +125,14 @@ fn instruction_from(row: Row, registers: Registers, unit: &CodeUnit, upper: u32)
         Row::RegisterBranch { width, comparison } => {
             branch(width, comparison, destination, register, offset)
         }
-        Row::HelperCall => Instruction::CallHelper { number: immediate },
-        Row::LocalCall => local_call(immediate),
-        Row::Return => Instruction::Exit,
-        Row::PlainLoad { size } => load(size, destination, source, offset),
-        Row::SignedLoad { size } => signed_load(size, destination, source, offset),
-        Row::ImmediateStore { size } => store(size, destination, offset, immediate),
-        Row::RegisterStore { size } => register_store(size, destination, offset, source),
-        Row::WideLoad => wide_load(destination, unit.immediate, upper),
+        Row::CallHelper => Instruction::CallHelper { number: immediate },
+        Row::CallLocal => call_local(immediate),
+        Row::Exit => Instruction::Exit,
+        Row::Load { size } => load(size, destination, source, offset),
+        Row::LoadSigned { size } => load_signed(size, destination, source, offset),
+        Row::Store { size } => store(size, destination, offset, immediate),
+        Row::StoreRegister { size } => store_register(size, destination, offset, source),
+        Row::Wide => wide(destination, unit.immediate, upper),
     }
 }
 
@@ -171,9 +171,9 @@ fn instruction_in(first: &CodeUnit, second: &CodeUnit) -> Result<(Instruction, u
     Ok((instruction, instruction.units()))
 }
 
-#[tactic(auto, unfolding(crate::specs::Reading::decoded))]
+#[tactic(auto, unfolding(crate::specs::Reading::decoding))]
 fn decode(code: &[u8], pc: usize) -> Result<(Instruction, usize), DecodeError>
-    ensures { result ≡ decoded code.now pc }
+    ensures { result ≡ decoding code.now pc }
 {
     let units = code.len() / 8;
     if pc >= units {
@@ -209,7 +209,7 @@ pub fn decode_at(code: &[u8], pc: usize) -> Result<(Instruction, usize), DecodeE
     ensures error { (e : DecodeError) → (result ≡ Err e) ↔ IsDecodeError code.now pc e }
 
     // The answer as a function of the bytes.
-    ensures exact { result ≡ decoded code.now pc }
+    ensures exact { result ≡ decoding code.now pc }
 {
     decode(code, pc)
 }

@@ -11,7 +11,7 @@ pub mod laws;
 mod making;
 mod register;
 mod row;
-mod rows;
+mod row_table;
 #[cfg(test)]
 mod tests;
 

@@ -24,7 +24,7 @@ pub(crate) fn alu(
     }
 }
 
-pub(crate) fn signed_move(
+pub(crate) fn move_signed(
     extension: Extension,
     destination: Register,
     source: Register,
@@ -72,7 +72,7 @@ pub(crate) fn branch(
     }
 }
 
-pub(crate) fn local_call(distance: i32) -> Instruction
+pub(crate) fn call_local(distance: i32) -> Instruction
     ensures { result ≡ Instruction.CallLocal distance }
 {
     Instruction::CallLocal { distance }
@@ -89,7 +89,7 @@ pub(crate) fn load(size: Size, destination: Register, base: Register, offset: i1
     }
 }
 
-pub(crate) fn signed_load(
+pub(crate) fn load_signed(
     size: SignedSize,
     destination: Register,
     base: Register,
@@ -116,7 +116,7 @@ pub(crate) fn store(size: Size, base: Register, offset: i16, immediate: i32) -> 
     }
 }
 
-pub(crate) fn register_store(
+pub(crate) fn store_register(
     size: Size,
     base: Register,
     offset: i16,
@@ -133,7 +133,7 @@ pub(crate) fn register_store(
 }
 
 /// The value's low half is in the first unit.
-pub(crate) fn wide_load(destination: Register, lower: u32, upper: u32) -> Instruction
+pub(crate) fn wide(destination: Register, lower: u32, upper: u32) -> Instruction
     ensures { result ≡ Instruction.Wide destination (lower + 2 ^ 32 * upper) }
 {
     Instruction::Wide {

@@ -13,13 +13,13 @@ pub(crate) enum Row {
         width: Width,
         operation: Operation,
     },
-    SignedMove {
+    MoveSigned {
         extension: Extension,
     },
-    Negation {
+    Negate {
         width: Width,
     },
-    ByteSwap {
+    Swap {
         order: ByteOrder,
         bits: SwapBits,
     },
@@ -33,20 +33,20 @@ pub(crate) enum Row {
         width: Width,
         comparison: Comparison,
     },
-    HelperCall,
-    LocalCall,
-    Return,
-    PlainLoad {
+    CallHelper,
+    CallLocal,
+    Exit,
+    Load {
         size: Size,
     },
-    SignedLoad {
+    LoadSigned {
         size: SignedSize,
     },
-    ImmediateStore {
+    Store {
         size: Size,
     },
-    RegisterStore {
+    StoreRegister {
         size: Size,
     },
-    WideLoad,
+    Wide,
 }

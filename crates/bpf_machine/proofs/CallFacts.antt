@@ -3,12 +3,12 @@ use Rattle.std.proofs.Common.{◌≡◌, ℕ, zero, suc, ◌-◌, nat_le, true, 
 use Rattle.std.specs.Prelude.{ℤ, ◌&&◌}
 use Rattle.std.proofs.lemmas.Bool.{cases_Bool, and_parts, leb-true}
 use Rattle.std.proofs.Math.Path.{fun_ext}
-use Rattle.bpf_model.specs.State.{Partial, Saved, stored, only}
+use Rattle.bpf_model.specs.State.{Partial, Saved, with_value, only}
 use Rattle.bpf_model.specs.Step.{Goes}
 use Rattle.bpf_machine.specs.declared.callers.Kept.{Kept}
-use Rattle.bpf_machine.specs.Seen.{held, saved_of}
+use Rattle.bpf_machine.specs.Seen.{values_of, saved_of}
 
-passed_at : (xs : List (Option ℕ)) (top r : ℕ) → held (None ∷ get_or xs 1 None ∷ get_or xs 2 None ∷ get_or xs 3 None ∷ get_or xs 4 None ∷ get_or xs 5 None ∷ None ∷ None ∷ None ∷ None ∷ Some top ∷ []) r ≡ stored (only (held xs) 1 5) 10 top r
+passed_at : (xs : List (Option ℕ)) (top r : ℕ) → values_of (None ∷ get_or xs 1 None ∷ get_or xs 2 None ∷ get_or xs 3 None ∷ get_or xs 4 None ∷ get_or xs 5 None ∷ None ∷ None ∷ None ∷ None ∷ Some top ∷ []) r ≡ with_value (only (values_of xs) 1 5) 10 top r
 passed_at xs top zero = refl
 passed_at xs top (suc zero) = refl
 passed_at xs top (suc (suc zero)) = refl
@@ -22,10 +22,10 @@ passed_at xs top (suc (suc (suc (suc (suc (suc (suc (suc (suc zero))))))))) = re
 passed_at xs top (suc (suc (suc (suc (suc (suc (suc (suc (suc (suc zero)))))))))) = refl
 passed_at xs top (suc (suc (suc (suc (suc (suc (suc (suc (suc (suc (suc r))))))))))) = grind arith
 
-pub passed_held : (xs : List (Option ℕ)) (top : ℕ) → held (None ∷ get_or xs 1 None ∷ get_or xs 2 None ∷ get_or xs 3 None ∷ get_or xs 4 None ∷ get_or xs 5 None ∷ None ∷ None ∷ None ∷ None ∷ Some top ∷ []) ≡ stored (only (held xs) 1 5) 10 top
+pub passed_held : (xs : List (Option ℕ)) (top : ℕ) → values_of (None ∷ get_or xs 1 None ∷ get_or xs 2 None ∷ get_or xs 3 None ∷ get_or xs 4 None ∷ get_or xs 5 None ∷ None ∷ None ∷ None ∷ None ∷ Some top ∷ []) ≡ with_value (only (values_of xs) 1 5) 10 top
 passed_held xs top = fun_ext (λ r. passed_at xs top r)
 
-returned_at : (kept : Kept) (value top r : ℕ) → held (Some value ∷ None ∷ None ∷ None ∷ None ∷ None ∷ get_or kept.registers 0 None ∷ get_or kept.registers 1 None ∷ get_or kept.registers 2 None ∷ get_or kept.registers 3 None ∷ Some top ∷ []) r ≡ stored (stored (saved_of kept).registers 0 value) 10 top r
+returned_at : (kept : Kept) (value top r : ℕ) → values_of (Some value ∷ None ∷ None ∷ None ∷ None ∷ None ∷ get_or kept.registers 0 None ∷ get_or kept.registers 1 None ∷ get_or kept.registers 2 None ∷ get_or kept.registers 3 None ∷ Some top ∷ []) r ≡ with_value (with_value (saved_of kept).registers 0 value) 10 top r
 returned_at kept value top zero = refl
 returned_at kept value top (suc zero) = refl
 returned_at kept value top (suc (suc zero)) = refl
@@ -39,10 +39,10 @@ returned_at kept value top (suc (suc (suc (suc (suc (suc (suc (suc (suc zero))))
 returned_at kept value top (suc (suc (suc (suc (suc (suc (suc (suc (suc (suc zero)))))))))) = refl
 returned_at kept value top (suc (suc (suc (suc (suc (suc (suc (suc (suc (suc (suc r))))))))))) = grind arith
 
-pub returned_held : (kept : Kept) (value top : ℕ) → held (Some value ∷ None ∷ None ∷ None ∷ None ∷ None ∷ get_or kept.registers 0 None ∷ get_or kept.registers 1 None ∷ get_or kept.registers 2 None ∷ get_or kept.registers 3 None ∷ Some top ∷ []) ≡ stored (stored (saved_of kept).registers 0 value) 10 top
+pub returned_held : (kept : Kept) (value top : ℕ) → values_of (Some value ∷ None ∷ None ∷ None ∷ None ∷ None ∷ get_or kept.registers 0 None ∷ get_or kept.registers 1 None ∷ get_or kept.registers 2 None ∷ get_or kept.registers 3 None ∷ Some top ∷ []) ≡ with_value (with_value (saved_of kept).registers 0 value) 10 top
 returned_held kept value top = fun_ext (λ r. returned_at kept value top r)
 
-kept_at : (xs : List (Option ℕ)) (pc : ℤ) (r : ℕ) → (saved_of (record { registers = get_or xs 6 None ∷ get_or xs 7 None ∷ get_or xs 8 None ∷ get_or xs 9 None ∷ []; return_pc = pc })).registers r ≡ only (held xs) 6 9 r
+kept_at : (xs : List (Option ℕ)) (pc : ℤ) (r : ℕ) → (saved_of (record { registers = get_or xs 6 None ∷ get_or xs 7 None ∷ get_or xs 8 None ∷ get_or xs 9 None ∷ []; return_pc = pc })).registers r ≡ only (values_of xs) 6 9 r
 kept_at xs pc zero = refl
 kept_at xs pc (suc zero) = refl
 kept_at xs pc (suc (suc zero)) = refl
@@ -62,9 +62,9 @@ kept_at xs pc (suc (suc (suc (suc (suc (suc (suc (suc (suc (suc r)))))))))) =
 abbrev saved_record : Partial → ℤ → Saved
 saved_record registers pc = record { registers = registers; return_pc = pc }
 
-pub kept_saved : (xs : List (Option ℕ)) (pc back : ℤ) → pc ≡ back → saved_of (record { registers = get_or xs 6 None ∷ get_or xs 7 None ∷ get_or xs 8 None ∷ get_or xs 9 None ∷ []; return_pc = pc }) ≡ saved_record (only (held xs) 6 9) back
+pub kept_saved : (xs : List (Option ℕ)) (pc back : ℤ) → pc ≡ back → saved_of (record { registers = get_or xs 6 None ∷ get_or xs 7 None ∷ get_or xs 8 None ∷ get_or xs 9 None ∷ []; return_pc = pc }) ≡ saved_record (only (values_of xs) 6 9) back
 kept_saved xs pc back same =
-    ap (λ (f : Partial). saved_record f pc) (fun_ext (λ r. kept_at xs pc r)) ∙ ap (λ (z : ℤ). saved_record (only (held xs) 6 9) z) same
+    ap (λ (f : Partial). saved_record f pc) (fun_ext (λ r. kept_at xs pc r)) ∙ ap (λ (z : ℤ). saved_record (only (values_of xs) 6 9) z) same
 
 -- states are the same by their parts
 pub goes_same : {pc at : ℤ} {registers others memory other_memory : Partial} {callers other_callers : List Saved} → pc ≡ at → registers ≡ others → memory ≡ other_memory → callers ≡ other_callers

@@ -7,10 +7,10 @@ use Rattle.std.proofs.lemmas.Bool.{cases_lt, cases_Bool, leb-true, cond-true, co
 use Rattle.std.proofs.lemmas.List.{get_or-replicate, get_or_past, length-replicate}
 use Rattle.std.proofs.lemmas.Option.{slice_get_past}
 use Rattle.bpf_model.specs.State.{Partial, joined_bytes, number_at, record_base, record_memory}
-use Rattle.bpf_machine.specs.Seen.{held, stack_byte, memory_of}
+use Rattle.bpf_machine.specs.Seen.{values_of, stack_byte, memory_of}
 
 -- no byte of a new frame is set
-pub held-replicate : (n k : ℕ) → held (replicate n None) k ≡ None
+pub held-replicate : (n k : ℕ) → values_of (replicate n None) k ≡ None
 held-replicate n k =
     elim (cases_lt k n) [
       | inl below ↦ get_or-replicate n k None None below

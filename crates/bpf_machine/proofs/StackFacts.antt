@@ -4,12 +4,12 @@ use Rattle.std.specs.Prelude.{◌&&◌, ◌||◌}
 use Rattle.std.proofs.Math.Path.{fun_ext}
 use Rattle.std.proofs.lemmas.Bool.{cases_Bool, cases_eq, cases_lt, and_parts, and_from, or_left, or_right, le-leb, lt-leb, leb-true, leb-false, lt-ltb, le-ltb, ne_eqb}
 use Rattle.std.proofs.lemmas.List.{get_or-set_same, get_or-set_other}
-use Rattle.bpf_model.specs.State.{Partial, Saved, stored, stored_all, cleared, frame_top, frame_bytes, in_frame, in_frames}
+use Rattle.bpf_model.specs.State.{Partial, Saved, with_value, with_values, without_values, frame_top, frame_bytes, in_frame, in_frames}
 use Rattle.bpf_machine.specs.declared.callers.Kept.{Kept}
 use Rattle.bpf_machine.specs.declared.stack.Stack.{Stack}
 use Rattle.bpf_machine.specs.declared.stack.Stack.TheVariants.{One, All}
 use Rattle.bpf_machine.specs.Cells.{frames_in}
-use Rattle.bpf_machine.specs.Seen.{held, stack_byte, memory_of, saved_of, no_caller, callers_of}
+use Rattle.bpf_machine.specs.Seen.{values_of, stack_byte, memory_of, saved_of, no_caller, callers_of}
 
 -- ---- which frame an access lies in
 
@@ -61,7 +61,7 @@ none_either false = refl
 abbrev address_of : ℕ → ℕ → ℕ
 address_of frame place = (frame_top frame - frame_bytes) + place
 
-stored_at : (bytes : List ℕ) (cells : Partial) (frame place v a : ℕ) → place < frame_bytes → stored (memory_of bytes cells) (address_of frame place) v a ≡ memory_of bytes (stored cells (frame_bytes * frame + place) v) a
+stored_at : (bytes : List ℕ) (cells : Partial) (frame place v a : ℕ) → place < frame_bytes → with_value (memory_of bytes cells) (address_of frame place) v a ≡ memory_of bytes (with_value cells (frame_bytes * frame + place) v) a
 stored_at bytes cells frame place v a inside =
     elim (cases_eq a (address_of frame place)) [
       | inl same ↦
@@ -86,27 +86,27 @@ stored_at bytes cells frame place v a inside =
           ]
     ]
 
-pub stored_seen : (bytes : List ℕ) (cells : Partial) (frame place v : ℕ) → place < frame_bytes → stored (memory_of bytes cells) ((frame_top frame - frame_bytes) + place) v ≡ memory_of bytes (stored cells (frame_bytes * frame + place) v)
+pub stored_seen : (bytes : List ℕ) (cells : Partial) (frame place v : ℕ) → place < frame_bytes → with_value (memory_of bytes cells) ((frame_top frame - frame_bytes) + place) v ≡ memory_of bytes (with_value cells (frame_bytes * frame + place) v)
 stored_seen bytes cells frame place v inside = fun_ext (λ a. stored_at bytes cells frame place v a inside)
 
-pub stored_all_seen : (bytes : List ℕ) (cells : Partial) (frame place : ℕ) (value : List ℕ) → place + length value ≤ frame_bytes → stored_all (memory_of bytes cells) ((frame_top frame - frame_bytes) + place) value ≡ memory_of bytes (stored_all cells (frame_bytes * frame + place) value)
+pub stored_all_seen : (bytes : List ℕ) (cells : Partial) (frame place : ℕ) (value : List ℕ) → place + length value ≤ frame_bytes → with_values (memory_of bytes cells) ((frame_top frame - frame_bytes) + place) value ≡ memory_of bytes (with_values cells (frame_bytes * frame + place) value)
 stored_all_seen bytes cells frame place [] inside = refl
 stored_all_seen bytes cells frame place (v ∷ vs) inside =
     let first = stored_seen bytes cells frame place v (omega (arith, inside)) in
     let next : ((frame_top frame - frame_bytes) + place) + 1 ≡ (frame_top frame - frame_bytes) + (place + 1) = omega arith in
     let cell : (frame_bytes * frame + place) + 1 ≡ frame_bytes * frame + (place + 1) = omega arith in
-    ap (λ m. stored_all m (((frame_top frame - frame_bytes) + place) + 1) vs) first
-    ∙ ap (λ a. stored_all (memory_of bytes (stored cells (frame_bytes * frame + place) v)) a vs) next
-    ∙ stored_all_seen bytes (stored cells (frame_bytes * frame + place) v) frame (place + 1) vs (omega (arith, inside))
-    ∙ ap (λ k. memory_of bytes (stored_all (stored cells (frame_bytes * frame + place) v) k vs)) (sym cell)
+    ap (λ m. with_values m (((frame_top frame - frame_bytes) + place) + 1) vs) first
+    ∙ ap (λ a. with_values (memory_of bytes (with_value cells (frame_bytes * frame + place) v)) a vs) next
+    ∙ stored_all_seen bytes (with_value cells (frame_bytes * frame + place) v) frame (place + 1) vs (omega (arith, inside))
+    ∙ ap (λ k. memory_of bytes (with_values (with_value cells (frame_bytes * frame + place) v) k vs)) (sym cell)
 
 -- whether a place is among those that are cleared
-cleared_in : (m : Partial) (from count x : ℕ) → from ≤ x → x < from + count → cleared m from count x ≡ None
+cleared_in : (m : Partial) (from count x : ℕ) → from ≤ x → x < from + count → without_values m from count x ≡ None
 cleared_in m from count x low high =
     let both : (nat_le from x && nat_lt x (from + count)) ≡ true = and_from _ _ (le-leb _ _ low) (lt-ltb _ _ high) in
     rw both refl
 
-cleared_out : (m : Partial) (from count x : ℕ) → (x < from) ⊎ (from + count ≤ x) → cleared m from count x ≡ m x
+cleared_out : (m : Partial) (from count x : ℕ) → (x < from) ⊎ (from + count ≤ x) → without_values m from count x ≡ m x
 cleared_out m from count x (inl low) = (let test : nat_le from x ≡ false = lt-leb _ _ low in rw test refl)
 cleared_out m from count x (inr high) =
     let test : nat_lt x (from + count) ≡ false = le-ltb _ _ high in
@@ -117,7 +117,7 @@ cleared_out m from count x (inr high) =
     and_none true = refl
     and_none false = refl
 
-cleared_at : (bytes : List ℕ) (cells : Partial) (frame a : ℕ) → cleared (memory_of bytes cells) (frame_top frame - frame_bytes) frame_bytes a ≡ memory_of bytes (cleared cells (frame_bytes * frame) frame_bytes) a
+cleared_at : (bytes : List ℕ) (cells : Partial) (frame a : ℕ) → without_values (memory_of bytes cells) (frame_top frame - frame_bytes) frame_bytes a ≡ memory_of bytes (without_values cells (frame_bytes * frame) frame_bytes) a
 cleared_at bytes cells frame a =
     elim (cases_Bool (nat_le 0x200000000 a)) [
       | inr below ↦
@@ -133,27 +133,27 @@ cleared_at bytes cells frame a =
                 let start = leb-true 3584 ((a - 0x200000000) % 4096) room in
                 elim (cases_eq ((a - 0x200000000) / 4096) frame) [
                   | inl same ↦
-                      let inside : memory_of bytes (cleared cells (frame_bytes * frame) frame_bytes) a ≡ None = rw (above, room) (cleared_in cells (frame_bytes * frame) frame_bytes (512 * ((a - 0x200000000) / 4096) + ((a - 0x200000000) % 4096 - 3584)) (omega (arith, same, start)) (omega (arith, same, start))) in
+                      let inside : memory_of bytes (without_values cells (frame_bytes * frame) frame_bytes) a ≡ None = rw (above, room) (cleared_in cells (frame_bytes * frame) frame_bytes (512 * ((a - 0x200000000) / 4096) + ((a - 0x200000000) % 4096 - 3584)) (omega (arith, same, start)) (omega (arith, same, start))) in
                       cleared_in (memory_of bytes cells) (frame_top frame - frame_bytes) frame_bytes a (omega (arith, base, start, same)) (omega (arith, base, start, same)) ∙ sym inside
                   | inr other ↦
-                      let outside : memory_of bytes (cleared cells (frame_bytes * frame) frame_bytes) a ≡ cells (512 * ((a - 0x200000000) / 4096) + ((a - 0x200000000) % 4096 - 3584)) = rw (above, room) (cleared_out cells (frame_bytes * frame) frame_bytes (512 * ((a - 0x200000000) / 4096) + ((a - 0x200000000) % 4096 - 3584)) (elim (cases_lt ((a - 0x200000000) / 4096) frame) [ inl lt ↦ inl (omega (arith, lt, start)) | inr ge ↦ inr (omega (arith, ge, other, start)) ])) in
+                      let outside : memory_of bytes (without_values cells (frame_bytes * frame) frame_bytes) a ≡ cells (512 * ((a - 0x200000000) / 4096) + ((a - 0x200000000) % 4096 - 3584)) = rw (above, room) (cleared_out cells (frame_bytes * frame) frame_bytes (512 * ((a - 0x200000000) / 4096) + ((a - 0x200000000) % 4096 - 3584)) (elim (cases_lt ((a - 0x200000000) / 4096) frame) [ inl lt ↦ inl (omega (arith, lt, start)) | inr ge ↦ inr (omega (arith, ge, other, start)) ])) in
                       cleared_out (memory_of bytes cells) (frame_top frame - frame_bytes) frame_bytes a (elim (cases_lt ((a - 0x200000000) / 4096) frame) [ inl lt ↦ inl (omega (arith, lt, start, base)) | inr ge ↦ inr (omega (arith, ge, other, start, base)) ]) ∙ rw (above, room) refl ∙ sym outside
                 ]
           ]
     ]
 
-pub cleared_seen : (bytes : List ℕ) (cells : Partial) (frame : ℕ) → cleared (memory_of bytes cells) (frame_top frame - frame_bytes) frame_bytes ≡ memory_of bytes (cleared cells (frame_bytes * frame) frame_bytes)
+pub cleared_seen : (bytes : List ℕ) (cells : Partial) (frame : ℕ) → without_values (memory_of bytes cells) (frame_top frame - frame_bytes) frame_bytes ≡ memory_of bytes (without_values cells (frame_bytes * frame) frame_bytes)
 cleared_seen bytes cells frame = fun_ext (λ a. cleared_at bytes cells frame a)
 
 -- one byte more is unset
-pub cleared_none : (m : Partial) (from : ℕ) → m ≡ cleared m from 0
+pub cleared_none : (m : Partial) (from : ℕ) → m ≡ without_values m from 0
 cleared_none m from = fun_ext (λ x. sym (cleared_out m from 0 x (elim (cases_lt x from) [ inl lt ↦ inl lt | inr ge ↦ inr (omega (arith, ge)) ])))
 
-cleared_next : (cells : List (Option ℕ)) (m : Partial) (from k x : ℕ) → from + k < length cells → held cells ≡ cleared m from k → held (set cells (from + k) None) x ≡ cleared m from (k + 1) x
+cleared_next : (cells : List (Option ℕ)) (m : Partial) (from k x : ℕ) → from + k < length cells → values_of cells ≡ without_values m from k → values_of (set cells (from + k) None) x ≡ without_values m from (k + 1) x
 cleared_next cells m from k x inside so_far =
-    let here : held cells x ≡ cleared m from k x = ap (λ (f : Partial). f x) so_far in
+    let here : values_of cells x ≡ without_values m from k x = ap (λ (f : Partial). f x) so_far in
     elim (cases_eq x (from + k)) [
-      | inl same ↦ ap (λ y. held (set cells (from + k) None) y) same ∙ get_or-set_same cells (from + k) None None inside ∙ sym (cleared_in m from (k + 1) x (omega (arith, same)) (omega (arith, same)))
+      | inl same ↦ ap (λ y. values_of (set cells (from + k) None) y) same ∙ get_or-set_same cells (from + k) None None inside ∙ sym (cleared_in m from (k + 1) x (omega (arith, same)) (omega (arith, same)))
       | inr other ↦
           get_or-set_other cells (from + k) x None None other ∙ here ∙ (elim (cases_lt x from) [
             | inl low ↦ cleared_out m from k x (inl low) ∙ sym (cleared_out m from (k + 1) x (inl low))
@@ -164,30 +164,30 @@ cleared_next cells m from k x inside so_far =
           ])
     ]
 
-pub cleared_more : (cells : List (Option ℕ)) (m : Partial) (from k : ℕ) → from + k < length cells → held cells ≡ cleared m from k → held (set cells (from + k) None) ≡ cleared m from (k + 1)
+pub cleared_more : (cells : List (Option ℕ)) (m : Partial) (from k : ℕ) → from + k < length cells → values_of cells ≡ without_values m from k → values_of (set cells (from + k) None) ≡ without_values m from (k + 1)
 cleared_more cells m from k inside so_far = fun_ext (λ x. cleared_next cells m from k x inside so_far)
 
 -- ---- rows of bytes
 
-stored_set_at : (cells : List (Option ℕ)) (k v x : ℕ) → k < length cells → stored (held cells) k v x ≡ held (set cells k (Some v)) x
+stored_set_at : (cells : List (Option ℕ)) (k v x : ℕ) → k < length cells → with_value (values_of cells) k v x ≡ values_of (set cells k (Some v)) x
 stored_set_at cells k v x inside =
     elim (cases_eq x k) [
-      | inl same ↦ (let test : eqb x k ≡ true = eq-eqb _ _ same in rw test (sym (ap (held (set cells k (Some v))) same ∙ get_or-set_same cells k (Some v) None inside)))
+      | inl same ↦ (let test : eqb x k ≡ true = eq-eqb _ _ same in rw test (sym (ap (values_of (set cells k (Some v))) same ∙ get_or-set_same cells k (Some v) None inside)))
       | inr other ↦ (let test : eqb x k ≡ false = ne_eqb _ _ other in rw test (sym (get_or-set_other cells k x (Some v) None other)))
     ]
 
-pub stored_set : (cells : List (Option ℕ)) (k v : ℕ) → k < length cells → stored (held cells) k v ≡ held (set cells k (Some v))
+pub stored_set : (cells : List (Option ℕ)) (k v : ℕ) → k < length cells → with_value (values_of cells) k v ≡ values_of (set cells k (Some v))
 stored_set cells k v inside = fun_ext (λ x. stored_set_at cells k v x inside)
 
 -- what is left to store in a row once one byte more is stored
 pub row_more : (cells : List (Option ℕ)) (place k : ℕ) (value : List ℕ) → k < length value → place + k < length cells
-    → stored_all (held (set cells (place + k) (Some (get_or value k 0)))) (place + (k + 1)) (drop (k + 1) value) ≡ stored_all (held cells) (place + k) (drop k value)
+    → with_values (values_of (set cells (place + k) (Some (get_or value k 0)))) (place + (k + 1)) (drop (k + 1) value) ≡ with_values (values_of cells) (place + k) (drop k value)
 row_more cells place k value within inside =
     let next : place + (k + 1) ≡ (place + k) + 1 = omega arith in
     let rest : drop k value ≡ get_or value k 0 ∷ drop (k + 1) value = rw (add-one, drop-cons value k 0) refl in
-    ap (λ a. stored_all (held (set cells (place + k) (Some (get_or value k 0)))) a (drop (k + 1) value)) next
-    ∙ ap (λ (m : Partial). stored_all m ((place + k) + 1) (drop (k + 1) value)) (sym (stored_set cells (place + k) (get_or value k 0) inside))
-    ∙ sym (ap (stored_all (held cells) (place + k)) rest)
+    ap (λ a. with_values (values_of (set cells (place + k) (Some (get_or value k 0)))) a (drop (k + 1) value)) next
+    ∙ ap (λ (m : Partial). with_values m ((place + k) + 1) (drop (k + 1) value)) (sym (stored_set cells (place + k) (get_or value k 0) inside))
+    ∙ sym (ap (with_values (values_of cells) (place + k)) rest)
 
 pub room_for_one : (s : Stack) → 1 ≤ frames_in s
 room_for_one (One cells) = omega arith

@@ -11,8 +11,8 @@ use Rattle.bpf_machine.specs.declared.turn.Turn.{Turn}
 use Rattle.bpf_machine.specs.declared.turn.Turn.TheVariants.{Went, Exited, Trapped}
 
 -- where a list of values has one
-abbrev pub held : List (Option ℕ) → Partial
-held values = λ k. slice_index_or values k None
+abbrev pub values_of : List (Option ℕ) → Partial
+values_of values = λ k. slice_index_or values k None
 
 -- the byte at a distance from the first frame's room, of the frames' bytes in a row: each frame is the end
 -- of its room
@@ -28,7 +28,7 @@ memory_of bytes cells =
 -- what is kept of a caller: R6 to R9, and where it goes on
 abbrev pub saved_of : Kept → Saved
 saved_of kept =
-    record { registers = λ r. if nat_le 6 r && nat_le r 9 then held kept.registers (r - 6) else None; return_pc = kept.return_pc }
+    record { registers = λ r. if nat_le 6 r && nat_le r 9 then values_of kept.registers (r - 6) else None; return_pc = kept.return_pc }
 
 -- what stands behind the last that is kept
 abbrev pub no_caller : Kept
@@ -40,9 +40,9 @@ callers_of kept zero = []
 callers_of kept (suc n) = saved_of (slice_index_or kept n no_caller) ∷ callers_of kept n
 
 -- the machine's state when these are the bytes of its record
-abbrev pub seen : Machine → List ℕ → State
-seen machine bytes =
-    record { pc = machine.pc; registers = held machine.registers; memory = memory_of bytes (held (cells_of machine.stack)); callers = callers_of machine.callers.kept machine.callers.count }
+abbrev pub state_of : Machine → List ℕ → State
+state_of machine bytes =
+    record { pc = machine.pc; registers = values_of machine.registers; memory = memory_of bytes (values_of (cells_of machine.stack)); callers = callers_of machine.callers.kept machine.callers.count }
 
 -- goes on with a number that was found, or traps as it says
 abbrev pub going_on : Result ℕ TrapKind → ℤ → (ℕ → Next) → Next

@@ -2,7 +2,7 @@ ghost use Rattle.std.specs.Prelude.{◌≡◌, ℕ, ◌≤ℤ◌, pos, List};
 ghost use Rattle.bpf_isa.specs.Encoding.{number_of};
 ghost use Rattle.bpf_isa.specs.declared.instruction.Instruction.TheVariants.{Alu, MoveSigned, Negate, Swap};
 ghost use Rattle.bpf_model.specs.Step.{left_of, effect};
-ghost use Rattle.bpf_machine.specs.Seen.{held, seen, answer};
+ghost use Rattle.bpf_machine.specs.Seen.{values_of, state_of, answer};
 
 use crate::machine::Machine;
 use crate::turn::Turn;
@@ -12,7 +12,7 @@ use bpf_model::TrapKind;
 
 /// The first number of an operation. A move takes none, so its destination need not be set.
 fn first_number(machine: &Machine, operation: Operation, destination: Register) -> Option<u64>
-    ensures { result ≡ left_of operation (held machine.now.registers (number_of destination)) }
+    ensures { result ≡ left_of operation (values_of machine.now.registers (number_of destination)) }
 {
     match operation {
         Operation::Move => Some(0),
@@ -32,8 +32,8 @@ pub fn operate(
     ensures { (record_length : ℕ) (bytes : List ℕ)
         → effect record_length
         (Alu width operation destination operand)
-        (seen machine.old bytes)
-        ≡ answer result (seen machine.new bytes) }
+        (state_of machine.old bytes)
+        ≡ answer result (state_of machine.new bytes) }
 {
     let Some(left) = first_number(machine, operation, destination) else {
         return Turn::Trapped(TrapKind::UnsetRegister);
@@ -56,8 +56,8 @@ pub fn move_signed(
     ensures { (record_length : ℕ) (bytes : List ℕ)
         → effect record_length
         (MoveSigned extension destination source)
-        (seen machine.old bytes)
-        ≡ answer result (seen machine.new bytes) }
+        (state_of machine.old bytes)
+        ≡ answer result (state_of machine.new bytes) }
 {
     match machine.register(source) {
         None => Turn::Trapped(TrapKind::UnsetRegister),
@@ -69,8 +69,8 @@ pub fn move_signed(
 pub fn negate_register(machine: &mut Machine, width: Width, destination: Register) -> Turn
     requires { machine.old.pc ≤ℤ pos 4096 }
     ensures { (record_length : ℕ) (bytes : List ℕ)
-        → effect record_length (Negate width destination) (seen machine.old bytes)
-        ≡ answer result (seen machine.new bytes) }
+        → effect record_length (Negate width destination) (state_of machine.old bytes)
+        ≡ answer result (state_of machine.new bytes) }
 {
     match machine.register(destination) {
         None => Turn::Trapped(TrapKind::UnsetRegister),
@@ -87,8 +87,8 @@ pub fn swap_register(
 ) -> Turn
     requires { machine.old.pc ≤ℤ pos 4096 }
     ensures { (record_length : ℕ) (bytes : List ℕ)
-        → effect record_length (Swap order bits destination) (seen machine.old bytes)
-        ≡ answer result (seen machine.new bytes) }
+        → effect record_length (Swap order bits destination) (state_of machine.old bytes)
+        ≡ answer result (state_of machine.new bytes) }
 {
     match machine.register(destination) {
         None => Turn::Trapped(TrapKind::UnsetRegister),

@@ -1,7 +1,7 @@
 ghost use Rattle.std.specs.Prelude.{◌≡◌, ℕ, ◌≤ℤ◌, pos, List};
 ghost use Rattle.bpf_isa.specs.declared.instruction.Instruction.TheVariants.{Jump, Branch};
 ghost use Rattle.bpf_model.specs.Step.{effect};
-ghost use Rattle.bpf_machine.specs.Seen.{seen, answer};
+ghost use Rattle.bpf_machine.specs.Seen.{state_of, answer};
 
 use crate::machine::Machine;
 use crate::turn::Turn;
@@ -14,8 +14,8 @@ pub fn jump_over(machine: &mut Machine, distance: Distance) -> Turn
     requires from { pos 0 ≤ℤ machine.old.pc }
     requires limit { machine.old.pc ≤ℤ pos 4096 }
     ensures { (record_length : ℕ) (bytes : List ℕ)
-        → effect record_length (Jump distance) (seen machine.old bytes)
-        ≡ answer result (seen machine.new bytes) }
+        → effect record_length (Jump distance) (state_of machine.old bytes)
+        ≡ answer result (state_of machine.new bytes) }
 {
     match distance {
         Distance::Near(units) => machine.jump(i32::from(units)),
@@ -37,8 +37,8 @@ pub fn branch(
     ensures { (record_length : ℕ) (bytes : List ℕ)
         → effect record_length
         (Branch width comparison left right distance)
-        (seen machine.old bytes)
-        ≡ answer result (seen machine.new bytes) }
+        (state_of machine.old bytes)
+        ≡ answer result (state_of machine.new bytes) }
 {
     let Some(first) = machine.register(left) else {
         return Turn::Trapped(TrapKind::UnsetRegister);

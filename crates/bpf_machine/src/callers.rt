@@ -44,7 +44,8 @@ impl Callers {
     /// One more waits.
     pub fn push(&mut self, caller: Kept)
         requires { self.old.count < MOST_CALLERS }
-        ensures pushed { callers_of self.new.kept self.new.count ≡ saved_of caller ∷ callers_of self.old.kept self.old.count }
+        ensures pushed { callers_of self.new.kept self.new.count
+            ≡ saved_of caller ∷ callers_of self.old.kept self.old.count }
         ensures count { self.new.count ≡ self.old.count + 1 }
     {
         self.kept[self.count] = caller;
@@ -53,7 +54,8 @@ impl Callers {
 
     /// The last caller waits no longer, if one does.
     pub fn pop(&mut self) -> Option<Kept>
-        ensures last { IfSome result (λ caller. callers_of self.old.kept self.old.count ≡ saved_of caller ∷ callers_of self.new.kept self.new.count) }
+        ensures last { IfSome result (λ caller. callers_of self.old.kept self.old.count
+            ≡ saved_of caller ∷ callers_of self.new.kept self.new.count) }
         ensures count { IfSome result (λ caller. self.old.count ≡ self.new.count + 1) }
         ensures none { IsNone result → (callers_of self.old.kept self.old.count ≡ []) × (self.new ≡ self.old) }
     {

@@ -1,10 +1,10 @@
 //! Calls of the program's own functions, and their exits (RFC 9669, section 4.3.2).
 ghost use Rattle.std.specs.Prelude.{◌≡◌, ℕ, ◌<◌, ◌≤ℤ◌, pos, List};
 ghost use Rattle.bpf_isa.specs.declared.instruction.Instruction.TheVariants.{CallLocal, Exit};
-ghost use Rattle.bpf_model.specs.State.{stored, only};
-ghost use Rattle.bpf_model.specs.Calls.{saved};
+ghost use Rattle.bpf_model.specs.State.{with_value, only};
+ghost use Rattle.bpf_model.specs.Calls.{saved_state};
 ghost use Rattle.bpf_model.specs.Step.{effect};
-ghost use Rattle.bpf_machine.specs.Seen.{held, saved_of, seen, answer};
+ghost use Rattle.bpf_machine.specs.Seen.{values_of, saved_of, state_of, answer};
 
 use crate::callers::{Kept, MOST_CALLERS};
 use crate::machine::Machine;
@@ -15,7 +15,7 @@ use bpf_model::TrapKind;
 
 /// The registers of a function that begins: R1 to R5 of its caller, and the top of its frame.
 fn passed_registers(registers: &[Option<u64>; 11], top: u64) -> [Option<u64>; 11]
-    ensures { held result ≡ stored (only (held registers.now) 1 5) 10 top }
+    ensures { values_of result ≡ with_value (only (values_of registers.now) 1 5) 10 top }
 {
     [
         None,
@@ -34,7 +34,7 @@ fn passed_registers(registers: &[Option<u64>; 11], top: u64) -> [Option<u64>; 11
 
 /// The registers of a caller that goes on: those that were kept, the result and the top of its frame.
 fn returned_registers(caller: &Kept, value: u64, top: u64) -> [Option<u64>; 11]
-    ensures { held result ≡ stored (stored (saved_of caller.now).registers 0 value) 10 top }
+    ensures { values_of result ≡ with_value (with_value (saved_of caller.now).registers 0 value) 10 top }
 {
     let kept = &caller.registers;
     [
@@ -56,7 +56,7 @@ fn returned_registers(caller: &Kept, value: u64, top: u64) -> [Option<u64>; 11]
 fn kept_of(machine: &Machine) -> Kept
     requires from { pos 0 ≤ℤ machine.now.pc }
     requires limit { machine.now.pc ≤ℤ pos 4096 }
-    ensures { (bytes : List ℕ) → saved_of result ≡ saved (seen machine.now bytes) }
+    ensures { (bytes : List ℕ) → saved_of result ≡ saved_state (state_of machine.now bytes) }
 {
     let registers = &machine.registers;
     Kept {
@@ -70,8 +70,8 @@ pub fn call(machine: &mut Machine, distance: i32) -> Turn
     requires from { pos 0 ≤ℤ machine.old.pc }
     requires limit { machine.old.pc ≤ℤ pos 4096 }
     ensures { (record_length : ℕ) (bytes : List ℕ)
-        → effect record_length (CallLocal distance) (seen machine.old bytes)
-        ≡ answer result (seen machine.new bytes) }
+        → effect record_length (CallLocal distance) (state_of machine.old bytes)
+        ≡ answer result (state_of machine.new bytes) }
 {
     if machine.callers.count >= MOST_CALLERS {
         return Turn::Trapped(TrapKind::NinthFrame);
@@ -87,8 +87,8 @@ pub fn call(machine: &mut Machine, distance: i32) -> Turn
 /// The exit of a function, which ends the run where no caller waits.
 pub fn exit(machine: &mut Machine) -> Turn
     ensures { (record_length : ℕ) (bytes : List ℕ)
-        → effect record_length Exit (seen machine.old bytes)
-        ≡ answer result (seen machine.new bytes) }
+        → effect record_length Exit (state_of machine.old bytes)
+        ≡ answer result (state_of machine.new bytes) }
 {
     let Some(value) = machine.register(Register::R0) else {
         return Turn::Trapped(TrapKind::UnsetResult);

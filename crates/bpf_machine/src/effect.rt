@@ -1,6 +1,6 @@
 ghost use Rattle.std.specs.Prelude.{◌≡◌, ◌≤◌, ◌≤ℤ◌, pos, length};
 ghost use Rattle.bpf_model.specs.Step.{effect};
-ghost use Rattle.bpf_machine.specs.Seen.{seen, answer, Keeps};
+ghost use Rattle.bpf_machine.specs.Seen.{state_of, answer, Keeps};
 
 use crate::access::{load_plain, load_signed, store_immediate, store_register};
 use crate::alu::{move_signed, negate_register, operate, swap_register};
@@ -17,8 +17,8 @@ pub fn perform(machine: &mut Machine, bytes: &mut [u8], instruction: Instruction
     requires from { pos 0 ≤ℤ machine.old.pc }
     requires limit { machine.old.pc ≤ℤ pos 4096 }
     requires record { length bytes.old ≤ 256 }
-    ensures step { effect (length bytes.old) instruction (seen machine.old bytes.old)
-        ≡ answer result (seen machine.new bytes.new) }
+    ensures step { effect (length bytes.old) instruction (state_of machine.old bytes.old)
+        ≡ answer result (state_of machine.new bytes.new) }
     ensures kept { Keeps result bytes.old bytes.new }
 {
     match instruction {

@@ -1,7 +1,7 @@
 ghost use Rattle.std.specs.Prelude.{◌≡◌, ℕ, ◌≤◌, ◌≤ℤ◌, pos, List, length};
 ghost use Rattle.bpf_isa.specs.Encoding.{number_of};
 ghost use Rattle.bpf_model.specs.State.{start_registers};
-ghost use Rattle.bpf_machine.specs.Seen.{held};
+ghost use Rattle.bpf_machine.specs.Seen.{values_of};
 
 use crate::callers::Callers;
 use crate::stack::{Stack, top_of};
@@ -27,7 +27,7 @@ pub struct Machine {
 
 /// The registers as a run begins on a record of so many bytes.
 fn first_registers(record_length: u16) -> [Option<u64>; 11]
-    ensures { held result ≡ start_registers record_length }
+    ensures { values_of result ≡ start_registers record_length }
 {
     let mut registers = [None; 11];
     registers[1] = Some(RECORD_BASE);
@@ -39,13 +39,13 @@ fn first_registers(record_length: u16) -> [Option<u64>; 11]
 impl Machine {
     ghost use Rattle.bpf_model.specs.State.{start, live_frames, most_frames};
     ghost use Rattle.bpf_model.specs.Step.{operand_of, put, jump};
-    ghost use Rattle.bpf_machine.specs.Seen.{seen, answer};
+    ghost use Rattle.bpf_machine.specs.Seen.{state_of, answer};
 
     /// The machine as a run begins on a record of so many bytes.
     pub fn new(record_length: u16) -> Machine
         requires { record_length ≤ 256 }
         ensures pc { result.pc ≡ pos 0 }
-        ensures start { (bytes : List ℕ) → length bytes ≡ record_length → start bytes ≡ seen result bytes }
+        ensures start { (bytes : List ℕ) → length bytes ≡ record_length → start bytes ≡ state_of result bytes }
     {
         let registers = first_registers(record_length);
         let stack = Stack::new();
@@ -60,7 +60,7 @@ impl Machine {
 
     /// How many frames are live: the current one, and one for each caller.
     pub fn live_frames(&self) -> usize
-        ensures live { (bytes : List ℕ) → result ≡ live_frames (seen self.now bytes) }
+        ensures live { (bytes : List ℕ) → result ≡ live_frames (state_of self.now bytes) }
         ensures few { result ≤ most_frames }
     {
         self.callers.count + 1
@@ -68,14 +68,14 @@ impl Machine {
 
     /// What a register holds, if it is set.
     pub fn register(&self, register: Register) -> Option<u64>
-        ensures { result ≡ held self.now.registers (number_of register) }
+        ensures { result ≡ values_of self.now.registers (number_of register) }
     {
         self.registers[register.number() as usize]
     }
 
     /// The number that an operand stands for.
     pub fn operand(&self, operand: Operand) -> Option<u64>
-        ensures { (bytes : List ℕ) → result ≡ operand_of (seen self.now bytes) operand }
+        ensures { (bytes : List ℕ) → result ≡ operand_of (state_of self.now bytes) operand }
     {
         match operand {
             Operand::Immediate(number) => Some(i64::from(number).cast_unsigned()),
@@ -87,7 +87,7 @@ impl Machine {
     pub fn put(&mut self, units: u8, destination: Register, value: u64) -> Turn
         requires { self.old.pc ≤ℤ pos 4096 }
         ensures { (bytes : List ℕ)
-            → put (seen self.old bytes) units destination value ≡ answer result (seen self.new bytes) }
+            → put (state_of self.old bytes) units destination value ≡ answer result (state_of self.new bytes) }
     {
         let number = destination.number();
         if number == 10 {
@@ -102,7 +102,7 @@ impl Machine {
     pub fn jump(&mut self, distance: i32) -> Turn
         requires from { pos 0 ≤ℤ self.old.pc }
         requires limit { self.old.pc ≤ℤ pos 4096 }
-        ensures { (bytes : List ℕ) → jump (seen self.old bytes) distance ≡ answer result (seen self.new bytes) }
+        ensures { (bytes : List ℕ) → jump (state_of self.old bytes) distance ≡ answer result (state_of self.new bytes) }
     {
         self.pc = self.pc + 1 + i64::from(distance);
         Turn::Went

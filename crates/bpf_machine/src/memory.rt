@@ -1,6 +1,6 @@
 ghost use Rattle.std.specs.Prelude.{◌≡◌, ◌+◌, ◌^◌, ◌<◌, ◌≤◌, nat_le, ◌&&◌, true, length};
 ghost use Rattle.bpf_model.specs.State.{may_access, in_frames, live_frames, number_at};
-ghost use Rattle.bpf_machine.specs.Seen.{seen};
+ghost use Rattle.bpf_machine.specs.Seen.{state_of};
 
 use crate::machine::{Machine, RECORD_BASE};
 use crate::stack::{FRAME_SPACE, FRAME_START, STACK_BASE, find_spot};
@@ -20,7 +20,7 @@ pub fn lies_within(base: u64, room: u64, address: u64, size: u64) -> bool
 /// Whether an access lies wholly in one live frame.
 fn is_in_frame(machine: &Machine, bytes: &[u8], address: u64, size: u64) -> bool
     requires { 1 ≤ size }
-    ensures exact { result ≡ in_frames (live_frames (seen machine.now bytes.now)) address size }
+    ensures exact { result ≡ in_frames (live_frames (state_of machine.now bytes.now)) address size }
     ensures room { result ≡ true → address + size < 2 ^ 64 }
 {
     find_spot(machine.live_frames(), address, size).is_some()
@@ -30,7 +30,7 @@ fn is_in_frame(machine: &Machine, bytes: &[u8], address: u64, size: u64) -> bool
 pub fn is_allowed(machine: &Machine, bytes: &[u8], address: u64, size: u64) -> bool
     requires some { 1 ≤ size }
     requires record { length bytes.now ≤ 256 }
-    ensures exact { result ≡ may_access (length bytes.now) (seen machine.now bytes.now) address size }
+    ensures exact { result ≡ may_access (length bytes.now) (state_of machine.now bytes.now) address size }
     ensures room { result ≡ true → address + size < 2 ^ 64 }
 {
     let in_record = lies_within(RECORD_BASE, bytes.len() as u64, address, size);
@@ -39,7 +39,7 @@ pub fn is_allowed(machine: &Machine, bytes: &[u8], address: u64, size: u64) -> b
 
 /// The byte at an address, where there is one that is set.
 pub fn byte_at(machine: &Machine, bytes: &[u8], address: u64) -> Option<u8>
-    ensures { result ≡ (seen machine.now bytes.now).memory address }
+    ensures { result ≡ (state_of machine.now bytes.now).memory address }
 {
     if address >= STACK_BASE {
         let place = (address - STACK_BASE) % FRAME_SPACE;
@@ -60,7 +60,7 @@ pub fn byte_at(machine: &Machine, bytes: &[u8], address: u64) -> Option<u8>
 pub fn number_from(machine: &Machine, bytes: &[u8], address: u64, size: u64) -> Option<u64>
     requires limit { size ≤ 8 }
     requires room { address + size < 2 ^ 64 }
-    ensures { result ≡ number_at (seen machine.now bytes.now).memory address size }
+    ensures { result ≡ number_at (state_of machine.now bytes.now).memory address size }
 {
     let mut value = 0;
     for place in (0..size).rev() {

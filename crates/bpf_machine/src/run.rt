@@ -4,7 +4,7 @@ ghost use Rattle.bpf_image.specs.Program.{Program, units};
 ghost use Rattle.bpf_model.specs.State.{State};
 ghost use Rattle.bpf_model.specs.Step.{Traps, step, step_at};
 ghost use Rattle.bpf_model.specs.Run.{IsOutcome};
-ghost use Rattle.bpf_machine.specs.Seen.{seen, answer, Keeps};
+ghost use Rattle.bpf_machine.specs.Seen.{state_of, answer, Keeps};
 
 use crate::effect::perform;
 use crate::machine::Machine;
@@ -30,7 +30,7 @@ fn unit_at(pc: i64, count: usize) -> Option<usize>
 fn take_turn(machine: &mut Machine, bytes: &mut [u8], image: &Image) -> Turn
     requires { length bytes.old ≡ image.now.record_length }
     ensures step { (g : Graph)
-        → step image.now g (seen machine.old bytes.old) ≡ answer result (seen machine.new bytes.new) }
+        → step image.now g (state_of machine.old bytes.old) ≡ answer result (state_of machine.new bytes.new) }
     ensures kept { Keeps result bytes.old bytes.new }
 {
     let code = image.code();

@@ -1,8 +1,8 @@
 ghost use Rattle.std.specs.Prelude.{◌≡◌, ◌+◌, ◌≤◌, ◌<◌, ◌≤ℤ◌, ◌||◌, true, false, pos, length};
-ghost use Rattle.bpf_model.specs.State.{Partial, stored, stored_all, record_base, in_record, in_frames, most_frames};
+ghost use Rattle.bpf_model.specs.State.{Partial, with_value, with_values, record_base, in_record, in_frames, most_frames};
 ghost use Rattle.bpf_model.specs.Step.{store};
 ghost use Rattle.bpf_machine.specs.Cells.{cells_of};
-ghost use Rattle.bpf_machine.specs.Seen.{held, memory_of, seen, answer, Keeps};
+ghost use Rattle.bpf_machine.specs.Seen.{values_of, memory_of, state_of, answer, Keeps};
 
 use crate::machine::{Machine, RECORD_BASE};
 use crate::memory::lies_within;
@@ -16,7 +16,7 @@ fn set_record_byte(bytes: &mut [u8], place: usize, byte: u8)
     requires place { place < length bytes.old }
     requires record { length bytes.old ≤ 256 }
     ensures { (cells : Partial)
-        → stored (memory_of bytes.old cells) (record_base + place) byte ≡ memory_of bytes.new cells }
+        → with_value (memory_of bytes.old cells) (record_base + place) byte ≡ memory_of bytes.new cells }
 {
     bytes[place] = byte;
 }
@@ -26,7 +26,7 @@ fn set_record(bytes: &mut [u8], place: usize, value: &[u8])
     requires places { place + length value.now ≤ length bytes.old }
     requires record { length bytes.old ≤ 256 }
     ensures { (cells : Partial)
-        → stored_all (memory_of bytes.old cells) (record_base + place) value.now
+        → with_values (memory_of bytes.old cells) (record_base + place) value.now
         ≡ memory_of bytes.new cells }
 {
     for (k, byte) in value.iter().enumerate() {
@@ -46,8 +46,10 @@ fn store_bytes(
     requires some { 1 ≤ length value.now }
     requires frames { frames ≤ most_frames }
     requires record { length bytes.old ≤ 256 }
-    ensures allowed { result ≡ (in_record (length bytes.old) address (length value.now) || in_frames frames address (length value.now)) }
-    ensures stored { result ≡ true → stored_all (memory_of bytes.old (held (cells_of stack.old))) address value.now ≡ memory_of bytes.new (held (cells_of stack.new)) }
+    ensures allowed { result ≡ (in_record (length bytes.old) address (length value.now) || in_frames frames address
+        (length value.now)) }
+    ensures stored { result ≡ true → with_values (memory_of bytes.old
+        (values_of (cells_of stack.old))) address value.now ≡ memory_of bytes.new (values_of (cells_of stack.new)) }
     ensures kept { result ≡ false → (bytes.new ≡ bytes.old) × (stack.new ≡ stack.old) }
 {
     let count = value.len() as u64;
@@ -74,8 +76,8 @@ pub fn store_to(
 ) -> Turn
     requires pc { machine.old.pc ≤ℤ pos 4096 }
     requires record { length bytes.old ≤ 256 }
-    ensures step { store (length bytes.old) (seen machine.old bytes.old) address size value
-        ≡ answer result (seen machine.new bytes.new) }
+    ensures step { store (length bytes.old) (state_of machine.old bytes.old) address size value
+        ≡ answer result (state_of machine.new bytes.new) }
     ensures kept { Keeps result bytes.old bytes.new }
 {
     let spelled = value.to_le_bytes();

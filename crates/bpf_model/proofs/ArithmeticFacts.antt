@@ -15,7 +15,7 @@ use Rattle.bpf_isa.specs.declared.instruction.SwapBits.{SwapBits}
 use Rattle.bpf_isa.specs.declared.instruction.SwapBits.TheVariants.{Low16, Low32, Low64}
 use Rattle.bpf_isa.specs.Encoding.{extension_width, swap_bits}
 use Rattle.std.proofs.lemmas.Bool.Decides.{nat_tests}
-use Rattle.bpf_model.specs.Arithmetic.{sign_extended, swapped, modulus, width_bits, low, signed, unsigned, shift_count, computed, calculated, negated}
+use Rattle.bpf_model.specs.Arithmetic.{move_signed_number, swap_number, modulus, width_bits, low, signed, unsigned, shift_count, operation_number, alu_number, negate_number}
 
 low_fits : (w : Width) (x : ℕ) → low w x < modulus w
 low_fits Bits32 x = omega arith
@@ -39,7 +39,7 @@ xor_fits : (w : Width) (x y : ℕ) → x < modulus w → y < modulus w → bit_x
 xor_fits Bits32 x y left right = xor_lt 32 x y left right
 xor_fits Bits64 x y left right = xor_lt 64 x y left right
 
-computed_fits : (w : Width) (operation : Operation) (x y : ℕ) → x < modulus w → y < modulus w → computed w operation x y < modulus w
+computed_fits : (w : Width) (operation : Operation) (x y : ℕ) → x < modulus w → y < modulus w → operation_number w operation x y < modulus w
 computed_fits w Add x y left right = low_fits w (x + y)
 computed_fits w Subtract x y left right = low_fits w (x + (modulus w - y))
 computed_fits w Multiply x y left right = low_fits w (x * y)
@@ -62,20 +62,20 @@ computed_fits w ShiftRightSigned x y left right =
     chosen_fits (nat_lt x (2 ^ (width_bits w - 1))) (x / 2 ^ count) ((modulus w - 1) - ((modulus w - 1) - x) / 2 ^ count) (modulus w)
     (quotient_fits x (2 ^ count) (modulus w) left) (omega arith)
 
-pub calculated_fits : (w : Width) (operation : Operation) (x y : ℕ) → calculated w operation x y < modulus w
+pub calculated_fits : (w : Width) (operation : Operation) (x y : ℕ) → alu_number w operation x y < modulus w
 calculated_fits w operation x y = computed_fits w operation (low w x) (low w y) (low_fits w x) (low_fits w y)
 
-pub negated_fits : (w : Width) (x : ℕ) → negated w x < modulus w
+pub negated_fits : (w : Width) (x : ℕ) → negate_number w x < modulus w
 negated_fits w x = low_fits w (modulus w - low w x)
 
-pub extended_fits : (extension : Extension) (x : ℕ) → sign_extended extension x < modulus (extension_width extension)
+pub extended_fits : (extension : Extension) (x : ℕ) → move_signed_number extension x < modulus (extension_width extension)
 extended_fits From8To32 x = grind (arith, nat_tests)
 extended_fits From16To32 x = grind (arith, nat_tests)
 extended_fits From8To64 x = grind (arith, nat_tests)
 extended_fits From16To64 x = grind (arith, nat_tests)
 extended_fits From32To64 x = grind (arith, nat_tests)
 
-pub swapped_fits : (order : ByteOrder) (bits : SwapBits) (x : ℕ) → swapped order bits x < 2 ^ swap_bits bits
+pub swapped_fits : (order : ByteOrder) (bits : SwapBits) (x : ℕ) → swap_number order bits x < 2 ^ swap_bits bits
 swapped_fits Little Low16 x = omega arith
 swapped_fits Little Low32 x = omega arith
 swapped_fits Little Low64 x = omega arith

@@ -46,10 +46,10 @@ greatest [] = 0
 greatest (x ∷ xs) = max x (greatest xs)
 
 -- the numbers of some edges as one
-abbrev pub reduced : Reduction → List ℕ → ℕ
-reduced Min numbers = least numbers
-reduced Max numbers = greatest numbers
-reduced Sum numbers = sum numbers % 2 ^ 64
+abbrev pub reduction_of_numbers : Reduction → List ℕ → ℕ
+reduction_of_numbers Min numbers = least numbers
+reduction_of_numbers Max numbers = greatest numbers
+reduction_of_numbers Sum numbers = sum numbers % 2 ^ 64
 
 -- the exit numbers of a vertex's edges, as far as runs exit within so many steps
 abbrev pub exit_numbers : Program → ℕ → Graph → List ℕ → ℕ → List ℕ
@@ -62,7 +62,7 @@ all_numbers p steps g argument frontier = flat_map (exit_numbers p steps g argum
 -- what a vertex's edges reduce to, where it has a neighbour
 abbrev pub row_of : Program → ℕ → Graph → Reduction → List ℕ → ℕ → List Row
 row_of p steps g reduction argument v =
-    let value = reduced reduction (exit_numbers p steps g argument v) in
+    let value = reduction_of_numbers reduction (exit_numbers p steps g argument v) in
     if degree g v == 0 then [] else record { vertex = v; value = value } ∷ []
 
 -- one row for each vertex of the frontier that has a neighbour, in the frontier's order

@@ -3,6 +3,7 @@
 #![tactic(auto)]
 
 pub mod arithmetic_laws;
+mod cause;
 pub mod laws;
 mod limits;
 mod outcome;
@@ -10,6 +11,7 @@ mod reduction;
 mod row;
 mod trap;
 
+pub use cause::Cause;
 pub use limits::{FRAME_BYTES, MOST_FRAMES};
 pub use outcome::Outcome;
 pub use reduction::Reduction;

@@ -6,9 +6,9 @@ use Rattle.std.proofs.lemmas.List.Elements.{filter_map-append}
 use Rattle.bpf_image.specs.Program.{Program}
 use Rattle.graph_model.specs.Graph.{Graph}
 use Rattle.bpf_model.specs.declared.reduction.Reduction.{Reduction}
-use Rattle.bpf_model.specs.EdgeMap.{edge_record, number_for, numbers_from, reduced}
+use Rattle.bpf_model.specs.EdgeMap.{edge_record, number_for, numbers_from, reduction_of_numbers}
 use Rattle.verifier.specs.Walks.{longest}
-use Rattle.edge_fold.specs.Numbers.{combined}
+use Rattle.edge_fold.specs.Numbers.{combination}
 use Rattle.edge_fold.proofs.Reductions.{reduced_more}
 
 -- the exit numbers of the edges to some targets
@@ -46,35 +46,35 @@ found_more p g argument source targets i target n within is number =
 
 -- the edges to the first targets are run, and their numbers reduced
 pub record IsFolded (r : Reduction) (p : Program) (g : Graph) (argument : List ℕ) (source : ℕ) (targets : List ℕ) (place so_far : ℕ) : Type 0 where
-  pub value : so_far ≡ reduced r (found p g argument source 0 (take place targets))
+  pub value : so_far ≡ reduction_of_numbers r (found p g argument source 0 (take place targets))
   pub count : length (found p g argument source 0 (take place targets)) ≡ place
   pub within : place ≤ length targets
 
-pub none_folded : (r : Reduction) (p : Program) (g : Graph) (argument : List ℕ) (source : ℕ) (targets : List ℕ) (so_far : ℕ) → so_far ≡ reduced r [] → IsFolded r p g argument source targets 0 so_far
+pub none_folded : (r : Reduction) (p : Program) (g : Graph) (argument : List ℕ) (source : ℕ) (targets : List ℕ) (so_far : ℕ) → so_far ≡ reduction_of_numbers r [] → IsFolded r p g argument source targets 0 so_far
 none_folded r p g argument source targets so_far is = record { value = is; count = refl; within = omega arith }
 
 -- one edge more
 pub one_folded : (r : Reduction) (p : Program) (g : Graph) (argument : List ℕ) (source : ℕ) (targets : List ℕ) (place so_far target n next : ℕ)
     → IsFolded r p g argument source targets place so_far → place < length targets → target ≡ get_or targets place 0
-    → number_for p (longest p) g (edge_record g source target place argument) ≡ Some n → n < 2 ^ 64 → next ≡ combined r so_far n
+    → number_for p (longest p) g (edge_record g source target place argument) ≡ Some n → n < 2 ^ 64 → next ≡ combination r so_far n
     → IsFolded r p g argument source targets (place + 1) next
 one_folded r p g argument source targets place so_far target n next done inside is number small combines =
     let early = found p g argument source 0 (take place targets) in
     let more : found p g argument source 0 (take (place + 1) targets) ≡ early ++ n ∷ [] = found_more p g argument source targets place target n inside is number in
     record {
-      value = combines ∙ ap (λ k. combined r k n) done.value ∙ sym (reduced_more r early n small) ∙ ap (reduced r) (sym more);
+      value = combines ∙ ap (λ k. combination r k n) done.value ∙ sym (reduced_more r early n small) ∙ ap (reduction_of_numbers r) (sym more);
       count = ap length more ∙ length_push early n ∙ ap (λ k. k + 1) done.count;
       within = omega arith;
     }
 
 -- where all are run, the numbers are those of the vertex
 pub all_folded : (r : Reduction) (p : Program) (g : Graph) (argument : List ℕ) (source : ℕ) (targets : List ℕ) (place so_far : ℕ)
-    → IsFolded r p g argument source targets place so_far → drop place targets ≡ [] → (so_far ≡ reduced r (found p g argument source 0 targets)) × (length (found p g argument source 0 targets) ≡ length targets)
+    → IsFolded r p g argument source targets place so_far → drop place targets ≡ [] → (so_far ≡ reduction_of_numbers r (found p g argument source 0 targets)) × (length (found p g argument source 0 targets) ≡ length targets)
 all_folded r p g argument source targets place so_far done ended =
     let within = done.within in
     let short : length targets ≤ place = omega (arith, ap length ended, length-drop place targets) in
     let whole : take place targets ≡ targets = take_all place targets short in (
-      done.value ∙ ap (λ l. reduced r (found p g argument source 0 l)) whole,
+      done.value ∙ ap (λ l. reduction_of_numbers r (found p g argument source 0 l)) whole,
       ap (λ l. length (found p g argument source 0 l)) (sym whole) ∙ done.count ∙ omega arith,
     )
 

@@ -8,7 +8,7 @@ use Rattle.std.proofs.lemmas.Grind.{flat_map-append, common_steps}
 use Rattle.bpf_image.specs.Program.{Program}
 use Rattle.bpf_model.specs.declared.reduction.Reduction.{Reduction}
 use Rattle.bpf_model.specs.declared.row.Row.{Row}
-use Rattle.bpf_model.specs.EdgeMap.{reduced, exit_numbers, row_of}
+use Rattle.bpf_model.specs.EdgeMap.{reduction_of_numbers, exit_numbers, row_of}
 use Rattle.graph_model.specs.Graph.{Graph, degree}
 
 -- what the items up to an index give, and the item there
@@ -21,7 +21,7 @@ flat_map_more f xs i d within =
 
 -- the row of a vertex with a neighbour
 pub row_of_some : (p : Program) (steps : ℕ) (g : Graph) (r : Reduction) (argument : List ℕ) (v value : ℕ)
-    → 0 < degree g v → value ≡ reduced r (exit_numbers p steps g argument v) → row_of p steps g r argument v ≡ record { vertex = v; value = value } ∷ []
+    → 0 < degree g v → value ≡ reduction_of_numbers r (exit_numbers p steps g argument v) → row_of p steps g r argument v ≡ record { vertex = v; value = value } ∷ []
 row_of_some p steps g r argument v value some is =
     let test : eqb (degree g v) 0 ≡ false = grind (arith, nat_tests) in
     cond-false (eqb (degree g v) 0) _ _ test ∙ ap (λ (n : ℕ). record { vertex = v; value = n } ∷ []) (sym is)

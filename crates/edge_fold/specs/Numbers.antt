@@ -12,7 +12,7 @@ record_bytes e argument =
     ++ argument
 
 -- what two lists of numbers are together, of what each is
-abbrev pub combined : Reduction → ℕ → ℕ → ℕ
-combined Min a b = min a b
-combined Max a b = max a b
-combined Sum a b = (a + b) % 2 ^ 64
+abbrev pub combination : Reduction → ℕ → ℕ → ℕ
+combination Min a b = min a b
+combination Max a b = max a b
+combination Sum a b = (a + b) % 2 ^ 64

@@ -63,7 +63,7 @@ fn each_in_turn(alloc: Global) -> Told {
     let code = match assemble(alloc, TEXT) {
         Ok(code) => code,
         Err(AssembleError { cause, .. }) => {
-            return if cause == bpf_asm::Cause::OutOfMemory {
+            return if cause == bpf_asm::TextCause::OutOfMemory {
                 Told::NotAssembled
             } else {
                 Told::Wrong

@@ -3,7 +3,7 @@ use Rattle.std.proofs.Common.{◌≡◌, ℕ, true, false, List, Option, Some, N
 use Rattle.std.specs.Prelude.{Result, Ok, Err}
 use Rattle.std.proofs.lemmas.Bool.{cases_Bool}
 use Rattle.bpf_asm.specs.declared.errors.AssembleError.{AssembleError}
-use Rattle.bpf_asm.specs.Assembly.{assembled}
+use Rattle.bpf_asm.specs.Assembly.{assembly}
 use Rattle.session_model.specs.Commands.{PublishBatch, LoadProgram}
 use Rattle.session_model.specs.Responses.{Response, Answers, Fails, response}
 use Rattle.script_model.specs.Lexing.{words}
@@ -34,7 +34,7 @@ assembly_at (Err e) begun s b = refl
 program_at : (bytes : List ℕ) (begun : OpenProgram) (s : Script) (b : Option Block) → inside_program bytes begun (record s { block = b }) ≡ inside_program bytes begun s
 program_at bytes begun s b =
     elim (cases_Bool (is_end (words bytes))) [
-      | inl is ↦ rw is (assembly_at (assembled begun.text) begun s b)
+      | inl is ↦ rw is (assembly_at (assembly begun.text) begun s b)
       | inr other ↦ rw other refl
     ]
 

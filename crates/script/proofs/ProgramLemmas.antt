@@ -6,8 +6,8 @@ use Rattle.std.proofs.lemmas.Bool.{and_parts}
 use Rattle.std.proofs.lemmas.Bool.Decides.{nat_tests}
 use Rattle.std.proofs.lemmas.List.Folds.{list_all-append}
 use Rattle.std.proofs.lemmas.Str.{IsUtf8-from_ascii}
-use Rattle.bpf_asm.specs.declared.errors.Cause.{Cause}
-use Rattle.bpf_asm.specs.declared.errors.Cause.TheVariants.{Syntax, UnknownName, DoubleLabel, UnknownLabel, NumberRange, TooLong, OutOfMemory}
+use Rattle.bpf_asm.specs.declared.errors.TextCause.{TextCause}
+use Rattle.bpf_asm.specs.declared.errors.TextCause.TheVariants.{Syntax, UnknownName, DoubleLabel, UnknownLabel, NumberRange, TooLong, OutOfMemory}
 use Rattle.bpf_asm.specs.Assembly.{unless_memory}
 use Rattle.script_model.specs.Lexing.{is_plain, words}
 use Rattle.std.specs.Prelude.{Result, Ok, Err}
@@ -49,7 +49,7 @@ text_utf8 text all = IsUtf8-from_ascii text (text_ascii text all)
 -- ---- the end
 
 -- a fault that is not want of memory is the text's
-pub known_cause : {P : Type 0} (cause : Cause) → unless_memory cause P → cause ≢ OutOfMemory → P
+pub known_cause : {P : Type 0} (cause : TextCause) → unless_memory cause P → cause ≢ OutOfMemory → P
 known_cause Syntax is other = is
 known_cause UnknownName is other = is
 known_cause DoubleLabel is other = is

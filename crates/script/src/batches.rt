@@ -53,7 +53,8 @@ impl Script {
         said: BatchLine,
     ) -> Result<(), LineError>
         requires { self.old.block ≡ None }
-        ensures executed { (words : List (List ℕ)) → Some (said_batch_line said) ≡ option_map cut_batch_line (batch_line words)
+        ensures executed { (words : List (List ℕ)) → Some (said_batch_line said)
+            ≡ option_map cut_batch_line (batch_line words)
             → Executes (inside_batch words (open_batch begun) self.old) result text.old.items text.new.items self.new }
         ensures line { self.new.line ≡ self.old.line }
     {
@@ -83,7 +84,8 @@ impl Script {
         said: Option<BatchLine>,
     ) -> Result<(), LineError>
         requires { self.old.block ≡ None }
-        ensures executed { (words : List (List ℕ)) → option_map said_batch_line said ≡ option_map cut_batch_line (batch_line words)
+        ensures executed { (words : List (List ℕ)) → option_map said_batch_line said
+            ≡ option_map cut_batch_line (batch_line words)
             → Executes (inside_batch words (open_batch begun) self.old) result text.old.items text.new.items self.new }
         ensures line { self.new.line ≡ self.old.line }
     {

@@ -2,8 +2,8 @@
 
 ghost use Rattle.std.specs.Prelude.{◌≡◌, ◌≢◌, ◌++◌, None, Some, [], Ok, OnOk, IfErr, true};
 ghost use Rattle.std.specs.List.{list_all};
-ghost use Rattle.bpf_asm.specs.declared.errors.Cause.TheVariants.{OutOfMemory};
-ghost use Rattle.bpf_asm.specs.Assembly.{assembled};
+ghost use Rattle.bpf_asm.specs.declared.errors.TextCause.TheVariants.{OutOfMemory};
+ghost use Rattle.bpf_asm.specs.Assembly.{assembly};
 ghost use Rattle.script_model.specs.Lexing.{is_plain};
 ghost use Rattle.script_model.specs.State.{Script as ScriptState, ProgramBlock};
 ghost use Rattle.script_model.specs.Execution.{begin_program, one_line, end_program, inside_program, inside};
@@ -15,7 +15,7 @@ use crate::block::{BegunProgram, Block};
 use crate::error::LineError;
 use crate::script::Script;
 use crate::texts::put_assembler;
-use bpf_asm::{AssembleError, Cause, assemble};
+use bpf_asm::{AssembleError, TextCause, assemble};
 use script_model::{LineFault, MOST_PROGRAM_LINES};
 use script_words::is_end;
 use session::Command;
@@ -27,7 +27,8 @@ impl BegunProgram {
     fn add(&mut self, bytes: &[u8]) -> Result<(), LineError>
         requires plain { list_all is_plain bytes.now ≡ true }
         ensures text { HasText self.old → OnOk result (HasText self.new) }
-        ensures answer { (s : ScriptState) → Executes (one_line bytes.now (open_program self.old) s) result [] [] (inside s (ProgramBlock (open_program self.new))) }
+        ensures answer { (s : ScriptState) → Executes (one_line bytes.now (open_program self.old) s) result [] []
+            (inside s (ProgramBlock (open_program self.new))) }
     {
         if self.lines >= MOST_PROGRAM_LINES {
             return Err(LineError::Fault(LineFault::Command(Fault::TooMany)));
@@ -80,7 +81,8 @@ impl Script {
         requires program { HasText begun }
         requires plain { list_all is_plain bytes.now ≡ true }
         requires closed { self.old.block ≡ None }
-        ensures executed { Executes (inside_program bytes.now (open_program begun) self.old) result text.old.items text.new.items self.new }
+        ensures executed { Executes (inside_program bytes.now
+            (open_program begun) self.old) result text.old.items text.new.items self.new }
         ensures line { self.new.line ≡ self.old.line }
     {
         if is_end(bytes) {
@@ -99,7 +101,8 @@ impl Script {
     fn end_program(&mut self, text: &mut Vec<u8>, begun: &BegunProgram) -> Result<(), LineError>
         requires program { HasText begun.now }
         requires closed { self.old.block ≡ None }
-        ensures executed { Executes (end_program (open_program begun.now) self.old) result text.old.items text.new.items self.new }
+        ensures executed { Executes (end_program (open_program begun.now) self.old) result text.old.items
+            text.new.items self.new }
         ensures line { self.new.line ≡ self.old.line }
     {
         match assemble(self.alloc, begun.text()) {
@@ -122,7 +125,7 @@ fn put_unassembled(text: &mut Vec<u8>, name: &[u8], error: AssembleError) -> Res
     ensures cause { OnOk result (error.cause ≢ OutOfMemory) }
     ensures error { IfErr result (λ e. e ≡ LineError.OutOfMemory) }
 {
-    if matches!(error.cause, Cause::OutOfMemory) {
+    if matches!(error.cause, TextCause::OutOfMemory) {
         return Err(LineError::OutOfMemory);
     }
     put_assembler(text, name, error)?;

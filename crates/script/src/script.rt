@@ -128,7 +128,8 @@ impl Script {
     /// Executes a line whose bytes are allowed, inside a block or outside.
     fn execute_plain(&mut self, text: &mut Vec<u8>, bytes: &[u8]) -> Result<(), LineError>
         requires { list_all is_plain bytes.now ≡ true }
-        ensures executed { Executes (block_execution self.old.block bytes.now self.old) result text.old.items text.new.items self.new }
+        ensures executed { Executes (block_execution self.old.block bytes.now self.old) result text.old.items
+            text.new.items self.new }
         ensures line { self.new.line ≡ self.old.line }
     {
         match self.block.take() {

@@ -19,7 +19,8 @@ impl Script {
     /// Has the session perform a command, and writes its answer.
     pub(crate) fn perform(&mut self, text: &mut Vec<u8>, command: Command) -> Result<(), LineError>
         requires { self.old.block ≡ None }
-        ensures executed { Executes (execution_of (response (command_of command.entry) self.old.session) self.old) result text.old.items text.new.items self.new }
+        ensures executed { Executes (execution_of (response
+            (command_of command.entry) self.old.session) self.old) result text.old.items text.new.items self.new }
         ensures line { self.new.line ≡ self.old.line }
     {
         let answer = self.session.perform(command)?;
@@ -34,7 +35,8 @@ impl Script {
         statement: Statement,
     ) -> Result<(), LineError>
         requires { self.old.block ≡ None }
-        ensures executed { Executes (statement_execution (said_statement statement.entry) self.old) result text.old.items text.new.items self.new }
+        ensures executed { Executes (statement_execution
+            (said_statement statement.entry) self.old) result text.old.items text.new.items self.new }
         ensures line { self.new.line ≡ self.old.line }
     {
         match statement {
@@ -83,7 +85,8 @@ impl Script {
         said: Line,
     ) -> Result<(), LineError>
         requires { self.old.block ≡ None }
-        ensures executed { Executes (line_of (said_line said.entry) self.old) result text.old.items text.new.items self.new }
+        ensures executed { Executes (line_of (said_line said.entry) self.old) result text.old.items text.new.items
+            self.new }
         ensures line { self.new.line ≡ self.old.line }
         ensures few { HasFewVertices self.old.session }
     {

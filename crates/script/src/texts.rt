@@ -67,7 +67,8 @@ pub fn put_graph(text: &mut Vec<u8>, vertices: u64) -> Result<(), AllocError>
 
 /// What a batch did, at the end of its line.
 fn put_changes(text: &mut Vec<u8>, added: u64, removed: u64) -> Result<(), AllocError>
-    ensures { OnOk result (text.new.items ≡ text.old.items ++ (codes " added " ++ (decimal added ++ (codes " removed " ++ (decimal removed ++ newline))))) }
+    ensures { OnOk result (text.new.items ≡ text.old.items
+        ++ (codes " added " ++ (decimal added ++ (codes " removed " ++ (decimal removed ++ newline))))) }
 {
     put_field(text, b" added ", added)?;
     put_field(text, b" removed ", removed)?;

@@ -3,7 +3,7 @@ use Rattle.std.specs.Prelude.{ℕ, ◌+◌, ◌==◌, not, nat_le, nat_lt, if◌
 use Rattle.std.specs.List.{list_all}
 use Rattle.graph_model.specs.declared.edit.Edit.{Edit}
 use Rattle.bpf_asm.specs.declared.errors.AssembleError.{AssembleError}
-use Rattle.bpf_asm.specs.Assembly.{assembled}
+use Rattle.bpf_asm.specs.Assembly.{assembly}
 use Rattle.session_model.specs.declared.fault.Fault.{Fault}
 use Rattle.session_model.specs.declared.fault.Fault.TheVariants as faults
 use Rattle.session_model.specs.Session.{Session}
@@ -87,7 +87,7 @@ after_assembly (Ok code) begun s =
 after_assembly (Err e) begun s = Says (assembler_text begun.name e) (outside_blocks s s.session)
 
 abbrev pub end_program : OpenProgram → Script → Execution
-end_program begun s = after_assembly (assembled begun.text) begun s
+end_program begun s = after_assembly (assembly begun.text) begun s
 
 -- a line inside a program
 abbrev pub inside_program : List ℕ → OpenProgram → Script → Execution

@@ -25,7 +25,8 @@ fn pair(line: &[u8]) -> Option<(u64, u64)>
 
 /// The insertion that stands behind a `+`.
 fn insertion(line: &[u8]) -> Option<BatchLine>
-    ensures { option_map said_batch_line result ≡ option_map cut_batch_line (option_map insert_line (pair_behind (words line.now))) }
+    ensures { option_map said_batch_line result ≡ option_map cut_batch_line
+        (option_map insert_line (pair_behind (words line.now))) }
 {
     let (source, target) = pair(line)?;
     Some(BatchLine::Insert { source, target })
@@ -33,7 +34,8 @@ fn insertion(line: &[u8]) -> Option<BatchLine>
 
 /// The removal that stands behind a `-`.
 fn removal(line: &[u8]) -> Option<BatchLine>
-    ensures { option_map said_batch_line result ≡ option_map cut_batch_line (option_map remove_line (pair_behind (words line.now))) }
+    ensures { option_map said_batch_line result ≡ option_map cut_batch_line
+        (option_map remove_line (pair_behind (words line.now))) }
 {
     let (source, target) = pair(line)?;
     Some(BatchLine::Remove { source, target })

@@ -93,7 +93,8 @@ fn program(operands: &[u8]) -> Option<Statement<'_>>
 
 fn code_words(operands: &[u8]) -> Option<CodeWords<'_>>
     ensures { MatchOption result (code_statement (words operands.now) ≡ None)
-        (λ found. option_map cut_statement (code_statement (words operands.now)) ≡ loaded found.name.now found.record_length found.digits.now) }
+        (λ found. option_map cut_statement (code_statement (words operands.now))
+        ≡ loaded found.name.now found.record_length found.digits.now) }
 {
     let (name, rest) = next_word(operands)?;
     let (record_length, rest) = next_number(rest)?;
@@ -109,7 +110,8 @@ fn code_words(operands: &[u8]) -> Option<CodeWords<'_>>
 }
 
 fn code(alloc: Global, operands: &[u8]) -> Result<Option<Statement<'_>>, AllocError>
-    ensures { IfOk result (λ found. option_map said_statement found ≡ option_map cut_statement (code_statement (words operands.now))) }
+    ensures { IfOk result (λ found. option_map said_statement found
+        ≡ option_map cut_statement (code_statement (words operands.now))) }
 {
     let Some(found) = code_words(operands) else {
         return Ok(None);
@@ -162,7 +164,8 @@ fn run_words(operands: &[u8]) -> Option<RunWords<'_>>
 }
 
 fn run(alloc: Global, operands: &[u8]) -> Result<Option<Statement<'_>>, AllocError>
-    ensures { IfOk result (λ found. option_map said_statement found ≡ option_map cut_statement (run_statement (words operands.now))) }
+    ensures { IfOk result (λ found. option_map said_statement found
+        ≡ option_map cut_statement (run_statement (words operands.now))) }
 {
     let Some(found) = run_words(operands) else {
         return Ok(None);
@@ -188,7 +191,8 @@ fn statement<'a>(
     word: &[u8],
     operands: &'a [u8],
 ) -> Result<Option<Statement<'a>>, AllocError>
-    ensures { IfOk result (λ found. option_map said_statement found ≡ option_map cut_statement (statement_of word.now (words operands.now))) }
+    ensures { IfOk result (λ found. option_map said_statement found
+        ≡ option_map cut_statement (statement_of word.now (words operands.now))) }
 {
     if is_word(word, "graph") {
         return Ok(graph(operands));

@@ -52,7 +52,8 @@ fn word_length(line: &[u8]) -> usize
 
 /// The line's first word, and what stands behind it.
 pub(crate) fn next_word(line: &[u8]) -> Option<(&[u8], &[u8])>
-    ensures words { MatchOption result (words line.now ≡ []) (λ found. words line.now ≡ found.0.now ∷ words found.1.now) }
+    ensures words { MatchOption result (words line.now ≡ [])
+        (λ found. words line.now ≡ found.0.now ∷ words found.1.now) }
     ensures shorter { IfSome result (λ found. length found.1.now < length line.now) }
 {
     let text = without_blanks(line);

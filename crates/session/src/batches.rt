@@ -30,7 +30,8 @@ impl Session {
     /// Adds an edit to those of a batch that is still to be published. A fault adds nothing: `Order`
     /// before there is a graph, `Range` where an end is no vertex, `TooMany` after 65,536 edits.
     pub fn add_edit(&self, edits: &mut Vec<Edit>, edit: GivenEdit) -> Result<(), CommandError>
-        ensures added { AddsEdit (edit_fault (edit_of edit) edits.old.items self.now.past) (edit_of edit) edits.old.items edits.new.items result }
+        ensures added { AddsEdit (edit_fault (edit_of edit) edits.old.items self.now.past)
+            (edit_of edit) edits.old.items edits.new.items result }
         ensures few { HasFewVertices self.now }
     {
         let Some(publisher) = &self.publisher else {
@@ -69,7 +70,9 @@ fn publish<'a>(
     feed: u8,
     edits: Vec<Edit>,
 ) -> Result<Answer<'a>, CommandError>
-    ensures { (s : SessionState) → Performs (publish_response feed edits.items (record s { past = Some publisher.old })) result (record s { past = Some publisher.old }) (record s { past = Some publisher.new }) }
+    ensures { (s : SessionState) → Performs (publish_response feed edits.items
+        (record s { past = Some publisher.old })) result (record s { past = Some publisher.old })
+        (record s { past = Some publisher.new }) }
 {
     if !are_below(&edits, publisher.vertex_count()) {
         return Err(CommandError::Fault(Fault::Range));
@@ -92,7 +95,8 @@ fn publish<'a>(
 
 /// The edit, where its ends are vertices below a number of vertices.
 fn edit_below(edit: GivenEdit, vertices: u32) -> Option<Edit>
-    ensures { MatchOption result (is_edit_of (opening vertices) (edit_of edit) ≡ false) (λ below. (is_edit_of (opening vertices) (edit_of edit) ≡ true) × (below ≡ edit_of edit)) }
+    ensures { MatchOption result (is_edit_of (opening vertices) (edit_of edit) ≡ false)
+        (λ below. (is_edit_of (opening vertices) (edit_of edit) ≡ true) × (below ≡ edit_of edit)) }
 {
     let vertices = u64::from(vertices);
     match edit {

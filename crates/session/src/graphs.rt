@@ -42,7 +42,8 @@ impl Session {
 
 /// The publisher of a graph of so many vertices, where a graph may have so many.
 fn publisher_of(alloc: Global, vertices: u64) -> Result<Option<Publisher>, CommandError>
-    ensures made { IfOk result (λ made. MatchOption made (is_vertex_count vertices ≡ false) (λ publisher. (is_vertex_count vertices ≡ true) × (publisher ≡ opening vertices))) }
+    ensures made { IfOk result (λ made. MatchOption made (is_vertex_count vertices ≡ false)
+        (λ publisher. (is_vertex_count vertices ≡ true) × (publisher ≡ opening vertices))) }
     ensures error { IfErr result (λ e. e ≡ CommandError.OutOfMemory) }
 {
     let Ok(vertices) = u32::try_from(vertices) else {

@@ -47,7 +47,8 @@ impl Session {
         record_length: u64,
         code: Vec<u8>,
     ) -> Result<Answer<'a>, CommandError>
-        ensures { Performs (load_response name.now (record { code = code.items; record_length = record_length }) self.old) result self.old self.new }
+        ensures { Performs (load_response name.now
+            (record { code = code.items; record_length = record_length }) self.old) result self.old self.new }
     {
         if let Some(fault) = self.program_fault(name, record_length) {
             return Err(CommandError::Fault(fault));

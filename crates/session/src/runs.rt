@@ -83,7 +83,8 @@ fn map_version<'a>(
     requires below { list_all (λ v. nat_lt v vertices) run.now.frontier.now ≡ true }
     requires ascending { is_ascending run.now.frontier.now ≡ true }
     ensures { let g = graph_of version.now in
-        Maps (map_answer run.now.program.now run.now.pin.now program.now g run.now.reduction run.now.argument.now (frontier_of run.now.frontier.now g)) result }
+        Maps (map_answer run.now.program.now run.now.pin.now program.now g run.now.reduction run.now.argument.now
+        (frontier_of run.now.frontier.now g)) result }
 {
     let frontier = vertices_of(alloc, version, run.frontier, vertices)?;
     let outcome = map_edges(
@@ -113,7 +114,9 @@ fn map_found<'a>(
 ) -> Result<Answer<'a>, CommandError>
     requires most { vertices ≤ 1048576 }
     requires below { list_all (λ v. nat_lt v vertices) run.now.frontier.now ≡ true }
-    ensures { (s : SessionState) → Performs (found_response run.now.program.now run.now.pin.now run.now.reduction run.now.argument.now run.now.frontier.now (option_copied program.entry) (option_copied pin.entry) s) result s s }
+    ensures { (s : SessionState) → Performs (found_response run.now.program.now run.now.pin.now run.now.reduction
+        run.now.argument.now run.now.frontier.now (option_copied program.entry)
+        (option_copied pin.entry) s) result s s }
 {
     let (Some(program), Some(pin)) = (program, pin) else {
         return Err(CommandError::Fault(Fault::Name));
@@ -128,7 +131,8 @@ fn map_found<'a>(
 impl Session {
     /// Maps a program over the edges of a pin.
     pub(crate) fn run_program<'a>(&self, run: &Run<'a>) -> Result<Answer<'a>, CommandError>
-        ensures { Performs (run_response run.now.program.now run.now.pin.now run.now.reduction run.now.argument.now run.now.frontier.now self.now) result self.now self.now }
+        ensures { Performs (run_response run.now.program.now run.now.pin.now run.now.reduction run.now.argument.now
+            run.now.frontier.now self.now) result self.now self.now }
     {
         let Some(publisher) = &self.publisher else {
             return Err(CommandError::Fault(Fault::Order));

@@ -7,7 +7,7 @@ use Rattle.graph_model.specs.Edits.{added, removed}
 use Rattle.graph_model.specs.Past.{Past, opening, longer, graph_of, number_of}
 use Rattle.bpf_image.specs.Program.{Program, units}
 use Rattle.bpf_model.specs.declared.reduction.Reduction.{Reduction}
-use Rattle.bpf_model.specs.EdgeMap.{all_numbers, rows_of, reduced}
+use Rattle.bpf_model.specs.EdgeMap.{all_numbers, rows_of, reduction_of_numbers}
 use Rattle.verifier.specs.Walks.{longest}
 use Rattle.verifier.specs.Verdict.{Verdict, Accepted, Refused, verdict}
 use Rattle.session_model.specs.declared.fault.Fault.{Fault}
@@ -80,7 +80,7 @@ frontier_of (v ∷ vs) g = v ∷ vs
 abbrev pub map_answer : List ℕ → List ℕ → Program → Graph → Reduction → List ℕ → List ℕ → Answer
 map_answer program pin p g reduction argument frontier =
     let numbers = all_numbers p (longest p) g argument frontier in
-    EdgesMapped program pin (length numbers) (reduced reduction numbers) (rows_of p (longest p) g reduction argument frontier)
+    EdgesMapped program pin (length numbers) (reduction_of_numbers reduction numbers) (rows_of p (longest p) g reduction argument frontier)
 
 -- a run of a program and a pin that are there
 abbrev pub map_response : List ℕ → List ℕ → Reduction → List ℕ → List ℕ → Program → Past → Session → Response

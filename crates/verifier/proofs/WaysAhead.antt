@@ -5,19 +5,19 @@ use Rattle.bpf_isa.specs.declared.register.Register.{Register}
 use Rattle.bpf_isa.specs.declared.instruction.Operand.{Operand}
 use Rattle.bpf_isa.specs.declared.instruction.Instruction.{Instruction}
 use Rattle.bpf_isa.specs.declared.instruction.Instruction.TheVariants.{Alu, MoveSigned, Negate, Swap, Jump, Branch, CallHelper, CallLocal, Exit, Load, LoadSigned, Store, StoreRegister, Wide}
-use Rattle.bpf_model.specs.Step.{extended, units_over}
+use Rattle.bpf_model.specs.Step.{immediate_value, units_over}
 use Rattle.bpf_isa.specs.Sizes.{size_bytes}
-use Rattle.abstract_values.specs.declared.cause.Cause.{Cause}
+use Rattle.bpf_model.specs.declared.cause.Cause.{Cause}
 use Rattle.abstract_values.specs.declared.branch.Sides.{Sides}
 use Rattle.abstract_values.specs.declared.value.AbstractValue.{AbstractValue}
 use Rattle.abstract_values.specs.declared.value.AbstractValue.TheVariants.{Unset, Number, Record, Stack}
-use Rattle.abstract_values.specs.Values.{arithmetic, negation, sign_extension, swap_result}
+use Rattle.abstract_values.specs.Values.{alu_result, negate_result, move_signed_result, swap_result}
 use Rattle.abstract_state.specs.declared.state.AbstractState.{AbstractState}
-use Rattle.abstract_state.specs.States.{with_register, entered, returned_from}
-use Rattle.abstract_state.specs.Memory.{loaded, loaded_signed, stored_through}
-use Rattle.verifier_parts.specs.Rules.{Ways, bind, constant, known_register, operand_known, left_known, onward, written, behind_store, target, branch_sides, side_way, branch_ways, call_ways, returned, transfer}
-use Rattle.verifier_parts.specs.Described.{IsWay}
-use Rattle.verifier_parts.proofs.Parts.{ok, bind_ok, writes_from}
+use Rattle.abstract_state.specs.States.{with_register, callee_state, state_behind_call}
+use Rattle.abstract_state.specs.Memory.{load_result, load_signed_result, store_result}
+use Rattle.verifier_rules.specs.Rules.{Ways, bind, constant, known_register, known_operand, known_left, onward, write_ways, behind_store, target, branch_sides, side_way, branch_ways, call_ways, exit_ways, transfer}
+use Rattle.verifier_rules.specs.Described.{IsWay}
+use Rattle.verifier_rules.proofs.Parts.{ok, bind_ok, writes_from}
 use Rattle.verifier.specs.Walks.{next_pcs, called_pcs, IsOneOf}
 
 -- each way leads to one of some pcs
@@ -37,7 +37,7 @@ two_lead x y s t ws same w m =
       | inr rest ↦ elim rest [ inl is ↦ inr (inl (ap (λ (v : ℤ × AbstractState). v.0) is)) | inr none ↦ absurd none ]
     ]
 
-written_leads : (pc : ℕ) (s : AbstractState) (d : Register) (r : Result AbstractValue Cause) (ws : Ways) → written pc s d r ≡ ok ws → AllLead ws (pos pc ∷ [])
+written_leads : (pc : ℕ) (s : AbstractState) (d : Register) (r : Result AbstractValue Cause) (ws : Ways) → write_ways pc s d r ≡ ok ws → AllLead ws (pos pc ∷ [])
 written_leads pc s d r ws h =
     let w = writes_from pc s d r ws h in
     one_leads (pos pc) (with_register s d w.value) ws w.to
@@ -48,7 +48,7 @@ stored_leads pc r ws h =
     let same : (pos pc, t.0) ∷ [] ≡ ws = (let e : ok (onward pc t.0) ≡ ok ws = t.2 in cc) in
     one_leads (pos pc) t.0 ws same
 
-returned_leads : (v : AbstractValue) (ws : Ways) → returned v ≡ ok ws → AllLead ws []
+returned_leads : (v : AbstractValue) (ws : Ways) → exit_ways v ≡ ok ws → AllLead ws []
 returned_leads Unset ws h w m = absurd cc
 returned_leads (Number lo hi) ws h w m =
     let same : [] ≡ ws = (let e : ok [] ≡ ok ws = h in cc) in
@@ -83,44 +83,44 @@ branch_leads pc z s left right sides ws same w m =
 pub ways_lead : (l pc : ℕ) (i : Instruction) (a : AbstractState) (ws : Ways) → transfer l pc i a ≡ ok ws → AllLead ws (called_pcs i pc ++ next_pcs i pc)
 unfolding transfer
 ways_lead l pc (Alu w operation d o) a ws h =
-    let u = bind_ok (left_known operation a d) (λ u. bind (operand_known w a o) (λ b. written (pc + 1) a d (arithmetic w operation l u b))) ws h in
-    let b = bind_ok (operand_known w a o) (λ b. written (pc + 1) a d (arithmetic w operation l u.0 b)) ws u.2 in
-    written_leads (pc + 1) a d (arithmetic w operation l u.0 b.0) ws b.2
+    let u = bind_ok (known_left operation a d) (λ u. bind (known_operand w a o) (λ b. write_ways (pc + 1) a d (alu_result w operation l u b))) ws h in
+    let b = bind_ok (known_operand w a o) (λ b. write_ways (pc + 1) a d (alu_result w operation l u.0 b)) ws u.2 in
+    written_leads (pc + 1) a d (alu_result w operation l u.0 b.0) ws b.2
 ways_lead l pc (MoveSigned extension d source) a ws h =
-    let b = bind_ok (known_register a source) (λ b. written (pc + 1) a d (sign_extension extension b)) ws h in
-    written_leads (pc + 1) a d (sign_extension extension b.0) ws b.2
+    let b = bind_ok (known_register a source) (λ b. write_ways (pc + 1) a d (move_signed_result extension b)) ws h in
+    written_leads (pc + 1) a d (move_signed_result extension b.0) ws b.2
 ways_lead l pc (Negate w d) a ws h =
-    let b = bind_ok (known_register a d) (λ b. written (pc + 1) a d (negation w b)) ws h in
-    written_leads (pc + 1) a d (negation w b.0) ws b.2
+    let b = bind_ok (known_register a d) (λ b. write_ways (pc + 1) a d (negate_result w b)) ws h in
+    written_leads (pc + 1) a d (negate_result w b.0) ws b.2
 ways_lead l pc (Swap order bits d) a ws h =
-    let b = bind_ok (known_register a d) (λ b. written (pc + 1) a d (swap_result order bits b)) ws h in
+    let b = bind_ok (known_register a d) (λ b. write_ways (pc + 1) a d (swap_result order bits b)) ws h in
     written_leads (pc + 1) a d (swap_result order bits b.0) ws b.2
 ways_lead l pc (Jump distance) a ws h =
     let same : (target pc (units_over distance), a) ∷ [] ≡ ws = (let e : ok ((target pc (units_over distance), a) ∷ []) ≡ ok ws = h in cc) in
     one_leads (target pc (units_over distance)) a ws same
 ways_lead l pc (Branch w c left right distance) a ws h =
-    let u = bind_ok (known_register a left) (λ u. bind (operand_known w a right) (λ b. bind (branch_sides w c left right u b) (λ sides. ok (branch_ways pc distance a left right sides)))) ws h in
-    let b = bind_ok (operand_known w a right) (λ b. bind (branch_sides w c left right u.0 b) (λ sides. ok (branch_ways pc distance a left right sides))) ws u.2 in
+    let u = bind_ok (known_register a left) (λ u. bind (known_operand w a right) (λ b. bind (branch_sides w c left right u b) (λ sides. ok (branch_ways pc distance a left right sides)))) ws h in
+    let b = bind_ok (known_operand w a right) (λ b. bind (branch_sides w c left right u.0 b) (λ sides. ok (branch_ways pc distance a left right sides))) ws u.2 in
     let sides = bind_ok (branch_sides w c left right u.0 b.0) (λ sides. ok (branch_ways pc distance a left right sides)) ws b.2 in
     let same : branch_ways pc distance a left right sides.0 ≡ ws = (let e : ok (branch_ways pc distance a left right sides.0) ≡ ok ws = sides.2 in cc) in
     branch_leads pc distance a left right sides.0 ws same
 ways_lead l pc (CallHelper number) a ws h = absurd cc
 ways_lead l pc (CallLocal distance) a ws h =
     let same : call_ways pc distance a ≡ ws = (let e : ok (call_ways pc distance a) ≡ ok ws = h in cc) in
-    two_lead (target pc distance) (pos (pc + 1)) (entered a) (returned_from a) ws same
+    two_lead (target pc distance) (pos (pc + 1)) (callee_state a) (state_behind_call a) ws same
 ways_lead l pc Exit a ws h = returned_leads (get_or a.registers 0 Unset) ws h
 ways_lead l pc (Load size d base offset) a ws h =
-    let b = bind_ok (known_register a base) (λ b. written (pc + 1) a d (loaded l a b offset (size_bytes size))) ws h in
-    written_leads (pc + 1) a d (loaded l a b.0 offset (size_bytes size)) ws b.2
+    let b = bind_ok (known_register a base) (λ b. write_ways (pc + 1) a d (load_result l a b offset (size_bytes size))) ws h in
+    written_leads (pc + 1) a d (load_result l a b.0 offset (size_bytes size)) ws b.2
 ways_lead l pc (LoadSigned size d base offset) a ws h =
-    let b = bind_ok (known_register a base) (λ b. written (pc + 1) a d (loaded_signed l a b offset size)) ws h in
-    written_leads (pc + 1) a d (loaded_signed l a b.0 offset size) ws b.2
+    let b = bind_ok (known_register a base) (λ b. write_ways (pc + 1) a d (load_signed_result l a b offset size)) ws h in
+    written_leads (pc + 1) a d (load_signed_result l a b.0 offset size) ws b.2
 ways_lead l pc (Store size base offset immediate) a ws h =
-    let b = bind_ok (known_register a base) (λ b. behind_store (pc + 1) (stored_through l a b offset (size_bytes size) (constant (extended immediate)))) ws h in
-    stored_leads (pc + 1) (stored_through l a b.0 offset (size_bytes size) (constant (extended immediate))) ws b.2
+    let b = bind_ok (known_register a base) (λ b. behind_store (pc + 1) (store_result l a b offset (size_bytes size) (constant (immediate_value immediate)))) ws h in
+    stored_leads (pc + 1) (store_result l a b.0 offset (size_bytes size) (constant (immediate_value immediate))) ws b.2
 ways_lead l pc (StoreRegister size base offset source) a ws h =
-    let b = bind_ok (known_register a base) (λ b. bind (known_register a source) (λ v. behind_store (pc + 1) (stored_through l a b offset (size_bytes size) v))) ws h in
-    let v = bind_ok (known_register a source) (λ v. behind_store (pc + 1) (stored_through l a b.0 offset (size_bytes size) v)) ws b.2 in
-    stored_leads (pc + 1) (stored_through l a b.0 offset (size_bytes size) v.0) ws v.2
+    let b = bind_ok (known_register a base) (λ b. bind (known_register a source) (λ v. behind_store (pc + 1) (store_result l a b offset (size_bytes size) v))) ws h in
+    let v = bind_ok (known_register a source) (λ v. behind_store (pc + 1) (store_result l a b.0 offset (size_bytes size) v)) ws b.2 in
+    stored_leads (pc + 1) (store_result l a b.0 offset (size_bytes size) v.0) ws v.2
 ways_lead l pc (Wide d value) a ws h =
     written_leads (pc + 2) a d (ok (constant value)) ws h

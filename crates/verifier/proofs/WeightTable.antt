@@ -9,16 +9,16 @@ use Rattle.verifier.specs.declared.weights.Measure.{Measure}
 use Rattle.verifier.specs.declared.weights.Measure.TheVariants.{Instructions, Frames}
 use Rattle.verifier.specs.Listing.{instruction_at}
 use Rattle.verifier.specs.Walks.{greatest, next_pcs, called_pcs, weight_from}
-use Rattle.verifier.specs.Tables.{rule_of, ceiling, capped_from}
+use Rattle.verifier.specs.Tables.{rule_of, ceiling, capped_weight}
 use Rattle.verifier.proofs.Listed.{none_past}
 use Rattle.verifier.proofs.Flowing.{Flows, ahead, call_ahead}
 use Rattle.verifier.proofs.Weighing.{greatest_same, weight_is, weight_none}
 
 -- the weights of the pcs from one on
 abbrev pub WeightsFrom : Measure → Program → List ℕ → ℕ → Type 0
-WeightsFrom m p weights n = (q : ℕ) → n ≤ q → get_or weights q 0 ≡ capped_from m p q
+WeightsFrom m p weights n = (q : ℕ) → n ≤ q → get_or weights q 0 ≡ capped_weight m p q
 
-pub capped_none : (m : Measure) (p : Program) (pc : ℕ) → instruction_at p pc ≡ None → capped_from m p pc ≡ 0
+pub capped_none : (m : Measure) (p : Program) (pc : ℕ) → instruction_at p pc ≡ None → capped_weight m p pc ≡ 0
 capped_none m p pc none = (let zero_weight = weight_none (rule_of m) p pc none in omega (arith, zero_weight))
 
 pub past_end : (m : Measure) (p : Program) (weights : List ℕ) → length weights ≡ units p → WeightsFrom m p weights (units p)
@@ -36,12 +36,12 @@ rule_capped Frames a b = omega arith
 -- the greatest in the table is the greatest, or too great
 called_table : (m : Measure) (p : Program) (weights : List ℕ) (pc : ℕ) (i : Instruction) → Flows p → instruction_at p pc ≡ Some i → WeightsFrom m p weights (pc + 1) → greatest (λ q. get_or weights q 0) (called_pcs i pc) ≡ min (greatest (weight_from (rule_of m) p) (called_pcs i pc)) (ceiling m)
 called_table m p weights pc i passed found known =
-    greatest_same (λ q. get_or weights q 0) (capped_from m p) (called_pcs i pc) (λ z one. (let to = call_ahead p pc i z passed found one in let at : unsigned_abs z ≡ to.place = ap unsigned_abs to.is in rw at (known to.place (omega (arith, to.behind)))))
+    greatest_same (λ q. get_or weights q 0) (capped_weight m p) (called_pcs i pc) (λ z one. (let to = call_ahead p pc i z passed found one in let at : unsigned_abs z ≡ to.place = ap unsigned_abs to.is in rw at (known to.place (omega (arith, to.behind)))))
     ∙ greatest_capped (weight_from (rule_of m) p) (ceiling m) (called_pcs i pc)
 
 next_table : (m : Measure) (p : Program) (weights : List ℕ) (pc : ℕ) (i : Instruction) → Flows p → instruction_at p pc ≡ Some i → WeightsFrom m p weights (pc + 1) → greatest (λ q. get_or weights q 0) (next_pcs i pc) ≡ min (greatest (weight_from (rule_of m) p) (next_pcs i pc)) (ceiling m)
 next_table m p weights pc i passed found known =
-    greatest_same (λ q. get_or weights q 0) (capped_from m p) (next_pcs i pc) (λ z one. (let to = ahead p pc i z passed found one in let at : unsigned_abs z ≡ to.place = ap unsigned_abs to.is in rw at (known to.place (omega (arith, to.behind)))))
+    greatest_same (λ q. get_or weights q 0) (capped_weight m p) (next_pcs i pc) (λ z one. (let to = ahead p pc i z passed found one in let at : unsigned_abs z ≡ to.place = ap unsigned_abs to.is in rw at (known to.place (omega (arith, to.behind)))))
     ∙ greatest_capped (weight_from (rule_of m) p) (ceiling m) (next_pcs i pc)
 
 -- no weight in the table is above the ceiling
@@ -52,7 +52,7 @@ pub next_most : (m : Measure) (p : Program) (weights : List ℕ) (pc : ℕ) (i :
 next_most m p weights pc i passed found known = (let same = next_table m p weights pc i passed found known in omega (arith, same))
 
 -- the weight of an instruction by the weights behind it
-pub weighed_at : (m : Measure) (p : Program) (weights : List ℕ) (pc : ℕ) (i : Instruction) → Flows p → instruction_at p pc ≡ Some i → WeightsFrom m p weights (pc + 1) → min (rule_of m (greatest (λ q. get_or weights q 0) (called_pcs i pc)) (greatest (λ q. get_or weights q 0) (next_pcs i pc))) (ceiling m) ≡ capped_from m p pc
+pub weighed_at : (m : Measure) (p : Program) (weights : List ℕ) (pc : ℕ) (i : Instruction) → Flows p → instruction_at p pc ≡ Some i → WeightsFrom m p weights (pc + 1) → min (rule_of m (greatest (λ q. get_or weights q 0) (called_pcs i pc)) (greatest (λ q. get_or weights q 0) (next_pcs i pc))) (ceiling m) ≡ capped_weight m p pc
 weighed_at m p weights pc i passed found known =
     let called = called_table m p weights pc i passed found known in
     let next = next_table m p weights pc i passed found known in
@@ -60,7 +60,7 @@ weighed_at m p weights pc i passed found known =
     ∙ rule_capped m (greatest (weight_from (rule_of m) p) (called_pcs i pc)) (greatest (weight_from (rule_of m) p) (next_pcs i pc))
     ∙ ap (λ w. min w (ceiling m)) (sym (weight_is (rule_of m) p pc i passed found))
 
-pub more_weights : (m : Measure) (p : Program) (weights : List ℕ) (pc n : ℕ) → pc < length weights → n ≡ capped_from m p pc → WeightsFrom m p weights (pc + 1) → WeightsFrom m p (set weights pc n) pc
+pub more_weights : (m : Measure) (p : Program) (weights : List ℕ) (pc n : ℕ) → pc < length weights → n ≡ capped_weight m p pc → WeightsFrom m p weights (pc + 1) → WeightsFrom m p (set weights pc n) pc
 more_weights m p weights pc n lt is known q le =
     elim (cases_eq q pc) [
       | inl same ↦ rw same (get_or-set_same weights pc n 0 lt ∙ is)

@@ -4,16 +4,16 @@ use Rattle.std.specs.Prelude.{◌≡◌, ℕ, zero, suc, ◌<◌, ◌==◌, if�
 use Rattle.std.specs.Ordering.{int_eq}
 use Rattle.bpf_isa.specs.declared.instruction.Instruction.{Instruction}
 use Rattle.bpf_image.specs.Program.{Program, units}
-use Rattle.abstract_values.specs.declared.cause.Cause.{Cause}
+use Rattle.bpf_model.specs.declared.cause.Cause.{Cause}
 use Rattle.abstract_state.specs.declared.state.AbstractState.{AbstractState}
-use Rattle.abstract_state.specs.States.{entry_state, joined_state}
-use Rattle.verifier_parts.specs.Rules.{Ways, transfer}
+use Rattle.abstract_state.specs.States.{entry_state, join_of_states}
+use Rattle.verifier_rules.specs.Rules.{Ways, transfer}
 use Rattle.verifier.specs.Listing.{instruction_at}
 
 -- what is known by one way more
 abbrev pub joined_with : Option AbstractState → AbstractState → Option AbstractState
 joined_with None t = Some t
-joined_with (Some s) t = Some (joined_state s t)
+joined_with (Some s) t = Some (join_of_states s t)
 
 -- what is known at a pc by some ways more, of those that lead to it
 abbrev pub joined_ways : Option AbstractState → Ways → ℕ → Option AbstractState
@@ -38,18 +38,18 @@ abbrev pub ways_from : Program → Assignment → ℕ → Ways
 ways_from p a pc = known_ways p pc (instruction_at p pc) (a pc)
 
 -- what comes to pc q from the entry and from the pcs below n
-abbrev pub coming : Program → Assignment → ℕ → ℕ → Option AbstractState
-coming p a zero q = if q == 0 then Some (entry_state p.record_length) else None
-coming p a (suc n) q = joined_ways (coming p a n q) (ways_from p a n) q
+abbrev pub incoming : Program → Assignment → ℕ → ℕ → Option AbstractState
+incoming p a zero q = if q == 0 then Some (entry_state p.record_length) else None
+incoming p a (suc n) q = joined_ways (incoming p a n q) (ways_from p a n) q
 
 -- the equations
 abbrev pub IsAssignment : Program → Assignment → Type 0
-IsAssignment p a = (q : ℕ) → q < units p → a q ≡ coming p a q q
+IsAssignment p a = (q : ℕ) → q < units p → a q ≡ incoming p a q q
 
 -- their one solution, as all ways lead upward: what has come to each pc from the pcs below n
-abbrev pub come : Program → ℕ → ℕ → Option AbstractState
-come p zero q = if q == 0 then Some (entry_state p.record_length) else None
-come p (suc n) q = joined_ways (come p n q) (known_ways p n (instruction_at p n) (come p n n)) q
+abbrev pub arrivals : Program → ℕ → ℕ → Option AbstractState
+arrivals p zero q = if q == 0 then Some (entry_state p.record_length) else None
+arrivals p (suc n) q = joined_ways (arrivals p n q) (known_ways p n (instruction_at p n) (arrivals p n n)) q
 
-abbrev pub assigned : Program → Assignment
-assigned p q = come p q q
+abbrev pub assignment_of : Program → Assignment
+assignment_of p q = arrivals p q q

@@ -4,7 +4,7 @@ use Rattle.std.specs.Prelude.{ℕ, zero, suc, ◌+◌, ◌-◌, ◌==◌, nat_lt
 use Rattle.bpf_isa.specs.declared.instruction.Instruction.{Instruction}
 use Rattle.bpf_isa.specs.declared.instruction.Instruction.TheVariants.{CallLocal}
 use Rattle.bpf_image.specs.Program.{Program, units}
-use Rattle.verifier_parts.specs.Rules.{target}
+use Rattle.verifier_rules.specs.Rules.{target}
 use Rattle.verifier.specs.Listing.{instruction_at}
 
 -- the place, if an instruction starts there, above a pc

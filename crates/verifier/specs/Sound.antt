@@ -10,9 +10,9 @@ use Rattle.bpf_model.specs.Run.{after}
 use Rattle.bpf_isa.specs.declared.instruction.Instruction.{Instruction}
 use Rattle.bpf_isa.specs.declared.instruction.Instruction.TheVariants.{CallLocal}
 use Rattle.abstract_state.specs.declared.state.AbstractState.{AbstractState}
-use Rattle.verifier_parts.specs.Described.{DescribesState, DescribesCaller}
+use Rattle.verifier_rules.specs.Described.{DescribesState, DescribesCaller}
 use Rattle.verifier.specs.Listing.{instruction_at}
-use Rattle.verifier.specs.Equations.{assigned}
+use Rattle.verifier.specs.Equations.{assignment_of}
 use Rattle.verifier.specs.Walks.{longest, deepest, count_from, frames_from, IsLongest, IsDeepest}
 use Rattle.verifier.specs.Verdict.{Accepted, verdict, most_counted}
 
@@ -24,7 +24,7 @@ pub record Waits (p : Program) (depth : ℕ) (caller : Saved) (memory : Partial)
   pub found : instruction_at p place ≡ Some (CallLocal distance)
   pub returns : caller.return_pc ≡ pos (place + 1)
   pub abstract_state : AbstractState
-  pub walked : assigned p place ≡ Some abstract_state
+  pub walked : assignment_of p place ≡ Some abstract_state
   pub described : DescribesCaller p.record_length (frame_top depth) abstract_state caller.registers memory
   pub frames : depth + frames_from p (place + 1) ≤ deepest p
 
@@ -46,7 +46,7 @@ pub record Stands (p : Program) (k : ℕ) (s : State) : Type 0 where
   pub instruction : Instruction
   pub found : instruction_at p place ≡ Some instruction
   pub abstract_state : AbstractState
-  pub walked : assigned p place ≡ Some abstract_state
+  pub walked : assignment_of p place ≡ Some abstract_state
   pub described : DescribesState p.record_length abstract_state s
   pub callers : AllWait p s.callers s.memory
   pub steps : k + (count_from p place + count_behind p s.callers) ≤ longest p

@@ -8,13 +8,13 @@ use Rattle.bpf_isa.specs.Encoding.{units_of}
 use Rattle.bpf_model.specs.State.{most_frames}
 use Rattle.bpf_model.specs.Step.{units_over}
 use Rattle.bpf_image.specs.Program.{Program, units}
-use Rattle.abstract_values.specs.declared.cause.Cause.{Cause}
-use Rattle.abstract_values.specs.declared.cause.Cause.TheVariants.{BadInstruction, JumpOut, JumpBack, CallTarget, FallsOff, TooDeep, TooLong, OutOfMemory}
+use Rattle.bpf_model.specs.declared.cause.Cause.{Cause}
+use Rattle.bpf_model.specs.declared.cause.Cause.TheVariants.{BadInstruction, JumpOut, JumpBack, CallTarget, FallsOff, TooDeep, TooLong, OutOfMemory}
 use Rattle.abstract_state.specs.declared.state.AbstractState.{AbstractState}
-use Rattle.verifier_parts.specs.Rules.{Ways, target, transfer}
+use Rattle.verifier_rules.specs.Rules.{Ways, target, transfer}
 use Rattle.verifier.specs.declared.refusal.Refusal.{Refusal}
 use Rattle.verifier.specs.Listing.{instruction_at, is_start}
-use Rattle.verifier.specs.Equations.{assigned}
+use Rattle.verifier.specs.Equations.{assignment_of}
 use Rattle.verifier.specs.declared.weights.TheConstants.{MOST_COUNTED}
 use Rattle.verifier.specs.Functions.{start_above, function_end}
 use Rattle.verifier.specs.Walks.{longest, deepest}
@@ -85,17 +85,17 @@ length_fault p = if nat_lt most_counted (longest p) then Some (record { cause = 
 
 -- ---- fifth pass: at each walked pc the instruction's rules hold of what is known there
 
-abbrev pub broken : Result Ways Cause → Option Cause
-broken (Ok ws) = None
-broken (Err cause) = Some cause
+abbrev pub broken_cause : Result Ways Cause → Option Cause
+broken_cause (Ok ws) = None
+broken_cause (Err cause) = Some cause
 
 abbrev pub rule_cause : Program → ℕ → Option Instruction → Option AbstractState → Option Cause
-rule_cause p pc (Some i) (Some s) = broken (transfer p.record_length pc i s)
+rule_cause p pc (Some i) (Some s) = broken_cause (transfer p.record_length pc i s)
 rule_cause p pc None s = None
 rule_cause p pc (Some i) None = None
 
 abbrev pub rule_fault : Program → ℕ → Option Cause
-rule_fault p pc = rule_cause p pc (instruction_at p pc) (assigned p pc)
+rule_fault p pc = rule_cause p pc (instruction_at p pc) (assignment_of p pc)
 
 -- ---- the answer
 

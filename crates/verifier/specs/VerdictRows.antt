@@ -3,8 +3,8 @@
 use Rattle.std.specs.Prelude.{◌≡◌, ℕ, List, [], ◌∷◌, ◌++◌}
 use Rattle.bpf_image.specs.Program.{Program}
 use Rattle.bpf_model.specs.CallRows.{code_unit, exit, call_over, set_r0, kept_register, nine_deep}
-use Rattle.abstract_values.specs.declared.cause.Cause.{Cause}
-use Rattle.abstract_values.specs.declared.cause.Cause.TheVariants.{JumpOut, CallTarget, FallsOff, TooDeep, UnsetRegister}
+use Rattle.bpf_model.specs.declared.cause.Cause.{Cause}
+use Rattle.bpf_model.specs.declared.cause.Cause.TheVariants.{JumpOut, CallTarget, FallsOff, TooDeep, UnsetRegister}
 use Rattle.verifier.specs.Verdict.{Verdict, Accepted, Refused, verdict}
 
 -- calllocal f; calllocal f; exit; f: mov r0, 7; exit
@@ -34,16 +34,16 @@ stack_is_lent = code_unit 0xbf 0xa1 0 0 ++ call_over 1 ++ exit ++ code_unit 0xbf
 abbrev pub of_code : List ℕ → Verdict
 of_code code = verdict (record { code = code; record_length = 16 })
 
-abbrev pub refused : Cause → ℕ → Verdict
-refused cause pc = Refused (record { cause = cause; pc = pc })
+abbrev pub refusal_at : Cause → ℕ → Verdict
+refusal_at cause pc = Refused (record { cause = cause; pc = pc })
 
 abbrev pub WorkedVerdicts : Type 0
 WorkedVerdicts =
     (of_code kept_register ≡ Accepted 7 2)
     × (of_code called_twice ≡ Accepted 7 2)
-    × (of_code falls_off ≡ refused FallsOff 2)
-    × (of_code calls_itself ≡ refused CallTarget 0)
-    × (of_code jumps_over_an_entry ≡ refused JumpOut 1)
-    × (of_code falls_into_an_entry ≡ refused FallsOff 1)
-    × (of_code nine_deep ≡ refused TooDeep 0)
-    × (of_code stack_is_lent ≡ refused UnsetRegister 3)
+    × (of_code falls_off ≡ refusal_at FallsOff 2)
+    × (of_code calls_itself ≡ refusal_at CallTarget 0)
+    × (of_code jumps_over_an_entry ≡ refusal_at JumpOut 1)
+    × (of_code falls_into_an_entry ≡ refusal_at FallsOff 1)
+    × (of_code nine_deep ≡ refusal_at TooDeep 0)
+    × (of_code stack_is_lent ≡ refusal_at UnsetRegister 3)

@@ -6,7 +6,7 @@ use Rattle.bpf_isa.specs.declared.instruction.Instruction.TheVariants.{Jump, Bra
 use Rattle.bpf_isa.specs.Encoding.{units_of}
 use Rattle.bpf_model.specs.Step.{units_over}
 use Rattle.bpf_image.specs.Program.{Program, units}
-use Rattle.verifier_parts.specs.Rules.{target}
+use Rattle.verifier_rules.specs.Rules.{target}
 use Rattle.verifier.specs.Listing.{instruction_at}
 
 -- where a function goes on behind an instruction at a pc: nowhere from an exit
@@ -67,32 +67,32 @@ greatest weight [] = 0
 greatest weight (q ∷ qs) = max (weight (unsigned_abs q)) (greatest weight qs)
 
 -- the weight of an instruction at a pc, by the greatest of what it calls and of what is behind it
-abbrev pub weighed : (ℕ → ℕ → ℕ) → (ℕ → ℕ) → Option Instruction → ℕ → ℕ
-weighed rule weight None pc = 0
-weighed rule weight (Some i) pc = rule (greatest weight (called_pcs i pc)) (greatest weight (next_pcs i pc))
+abbrev pub weight_by : (ℕ → ℕ → ℕ) → (ℕ → ℕ) → Option Instruction → ℕ → ℕ
+weight_by rule weight None pc = 0
+weight_by rule weight (Some i) pc = rule (greatest weight (called_pcs i pc)) (greatest weight (next_pcs i pc))
 
 -- the greatest weight from a pc on, over at most n instructions in a row
 unfoldable pub weight_over : (ℕ → ℕ → ℕ) → Program → ℕ → ℕ → ℕ
 weight_over rule p zero pc = 0
-weight_over rule p (suc n) pc = weighed rule (weight_over rule p n) (instruction_at p pc) pc
+weight_over rule p (suc n) pc = weight_by rule (weight_over rule p n) (instruction_at p pc) pc
 
 -- all units behind a pc are enough
 unfoldable pub weight_from : (ℕ → ℕ → ℕ) → Program → ℕ → ℕ
 weight_from rule p pc = weight_over rule p (units p - pc) pc
 
 -- an instruction counts one more than what it calls and what is behind it
-abbrev pub counted : ℕ → ℕ → ℕ
-counted called next = 1 + (called + next)
+abbrev pub count_rule : ℕ → ℕ → ℕ
+count_rule called next = 1 + (called + next)
 
 -- a call needs one frame more than what it calls; each instruction needs its own
-abbrev pub framed : ℕ → ℕ → ℕ
-framed called next = max (1 + called) next
+abbrev pub frame_rule : ℕ → ℕ → ℕ
+frame_rule called next = max (1 + called) next
 
 abbrev pub count_from : Program → ℕ → ℕ
-count_from = weight_from counted
+count_from = weight_from count_rule
 
 abbrev pub frames_from : Program → ℕ → ℕ
-frames_from = weight_from framed
+frames_from = weight_from frame_rule
 
 -- the greatest count of a whole run, and the most frames
 abbrev pub longest : Program → ℕ

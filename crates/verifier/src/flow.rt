@@ -1,16 +1,16 @@
 //! The second pass: where jumps and calls land, and what stands last in each function.
 ghost use Rattle.std.specs.Prelude.{◌≡◌, ◌<◌, ◌≤◌, Option};
 ghost use Rattle.bpf_image.specs.Program.{units};
-ghost use Rattle.verifier.specs.Listing.{listed};
+ghost use Rattle.verifier.specs.Listing.{listing_of};
 ghost use Rattle.verifier.specs.Functions.{start_above, function_end};
 ghost use Rattle.verifier.specs.Tables.{HasEnds};
 ghost use Rattle.verifier.specs.Verdict.{first_fault, flow_fault, flow_cause, landing_cause, calling_cause, falling_cause};
 
 use crate::places::{entry_of_call, length_of, place_at, starting_at};
 use crate::refusal::Refusal;
-use abstract_values::Cause;
 use bpf_image::Image;
 use bpf_isa::Instruction;
+use bpf_model::Cause;
 
 /// Why a jump at a pc may not land at a place, in a function that ends there.
 fn fault_of_landing(
@@ -20,7 +20,7 @@ fn fault_of_landing(
     pc: usize,
     place: i64,
 ) -> Option<Cause>
-    requires listing { listing.now ≡ listed image.now (units image.now) }
+    requires listing { listing.now ≡ listing_of image.now (units image.now) }
     requires end { end ≡ function_end image.now pc }
     ensures { result ≡ landing_cause image.now pc place }
 {
@@ -68,7 +68,7 @@ fn fault_of(
     pc: usize,
     instruction: Instruction,
 ) -> Option<Cause>
-    requires listing { listing.now ≡ listed image.now (units image.now) }
+    requires listing { listing.now ≡ listing_of image.now (units image.now) }
     requires end { end ≡ function_end image.now pc }
     requires near { pc ≤ 4096 }
     ensures { result ≡ flow_cause image.now pc instruction }
@@ -103,7 +103,7 @@ fn fault_at(
     ends: &[u16],
     pc: usize,
 ) -> Option<Cause>
-    requires listing { listing.now ≡ listed image.now (units image.now) }
+    requires listing { listing.now ≡ listing_of image.now (units image.now) }
     requires ends { HasEnds image.now ends.now }
     requires inside { pc < units image.now }
     ensures { result ≡ flow_fault image.now pc }
@@ -120,7 +120,7 @@ pub fn find_flow_fault(
     listing: &[Option<Instruction>],
     ends: &[u16],
 ) -> Option<Refusal>
-    requires listing { listing.now ≡ listed image.now (units image.now) }
+    requires listing { listing.now ≡ listing_of image.now (units image.now) }
     requires ends { HasEnds image.now ends.now }
     ensures { result ≡ first_fault (flow_fault image.now) (units image.now) }
 {

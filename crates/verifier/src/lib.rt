@@ -16,7 +16,7 @@ mod verified;
 mod walking;
 mod weights;
 
-pub use abstract_values::Cause;
+pub use bpf_model::Cause;
 pub use refusal::Refusal;
 pub use verified::{Verified, verify};
 pub use weights::MOST_COUNTED;

@@ -1,14 +1,14 @@
 //! The first pass: which instruction starts at each pc (RFC 9669, section 3).
 ghost use Rattle.std.specs.Prelude.{◌≡◌, None, Some, MatchResult};
 ghost use Rattle.bpf_image.specs.Program.{units};
-ghost use Rattle.verifier.specs.Listing.{is_known, known_one, listed};
+ghost use Rattle.verifier.specs.Listing.{is_known, known_one, listing_of};
 ghost use Rattle.verifier.specs.Verdict.{first_fault, decoding_fault, unless_memory};
-ghost use Rattle.bpf_isa.specs.Reading.{decoded};
+ghost use Rattle.bpf_isa.specs.Reading.{decoding};
 
 use crate::refusal::Refusal;
-use abstract_values::Cause;
 use bpf_image::Image;
 use bpf_isa::{Instruction, decode_at};
+use bpf_model::Cause;
 use std::alloc::Global;
 
 /// Whether the verifier knows the instruction.
@@ -20,7 +20,7 @@ fn is_known_here(instruction: Instruction) -> bool
 
 /// The instruction that the units at a pc spell, if it is known.
 fn known_at(image: &Image, pc: usize) -> Option<Instruction>
-    ensures { result ≡ known_one (decoded image.now.code pc) }
+    ensures { result ≡ known_one (decoding image.now.code pc) }
 {
     match decode_at(image.code(), pc) {
         Ok((instruction, _)) => {
@@ -38,7 +38,8 @@ fn known_at(image: &Image, pc: usize) -> Option<Instruction>
 /// first instruction that is not known.
 pub fn list(alloc: Global, image: &Image) -> Result<Vec<Option<Instruction>>, Refusal>
     ensures { MatchResult result
-        (λ listing. (listing.items ≡ listed image.now (units image.now)) × (first_fault (decoding_fault image.now) (units image.now) ≡ None))
+        (λ listing. (listing.items ≡ listing_of image.now (units image.now))
+        × (first_fault (decoding_fault image.now) (units image.now) ≡ None))
         (λ refusal. unless_memory refusal (first_fault (decoding_fault image.now) (units image.now) ≡ Some refusal)) }
 {
     let end = image.code().len() / 8;

@@ -2,8 +2,8 @@
 ghost use Rattle.std.specs.Prelude.{◌≡◌, ◌<◌, ◌≤◌, IfSome};
 ghost use Rattle.bpf_model.specs.Step.{units_over};
 ghost use Rattle.bpf_image.specs.Program.{units};
-ghost use Rattle.verifier_parts.specs.Rules.{target as target_pc};
-ghost use Rattle.verifier.specs.Listing.{instruction_at, listed};
+ghost use Rattle.verifier_rules.specs.Rules.{target as target_pc};
+ghost use Rattle.verifier.specs.Listing.{instruction_at, listing_of};
 ghost use Rattle.verifier.specs.Functions.{start_above, entry_called};
 
 use bpf_image::Image;
@@ -29,7 +29,7 @@ pub fn length_of(distance: Distance) -> i32
 
 /// The instruction that starts at a pc, if one does.
 pub fn starting_at(image: &Image, listing: &[Option<Instruction>], pc: usize) -> Option<Instruction>
-    requires { listing.now ≡ listed image.now (units image.now) }
+    requires { listing.now ≡ listing_of image.now (units image.now) }
     ensures exact { result ≡ instruction_at image.now pc }
     ensures few { units image.now ≤ 4096 }
 {
@@ -44,7 +44,7 @@ pub fn entry_of_call(
     pc: usize,
     distance: i32,
 ) -> Option<usize>
-    requires listing { listing.now ≡ listed image.now (units image.now) }
+    requires listing { listing.now ≡ listing_of image.now (units image.now) }
     requires near { pc ≤ 4096 }
     ensures { result ≡ start_above image.now pc (target_pc pc distance) }
 {
@@ -62,7 +62,7 @@ pub fn entry_of_call(
 
 /// Where the function begins that the instruction at a pc calls, if it is a call of one.
 pub fn entry_called_at(image: &Image, listing: &[Option<Instruction>], pc: usize) -> Option<usize>
-    requires listing { listing.now ≡ listed image.now (units image.now) }
+    requires listing { listing.now ≡ listing_of image.now (units image.now) }
     requires inside { pc < units image.now }
     ensures exact { result ≡ entry_called image.now pc (instruction_at image.now pc) }
     ensures inside { IfSome result (λ entry. entry < units image.now) }

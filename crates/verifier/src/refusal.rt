@@ -1,7 +1,7 @@
 ghost use Rattle.std.specs.Prelude.{◌≡◌};
-ghost use Rattle.abstract_values.specs.declared.cause.Cause.TheVariants as causes;
+ghost use Rattle.bpf_model.specs.declared.cause.Cause.TheVariants as causes;
 
-use abstract_values::Cause;
+use bpf_model::Cause;
 use std::alloc::{AllocError, AllocFailed};
 
 /// The first broken rule, and where: `pc` counts units from the start of the code. Where there is no

@@ -1,6 +1,6 @@
 //! What is known at the pcs that the walk has not come to yet. Most have one way in: its state is moved.
 ghost use Rattle.std.specs.Prelude.{◌≡◌, ◌<◌, ℕ, ◌∷◌, [], pos, None, IfOk, length};
-ghost use Rattle.verifier_parts.specs.Rules.{side_way};
+ghost use Rattle.verifier_rules.specs.Rules.{side_way};
 ghost use Rattle.verifier.specs.Equations.{joined_ways};
 ghost use Rattle.verifier.specs.Tables.{state_at, LeadInside};
 
@@ -8,7 +8,7 @@ use abstract_state::{AbstractState, join_into};
 use abstract_values::AbstractValue;
 use bpf_isa::{Operand, Register};
 use std::alloc::{AllocError, Global};
-use verifier_parts::take_side;
+use verifier_rules::take_side;
 
 /// No state for so many pcs.
 pub fn no_states(alloc: Global, pcs: usize) -> Result<Vec<Option<Box<AbstractState>>>, AllocError>
@@ -25,7 +25,8 @@ pub fn no_states(alloc: Global, pcs: usize) -> Result<Vec<Option<Box<AbstractSta
 /// One way more comes to a pc.
 fn join_at(states: &mut Vec<Option<Box<AbstractState>>>, pc: usize, state: Box<AbstractState>)
     requires { pc < length states.old.items }
-    ensures arrived { (q : ℕ) → state_at states.new.items q ≡ joined_ways (state_at states.old.items q) ((pos pc, state.value) ∷ []) q }
+    ensures arrived { (q : ℕ) → state_at states.new.items q
+        ≡ joined_ways (state_at states.old.items q) ((pos pc, state.value) ∷ []) q }
     ensures same_length { length states.new.items ≡ length states.old.items }
 {
     match states[pc].take() {
@@ -40,7 +41,8 @@ fn join_at(states: &mut Vec<Option<Box<AbstractState>>>, pc: usize, state: Box<A
 /// One way more comes to a place.
 pub fn arrive(states: &mut Vec<Option<Box<AbstractState>>>, place: i64, state: Box<AbstractState>)
     requires { LeadInside (length states.old.items) ((place, state.value) ∷ []) }
-    ensures arrived { (q : ℕ) → state_at states.new.items q ≡ joined_ways (state_at states.old.items q) ((place, state.value) ∷ []) q }
+    ensures arrived { (q : ℕ) → state_at states.new.items q
+        ≡ joined_ways (state_at states.old.items q) ((place, state.value) ∷ []) q }
     ensures same_length { length states.new.items ≡ length states.old.items }
 {
     join_at(states, place as usize, state);
@@ -55,7 +57,8 @@ pub fn arrive_by_side(
     state: Box<AbstractState>,
 )
     requires { LeadInside (length states.old.items) (side_way state.value compared.0 compared.1 place values) }
-    ensures arrived { (q : ℕ) → state_at states.new.items q ≡ joined_ways (state_at states.old.items q) (side_way state.value compared.0 compared.1 place values) q }
+    ensures arrived { (q : ℕ) → state_at states.new.items q
+        ≡ joined_ways (state_at states.old.items q) (side_way state.value compared.0 compared.1 place values) q }
     ensures same_length { length states.new.items ≡ length states.old.items }
 {
     if let Some(values) = values {

@@ -2,9 +2,9 @@
 ghost use Rattle.std.specs.Prelude.{◌≡◌, ◌<◌, ◌≤◌, ◌+◌, ℕ, ℤ, pos, None, Some, IfOk, MatchResult, length};
 ghost use Rattle.bpf_image.specs.Program.{units};
 ghost use Rattle.abstract_state.specs.declared.state.AbstractState.{AbstractState as KnownState};
-ghost use Rattle.verifier_parts.specs.Rules.{Ways, branch_ways, call_ways};
-ghost use Rattle.verifier_parts.specs.Answers.{ways_onward};
-ghost use Rattle.verifier.specs.Listing.{listed};
+ghost use Rattle.verifier_rules.specs.Rules.{Ways, branch_ways, call_ways};
+ghost use Rattle.verifier_rules.specs.Answers.{ways_onward};
+ghost use Rattle.verifier.specs.Listing.{listing_of};
 ghost use Rattle.verifier.specs.Equations.{joined_ways};
 ghost use Rattle.verifier.specs.Verdict.{first_fault, decoding_fault, flow_fault, rule_fault, unless_memory};
 ghost use Rattle.verifier.specs.Tables.{state_at, LeadInside, IsWalkedTo};
@@ -17,7 +17,7 @@ use abstract_values::Sides;
 use bpf_image::Image;
 use bpf_isa::{Instruction, Operand, Register};
 use std::alloc::{AllocError, Global};
-use verifier_parts::{Onward, step_over};
+use verifier_rules::{Onward, step_over};
 
 /// Both sides of a branch go on with what they know. A state is copied only where both are walked.
 fn split(
@@ -30,8 +30,11 @@ fn split(
     state: Box<AbstractState>,
 ) -> Result<(), AllocError>
     requires near { pc ≤ 4096 }
-    requires inside { LeadInside (length states.old.items) (branch_ways pc distance state.value compared.0 compared.1 sides) }
-    ensures gone { IfOk result (λ _. (q : ℕ) → state_at states.new.items q ≡ joined_ways (state_at states.old.items q) (branch_ways pc distance state.value compared.0 compared.1 sides) q) }
+    requires inside { LeadInside (length states.old.items)
+        (branch_ways pc distance state.value compared.0 compared.1 sides) }
+    ensures gone { IfOk result (λ _. (q : ℕ) → state_at states.new.items q
+        ≡ joined_ways (state_at states.old.items q)
+        (branch_ways pc distance state.value compared.0 compared.1 sides) q) }
     ensures same_length { length states.new.items ≡ length states.old.items }
 {
     let target = place_at(pc, i32::from(distance));
@@ -57,7 +60,8 @@ fn enter(
 ) -> Result<(), AllocError>
     requires near { pc ≤ 4096 }
     requires inside { LeadInside (length states.old.items) (call_ways pc distance state.value) }
-    ensures gone { IfOk result (λ _. (q : ℕ) → state_at states.new.items q ≡ joined_ways (state_at states.old.items q) (call_ways pc distance state.value) q) }
+    ensures gone { IfOk result (λ _. (q : ℕ) → state_at states.new.items q
+        ≡ joined_ways (state_at states.old.items q) (call_ways pc distance state.value) q) }
     ensures same_length { length states.new.items ≡ length states.old.items }
 {
     let entry = Box::new(alloc, enter_call(&state))?;
@@ -79,7 +83,8 @@ fn go_on(
 ) -> Result<(), AllocError>
     requires near { pc ≤ 4096 }
     requires inside { LeadInside (length states.old.items) (ways_onward pc instruction onward state.value) }
-    ensures gone { IfOk result (λ _. (q : ℕ) → state_at states.new.items q ≡ joined_ways (state_at states.old.items q) (ways_onward pc instruction onward state.value) q) }
+    ensures gone { IfOk result (λ _. (q : ℕ) → state_at states.new.items q
+        ≡ joined_ways (state_at states.old.items q) (ways_onward pc instruction onward state.value) q) }
     ensures same_length { length states.new.items ≡ length states.old.items }
 {
     match (onward, instruction) {
@@ -112,7 +117,7 @@ fn visit(
     states: &mut Vec<Option<Box<AbstractState>>>,
     pc: usize,
 ) -> Result<(), Refusal>
-    requires listing { listing.now ≡ listed image.now (units image.now) }
+    requires listing { listing.now ≡ listing_of image.now (units image.now) }
     requires decodes { first_fault (decoding_fault image.now) (units image.now) ≡ None }
     requires flow { first_fault (flow_fault image.now) (units image.now) ≡ None }
     requires inside { pc < units image.now }
@@ -137,7 +142,7 @@ fn visit(
 
 /// Goes over all walked pcs, and finds the first broken rule.
 pub fn walk(alloc: Global, image: &Image, listing: &[Option<Instruction>]) -> Result<(), Refusal>
-    requires listing { listing.now ≡ listed image.now (units image.now) }
+    requires listing { listing.now ≡ listing_of image.now (units image.now) }
     requires decodes { first_fault (decoding_fault image.now) (units image.now) ≡ None }
     requires flow { first_fault (flow_fault image.now) (units image.now) ≡ None }
     ensures { MatchResult result (λ _. first_fault (rule_fault image.now) (units image.now) ≡ None)

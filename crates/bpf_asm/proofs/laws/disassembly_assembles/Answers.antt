@@ -1,6 +1,6 @@
 -- The law, by what is decoded.
 use Rattle.std.proofs.Common.{sym, ap, ◌∙◌}
-use Rattle.bpf_asm.specs.Assembly.{assembled}
+use Rattle.bpf_asm.specs.Assembly.{assembly}
 use Rattle.bpf_asm.proofs.Programs.{Decodes, program_listed, listed_program}
 use Rattle.bpf_asm.proofs.RoundTrip.{program_assembles}
 use Rattle.bpf_asm.specs.Listing.{listing}
@@ -23,4 +23,4 @@ returns-clause-text c text is =
       only = c.decoded_is_code.ensures.only;
     } in
     let listed = listed_program c.args.code.now text decodes is in
-    (ap assembled (sym listed.2) ∙ program_assembles c.args.code.now listed.0 listed.1, (listed.0, listed.1))
+    (ap assembly (sym listed.2) ∙ program_assembles c.args.code.now listed.0 listed.1, (listed.0, listed.1))

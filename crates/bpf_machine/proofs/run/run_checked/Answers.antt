@@ -3,7 +3,7 @@ use Rattle.std.proofs.lemmas.Int.{to_z-of_z}
 use Rattle.bpf_model.specs.State.{start}
 use Rattle.bpf_model.specs.Step.{Goes, Exits, Traps, step}
 use Rattle.bpf_model.specs.Run.{after, Stops}
-use Rattle.bpf_machine.specs.Seen.{seen}
+use Rattle.bpf_machine.specs.Seen.{state_of}
 use Rattle.bpf_machine.proofs.RunFacts.{stops_at, after_more}
 use Rattle.bpf_machine.proofs.run.run_checked.Goals as goal
 
@@ -43,7 +43,7 @@ pub loop-steps-preserved : goal.loop-steps-preserved
 loop-steps-preserved g c =
     let graph = g.G.GraphView.graph c.args.graph.now in
     let goes = (rw c.in-Went.is at (c.take_turn.ensures.step graph)) in
-    rw add-one (after_more c.args.image.now graph c.loop-steps.steps (start c.args.bytes.now) (seen c.loop-steps.machine c.loop-steps.bytes) _ c.loop-steps.invariant goes)
+    rw add-one (after_more c.args.image.now graph c.loop-steps.steps (start c.args.bytes.now) (state_of c.loop-steps.machine c.loop-steps.bytes) _ c.loop-steps.invariant goes)
 
 pub returns : goal.returns
 returns g c =
@@ -51,6 +51,6 @@ returns g c =
     let short : length c.loop-steps.bytes ≤ 256 = omega (arith, c.loop-steps.auto.bytes, c.record_length.ensures.image.record_length.1) in
     let all : c.args.fuel ≡ c.loop-steps.steps = omega arith in
     let reached = ap (λ k. after c.args.image.now graph k (start c.args.bytes.now)) all ∙ c.loop-steps.invariant in (
-      step c.args.image.now graph (seen c.loop-steps.machine c.loop-steps.bytes),
+      step c.args.image.now graph (state_of c.loop-steps.machine c.loop-steps.bytes),
       stops_at c.args.image.now graph c.args.bytes.now c.args.fuel c.loop-steps.machine c.loop-steps.bytes _ reached refl c.loop-steps.auto.bytes short,
     )

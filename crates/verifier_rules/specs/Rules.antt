@@ -1,0 +1,146 @@
+-- What an instruction asks of the state that is known before it: the first broken rule, or the ways that
+-- a run may go on, each with what is known there.
+use Rattle.std.specs.Prelude.{ℕ, ◌+◌, ◌==◌, if◌then◌else◌, ℤ, pos, ◌+ℤ◌, Bool, false, List, [], ◌∷◌, ◌++◌, Option, Some, None, Result, Ok, Err, slice_index_or}
+use Rattle.bpf_isa.specs.declared.register.Register.{Register}
+use Rattle.bpf_isa.specs.declared.instruction.Width.{Width}
+use Rattle.bpf_isa.specs.declared.instruction.Operation.{Operation}
+use Rattle.bpf_isa.specs.declared.instruction.Operation.TheVariants.{Move}
+use Rattle.bpf_isa.specs.declared.instruction.Operand.{Operand}
+use Rattle.bpf_isa.specs.declared.instruction.Operand.TheVariants.{Immediate, Source}
+use Rattle.bpf_isa.specs.declared.instruction.Comparison.{Comparison}
+use Rattle.bpf_isa.specs.declared.instruction.Instruction.{Instruction}
+use Rattle.bpf_isa.specs.declared.instruction.Instruction.TheVariants.{Alu, MoveSigned, Negate, Swap, Jump, Branch, CallHelper, CallLocal, Exit, Load, LoadSigned, Store, StoreRegister, Wide}
+use Rattle.bpf_isa.specs.Encoding.{number_of}
+use Rattle.bpf_model.specs.Arithmetic.{low}
+use Rattle.bpf_model.specs.Step.{immediate_value, units_over}
+use Rattle.bpf_isa.specs.Sizes.{size_bytes}
+use Rattle.bpf_model.specs.declared.cause.Cause.{Cause}
+use Rattle.bpf_model.specs.declared.cause.Cause.TheVariants.{BadInstruction, UnsetRegister, FrameRegister, ResultNotNumber}
+use Rattle.abstract_values.specs.declared.branch.Sides.{Sides}
+use Rattle.abstract_values.specs.declared.value.AbstractValue.{AbstractValue}
+use Rattle.abstract_values.specs.declared.value.AbstractValue.TheVariants.{Unset, Number, Record, Stack}
+use Rattle.abstract_values.specs.Values.{alu_result, negate_result, move_signed_result, swap_result}
+use Rattle.abstract_values.specs.Narrowing.{narrowing}
+use Rattle.abstract_state.specs.declared.state.AbstractState.{AbstractState}
+use Rattle.abstract_state.specs.States.{register, with_register, callee_state, state_behind_call}
+use Rattle.abstract_state.specs.Memory.{load_result, load_signed_result, store_result}
+
+-- goes on with what was found, or breaks the same rule
+abbrev pub bind : {A B : Type 0} → Result A Cause → (A → Result B Cause) → Result B Cause
+bind (Ok x) go = go x
+bind (Err cause) go = Err cause
+
+-- ---- what is read
+
+-- a value that is read is set
+abbrev pub known_value : AbstractValue → Result AbstractValue Cause
+known_value Unset = Err UnsetRegister
+known_value (Number lo hi) = Ok (Number lo hi)
+known_value (Record lo hi) = Ok (Record lo hi)
+known_value (Stack offset) = Ok (Stack offset)
+
+abbrev pub known_register : AbstractState → Register → Result AbstractValue Cause
+known_register s r = known_value (register s r)
+
+abbrev pub constant : ℕ → AbstractValue
+constant n = Number n n
+
+-- a 32-bit instruction takes the pattern of an immediate, a 64-bit one its sign extension
+abbrev pub known_operand : Width → AbstractState → Operand → Result AbstractValue Cause
+known_operand w s (Immediate n) = Ok (constant (low w (immediate_value n)))
+known_operand w s (Source r) = known_register s r
+
+-- the left side of an operation; a move does not read it
+abbrev pub known_left : Operation → AbstractState → Register → Result AbstractValue Cause
+known_left Move s r = Ok (register s r)
+known_left operation s r = known_register s r
+
+-- ---- ways onward
+
+-- to which pc a run may go on, and what is known there
+abbrev pub Ways : Type 0
+Ways = List (ℤ × AbstractState)
+
+abbrev pub onward : ℕ → AbstractState → Ways
+onward pc s = (pos pc, s) ∷ []
+
+-- the destination gets a value, and the run goes on at a pc; R10 is never written
+abbrev pub write_ways : ℕ → AbstractState → Register → Result AbstractValue Cause → Result Ways Cause
+write_ways pc s r value =
+    if number_of r == 10 then Err FrameRegister else bind value (λ v. Ok (onward pc (with_register s r v)))
+
+-- the run goes on behind a store
+abbrev pub behind_store : ℕ → Result AbstractState Cause → Result Ways Cause
+behind_store pc stored = bind stored (λ t. Ok (onward pc t))
+
+-- the pc at a distance from the instruction behind the one at a pc
+abbrev pub target : ℕ → ℤ → ℤ
+target pc distance = pos (pc + 1) +ℤ distance
+
+-- ---- branches
+
+abbrev pub is_same : Register → Operand → Bool
+is_same left (Immediate n) = false
+is_same left (Source r) = number_of left == number_of r
+
+-- both sides of a branch. What a register is compared with itself for tells nothing of it.
+abbrev pub branch_sides : Width → Comparison → Register → Operand → AbstractValue → AbstractValue → Result Sides Cause
+branch_sides w comparison left right a b =
+    bind (narrowing w comparison a b) (λ sides.
+    Ok (if is_same left right then record { taken = Some (a, b); passed = Some (a, b) } else sides))
+
+abbrev pub with_operand : AbstractState → Operand → AbstractValue → AbstractState
+with_operand s (Immediate n) v = s
+with_operand s (Source r) v = with_register s r v
+
+-- the way to a pc by a side with these values; a side without values is not walked
+abbrev pub side_way : AbstractState → Register → Operand → ℤ → Option (AbstractValue × AbstractValue) → Ways
+side_way s left right pc None = []
+side_way s left right pc (Some values) = (pc, with_operand (with_register s left values.0) right values.1) ∷ []
+
+abbrev pub branch_ways : ℕ → ℤ → AbstractState → Register → Operand → Sides → Ways
+branch_ways pc distance s left right sides =
+    side_way s left right (target pc distance) sides.taken ++ side_way s left right (pos (pc + 1)) sides.passed
+
+-- ---- calls and instructions
+
+-- the way into a function, and the way on behind its call
+abbrev pub call_ways : ℕ → ℤ → AbstractState → Ways
+call_ways pc distance s = (target pc distance, callee_state s) ∷ (pos (pc + 1), state_behind_call s) ∷ []
+
+-- the result of a function is a number
+abbrev pub exit_ways : AbstractValue → Result Ways Cause
+exit_ways Unset = Err UnsetRegister
+exit_ways (Number lo hi) = Ok []
+exit_ways (Record lo hi) = Err ResultNotNumber
+exit_ways (Stack offset) = Err ResultNotNumber
+
+-- the instruction at a pc: the broken rule of the lowest cause, or the ways onward. Helpers come later.
+unfoldable pub transfer : ℕ → ℕ → Instruction → AbstractState → Result Ways Cause
+transfer record_length pc (Alu width operation destination operand) s =
+    bind (known_left operation s destination) (λ a. bind (known_operand width s operand) (λ b.
+    write_ways (pc + 1) s destination (alu_result width operation record_length a b)))
+transfer record_length pc (MoveSigned extension destination source) s =
+    bind (known_register s source) (λ v. write_ways (pc + 1) s destination (move_signed_result extension v))
+transfer record_length pc (Negate width destination) s =
+    bind (known_register s destination) (λ v. write_ways (pc + 1) s destination (negate_result width v))
+transfer record_length pc (Swap order bits destination) s =
+    bind (known_register s destination) (λ v. write_ways (pc + 1) s destination (swap_result order bits v))
+transfer record_length pc (Jump distance) s = Ok ((target pc (units_over distance), s) ∷ [])
+transfer record_length pc (Branch width comparison left right distance) s =
+    bind (known_register s left) (λ a. bind (known_operand width s right) (λ b.
+    bind (branch_sides width comparison left right a b) (λ sides. Ok (branch_ways pc distance s left right sides))))
+transfer record_length pc (CallHelper number) s = Err BadInstruction
+transfer record_length pc (CallLocal distance) s = Ok (call_ways pc distance s)
+transfer record_length pc Exit s = exit_ways (slice_index_or s.registers 0 Unset)
+transfer record_length pc (Load size destination base offset) s =
+    bind (known_register s base) (λ b. write_ways (pc + 1) s destination (load_result record_length s b offset (size_bytes size)))
+transfer record_length pc (LoadSigned size destination base offset) s =
+    bind (known_register s base) (λ b. write_ways (pc + 1) s destination (load_signed_result record_length s b offset size))
+transfer record_length pc (Store size base offset immediate) s =
+    bind (known_register s base) (λ b.
+    behind_store (pc + 1) (store_result record_length s b offset (size_bytes size) (constant (immediate_value immediate))))
+transfer record_length pc (StoreRegister size base offset source) s =
+    bind (known_register s base) (λ b. bind (known_register s source) (λ v.
+    behind_store (pc + 1) (store_result record_length s b offset (size_bytes size) v)))
+transfer record_length pc (Wide destination value) s = write_ways (pc + 2) s destination (Ok (constant value))
