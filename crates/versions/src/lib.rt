@@ -19,3 +19,6 @@ pub use publisher::Publisher;
 pub use receipt::Receipt;
 pub use store::Store;
 pub use version::Version;
+
+#[cfg(test)]
+mod tests;
