@@ -91,7 +91,7 @@ pub live-set : (runs : List (Option Run)) (v : ℕ) (new : Option Run) → v < l
 live-set runs v new lt = sum_by-set segments_of runs v new None lt
 
 -- the run that a read of the table gave
-pub run_read : (runs : List (Option Run)) (v : ℕ) (o : Option Run) (r : Run) → v < length runs → o ≡ get_or runs v o → o ≡ Some r → get_or runs v None ≡ Some r
+run_read : (runs : List (Option Run)) (v : ℕ) (o : Option Run) (r : Run) → v < length runs → o ≡ get_or runs v o → o ≡ Some r → get_or runs v None ≡ Some r
 run_read runs v o r lt e is = get_or_default runs v None o lt ∙ sym e ∙ is
 
 -- a list of an open run, and the run of an open list
@@ -113,6 +113,20 @@ no_run xs runs now v shown lt h =
 
 pub words_inside : (xs : List ℕ) (segments : ℕ) (r : Run) → length xs ≡ SEGMENT * segments → Fits xs segments r → SEGMENT * r.segment + r.count ≤ length xs
 words_inside xs segments r e f = omega (arith, f.inside, f.count)
+
+-- what is known of a run that was read from the table
+pub record RunAt (xs : List ℕ) (segments : ℕ) (runs : List (Option Run)) (v : ℕ) (r : Run) : Type 0 where
+  pub listed : v < length runs
+  pub here : get_or runs v None ≡ Some r
+  pub fits : Fits xs segments r
+  pub inside : SEGMENT * r.segment + r.count ≤ length xs
+
+pub run_read_at : (xs : List ℕ) (segments : ℕ) (runs : List (Option Run)) (v : ℕ) (o : Option Run) (r : Run) → IsLayout xs segments runs → v < 256 → o ≡ get_or runs v o → o ≡ Some r → RunAt xs segments runs v r
+run_read_at xs segments runs v o r a small read is =
+    let listed : v < length runs = omega (arith, a.table, small) in
+    let here = run_read runs v o r listed read is in
+    let fits = a.fits v r here in
+    record { listed = listed; here = here; fits = fits; inside = words_inside xs segments r a.cells fits }
 
 -- no vertex has a list
 pub lists_none : (xs : List ℕ) (n : ℕ) → lists_in xs (replicate n None) ≡ replicate n None

@@ -1,5 +1,5 @@
 -- What one child's change makes of its parent.
-use Rattle.std.proofs.Common.{◌≡◌, ℕ, ◌+◌, ◌-◌, ◌*◌, ◌<◌, List, [], ◌∷◌, ◌++◌, length, take, drop, get_or, set, insert, Some, None, Result, Ok, Err, IfOk, OnErr, sym, ap, subst, ◌∙◌, arith, add-one, length-set, append_assoc}
+use Rattle.std.proofs.Common.{◌≡◌, ℕ, ◌+◌, ◌-◌, ◌*◌, ◌<◌, ◌≤◌, List, [], ◌∷◌, ◌++◌, length, take, drop, get_or, set, insert, Option, Some, None, option_map, Result, Ok, Err, IfOk, OnErr, sym, ap, ap₂, subst, ◌∙◌, arith, add-one, length-set, append_assoc}
 use Rattle.std.proofs.lemmas.List.{append-nil, set_split, set_at, set-get_or, take_more, length-take-le}
 use Rattle.std.proofs.lemmas.List.Elements.{All-set}
 use Rattle.word_sets.specs.declared.places.TheConstants.{WORD_LIMIT}
@@ -11,9 +11,9 @@ use Rattle.tree_levels.specs.declared.level.TheConstants.{FEWEST}
 use Rattle.tree_levels.specs.declared.change.Change.{Change}
 use Rattle.tree_levels.specs.declared.change.Change.TheVariants.{Same, Changed, Unable}
 use Rattle.tree_levels.specs.Node.{Node, joined, inner_of, IsChild, IsEntry, IsInner}
-use Rattle.tree_levels.specs.Lists.{nothing, replaced}
-use Rattle.tree_levels.specs.Changes.{Adds, Takes}
-use Rattle.tree_levels.proofs.NodeLists.{Found, found_has, found_child, joined-replaced, joined_at, with-joined, without-joined, sound_inner}
+use Rattle.tree_levels.specs.Lists.{nothing, replaced, Mends}
+use Rattle.tree_levels.specs.Changes.{Packs, Adds, Takes}
+use Rattle.tree_levels.proofs.NodeLists.{Found, Listed, found_has, found_child, grown, mended_inner, packs_nodes, shrunk_set, joined-replaced, joined_at, with-joined, without-joined, sound_inner}
 
 pub set_one : (ns : List Node) (i : ℕ) (a : Node) → i < length ns → set ns i a ≡ replaced ns i 1 a None
 set_one ns i a lt =
@@ -99,3 +99,24 @@ pub entry_taken : (least first count w : ℕ) (c a : Node) → count ≡ length 
 entry_taken least first count w c a e large s h is =
     let n : length a.words + 1 ≡ length c.words = ap (λ l. length l + 1) h.1 ∙ length-without 0 WORD_LIMIT w c.words s h.0 in
     record { first_word = is; word_count = omega arith; child = h.3.child (omega (arith, h.2)) }
+
+-- the children after the found one was replaced by what it became with a word more
+pub grown_child : {C : Type 0} (node : C → Node) (least : ℕ) (ns cs list : List Node) (w i : ℕ) (c k : Node) (first : C) (second : Option C) (a : Node) (b : Option Node) → Found least ns w i c → w < WORD_LIMIT → cs ≡ ns → k ≡ c → Packs node least k.size (with_word w k.words) first second → list ≡ replaced cs i 1 a b → a ≡ node first → b ≡ option_map node second → Listed least list × (joined list ≡ with_word w (joined ns)) × (length ns ≤ length list)
+grown_child node least ns cs list w i c k first second a b f small same is packs made e h =
+    let P : Node → Type 0 = λ n. Packs (λ (m : Node). m) least n.size (with_word w n.words) (node first) (option_map node second) in
+    let p = subst P is (packs_nodes node least k.size (with_word w k.words) first second packs) in
+    let whole : list ≡ replaced ns i 1 (node first) (option_map node second) = made ∙ ap (λ l. replaced l i 1 a b) same ∙ ap₂ (λ x y. replaced ns i 1 x y) e h in
+    grown least ns list w i c (node first) (option_map node second) f small p whole
+
+-- and after it was mended with a word less
+pub mended_child : (least : ℕ) (ns cs list : List Node) (w i : ℕ) (c k n : Node) → Found least ns w i c → cs ≡ ns → k ≡ c → 2 ≤ length ns → n.words ≡ without_word w k.words → Mends least cs i n list → IsInner least list × (joined list ≡ without_word w (joined ns)) × (length ns ≤ length list + 1)
+mended_child least ns cs list w i c k n f same is two less mends =
+    let M : List Node → Type 0 = λ l. Mends least l i n list in
+    let m = subst M same mends in
+    let done = mended_inner least ns list w i c n f two (less ∙ ap (λ (x : Node). without_word w x.words) is) m in
+    (done.0, done.1, m.fewest)
+
+pub shrunk_child_set : (least : ℕ) (ns cs : List Node) (w i : ℕ) (c k n : Node) → Found least ns w i c → cs ≡ ns → k ≡ c → n.words ≡ without_word w k.words → IsSet (joined (replaced cs i 1 n None))
+shrunk_child_set least ns cs w i c k n f same is less =
+    let P : List Node → Type 0 = λ l. IsSet (joined (replaced l i 1 n None)) in
+    subst P (sym same) (subst IsSet (sym (shrunk_set least ns w i c n f (less ∙ ap (λ (x : Node). without_word w x.words) is))) (IsWithin-without 0 WORD_LIMIT w (joined ns) f.inner.set))

@@ -193,6 +193,10 @@ found least ns cs w i c inner e small lt low high is =
       spot = spot least ns w i inner.children inner.set small h.0 h.1 h.2;
     }
 
+pub found_there : (least : ℕ) (ns cs : List Node) (w i : ℕ) (c : Node) → IsInner least ns → cs ≡ ns → w < WORD_LIMIT → i < length cs → (0 < i → first_at cs i ≤ w) → (i + 1 < length cs → w < first_at cs (i + 1)) → c ≡ get_or ns i c → Found least ns w i c
+found_there least ns cs w i c inner e small lt low high is =
+    found least ns cs w i c inner e small lt low high (is ∙ ap (λ l. get_or l i c) (sym e))
+
 pub found_has : (least : ℕ) (ns : List Node) (w i : ℕ) (c : Node) → Found least ns w i c → has_word w (joined ns) ≡ has_word w c.words
 found_has least ns w i c f =
     has-joined ns w i f.within f.spot ∙ ap (λ (n : Node). has_word w n.words) (sym f.is)

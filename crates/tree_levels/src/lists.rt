@@ -13,8 +13,9 @@ pub fn share_all<C: Level>(
 ) -> Result<(), AllocError>
     ensures { OnOk result (list.new.items ≡ list.old.items ++ children.now) }
 {
+    list.reserve(children.len())?;
     for child in children {
-        list.push(child.share()?)?;
+        list.push_reserved(child.share()?);
     }
     Ok(())
 }

@@ -1,5 +1,5 @@
 use Rattle.std.proofs.Common.{◌≡◌, get_or, sym, ap, ◌∙◌}
-use Rattle.tree_levels.proofs.NodeLists.{found}
+use Rattle.tree_levels.proofs.NodeLists.{found_there}
 use Rattle.tree_levels.proofs.Below.{found_set, added_below}
 use Rattle.tree_levels.proofs.in_place.insert_below.Goals as goal
 
@@ -8,8 +8,7 @@ insert-requires-clause-set g c =
     let ns = c.args.children.now.items in
     let at = c.child_for-at.result in
     let child = c.index_mut-child.result.now in
-    let is : child ≡ get_or c.as_slice.result.now at child = c.index_mut-child.ensures.value ∙ ap (λ l. get_or l at child) (sym c.as_slice.ensures.value) in
-    let f = found g.C.Level.least ns c.as_slice.result.now c.args.word at child c.requires.inner c.as_slice.ensures.value c.requires.word c.child_for-at.ensures.within c.child_for-at.ensures.from c.child_for-at.ensures.to is in
+    let f = found_there g.C.Level.least ns c.as_slice.result.now c.args.word at child c.requires.inner c.as_slice.ensures.value c.requires.word c.child_for-at.ensures.within c.child_for-at.ensures.from c.child_for-at.ensures.to c.index_mut-child.ensures.value in
     found_set g.C.Level.least ns c.args.word at child f
 
 pub returns-clause-inner : goal.returns-clause-inner
@@ -17,8 +16,7 @@ returns-clause-inner g c =
     let ns = c.args.children.now.items in
     let at = c.child_for-at.result in
     let child = c.index_mut-child.result.now in
-    let is : child ≡ get_or c.as_slice.result.now at child = c.index_mut-child.ensures.value ∙ ap (λ l. get_or l at child) (sym c.as_slice.ensures.value) in
-    let f = found g.C.Level.least ns c.as_slice.result.now c.args.word at child c.requires.inner c.as_slice.ensures.value c.requires.word c.child_for-at.ensures.within c.child_for-at.ensures.from c.child_for-at.ensures.to is in
+    let f = found_there g.C.Level.least ns c.as_slice.result.now c.args.word at child c.requires.inner c.as_slice.ensures.value c.requires.word c.child_for-at.ensures.within c.child_for-at.ensures.from c.child_for-at.ensures.to c.index_mut-child.ensures.value in
     (added_below g.C.Level.least ns c.args.word at child c.insert.new.self c.insert.result f c.requires.word c.insert.ensures.ok c.insert.ensures.err).0
 
 pub returns-clause-ok : goal.returns-clause-ok
@@ -26,6 +24,5 @@ returns-clause-ok g c =
     let ns = c.args.children.now.items in
     let at = c.child_for-at.result in
     let child = c.index_mut-child.result.now in
-    let is : child ≡ get_or c.as_slice.result.now at child = c.index_mut-child.ensures.value ∙ ap (λ l. get_or l at child) (sym c.as_slice.ensures.value) in
-    let f = found g.C.Level.least ns c.as_slice.result.now c.args.word at child c.requires.inner c.as_slice.ensures.value c.requires.word c.child_for-at.ensures.within c.child_for-at.ensures.from c.child_for-at.ensures.to is in
+    let f = found_there g.C.Level.least ns c.as_slice.result.now c.args.word at child c.requires.inner c.as_slice.ensures.value c.requires.word c.child_for-at.ensures.within c.child_for-at.ensures.from c.child_for-at.ensures.to c.index_mut-child.ensures.value in
     (added_below g.C.Level.least ns c.args.word at child c.insert.new.self c.insert.result f c.requires.word c.insert.ensures.ok c.insert.ensures.err).1

@@ -1,63 +1,45 @@
 use Rattle.std.proofs.Common.{◌≡◌, ◌<◌, ℕ, List, length, true, Err, ap, sym, subst, ◌∙◌, arith}
 use Rattle.word_sets.specs.Words.{has_word, IsPlace}
 use Rattle.gapped_array.specs.Runs.{words_in}
-use Rattle.gapped_array.proofs.Layouts.{run_read, words_inside, inserted, present_stays}
+use Rattle.gapped_array.proofs.Layouts.{run_read_at, inserted, present_stays}
 use Rattle.gapped_array.proofs.array.GappedArray.insert.Goals as goal
 
 pub words_of-requires : goal.words_of-requires
 words_of-requires c =
-    let a = c.self.invariant.layout in
-    let in' : c.args.vertex < length c.self.inside.runs.items = omega (arith, a.table, c.ranges.vertex.fits) in
-    let e = run_read c.self.inside.runs.items c.args.vertex c.index.result.now c.in-Some.run' in' c.index.ensures c.in-Some.is in
-    let f = a.fits c.args.vertex c.in-Some.run' e in
-    omega (arith, words_inside c.self.inside.cells.items c.self.inside.segments c.in-Some.run' a.cells f, ap length c.deref.ensures.value)
+    let run = run_read_at c.self.inside.cells.items c.self.inside.segments c.self.inside.runs.items c.args.vertex c.index.result.now c.in-Some.run' c.self.invariant.layout (omega (arith, c.ranges.vertex.fits)) c.index.ensures c.in-Some.is in
+    omega (arith, run.inside, ap length c.deref.ensures.value)
 
 pub returns-in_default-place-clause-ok : goal.returns-in_default-place-clause-ok
 returns-in_default-place-clause-ok c =
-    let a = c.self.invariant.layout in
-    let in' : c.args.vertex < length c.self.inside.runs.items = omega (arith, a.table, c.ranges.vertex.fits) in
-    let e = run_read c.self.inside.runs.items c.args.vertex c.index.result.now c.in-Some.run' in' c.index.ensures c.in-Some.is in
-    let f = a.fits c.args.vertex c.in-Some.run' e in
+    let run = run_read_at c.self.inside.cells.items c.self.inside.segments c.self.inside.runs.items c.args.vertex c.index.result.now c.in-Some.run' c.self.invariant.layout (omega (arith, c.ranges.vertex.fits)) c.index.ensures c.in-Some.is in
     let read : c.words_of.result.now ≡ words_in c.self.inside.cells.items c.in-Some.run' = c.words_of.ensures ∙ ap (λ l. words_in l c.in-Some.run') c.deref.ensures.value in
     let present : has_word c.args.word (words_in c.self.inside.cells.items c.in-Some.run') ≡ true = ap (has_word c.args.word) (sym read) ∙ c.in_default-place.ensures.2 in
-    present_stays c.self.inside.cells.items c.self.inside.runs.items c.args.self.now c.args.vertex c.in-Some.run' c.args.word c.self.view_is in' e f.words present
+    present_stays c.self.inside.cells.items c.self.inside.runs.items c.args.self.now c.args.vertex c.in-Some.run' c.args.word c.self.view_is run.listed run.here run.fits.words present
 
 pub with_room-requires-clause-inside : goal.with_room-requires-clause-inside
 with_room-requires-clause-inside c =
-    let a = c.self.invariant.layout in
-    let in' : c.args.vertex < length c.self.inside.runs.items = omega (arith, a.table, c.ranges.vertex.fits) in
-    let e = run_read c.self.inside.runs.items c.args.vertex c.index.result.now c.in-Some.run' in' c.index.ensures c.in-Some.is in
-    let f = a.fits c.args.vertex c.in-Some.run' e in
-    f.inside
+    let run = run_read_at c.self.inside.cells.items c.self.inside.segments c.self.inside.runs.items c.args.vertex c.index.result.now c.in-Some.run' c.self.invariant.layout (omega (arith, c.ranges.vertex.fits)) c.index.ensures c.in-Some.is in
+    run.fits.inside
 
 pub with_room-requires-clause-count : goal.with_room-requires-clause-count
 with_room-requires-clause-count c =
-    let a = c.self.invariant.layout in
-    let in' : c.args.vertex < length c.self.inside.runs.items = omega (arith, a.table, c.ranges.vertex.fits) in
-    let e = run_read c.self.inside.runs.items c.args.vertex c.index.result.now c.in-Some.run' in' c.index.ensures c.in-Some.is in
-    let f = a.fits c.args.vertex c.in-Some.run' e in
-    f.count
+    let run = run_read_at c.self.inside.cells.items c.self.inside.segments c.self.inside.runs.items c.args.vertex c.index.result.now c.in-Some.run' c.self.invariant.layout (omega (arith, c.ranges.vertex.fits)) c.index.ensures c.in-Some.is in
+    run.fits.count
 
 pub invariant_of-self-2 : goal.invariant_of-self-2
 invariant_of-self-2 c =
-    let a = c.self.invariant.layout in
-    let in' : c.args.vertex < length c.self.inside.runs.items = omega (arith, a.table, c.ranges.vertex.fits) in
-    let e = run_read c.self.inside.runs.items c.args.vertex c.index.result.now c.in-Some.run' in' c.index.ensures c.in-Some.is in
-    let f = a.fits c.args.vertex c.in-Some.run' e in
+    let run = run_read_at c.self.inside.cells.items c.self.inside.segments c.self.inside.runs.items c.args.vertex c.index.result.now c.in-Some.run' c.self.invariant.layout (omega (arith, c.ranges.vertex.fits)) c.index.ensures c.in-Some.is in
     let read : c.words_of.result.now ≡ words_in c.self.inside.cells.items c.in-Some.run' = c.words_of.ensures ∙ ap (λ l. words_in l c.in-Some.run') c.deref.ensures.value in
     let P : List ℕ → Type 0 = λ l. IsPlace c.args.word l (Err c.in-Err.at) in
     let place = subst P read c.in-Err.ensures in
     let small : c.args.vertex < 256 = omega (arith, c.ranges.vertex.fits) in
-    (inserted c.self.inside.cells.items c.with_room.new.cells.items c.put_word.new.cells.items c.self.inside.segments c.len.result c.self.inside.runs.items c.args.self.now c.args.vertex c.in-Some.run' c.in_ok-run.run' c.in-Err.at c.args.word c.self.invariant c.self.view_is small e c.in_ok-run.ensures.ok c.requires.word place c.put_word.ensures (omega (arith, c.len.ensures, c.put_word.new.cells.ok))).0
+    (inserted c.self.inside.cells.items c.with_room.new.cells.items c.put_word.new.cells.items c.self.inside.segments c.len.result c.self.inside.runs.items c.args.self.now c.args.vertex c.in-Some.run' c.in_ok-run.run' c.in-Err.at c.args.word c.self.invariant c.self.view_is small run.here c.in_ok-run.ensures.ok c.requires.word place c.put_word.ensures (omega (arith, c.len.ensures, c.put_word.new.cells.ok))).0
 
 pub returns-clause-ok : goal.returns-clause-ok
 returns-clause-ok c =
-    let a = c.self.invariant.layout in
-    let in' : c.args.vertex < length c.self.inside.runs.items = omega (arith, a.table, c.ranges.vertex.fits) in
-    let e = run_read c.self.inside.runs.items c.args.vertex c.index.result.now c.in-Some.run' in' c.index.ensures c.in-Some.is in
-    let f = a.fits c.args.vertex c.in-Some.run' e in
+    let run = run_read_at c.self.inside.cells.items c.self.inside.segments c.self.inside.runs.items c.args.vertex c.index.result.now c.in-Some.run' c.self.invariant.layout (omega (arith, c.ranges.vertex.fits)) c.index.ensures c.in-Some.is in
     let read : c.words_of.result.now ≡ words_in c.self.inside.cells.items c.in-Some.run' = c.words_of.ensures ∙ ap (λ l. words_in l c.in-Some.run') c.deref.ensures.value in
     let P : List ℕ → Type 0 = λ l. IsPlace c.args.word l (Err c.in-Err.at) in
     let place = subst P read c.in-Err.ensures in
     let small : c.args.vertex < 256 = omega (arith, c.ranges.vertex.fits) in
-    (inserted c.self.inside.cells.items c.with_room.new.cells.items c.put_word.new.cells.items c.self.inside.segments c.len.result c.self.inside.runs.items c.args.self.now c.args.vertex c.in-Some.run' c.in_ok-run.run' c.in-Err.at c.args.word c.self.invariant c.self.view_is small e c.in_ok-run.ensures.ok c.requires.word place c.put_word.ensures (omega (arith, c.len.ensures, c.put_word.new.cells.ok))).1
+    (inserted c.self.inside.cells.items c.with_room.new.cells.items c.put_word.new.cells.items c.self.inside.segments c.len.result c.self.inside.runs.items c.args.self.now c.args.vertex c.in-Some.run' c.in_ok-run.run' c.in-Err.at c.args.word c.self.invariant c.self.view_is small run.here c.in_ok-run.ensures.ok c.requires.word place c.put_word.ensures (omega (arith, c.len.ensures, c.put_word.new.cells.ok))).1

@@ -1,55 +1,40 @@
 use Rattle.std.proofs.Common.{◌≡◌, ◌<◌, ℕ, List, length, false, Ok, ap, sym, subst, ◌∙◌, arith}
 use Rattle.word_sets.specs.Words.{has_word, IsPlace}
 use Rattle.gapped_array.specs.Runs.{words_in}
-use Rattle.gapped_array.proofs.Layouts.{run_read, words_inside, taken, absent_stays}
+use Rattle.gapped_array.proofs.Layouts.{run_read_at, taken, absent_stays}
 use Rattle.gapped_array.proofs.array.GappedArray.remove.Goals as goal
 
 pub words_of-requires : goal.words_of-requires
 words_of-requires c =
-    let a = c.self.invariant.layout in
-    let in' : c.args.vertex < length c.self.inside.runs.items = omega (arith, a.table, c.ranges.vertex.fits) in
-    let e = run_read c.self.inside.runs.items c.args.vertex c.index.result.now c.in-Some.run' in' c.index.ensures c.in-Some.is in
-    let f = a.fits c.args.vertex c.in-Some.run' e in
-    omega (arith, words_inside c.self.inside.cells.items c.self.inside.segments c.in-Some.run' a.cells f, ap length c.deref.ensures.value)
+    let run = run_read_at c.self.inside.cells.items c.self.inside.segments c.self.inside.runs.items c.args.vertex c.index.result.now c.in-Some.run' c.self.invariant.layout (omega (arith, c.ranges.vertex.fits)) c.index.ensures c.in-Some.is in
+    omega (arith, run.inside, ap length c.deref.ensures.value)
 
 pub returns-in_default-place-clause-words : goal.returns-in_default-place-clause-words
 returns-in_default-place-clause-words c =
-    let a = c.self.invariant.layout in
-    let in' : c.args.vertex < length c.self.inside.runs.items = omega (arith, a.table, c.ranges.vertex.fits) in
-    let e = run_read c.self.inside.runs.items c.args.vertex c.index.result.now c.in-Some.run' in' c.index.ensures c.in-Some.is in
-    let f = a.fits c.args.vertex c.in-Some.run' e in
+    let run = run_read_at c.self.inside.cells.items c.self.inside.segments c.self.inside.runs.items c.args.vertex c.index.result.now c.in-Some.run' c.self.invariant.layout (omega (arith, c.ranges.vertex.fits)) c.index.ensures c.in-Some.is in
     let read : c.words_of.result.now ≡ words_in c.self.inside.cells.items c.in-Some.run' = c.words_of.ensures ∙ ap (λ l. words_in l c.in-Some.run') c.deref.ensures.value in
     let absent : has_word c.args.word (words_in c.self.inside.cells.items c.in-Some.run') ≡ false = ap (has_word c.args.word) (sym read) ∙ c.in_default-place.ensures.2 in
-    absent_stays c.self.inside.cells.items c.self.inside.runs.items c.args.self.now c.args.vertex c.in-Some.run' c.args.word c.self.view_is in' e absent
+    absent_stays c.self.inside.cells.items c.self.inside.runs.items c.args.self.now c.args.vertex c.in-Some.run' c.args.word c.self.view_is run.listed run.here absent
 
 pub take_word-requires-clause-within : goal.take_word-requires-clause-within
 take_word-requires-clause-within c =
-    let a = c.self.invariant.layout in
-    let in' : c.args.vertex < length c.self.inside.runs.items = omega (arith, a.table, c.ranges.vertex.fits) in
-    let e = run_read c.self.inside.runs.items c.args.vertex c.index.result.now c.in-Some.run' in' c.index.ensures c.in-Some.is in
-    let f = a.fits c.args.vertex c.in-Some.run' e in
-    omega (arith, words_inside c.self.inside.cells.items c.self.inside.segments c.in-Some.run' a.cells f, c.self.inside.cells.ok)
+    let run = run_read_at c.self.inside.cells.items c.self.inside.segments c.self.inside.runs.items c.args.vertex c.index.result.now c.in-Some.run' c.self.invariant.layout (omega (arith, c.ranges.vertex.fits)) c.index.ensures c.in-Some.is in
+    omega (arith, run.inside, c.self.inside.cells.ok)
 
 pub invariant_of-self : goal.invariant_of-self
 invariant_of-self c =
-    let a = c.self.invariant.layout in
-    let in' : c.args.vertex < length c.self.inside.runs.items = omega (arith, a.table, c.ranges.vertex.fits) in
-    let e = run_read c.self.inside.runs.items c.args.vertex c.index.result.now c.in-Some.run' in' c.index.ensures c.in-Some.is in
-    let f = a.fits c.args.vertex c.in-Some.run' e in
+    let run = run_read_at c.self.inside.cells.items c.self.inside.segments c.self.inside.runs.items c.args.vertex c.index.result.now c.in-Some.run' c.self.invariant.layout (omega (arith, c.ranges.vertex.fits)) c.index.ensures c.in-Some.is in
     let read : c.words_of.result.now ≡ words_in c.self.inside.cells.items c.in-Some.run' = c.words_of.ensures ∙ ap (λ l. words_in l c.in-Some.run') c.deref.ensures.value in
     let P : List ℕ → Type 0 = λ l. IsPlace c.args.word l (Ok c.in-Ok.at) in
     let place = subst P read c.in-Ok.ensures in
     let small : c.args.vertex < 256 = omega (arith, c.ranges.vertex.fits) in
-    (taken c.self.inside.cells.items c.take_word.new.cells.items c.self.inside.segments c.self.inside.runs.items c.args.self.now c.args.vertex c.in-Some.run' c.in-Ok.at c.args.word c.self.invariant c.self.view_is small e place c.take_word.ensures).0
+    (taken c.self.inside.cells.items c.take_word.new.cells.items c.self.inside.segments c.self.inside.runs.items c.args.self.now c.args.vertex c.in-Some.run' c.in-Ok.at c.args.word c.self.invariant c.self.view_is small run.here place c.take_word.ensures).0
 
 pub returns-clause-words : goal.returns-clause-words
 returns-clause-words c =
-    let a = c.self.invariant.layout in
-    let in' : c.args.vertex < length c.self.inside.runs.items = omega (arith, a.table, c.ranges.vertex.fits) in
-    let e = run_read c.self.inside.runs.items c.args.vertex c.index.result.now c.in-Some.run' in' c.index.ensures c.in-Some.is in
-    let f = a.fits c.args.vertex c.in-Some.run' e in
+    let run = run_read_at c.self.inside.cells.items c.self.inside.segments c.self.inside.runs.items c.args.vertex c.index.result.now c.in-Some.run' c.self.invariant.layout (omega (arith, c.ranges.vertex.fits)) c.index.ensures c.in-Some.is in
     let read : c.words_of.result.now ≡ words_in c.self.inside.cells.items c.in-Some.run' = c.words_of.ensures ∙ ap (λ l. words_in l c.in-Some.run') c.deref.ensures.value in
     let P : List ℕ → Type 0 = λ l. IsPlace c.args.word l (Ok c.in-Ok.at) in
     let place = subst P read c.in-Ok.ensures in
     let small : c.args.vertex < 256 = omega (arith, c.ranges.vertex.fits) in
-    (taken c.self.inside.cells.items c.take_word.new.cells.items c.self.inside.segments c.self.inside.runs.items c.args.self.now c.args.vertex c.in-Some.run' c.in-Ok.at c.args.word c.self.invariant c.self.view_is small e place c.take_word.ensures).1
+    (taken c.self.inside.cells.items c.take_word.new.cells.items c.self.inside.segments c.self.inside.runs.items c.args.self.now c.args.vertex c.in-Some.run' c.in-Ok.at c.args.word c.self.invariant c.self.view_is small run.here place c.take_word.ensures).1

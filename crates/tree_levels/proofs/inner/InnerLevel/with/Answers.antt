@@ -5,7 +5,8 @@ use Rattle.tree_levels.specs.Node.{Node, joined}
 use Rattle.tree_levels.specs.Shared.{items_of}
 use Rattle.tree_levels.specs.Lists.{replaced}
 use Rattle.tree_levels.specs.Changes.{Packs}
-use Rattle.tree_levels.proofs.NodeLists.{found, found_has, grown, packs_nodes, packs_weaker}
+use Rattle.tree_levels.proofs.NodeLists.{found, found_has, packs_weaker}
+use Rattle.tree_levels.proofs.Below.{grown_child}
 use Rattle.tree_levels.proofs.inner.InnerLevel.with.Goals as goal
 
 pub packed-requires-clause-children : goal.packed-requires-clause-children
@@ -15,11 +16,8 @@ packed-requires-clause-children g c =
     let same : cs ≡ ns = c.as_slice-children.ensures.value ∙ ap (λ (v : Vec Node Global). v.items) c.deref.ensures in
     let child = c.index-children-at.result in
     let f = found g.C.Level.least ns cs c.args.word c.child_for-at.result child c.self.invariant same c.requires c.child_for-at.ensures.within c.child_for-at.ensures.from c.child_for-at.ensures.to c.index-children-at.is in
-    let P : Node → Type 0 = λ n. Packs (λ (m : Node). m) g.C.Level.least n.size (with_word c.args.word n.words) (g.C.Level.node c.in-New.first) (option_map g.C.Level.node c.in-New.second) in
     let grows = rw c.in-New.is at c.in_ok-with.ensures in
-    let p = subst P c.node.ensures.node (packs_nodes g.C.Level.node g.C.Level.least (g.C.Level.node c.node.result.now).size (with_word c.args.word (g.C.Level.node c.node.result.now).words) c.in-New.first c.in-New.second grows.1) in
-    let made : c.in_ok-list-in-New.list.items ≡ replaced ns c.child_for-at.result 1 (g.C.Level.node c.in-New.first) (option_map g.C.Level.node c.in-New.second) = c.in_ok-list-in-New.ensures ∙ ap (λ l. replaced l c.child_for-at.result 1 c.adopted-pair.result.0 c.adopted-pair.result.1) same ∙ ap₂ (λ a b. replaced ns c.child_for-at.result 1 a b) c.adopted-pair.ensures.first c.adopted-pair.ensures.second in
-    let m = grown g.C.Level.least ns c.in_ok-list-in-New.list.items c.args.word c.child_for-at.result child (g.C.Level.node c.in-New.first) (option_map g.C.Level.node c.in-New.second) f c.requires p made in
+    let m = grown_child g.C.Level.node g.C.Level.least ns cs c.in_ok-list-in-New.list.items c.args.word c.child_for-at.result child (g.C.Level.node c.node.result.now) c.in-New.first c.in-New.second c.adopted-pair.result.0 c.adopted-pair.result.1 f c.requires same c.node.ensures.node grows.1 c.in_ok-list-in-New.ensures c.adopted-pair.ensures.first c.adopted-pair.ensures.second in
     m.0.children
 
 pub packed-requires-clause-set : goal.packed-requires-clause-set
@@ -29,11 +27,8 @@ packed-requires-clause-set g c =
     let same : cs ≡ ns = c.as_slice-children.ensures.value ∙ ap (λ (v : Vec Node Global). v.items) c.deref.ensures in
     let child = c.index-children-at.result in
     let f = found g.C.Level.least ns cs c.args.word c.child_for-at.result child c.self.invariant same c.requires c.child_for-at.ensures.within c.child_for-at.ensures.from c.child_for-at.ensures.to c.index-children-at.is in
-    let P : Node → Type 0 = λ n. Packs (λ (m : Node). m) g.C.Level.least n.size (with_word c.args.word n.words) (g.C.Level.node c.in-New.first) (option_map g.C.Level.node c.in-New.second) in
     let grows = rw c.in-New.is at c.in_ok-with.ensures in
-    let p = subst P c.node.ensures.node (packs_nodes g.C.Level.node g.C.Level.least (g.C.Level.node c.node.result.now).size (with_word c.args.word (g.C.Level.node c.node.result.now).words) c.in-New.first c.in-New.second grows.1) in
-    let made : c.in_ok-list-in-New.list.items ≡ replaced ns c.child_for-at.result 1 (g.C.Level.node c.in-New.first) (option_map g.C.Level.node c.in-New.second) = c.in_ok-list-in-New.ensures ∙ ap (λ l. replaced l c.child_for-at.result 1 c.adopted-pair.result.0 c.adopted-pair.result.1) same ∙ ap₂ (λ a b. replaced ns c.child_for-at.result 1 a b) c.adopted-pair.ensures.first c.adopted-pair.ensures.second in
-    let m = grown g.C.Level.least ns c.in_ok-list-in-New.list.items c.args.word c.child_for-at.result child (g.C.Level.node c.in-New.first) (option_map g.C.Level.node c.in-New.second) f c.requires p made in
+    let m = grown_child g.C.Level.node g.C.Level.least ns cs c.in_ok-list-in-New.list.items c.args.word c.child_for-at.result child (g.C.Level.node c.node.result.now) c.in-New.first c.in-New.second c.adopted-pair.result.0 c.adopted-pair.result.1 f c.requires same c.node.ensures.node grows.1 c.in_ok-list-in-New.ensures c.adopted-pair.ensures.first c.adopted-pair.ensures.second in
     m.0.set
 
 pub returns-in-Same : goal.returns-in-Same
@@ -54,11 +49,8 @@ returns-in_ok-first-in-New g c =
     let same : cs ≡ ns = c.as_slice-children.ensures.value ∙ ap (λ (v : Vec Node Global). v.items) c.deref.ensures in
     let child = c.index-children-at.result in
     let f = found g.C.Level.least ns cs c.args.word c.child_for-at.result child c.self.invariant same c.requires c.child_for-at.ensures.within c.child_for-at.ensures.from c.child_for-at.ensures.to c.index-children-at.is in
-    let P : Node → Type 0 = λ n. Packs (λ (m : Node). m) g.C.Level.least n.size (with_word c.args.word n.words) (g.C.Level.node c.in-New.first) (option_map g.C.Level.node c.in-New.second) in
     let grows = rw c.in-New.is at c.in_ok-with.ensures in
-    let p = subst P c.node.ensures.node (packs_nodes g.C.Level.node g.C.Level.least (g.C.Level.node c.node.result.now).size (with_word c.args.word (g.C.Level.node c.node.result.now).words) c.in-New.first c.in-New.second grows.1) in
-    let made : c.in_ok-list-in-New.list.items ≡ replaced ns c.child_for-at.result 1 (g.C.Level.node c.in-New.first) (option_map g.C.Level.node c.in-New.second) = c.in_ok-list-in-New.ensures ∙ ap (λ l. replaced l c.child_for-at.result 1 c.adopted-pair.result.0 c.adopted-pair.result.1) same ∙ ap₂ (λ a b. replaced ns c.child_for-at.result 1 a b) c.adopted-pair.ensures.first c.adopted-pair.ensures.second in
-    let m = grown g.C.Level.least ns c.in_ok-list-in-New.list.items c.args.word c.child_for-at.result child (g.C.Level.node c.in-New.first) (option_map g.C.Level.node c.in-New.second) f c.requires p made in
+    let m = grown_child g.C.Level.node g.C.Level.least ns cs c.in_ok-list-in-New.list.items c.args.word c.child_for-at.result child (g.C.Level.node c.node.result.now) c.in-New.first c.in-New.second c.adopted-pair.result.0 c.adopted-pair.result.1 f c.requires same c.node.ensures.node grows.1 c.in_ok-list-in-New.ensures c.adopted-pair.ensures.first c.adopted-pair.ensures.second in
     let absent : has_word c.args.word child.words ≡ false = ap (λ (n : Node). has_word c.args.word n.words) (sym c.node.ensures.node) ∙ grows.0 in
     let Q : Node → Type 0 = λ n. (has_word c.args.word n.words ≡ false) × Packs (λ (m : Node). m) (16 * g.C.Level.least) n.size (with_word c.args.word n.words) c.in_ok-first-in-New.first c.in_ok-first-in-New.second in
     subst Q c.self.view_is (found_has g.C.Level.least ns c.args.word c.child_for-at.result child f ∙ absent, packs_weaker (λ (m : Node). m) (16 * g.C.Level.least) (length c.in_ok-list-in-New.list.items) (length ns) (joined c.in_ok-list-in-New.list.items) (with_word c.args.word (joined ns)) c.in_ok-first-in-New.first c.in_ok-first-in-New.second m.2 m.1 c.in_ok-first-in-New.ensures)

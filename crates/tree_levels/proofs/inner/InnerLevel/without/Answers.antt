@@ -7,7 +7,8 @@ use Rattle.word_sets.proofs.Members.{IsWithin-without}
 use Rattle.tree_levels.specs.Node.{Node, joined, inner_of, IsSound}
 use Rattle.tree_levels.specs.Shared.{items_of}
 use Rattle.tree_levels.specs.Lists.{replaced, Mends}
-use Rattle.tree_levels.proofs.NodeLists.{found, found_has, mended_inner, shrunk_set, sound_inner}
+use Rattle.tree_levels.proofs.NodeLists.{found, found_has, sound_inner}
+use Rattle.tree_levels.proofs.Below.{mended_child, shrunk_child_set}
 use Rattle.tree_levels.proofs.inner.InnerLevel.without.Goals as goal
 
 pub new-requires : goal.new-requires
@@ -19,11 +20,8 @@ new-requires g c =
     let f = found g.C.Level.least ns cs c.args.word c.child_for-at.result child c.self.invariant same c.requires.word c.child_for-at.ensures.within c.child_for-at.ensures.from c.child_for-at.ensures.to c.index-children-at.is in
     let n = g.C.Level.node c.in-Some.node in
     let shrinks = rw c.in-Some.is at c.in_ok-without.ensures in
-    let is : n.words ≡ without_word c.args.word child.words = shrinks.1 ∙ ap (λ (m : Node). without_word c.args.word m.words) c.node.ensures.node in
-    let M : List Node → Type 0 = λ l. Mends g.C.Level.least l c.child_for-at.result n c.in_ok-list-in-Some.list.items in
-    let mends = subst M same c.in_ok-list-in-Some.ensures in
     let size : (inner_of ns).size ≡ c.args.self.now.size = ap (λ (m : Node). m.size) c.self.view_is in
-    let m = mended_inner g.C.Level.least ns c.in_ok-list-in-Some.list.items c.args.word c.child_for-at.result child n f (omega (arith, c.requires.enough)) is mends in
+    let m = mended_child g.C.Level.least ns cs c.in_ok-list-in-Some.list.items c.args.word c.child_for-at.result child (g.C.Level.node c.node.result.now) n f same c.node.ensures.node (omega (arith, c.requires.enough)) shrinks.1 c.in_ok-list-in-Some.ensures in
     m.0
 
 pub returns-in-None : goal.returns-in-None
@@ -46,9 +44,7 @@ mended-requires-clause-set g c =
     let f = found g.C.Level.least ns cs c.args.word c.child_for-at.result child c.self.invariant same c.requires.word c.child_for-at.ensures.within c.child_for-at.ensures.from c.child_for-at.ensures.to c.index-children-at.is in
     let n = g.C.Level.node c.in-Some.node in
     let shrinks = rw c.in-Some.is at c.in_ok-without.ensures in
-    let is : n.words ≡ without_word c.args.word child.words = shrinks.1 ∙ ap (λ (m : Node). without_word c.args.word m.words) c.node.ensures.node in
-    let P : List Node → Type 0 = λ l. IsSet (joined (replaced l c.child_for-at.result 1 n None)) in
-    subst P (sym same) (subst IsSet (sym (shrunk_set g.C.Level.least ns c.args.word c.child_for-at.result child n f is)) (IsWithin-without 0 WORD_LIMIT c.args.word (joined ns) c.self.invariant.set))
+    shrunk_child_set g.C.Level.least ns cs c.args.word c.child_for-at.result child (g.C.Level.node c.node.result.now) n f same c.node.ensures.node shrinks.1
 
 pub returns-in_ok-node-in-Some : goal.returns-in_ok-node-in-Some
 returns-in_ok-node-in-Some g c =
@@ -59,14 +55,11 @@ returns-in_ok-node-in-Some g c =
     let f = found g.C.Level.least ns cs c.args.word c.child_for-at.result child c.self.invariant same c.requires.word c.child_for-at.ensures.within c.child_for-at.ensures.from c.child_for-at.ensures.to c.index-children-at.is in
     let n = g.C.Level.node c.in-Some.node in
     let shrinks = rw c.in-Some.is at c.in_ok-without.ensures in
-    let is : n.words ≡ without_word c.args.word child.words = shrinks.1 ∙ ap (λ (m : Node). without_word c.args.word m.words) c.node.ensures.node in
-    let M : List Node → Type 0 = λ l. Mends g.C.Level.least l c.child_for-at.result n c.in_ok-list-in-Some.list.items in
-    let mends = subst M same c.in_ok-list-in-Some.ensures in
     let size : (inner_of ns).size ≡ c.args.self.now.size = ap (λ (m : Node). m.size) c.self.view_is in
-    let m = mended_inner g.C.Level.least ns c.in_ok-list-in-Some.list.items c.args.word c.child_for-at.result child n f (omega (arith, c.requires.enough)) is mends in
+    let m = mended_child g.C.Level.least ns cs c.in_ok-list-in-Some.list.items c.args.word c.child_for-at.result child (g.C.Level.node c.node.result.now) n f same c.node.ensures.node (omega (arith, c.requires.enough)) shrinks.1 c.in_ok-list-in-Some.ensures in
     let present : has_word c.args.word child.words ≡ true = ap (λ (m : Node). has_word c.args.word m.words) (sym c.node.ensures.node) ∙ shrinks.0 in
     let e = c.in_ok-node-in-Some.ensures in
     let Q : Node → Type 0 = λ m. (has_word c.args.word m.words ≡ true) × (c.in_ok-node-in-Some.node.words ≡ without_word c.args.word m.words) × (m.size ≤ c.in_ok-node-in-Some.node.size + 1) × IsSound (16 * g.C.Level.least) c.in_ok-node-in-Some.node in
     let long : c.in_ok-node-in-Some.node.size ≡ length c.in_ok-list-in-Some.list.items = ap (λ (m : Node). m.size) e in
     let sound : IsSound (16 * g.C.Level.least) c.in_ok-node-in-Some.node = subst (IsSound (16 * g.C.Level.least)) (sym e) (sound_inner g.C.Level.least c.in_ok-list-in-Some.list.items m.0) in
-    subst Q c.self.view_is (found_has g.C.Level.least ns c.args.word c.child_for-at.result child f ∙ present, ap (λ (m : Node). m.words) e ∙ m.1, omega (arith, mends.fewest, long), sound)
+    subst Q c.self.view_is (found_has g.C.Level.least ns c.args.word c.child_for-at.result child f ∙ present, ap (λ (m : Node). m.words) e ∙ m.1, omega (arith, m.2, long), sound)
