@@ -1,4 +1,3 @@
-use Rattle.std.proofs.Common.{◌≡◌, get_or, sym, ap, ◌∙◌}
 use Rattle.tree_levels.proofs.NodeLists.{found_there}
 use Rattle.tree_levels.proofs.Below.{found_set, added_below}
 use Rattle.tree_levels.proofs.in_place.insert_below.Goals as goal

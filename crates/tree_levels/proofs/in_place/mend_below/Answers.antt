@@ -1,9 +1,6 @@
-use Rattle.std.proofs.Common.{◌≡◌, List, true, get_or, None, refl, sym, ap, subst, ◌∙◌}
-use Rattle.word_sets.specs.declared.places.TheConstants.{WORD_LIMIT}
-use Rattle.word_sets.specs.Words.{IsSet, has_word, without_word}
-use Rattle.tree_levels.specs.Node.{Node, joined}
-use Rattle.tree_levels.specs.Lists.{replaced, Mends}
-use Rattle.word_sets.proofs.Members.{IsWithin-without}
+use Rattle.std.proofs.Common.{◌≡◌, true, refl, sym, ap, ◌∙◌}
+use Rattle.word_sets.specs.Words.{has_word}
+use Rattle.tree_levels.specs.Node.{Node}
 use Rattle.tree_levels.proofs.NodeLists.{found_there, found_has, sound_inner}
 use Rattle.tree_levels.proofs.Below.{mended_child, shrunk_child_set}
 use Rattle.tree_levels.proofs.in_place.mend_below.Goals as goal

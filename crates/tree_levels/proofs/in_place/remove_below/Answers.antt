@@ -1,4 +1,4 @@
-use Rattle.std.proofs.Common.{◌≡◌, get_or, sym, ap, ◌∙◌, arith}
+use Rattle.std.proofs.Common.{ap, arith}
 use Rattle.tree_levels.specs.Node.{Node}
 use Rattle.tree_levels.proofs.NodeLists.{found_there}
 use Rattle.tree_levels.proofs.Below.{found_set, taken_below}

@@ -1,8 +1,6 @@
-use Rattle.std.proofs.Common.{◌≡◌, false, get_or, option_map, refl, sym, ap, ap₂, subst, ◌∙◌}
-use Rattle.word_sets.specs.Words.{has_word, with_word}
+use Rattle.std.proofs.Common.{◌≡◌, false, refl, sym, ap, ◌∙◌}
+use Rattle.word_sets.specs.Words.{has_word}
 use Rattle.tree_levels.specs.Node.{Node, IsInner}
-use Rattle.tree_levels.specs.Lists.{replaced}
-use Rattle.tree_levels.specs.Changes.{Packs}
 use Rattle.tree_levels.proofs.NodeLists.{found_there, found_has, sound_inner}
 use Rattle.tree_levels.proofs.Below.{grown_child}
 use Rattle.tree_levels.proofs.in_place.replace_below.Goals as goal

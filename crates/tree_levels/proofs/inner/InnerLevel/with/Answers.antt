@@ -1,9 +1,8 @@
-use Rattle.std.proofs.Common.{◌≡◌, List, Vec, length, option_map, true, false, ◌*◌, sym, ap, ap₂, subst, ◌∙◌}
+use Rattle.std.proofs.Common.{◌≡◌, List, Vec, length, true, false, ◌*◌, sym, ap, subst, ◌∙◌}
 use Rattle.std.specs.declared.alloc.Global.{Global}
 use Rattle.word_sets.specs.Words.{has_word, with_word}
 use Rattle.tree_levels.specs.Node.{Node, joined}
 use Rattle.tree_levels.specs.Shared.{items_of}
-use Rattle.tree_levels.specs.Lists.{replaced}
 use Rattle.tree_levels.specs.Changes.{Packs}
 use Rattle.tree_levels.proofs.NodeLists.{found, found_has, packs_weaker}
 use Rattle.tree_levels.proofs.Below.{grown_child}

@@ -1,12 +1,8 @@
-use Rattle.std.proofs.Common.{◌≡◌, ◌+◌, ◌≤◌, List, Vec, length, None, true, false, ◌*◌, sym, ap, subst, ◌∙◌, arith}
+use Rattle.std.proofs.Common.{◌≡◌, ◌+◌, ◌≤◌, List, Vec, length, true, false, ◌*◌, sym, ap, subst, ◌∙◌, arith}
 use Rattle.std.specs.declared.alloc.Global.{Global}
 use Rattle.word_sets.specs.Words.{has_word, without_word}
-use Rattle.word_sets.specs.Words.{IsSet}
-use Rattle.word_sets.specs.declared.places.TheConstants.{WORD_LIMIT}
-use Rattle.word_sets.proofs.Members.{IsWithin-without}
-use Rattle.tree_levels.specs.Node.{Node, joined, inner_of, IsSound}
+use Rattle.tree_levels.specs.Node.{Node, inner_of, IsSound}
 use Rattle.tree_levels.specs.Shared.{items_of}
-use Rattle.tree_levels.specs.Lists.{replaced, Mends}
 use Rattle.tree_levels.proofs.NodeLists.{found, found_has, sound_inner}
 use Rattle.tree_levels.proofs.Below.{mended_child, shrunk_child_set}
 use Rattle.tree_levels.proofs.inner.InnerLevel.without.Goals as goal
