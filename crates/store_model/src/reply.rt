@@ -1,5 +1,5 @@
 /// What an event is answered.
-#[derive(Debug, Drop)]
+#[derive(Debug, PartialEq, Eq, Drop)]
 pub enum Reply {
     /// It happened.
     Done,
