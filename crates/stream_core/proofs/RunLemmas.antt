@@ -9,7 +9,7 @@ use Rattle.store_model.specs.declared.reply.Reply.TheVariants.{Slice, End}
 use Rattle.store_model.specs.Core.{Run}
 use Rattle.store_model.specs.Events.{IsBeginning}
 use Rattle.stream_core.specs.declared.reader_run.ReaderRun.{ReaderRun}
-use Rattle.stream_core.specs.Runs.{words_in, run_in, version_at, IsRunIn, IsLent}
+use Rattle.stream_core.specs.Runs.{words_in, version_at, IsRunIn, IsLent}
 
 none_left : (place : ℕ) (all : List ℕ) → drop place all ≡ [] → take place all ≡ all
 none_left place all none =

@@ -1,5 +1,5 @@
 -- A table of parts: the first one, and one under edit.
-use Rattle.std.proofs.Common.{◌≡◌, ◌==◌, ◌↔◌, ℕ, zero, suc, ◌+◌, ◌-◌, ◌*◌, ◌/◌, ◌<◌, ◌≤◌, min, Bool, true, false, not, ◌&&◌, ◌||◌, cond, if◌then◌else◌, unwrap_or, ◌⊎◌, List, [], ◌∷◌, ◌++◌, length, get_or, set, map, filter, replicate, refl, sym, ap, subst, ◌∙◌, inl, inr, eqb-true, eq-eqb, length-set, arith}
+use Rattle.std.proofs.Common.{◌≡◌, ◌==◌, ℕ, ◌+◌, ◌-◌, ◌*◌, ◌/◌, ◌<◌, ◌≤◌, min, Bool, true, false, ◌||◌, cond, if◌then◌else◌, unwrap_or, List, [], ◌∷◌, ◌++◌, length, set, replicate, refl, sym, ap, subst, ◌∙◌, inl, inr, eqb-true, eq-eqb, length-set, arith}
 use Rattle.std.specs.List.{AllByRecursion, list_any, list_all}
 use Rattle.std.specs.declared.sync.Arc.{Arc}
 use Rattle.std.specs.declared.alloc.Global.{Global}
@@ -8,16 +8,15 @@ use Rattle.std.proofs.lemmas.Bool.{cases_lt, cases_eq, cases_Bool, and_parts, fa
 use Rattle.std.proofs.lemmas.List.{length_push, get_or_append_left, get_or_push, get_or-replicate, length-replicate, map_push, get_or-set_same, get_or-set_other}
 use Rattle.std.proofs.lemmas.List.Folds.{list_any-append}
 use Rattle.graph_model.specs.declared.edit.Edit.{Edit}
-use Rattle.graph_model.specs.Graph.{Graph, neighbours, empty_graph}
-use Rattle.graph_model.specs.Edits.{source_of, target_of, after_batch, AreEditsBelow}
+use Rattle.graph_model.specs.Graph.{Graph, empty_graph}
+use Rattle.graph_model.specs.Edits.{source_of, after_batch, AreEditsBelow}
 use Rattle.graph_model.proofs.Neighbours.{neighbours_agree, neighbours-empty_graph}
 use Rattle.migration.specs.declared.groups.Grouping.TheVariants.{ByRange}
 use Rattle.migration.specs.Part.{Part, vertex_at, IsPart, AreEditsOf, IsPartAfter}
 use Rattle.migration.specs.Table.{IsTable, IsPartAt, parts_of, part_at}
 use Rattle.migration.proofs.PartLemmas.{group_word}
-use Rattle.store_model.specs.Core.{range_of, is_done, is_whole, is_open}
+use Rattle.store_model.specs.Core.{range_of, is_done}
 use Rattle.stream_core.specs.Tables.{own_edits, IsTableInWork}
-use Rattle.stream_core.specs.Work.{Work, holding_of}
 
 abbrev nothing : Part
 nothing = record { range = 0; rows = [] }

@@ -1,10 +1,9 @@
 -- A batch in work, by its ranges.
-use Rattle.std.proofs.Common.{◌≡◌, ℕ, ◌*◌, ◌<◌, ◌≤◌, ◌==◌, Bool, true, false, not, ◌&&◌, if◌then◌else◌, List, [], ◌∷◌, ◌++◌, length, set, refl, sym, ap, subst, arith}
+use Rattle.std.proofs.Common.{◌≡◌, ℕ, ◌<◌, ◌==◌, Bool, true, false, not, if◌then◌else◌, List, [], ◌∷◌, ◌++◌, length, set, refl, sym, subst}
 use Rattle.std.specs.List.{AllByRecursion, list_any}
 use Rattle.std.proofs.lemmas.Bool.{and_parts}
-use Rattle.graph_model.specs.declared.edit.Edit.{Edit}
 use Rattle.graph_model.specs.Graph.{Graph}
-use Rattle.graph_model.specs.Edits.{AreEditsBelow, after_batch}
+use Rattle.graph_model.specs.Edits.{after_batch}
 use Rattle.migration.specs.Part.{Part, AreEditsOf, IsPartAfter}
 use Rattle.migration.specs.Table.{IsPartAt, part_at}
 use Rattle.store_model.specs.Core.{range_of, is_done, is_open}

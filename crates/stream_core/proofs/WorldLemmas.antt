@@ -1,28 +1,28 @@
 -- What each event keeps of a world.
-use Rattle.std.proofs.Common.{◌≡◌, ℕ, zero, suc, ◌+◌, ◌<◌, ◌≤◌, Bool, true, false, Option, Some, None, MatchOption, Result, Ok, Err, IfOk, OnOk, OnErr, is_some, nat_lt, ◌&&◌, List, [], ◌∷◌, ◌++◌, length, get_or, set, map, take, replicate, option_map, refl, sym, ap, subst, ◌∙◌, ◌⊎◌, inl, inr, append-nil, length-append, length-set, le_refl, arith}
-use Rattle.std.specs.List.{AllByRecursion, list_all}
+use Rattle.std.proofs.Common.{◌≡◌, ℕ, zero, suc, ◌<◌, ◌≤◌, true, false, Option, Some, None, MatchOption, Result, Ok, Err, IfOk, OnOk, OnErr, is_some, nat_lt, ◌&&◌, List, [], ◌∷◌, ◌++◌, length, get_or, set, map, take, replicate, option_map, refl, sym, ap, subst, ◌∙◌, ◌⊎◌, inl, inr, length-set, le_refl, arith}
+use Rattle.std.specs.List.{list_all}
 use Rattle.std.proofs.lemmas.Bool.{and_parts, false≢true}
 use Rattle.std.proofs.lemmas.Option.{none-some, same_Some}
-use Rattle.std.proofs.lemmas.List.{length_push, map-set, take-append-le, take_all, length-replicate}
+use Rattle.std.proofs.lemmas.List.{length_push, map-set, take-append-le, take_all}
 use Rattle.graph_model.specs.declared.edit.Edit.{Edit}
 use Rattle.graph_model.specs.declared.entry.Entry.{Entry}
 use Rattle.graph_model.specs.Graph.{empty_graph, neighbours}
-use Rattle.graph_model.specs.Edits.{after_batch, AreEditsBelow}
+use Rattle.graph_model.specs.Edits.{AreEditsBelow}
 use Rattle.graph_model.specs.Past.{Past, graph_of, opening, longer}
 use Rattle.graph_model.proofs.Pasts.{graph_of-longer, vertex_count-graph_of}
 use Rattle.migration.specs.Part.{Part}
 use Rattle.migration.specs.Table.{IsTable}
-use Rattle.store_model.specs.declared.event.Event.TheVariants.{Submit, Take, Part as OnePart, Publish, Pin, Lend}
+use Rattle.store_model.specs.declared.event.Event.TheVariants.{Submit, Part as OnePart, Publish, Pin, Lend}
 use Rattle.store_model.specs.declared.reply.Reply.{Reply}
 use Rattle.store_model.specs.declared.reply.Reply.TheVariants.{Done}
-use Rattle.store_model.specs.Core.{Core, Run, Holding, is_open, is_whole, run_of, words_of}
+use Rattle.store_model.specs.Core.{Core, Run, is_open, is_whole, words_of}
 use Rattle.store_model.specs.Events.{is_edit_below, can, after, after_lend, Answers, Lends}
-use Rattle.store_model.proofs.Entries.{AreBelow, below_from_test, below_append}
+use Rattle.store_model.proofs.Entries.{below_from_test, below_append}
 use Rattle.stream_core.specs.declared.reader_run.ReaderRun.{ReaderRun}
 use Rattle.stream_core.specs.Tables.{IsTableInWork}
 use Rattle.stream_core.specs.Work.{Work, holding_of, IsEditable, IsWorkAfter}
-use Rattle.stream_core.specs.Runs.{run_in, version_at, words_in, IsRunIn, IsLendable, IsLent}
-use Rattle.stream_core.specs.World.{past_of, core_of, IsWorkIn, IsWorld}
+use Rattle.stream_core.specs.Runs.{run_in, version_at, IsRunIn, IsLendable, IsLent}
+use Rattle.stream_core.specs.World.{past_of, core_of, IsWorld}
 use Rattle.stream_core.proofs.TableLemmas.{table_begun, table_whole}
 
 -- ---- a store in which nothing has happened

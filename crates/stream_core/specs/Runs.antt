@@ -5,7 +5,7 @@ use Rattle.graph_model.specs.Graph.{neighbours}
 use Rattle.graph_model.specs.Past.{Past, graph_of}
 use Rattle.migration.specs.Table.{IsTable}
 use Rattle.store_model.specs.declared.reply.Reply.{Reply}
-use Rattle.store_model.specs.Core.{Run, words_of}
+use Rattle.store_model.specs.Core.{Run}
 use Rattle.store_model.specs.Events.{Lends, after_lend}
 use Rattle.stream_core.specs.declared.reader_run.ReaderRun.{ReaderRun}
 

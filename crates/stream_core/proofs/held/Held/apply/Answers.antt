@@ -1,7 +1,7 @@
-use Rattle.std.proofs.Common.{◌≡◌, ◌<◌, List, ℕ, [], ◌++◌, ◌∷◌, length, set, sym, ap, subst, subst₂, ◌∙◌}
+use Rattle.std.proofs.Common.{◌<◌, length, sym, subst, subst₂}
 use Rattle.std.specs.List.{AllByRecursion}
 use Rattle.std.specs.Arc.{arc_value}
-use Rattle.migration.specs.Part.{Part, AreEditsOf, IsPartAfter}
+use Rattle.migration.specs.Part.{AreEditsOf, IsPartAfter}
 use Rattle.migration.specs.Table.{part_at}
 use Rattle.store_model.specs.Core.{range_of}
 use Rattle.stream_core.specs.Tables.{own_edits}

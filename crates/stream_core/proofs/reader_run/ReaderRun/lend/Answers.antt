@@ -1,9 +1,9 @@
-use Rattle.std.proofs.Common.{◌≡◌, ◌+◌, ◌<◌, ◌≤◌, ◌^◌, length, drop, sym, ap, subst, ◌∙◌, arith}
-use Rattle.graph_model.specs.Past.{Past, graph_of}
+use Rattle.std.proofs.Common.{◌≡◌, ◌+◌, ◌<◌, length, drop, sym, ap, subst, arith}
+use Rattle.graph_model.specs.Past.{graph_of}
 use Rattle.migration.specs.Table.{IsTable}
-use Rattle.store_model.specs.declared.reply.Reply.TheVariants.{Slice, End}
+use Rattle.store_model.specs.declared.reply.Reply.TheVariants.{Slice}
 use Rattle.store_model.specs.Events.{IsBeginning}
-use Rattle.stream_core.specs.Runs.{words_in, version_at, IsRunIn, IsLent}
+use Rattle.stream_core.specs.Runs.{words_in, version_at, IsLent}
 use Rattle.stream_core.proofs.RunLemmas.{lent_end, lent_slice, few_lent}
 use Rattle.stream_core.proofs.reader_run.ReaderRun.lend.Goals as goal
 

@@ -4,7 +4,7 @@ use Rattle.std.proofs.lemmas.List.{length-map}
 use Rattle.cursors.proofs.TableLemmas.{shown_part}
 use Rattle.migration.specs.Groups.{Grouped, edits_of}
 use Rattle.migration.specs.Part.{IsPartAfter}
-use Rattle.migration.specs.Table.{part_at, parts_of}
+use Rattle.migration.specs.Table.{part_at}
 use Rattle.stream_core.specs.Tables.{own_edits}
 use Rattle.stream_core.proofs.table.Table.edited.Goals as goal
 

@@ -1,4 +1,4 @@
-use Rattle.std.proofs.Common.{◌≡◌, ◌<◌, true, Some, None, IfOk, length, get_or, set, sym, ap, subst, ◌∙◌}
+use Rattle.std.proofs.Common.{◌≡◌, true, Some, None, IfOk, get_or, set, sym, ap, subst, ◌∙◌}
 use Rattle.std.proofs.lemmas.List.{get_or_read}
 use Rattle.store_model.specs.declared.event.Event.TheVariants.{Lend}
 use Rattle.store_model.specs.Events.{can, after, Answers}

@@ -1,4 +1,4 @@
-use Rattle.std.proofs.Common.{◌≡◌, ◌≤◌, [], None, replicate, sym, ap, subst, ◌∙◌, arith}
+use Rattle.std.proofs.Common.{◌≡◌, [], None, replicate, sym, ap, subst, ◌∙◌, arith}
 use Rattle.stream_core.specs.World.{past_of, IsWorld}
 use Rattle.stream_core.proofs.WorldLemmas.{first_world}
 use Rattle.stream_core.proofs.world.World.new.Goals as goal

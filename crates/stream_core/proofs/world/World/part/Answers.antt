@@ -1,4 +1,4 @@
-use Rattle.std.proofs.Common.{◌≡◌, true, Some, sym, ap, subst, ◌∙◌}
+use Rattle.std.proofs.Common.{◌≡◌, true, sym, subst}
 use Rattle.store_model.specs.declared.event.Event.TheVariants.{Part}
 use Rattle.store_model.specs.Events.{can}
 use Rattle.stream_core.specs.World.{past_of, core_of, IsWorld}

@@ -1,4 +1,4 @@
-use Rattle.std.proofs.Common.{◌≡◌, ℕ, false, Some, List, [], length, set, sym, ap, subst, ◌∙◌, arith}
+use Rattle.std.proofs.Common.{◌≡◌, ℕ, false, Some, List, length, set, sym, ap, subst, ◌∙◌, arith}
 use Rattle.migration.specs.Part.{Part}
 use Rattle.store_model.specs.declared.event.Event.TheVariants.{Pin}
 use Rattle.store_model.specs.declared.reply.Reply.TheVariants.{Done}

@@ -1,6 +1,5 @@
-use Rattle.std.proofs.Common.{◌≡◌, true, sym, ap, subst, ◌∙◌}
+use Rattle.std.proofs.Common.{◌≡◌, true, sym, subst}
 use Rattle.store_model.specs.declared.event.Event.TheVariants.{Submit}
-use Rattle.store_model.specs.Core.{Core}
 use Rattle.store_model.specs.Events.{can}
 use Rattle.stream_core.specs.World.{past_of, IsWorld}
 use Rattle.stream_core.proofs.WorldLemmas.{world_submitted}

@@ -1,4 +1,4 @@
-use Rattle.std.proofs.Common.{◌≡◌, Some, None, List, [], ◌∷◌, ◌++◌, sym, ap, subst, ◌∙◌}
+use Rattle.std.proofs.Common.{◌≡◌, Some, List, [], sym, ap, subst, ◌∙◌}
 use Rattle.migration.specs.Part.{Part}
 use Rattle.stream_core.specs.Work.{Work}
 use Rattle.stream_core.specs.World.{past_of, IsWorld}
