@@ -1,0 +1,4 @@
+pub mod TableLemmas
+pub mod RunLemmas
+pub mod WorkLemmas
+pub mod WorldLemmas

@@ -1,0 +1,278 @@
+-- What each event keeps of a world.
+use Rattle.std.proofs.Common.{◌≡◌, ℕ, zero, suc, ◌<◌, ◌≤◌, true, false, Option, Some, None, MatchOption, Result, Ok, Err, IfOk, OnOk, OnErr, is_some, nat_lt, ◌&&◌, List, [], ◌∷◌, ◌++◌, length, get_or, set, map, take, replicate, option_map, refl, sym, ap, subst, ◌∙◌, ◌⊎◌, inl, inr, length-set, le_refl, arith}
+use Rattle.std.specs.List.{list_all}
+use Rattle.std.proofs.lemmas.Bool.{and_parts, false≢true}
+use Rattle.std.proofs.lemmas.Option.{none-some, same_Some}
+use Rattle.std.proofs.lemmas.List.{length_push, map-set, take-append-le, take_all}
+use Rattle.graph_model.specs.declared.edit.Edit.{Edit}
+use Rattle.graph_model.specs.declared.entry.Entry.{Entry}
+use Rattle.graph_model.specs.Graph.{empty_graph, neighbours}
+use Rattle.graph_model.specs.Edits.{AreEditsBelow}
+use Rattle.graph_model.specs.Past.{Past, graph_of, opening, longer}
+use Rattle.graph_model.proofs.Pasts.{graph_of-longer, vertex_count-graph_of}
+use Rattle.migration.specs.Part.{Part}
+use Rattle.migration.specs.Table.{IsTable}
+use Rattle.store_model.specs.declared.event.Event.TheVariants.{Submit, Part as OnePart, Publish, Pin, Lend}
+use Rattle.store_model.specs.declared.reply.Reply.{Reply}
+use Rattle.store_model.specs.declared.reply.Reply.TheVariants.{Done}
+use Rattle.store_model.specs.Core.{Core, Run, is_open, is_whole, words_of}
+use Rattle.store_model.specs.Events.{is_edit_below, can, after, after_lend, Answers, Lends}
+use Rattle.store_model.proofs.Entries.{below_from_test, below_append}
+use Rattle.stream_core.specs.declared.reader_run.ReaderRun.{ReaderRun}
+use Rattle.stream_core.specs.Tables.{IsTableInWork}
+use Rattle.stream_core.specs.Work.{Work, holding_of, IsEditable, IsWorkAfter}
+use Rattle.stream_core.specs.Runs.{run_in, version_at, IsRunIn, IsLendable, IsLent}
+use Rattle.stream_core.specs.World.{past_of, core_of, IsWorld}
+use Rattle.stream_core.proofs.TableLemmas.{table_begun, table_whole}
+
+-- ---- a store in which nothing has happened
+
+no_run : (count reader : ℕ) (run : ReaderRun) → get_or (replicate count None) reader None ≡ Some run → ⊥
+no_run zero reader run e = none-some run e
+no_run (suc count) zero run e = none-some run e
+no_run (suc count) (suc reader) run e = no_run count reader run e
+
+pub first_world : (n : ℕ) (parts : List Part) → 1 ≤ n → n ≤ 1048576 → IsTable (empty_graph n) parts → IsWorld (opening n) [] None parts (replicate 16 None)
+first_world n parts some most table = record {
+  some = some;
+  most = most;
+  published = table;
+  waiting = tt;
+  work = tt;
+  places = refl;
+  each = λ reader run e. absurd (no_run 16 reader run e);
+}
+
+-- ---- one batch more in the queue
+
+pub world_submitted : (past : Past) (queue : List Entry) (held : Option Work) (parts : List Part) (runs : List (Option ReaderRun)) (feed : ℕ) (batch : List Edit)
+    → IsWorld past queue held parts runs → can (core_of past queue held runs) (Submit feed batch) ≡ true → IsWorld past (queue ++ (record { feed = feed; batch = batch }) ∷ []) held parts runs
+world_submitted past queue held parts runs feed batch is able =
+    let room = and_parts (nat_lt feed 2) (nat_lt (length queue) 64 && list_all (is_edit_below past.vertex_count) batch) able in
+    let below = below_from_test past.vertex_count batch (and_parts (nat_lt (length queue) 64) (list_all (is_edit_below past.vertex_count) batch) room.1).1 in
+    record {
+      some = is.some;
+      most = is.most;
+      published = is.published;
+      waiting = below_append past.vertex_count queue ((record { feed = feed; batch = batch }) ∷ []) is.waiting (below, tt);
+      work = is.work;
+      places = is.places;
+      each = is.each;
+    }
+
+-- ---- the queue's first batch is held
+
+below_in_graph : (past : Past) (es : List Edit) → AreEditsBelow past.vertex_count es → AreEditsBelow (graph_of past).vertex_count es
+below_in_graph past es below = subst (λ n. AreEditsBelow n es) (sym (vertex_count-graph_of past)) below
+
+pub world_taken : (past : Past) (e : Entry) (rest : List Entry) (held : Option Work) (parts : List Part) (runs : List (Option ReaderRun))
+    → IsWorld past (e ∷ rest) held parts runs → IsWorld past rest (Some (record { entry = e; done = []; parts = parts })) parts runs
+world_taken past e rest held parts runs is = record {
+  some = is.some;
+  most = is.most;
+  published = is.published;
+  waiting = is.waiting.1;
+  work = record { below = is.waiting.0; table = table_begun (graph_of past) e.batch parts is.published };
+  places = is.places;
+  each = is.each;
+}
+
+-- ---- a range is done
+
+pub held_editable : (past : Past) (queue : List Entry) (w : Work) (parts : List Part) (runs : List (Option ReaderRun)) (range : ℕ)
+    → IsWorld past queue (Some w) parts runs → is_open (holding_of w) range ≡ true → IsEditable range w
+held_editable past queue w parts runs range is able = record {
+  graph = graph_of past;
+  small = subst (λ n. n ≤ 1048576) (sym (vertex_count-graph_of past)) is.most;
+  below = below_in_graph past w.entry.batch is.work.below;
+  table = is.work.table;
+  still_open = able;
+}
+
+pub world_edited : (past : Past) (queue : List Entry) (w next : Work) (parts : List Part) (runs : List (Option ReaderRun)) (range : ℕ)
+    → IsWorld past queue (Some w) parts runs → IsWorkAfter range w next → IsWorld past queue (Some next) parts runs
+world_edited past queue w next parts runs range is done = record {
+  some = is.some;
+  most = is.most;
+  published = is.published;
+  waiting = is.waiting;
+  work = record {
+    below = subst (λ (e : Entry). AreEditsBelow past.vertex_count e.batch) (sym done.entry) is.work.below;
+    table = subst (λ (e : Entry). IsTableInWork (graph_of past) e.batch next.done next.parts) (sym done.entry) (done.table (graph_of past) (below_in_graph past w.entry.batch is.work.below) is.work.table);
+  };
+  places = is.places;
+  each = is.each;
+}
+
+pub core_edited : (past : Past) (queue : List Entry) (w next : Work) (runs : List (Option ReaderRun)) (range : ℕ)
+    → IsWorkAfter range w next → core_of past queue (Some next) runs ≡ after (core_of past queue (Some w) runs) (OnePart range) Done
+core_edited past queue w next runs range done =
+    ap (λ (e : Entry). record (core_of past queue None runs) { held = Some (record { entry = e; done = next.done }) }) done.entry
+    ∙ ap (λ l. record (core_of past queue None runs) { held = Some (record { entry = w.entry; done = l }) }) done.done
+
+-- ---- a longer log keeps what runs are
+
+version_kept : (past : Past) (e : Entry) (number : ℕ) → number ≤ length past.log → version_at number (longer past e) ≡ version_at number past
+version_kept past e number low = ap (past_of past.vertex_count) (take-append-le number past.log (e ∷ []) low)
+
+-- a run, by its version
+abbrev run_at : ReaderRun → Past → Run
+run_at r version = record { past = version; vertex = r.vertex; lent = take r.place (neighbours (graph_of version) r.vertex); ended = r.ended }
+
+run_kept : (past : Past) (e : Entry) (r : ReaderRun) → r.number ≤ length past.log → run_in (longer past e) r ≡ run_in past r
+run_kept past e r low = ap (run_at r) (version_kept past e r.number low)
+
+run_later : (past : Past) (e : Entry) (r : ReaderRun) → IsRunIn past r → IsRunIn (longer past e) r
+run_later past e r is =
+    let same = sym (version_kept past e r.number is.published) in
+    record {
+      published = (let low = is.published in omega (arith, length_push past.log e));
+      table = subst (λ version. IsTable (graph_of version) r.table) same is.table;
+      within = subst (λ version. r.place ≤ length (neighbours (graph_of version) r.vertex)) same is.within;
+    }
+
+same_runs : (f h : ReaderRun → Run) (runs : List (Option ReaderRun)) → ((reader : ℕ) (r : ReaderRun) → get_or runs reader None ≡ Some r → f r ≡ h r) → map (option_map f) runs ≡ map (option_map h) runs
+same_runs f h [] agree = refl
+same_runs f h (None ∷ runs) agree = ap (λ l. None ∷ l) (same_runs f h runs (λ reader. agree (suc reader)))
+same_runs f h (Some r ∷ runs) agree =
+    ap (λ x. Some x ∷ map (option_map f) runs) (agree 0 r refl) ∙ ap (λ l. Some (h r) ∷ l) (same_runs f h runs (λ reader. agree (suc reader)))
+
+-- ---- the held batch is published
+
+pub world_published : (past : Past) (queue : List Entry) (w : Work) (parts : List Part) (runs : List (Option ReaderRun))
+    → IsWorld past queue (Some w) parts runs → is_whole (holding_of w) ≡ true → IsWorld (longer past w.entry) queue None w.parts runs
+world_published past queue w parts runs is whole = record {
+  some = is.some;
+  most = is.most;
+  published = subst (λ g. IsTable g w.parts) (sym (graph_of-longer past w.entry)) (table_whole (graph_of past) w.entry.batch w.done w.parts whole is.work.table);
+  waiting = is.waiting;
+  work = tt;
+  places = is.places;
+  each = λ reader r e. run_later past w.entry r (is.each reader r e);
+}
+
+pub core_published : (past : Past) (queue : List Entry) (w : Work) (parts : List Part) (runs : List (Option ReaderRun))
+    → IsWorld past queue (Some w) parts runs → core_of (longer past w.entry) queue None runs ≡ after (core_of past queue (Some w) runs) Publish Done
+core_published past queue w parts runs is =
+    ap (λ l. record (core_of (longer past w.entry) queue None runs) { runs = l })
+    (same_runs (run_in (longer past w.entry)) (run_in past) runs (λ reader r e. run_kept past w.entry r (is.each reader r e).published))
+
+-- ---- a reader's run is put in its place
+
+set_place : {X : Type 0} (xs : List (Option X)) (place reader : ℕ) (x y : X) → get_or (set xs place (Some x)) reader None ≡ Some y → (x ≡ y) ⊎ (get_or xs reader None ≡ Some y)
+set_place [] place reader x y e = inr e
+set_place (o ∷ xs) zero zero x y e = inl (same_Some x y e)
+set_place (o ∷ xs) zero (suc reader) x y e = inr e
+set_place (o ∷ xs) (suc place) zero x y e = inr e
+set_place (o ∷ xs) (suc place) (suc reader) x y e = set_place xs place reader x y e
+
+world_with_run : (past : Past) (queue : List Entry) (held : Option Work) (parts : List Part) (runs : List (Option ReaderRun)) (place : ℕ) (r : ReaderRun)
+    → IsWorld past queue held parts runs → IsRunIn past r → IsWorld past queue held parts (set runs place (Some r))
+world_with_run past queue held parts runs place r is run = record {
+  some = is.some;
+  most = is.most;
+  published = is.published;
+  waiting = is.waiting;
+  work = is.work;
+  places = length-set runs place (Some r) ∙ is.places;
+  each = λ reader other e. elim (set_place runs place reader r other e) [ inl same ↦ subst (IsRunIn past) same run | inr old ↦ is.each reader other old ];
+}
+
+-- a run that begins now
+abbrev pub new_run : Past → ℕ → List Part → ReaderRun
+new_run past vertex parts = record { number = length past.log; vertex = vertex; place = 0; ended = false; table = parts }
+
+version_now : (past : Past) → version_at (length past.log) past ≡ past
+version_now past = ap (past_of past.vertex_count) (take_all (length past.log) past.log (le_refl (length past.log)))
+
+pub world_pinned : (past : Past) (queue : List Entry) (held : Option Work) (parts : List Part) (runs : List (Option ReaderRun)) (reader vertex : ℕ)
+    → IsWorld past queue held parts runs → IsWorld past queue held parts (set runs reader (Some (new_run past vertex parts)))
+world_pinned past queue held parts runs reader vertex is =
+    world_with_run past queue held parts runs reader (new_run past vertex parts) is record {
+      published = le_refl (length past.log);
+      table = subst (λ version. IsTable (graph_of version) parts) (sym (version_now past)) is.published;
+      within = omega arith;
+    }
+
+abbrev with_run : Core → ℕ → Run → Core
+with_run s reader run = record s { runs = set s.runs reader (Some run) }
+
+pub core_pinned : (past : Past) (queue : List Entry) (held : Option Work) (parts : List Part) (runs : List (Option ReaderRun)) (reader vertex : ℕ)
+    → core_of past queue held (set runs reader (Some (new_run past vertex parts))) ≡ after (core_of past queue held runs) (Pin reader vertex) Done
+core_pinned past queue held parts runs reader vertex =
+    ap (λ l. record (core_of past queue held runs) { runs = l }) (map-set (option_map (run_in past)) runs reader (Some (new_run past vertex parts)))
+    ∙ ap (λ p. with_run (core_of past queue held runs) reader (run_at (new_run past vertex parts) p)) (version_now past)
+
+-- ---- a reader's run is lent more
+
+get_or-runs : (f : ReaderRun → Run) (runs : List (Option ReaderRun)) (reader : ℕ) → get_or (map (option_map f) runs) reader None ≡ option_map f (get_or runs reader None)
+get_or-runs f [] reader = refl
+get_or-runs f (o ∷ runs) zero = refl
+get_or-runs f (o ∷ runs) (suc reader) = get_or-runs f runs reader
+
+some_inside : {X : Type 0} (xs : List (Option X)) (i : ℕ) → is_some (get_or xs i None) ≡ true → i < length xs
+some_inside [] i h = absurd (false≢true h)
+some_inside (x ∷ xs) zero h = omega arith
+some_inside (x ∷ xs) (suc i) h = (let rest = some_inside xs i h in omega arith)
+
+-- a reader that has a run has a place
+pub run_inside : (past : Past) (queue : List Entry) (held : Option Work) (runs : List (Option ReaderRun)) (reader : ℕ) → can (core_of past queue held runs) (Lend reader) ≡ true → reader < length runs
+run_inside past queue held runs reader able = some_inside runs reader (sym (is_some-option_map (run_in past) (get_or runs reader None)) ∙ ap is_some (sym (get_or-runs (run_in past) runs reader)) ∙ able)
+  where
+    is_some-option_map : (f : ReaderRun → Run) (o : Option ReaderRun) → is_some (option_map f o) ≡ is_some o
+    is_some-option_map f None = refl
+    is_some-option_map f (Some r) = refl
+
+-- and none means that it has none
+pub no_lend : (past : Past) (queue : List Entry) (held : Option Work) (runs : List (Option ReaderRun)) (reader : ℕ) → can (core_of past queue held runs) (Lend reader) ≡ true → get_or runs reader None ≡ None → ⊥
+no_lend past queue held runs reader able none =
+    false≢true (ap (λ o. is_some (option_map (run_in past) o)) (sym none) ∙ ap is_some (sym (get_or-runs (run_in past) runs reader)) ∙ able)
+
+pub lendable : (past : Past) (queue : List Entry) (held : Option Work) (parts : List Part) (runs : List (Option ReaderRun)) (reader : ℕ) (r : ReaderRun)
+    → IsWorld past queue held parts runs → get_or runs reader None ≡ Some r → IsLendable r
+lendable past queue held parts runs reader r is has = record { past = past; small = is.most; is = is.each reader r has }
+
+pub world_lent : (past : Past) (queue : List Entry) (held : Option Work) (parts : List Part) (runs : List (Option ReaderRun)) (reader : ℕ) (r next : ReaderRun) (reply : Reply)
+    → IsWorld past queue held parts runs → get_or runs reader None ≡ Some r → IsLent past r reply next → IsWorld past queue held parts (set runs reader (Some next))
+world_lent past queue held parts runs reader r next reply is has lent =
+    world_with_run past queue held parts runs reader next is (lent.still (is.each reader r has))
+
+run_has : (past : Past) (runs : List (Option ReaderRun)) (reader : ℕ) (r : ReaderRun) → get_or runs reader None ≡ Some r → get_or (map (option_map (run_in past)) runs) reader None ≡ Some (run_in past r)
+run_has past runs reader r has = get_or-runs (run_in past) runs reader ∙ ap (option_map (run_in past)) has
+
+pub answers_lent : (past : Past) (queue : List Entry) (held : Option Work) (parts : List Part) (runs : List (Option ReaderRun)) (reader : ℕ) (r next : ReaderRun) (reply : Reply)
+    → IsWorld past queue held parts runs → get_or runs reader None ≡ Some r → IsLent past r reply next → Answers (core_of past queue held runs) (Lend reader) reply
+answers_lent past queue held parts runs reader r next reply is has lent =
+    subst (λ o. MatchOption o ⊥ (λ run. Lends (words_of run) run.lent reply)) (sym (run_has past runs reader r has)) (lent.answer (is.each reader r has))
+
+pub core_lent : (past : Past) (queue : List Entry) (held : Option Work) (parts : List Part) (runs : List (Option ReaderRun)) (reader : ℕ) (r next : ReaderRun) (reply : Reply)
+    → IsWorld past queue held parts runs → get_or runs reader None ≡ Some r → IsLent past r reply next → core_of past queue held (set runs reader (Some next)) ≡ after (core_of past queue held runs) (Lend reader) reply
+core_lent past queue held parts runs reader r next reply is has lent =
+    ap (λ l. record (core_of past queue held runs) { runs = l }) (map-set (option_map (run_in past)) runs reader (Some next))
+    ∙ ap (λ run. with_run (core_of past queue held runs) reader run) (lent.run (is.each reader r has))
+    ∙ ap (λ o. record (core_of past queue held runs) { runs = set (map (option_map (run_in past)) runs) reader (option_map (after_lend reply) o) }) (sym (run_has past runs reader r has))
+
+-- ---- calls that may have failed
+
+pub world_after_part : {E : Type 0} (past : Past) (queue : List Entry) (w next : Work) (parts : List Part) (runs : List (Option ReaderRun)) (range : ℕ) (result : Result (Unit {0}) E)
+    → IsWorld past queue (Some w) parts runs → OnOk result (IsWorkAfter range w next) → OnErr result (next ≡ w) → IsWorld past queue (Some next) parts runs
+world_after_part past queue w next parts runs range (Ok u) is done same = world_edited past queue w next parts runs range is done
+world_after_part past queue w next parts runs range (Err e) is done same = subst (λ x. IsWorld past queue (Some x) parts runs) (sym same) is
+
+pub world_after_lend : {E : Type 0} (past : Past) (queue : List Entry) (held : Option Work) (parts : List Part) (runs : List (Option ReaderRun)) (reader : ℕ) (r next : ReaderRun) (result : Result Reply E)
+    → IsWorld past queue held parts runs → get_or runs reader None ≡ Some r → IfOk result (λ reply. (p : Past) → IsLent p r reply next) → OnErr result (next ≡ r) → IsWorld past queue held parts (set runs reader (Some next))
+world_after_lend past queue held parts runs reader r next (Ok reply) is has lent same = world_lent past queue held parts runs reader r next reply is has (lent past)
+world_after_lend past queue held parts runs reader r next (Err e) is has lent same =
+    world_with_run past queue held parts runs reader next is (subst (IsRunIn past) (sym same) (is.each reader r has))
+
+pub answers_after_lend : {E : Type 0} (past : Past) (queue : List Entry) (held : Option Work) (parts : List Part) (runs : List (Option ReaderRun)) (reader : ℕ) (r next : ReaderRun) (result : Result Reply E)
+    → IsWorld past queue held parts runs → get_or runs reader None ≡ Some r → IfOk result (λ reply. (p : Past) → IsLent p r reply next)
+    → IfOk result (λ reply. Answers (core_of past queue held runs) (Lend reader) reply)
+answers_after_lend past queue held parts runs reader r next (Ok reply) is has lent = answers_lent past queue held parts runs reader r next reply is has (lent past)
+answers_after_lend past queue held parts runs reader r next (Err e) is has lent = tt
+
+pub core_after_lend : {E : Type 0} (past : Past) (queue : List Entry) (held : Option Work) (parts : List Part) (runs : List (Option ReaderRun)) (reader : ℕ) (r next : ReaderRun) (result : Result Reply E)
+    → IsWorld past queue held parts runs → get_or runs reader None ≡ Some r → IfOk result (λ reply. (p : Past) → IsLent p r reply next)
+    → IfOk result (λ reply. core_of past queue held (set runs reader (Some next)) ≡ after (core_of past queue held runs) (Lend reader) reply)
+core_after_lend past queue held parts runs reader r next (Ok reply) is has lent = core_lent past queue held parts runs reader r next reply is has (lent past)
+core_after_lend past queue held parts runs reader r next (Err e) is has lent = tt

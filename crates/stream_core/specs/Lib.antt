@@ -1,0 +1,4 @@
+pub mod Tables
+pub mod Work
+pub mod Runs
+pub mod World

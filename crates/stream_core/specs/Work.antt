@@ -1,0 +1,33 @@
+-- A batch in work.
+use Rattle.std.specs.Prelude.{◌≡◌, ◌≤◌, ℕ, true, List, [], ◌∷◌, ◌++◌}
+use Rattle.graph_model.specs.declared.limits.TheConstants.{MOST_VERTICES}
+use Rattle.graph_model.specs.declared.entry.Entry.{Entry}
+use Rattle.graph_model.specs.Graph.{Graph}
+use Rattle.graph_model.specs.Edits.{AreEditsBelow}
+use Rattle.migration.specs.Part.{Part}
+use Rattle.store_model.specs.Core.{Holding, is_open}
+use Rattle.stream_core.specs.Tables.{IsTableInWork}
+
+-- the batch, its ranges that are done, and the parts as far as they are edited
+pub record Work : Type 0 where
+  pub entry : Entry
+  pub done : List ℕ
+  pub parts : List Part
+
+abbrev pub holding_of : Work → Holding
+holding_of w = record { entry = w.entry; done = w.done }
+
+-- the parts are those of a graph, whose vertices the edits name, and the range is still to be done
+pub record IsEditable (range : ℕ) (w : Work) : Type 0 where
+  pub graph : Graph
+  pub small : graph.vertex_count ≤ MOST_VERTICES
+  pub below : AreEditsBelow graph.vertex_count w.entry.batch
+  pub table : IsTableInWork graph w.entry.batch w.done w.parts
+  pub still_open : is_open (holding_of w) range ≡ true
+
+-- the range is done, whichever graph the parts were of
+pub record IsWorkAfter (range : ℕ) (w next : Work) : Type 0 where
+  pub entry : next.entry ≡ w.entry
+  pub done : next.done ≡ w.done ++ range ∷ []
+  pub table : (g : Graph) → AreEditsBelow g.vertex_count w.entry.batch → IsTableInWork g w.entry.batch w.done w.parts
+      → IsTableInWork g w.entry.batch next.done next.parts

@@ -1,0 +1,26 @@
+ghost use Rattle.std.specs.Prelude.{◌≡◌, ◌<◌, [], length, drop, MatchOption};
+ghost use Rattle.graph_model.specs.Graph.{Graph, neighbours};
+ghost use Rattle.migration.specs.Table.{IsTable, parts_of};
+ghost use Rattle.store_model.specs.Events.{IsBeginning};
+
+use cursors::Cursor;
+use migration::Shard;
+use std::sync::Arc;
+
+/// The next words of a vertex's neighbours from a place on, as they lie in one slice: whole slices before
+/// the place are passed over. There are none past the end.
+pub(crate) fn lent_from(shards: &[Arc<Shard>], vertex: u32, place: usize) -> Option<&[u32]>
+    ensures { (g : Graph) → IsTable g (parts_of shards.now)
+        → MatchOption result (drop place (neighbours g vertex) ≡ [])
+        (λ words. (0 < length words.now) × IsBeginning words.now (drop place (neighbours g vertex))) }
+{
+    let mut cursor = Cursor::over(shards, vertex);
+    let mut before = place;
+    while let Some(slice) = cursor.next_slice() {
+        if before < slice.len() {
+            return Some(&slice[before..]);
+        }
+        before -= slice.len();
+    }
+    None
+}

@@ -1,0 +1,41 @@
+ghost use Rattle.std.specs.Prelude.{◌≡◌, IfOk, OnErr};
+ghost use Rattle.graph_model.specs.Past.{Past};
+
+use crate::lend::lent_from;
+use crate::table::Table;
+use std::alloc::{AllocError, Global};
+use store_model::Reply;
+
+/// A reader's run: the version that it pinned, by its number and its shards, the vertex, how many of its
+/// neighbours it was lent, and whether a lend answered the end.
+#[derive(Drop)]
+pub(crate) struct ReaderRun {
+    pub number: usize,
+    pub vertex: u32,
+    pub place: usize,
+    pub ended: bool,
+    pub table: Table,
+}
+
+impl ReaderRun {
+    ghost use Rattle.stream_core.specs.Runs.{IsLendable, IsLent};
+
+    /// Lends the next words, copied, or says that all were lent. After an error nothing is changed.
+    pub fn lend(&mut self, alloc: Global) -> Result<Reply, AllocError>
+        requires { IsLendable self.old }
+        ensures ok { IfOk result (λ reply. (past : Past) → IsLent past self.old reply self.new) }
+        ensures err { OnErr result (self.new ≡ self.old) }
+    {
+        match lent_from(self.table.shards(), self.vertex, self.place) {
+            None => {
+                self.ended = true;
+                Ok(Reply::End)
+            }
+            Some(slice) => {
+                let words = Vec::from_slice(alloc, slice)?;
+                self.place += words.len();
+                Ok(Reply::Slice(words))
+            }
+        }
+    }
+}

@@ -1,0 +1,202 @@
+ghost use Rattle.std.specs.Prelude.{◌≡◌, ◌≤◌, true, is_some, IfOk, OnOk, OnErr};
+ghost use Rattle.graph_model.specs.declared.limits.TheConstants.{MOST_VERTICES};
+ghost use Rattle.graph_model.specs.Past.{graph_of};
+ghost use Rattle.migration.specs.Table.{IsTable, parts_of};
+ghost use Rattle.std.specs.List.{list_all};
+ghost use Rattle.store_model.specs.Core.{opening_core, run_of};
+ghost use Rattle.store_model.specs.Events.{is_edit_below, can, after, Answers};
+
+use crate::held::Held;
+use crate::reader_run::ReaderRun;
+use crate::table::Table;
+use graph_model::{Batch, Edit, Entry};
+use migration::Shard;
+use std::alloc::{AllocError, Global};
+use std::collections::VecDeque;
+use std::marker::Model;
+use std::sync::Arc;
+use store_model::{Event, FEEDS, QUEUE_PLACES, READERS, Reply};
+
+/// All that the store has: the log of its batches, the queue, the batch in work, the shards that were
+/// published last, and each reader's run.
+#[derive(Drop)]
+pub struct World {
+    alloc: Global,
+    vertex_count: u32,
+    log: Vec<Entry>,
+    queue: VecDeque<Entry>,
+    held: Option<Held>,
+    table: Table,
+    runs: Vec<Option<ReaderRun>>,
+}
+
+impl Model for World {
+    ghost use Rattle.store_model.specs.Core.{Core};
+    ghost use Rattle.stream_core.specs.World.{past_of, core_of, IsWorld};
+
+    ghost Value = { Core };
+
+    ghost view = { λ w. core_of (past_of w.vertex_count w.log.items) w.queue.items w.held w.runs.items };
+
+    ghost invariant = { λ w. IsWorld (past_of w.vertex_count w.log.items) w.queue.items w.held w.table w.runs.items };
+}
+
+impl World {
+    ghost use Rattle.store_model.specs.declared.event.Event.TheVariants as events;
+    ghost use Rattle.store_model.specs.declared.reply.Reply.TheVariants as replies;
+
+    /// A store of a graph of so many vertices, from 1 to 1,048,576, without an edge, in which nothing has
+    /// happened yet.
+    pub fn new(alloc: Global, vertex_count: u32) -> Result<World, AllocError>
+        requires some { 1 ≤ vertex_count }
+        requires most { vertex_count ≤ MOST_VERTICES }
+        ensures { IfOk result (λ world. world ≡ opening_core vertex_count) }
+    {
+        let mut runs = Vec::with_capacity(alloc, usize::from(READERS))?;
+        for _ in 0..READERS {
+            runs.push(None)?;
+        }
+        Ok(World {
+            alloc,
+            vertex_count,
+            log: Vec::new(alloc),
+            queue: VecDeque::new(alloc),
+            held: None,
+            table: Table::empty(alloc, vertex_count)?,
+            runs,
+        })
+    }
+
+    /// The shards that were published last.
+    pub(crate) fn shards(&self) -> &[Arc<Shard>]
+        ensures { IsTable (graph_of self.now.past) (parts_of result.now) }
+    {
+        self.table.shards()
+    }
+
+    /// Whether an event can happen.
+    pub(crate) fn can(&self, event: &Event) -> bool
+        ensures { result ≡ can self.now event.now }
+    {
+        match event {
+            Event::Submit { feed, batch } => {
+                *feed < FEEDS
+                    && self.queue.len() < QUEUE_PLACES
+                    && are_edits_below(self.vertex_count, batch.edits())
+            }
+            Event::Take => self.held.is_none() && !self.queue.is_empty(),
+            Event::Part { range } => match &self.held {
+                None => false,
+                Some(held) => held.is_open(*range),
+            },
+            Event::Publish => match &self.held {
+                None => false,
+                Some(held) => held.is_whole(),
+            },
+            Event::Pin { reader, vertex } => *reader < READERS && *vertex < self.vertex_count,
+            Event::Lend { reader } => self.has_run(*reader),
+        }
+    }
+
+    // Whether a reader has a run.
+    fn has_run(&self, reader: u8) -> bool
+        ensures { result ≡ is_some (run_of self.now reader) }
+    {
+        match self.runs.get(usize::from(reader)) {
+            Some(Some(_)) => true,
+            _ => false,
+        }
+    }
+
+    /// Puts a batch at the end of the queue.
+    pub(crate) fn submit(&mut self, feed: u8, batch: Batch) -> Result<(), AllocError>
+        requires { can self.old (events.Submit feed batch) ≡ true }
+        ensures ok { OnOk result (self.new ≡ after self.old (events.Submit feed batch) replies.Done) }
+        ensures err { OnErr result (self.new ≡ self.old) }
+    {
+        self.queue.push_back(Entry { feed, batch })?;
+        Ok(())
+    }
+
+    /// Takes the first batch of the queue, to be worked on.
+    pub(crate) fn take(&mut self) -> Result<(), AllocError>
+        requires { can self.old events.Take ≡ true }
+        ensures ok { OnOk result (self.new ≡ after self.old events.Take replies.Done) }
+        ensures err { OnErr result (self.new ≡ self.old) }
+    {
+        let table = self.table.share(self.alloc)?;
+        if let Some(entry) = self.queue.pop_front() {
+            self.held = Some(Held::begin(self.alloc, entry, table));
+            return Ok(());
+        }
+        Ok(())
+    }
+
+    /// Does the held batch's edits of one range.
+    pub(crate) fn part(&mut self, range: u32) -> Result<(), AllocError>
+        requires { can self.old (events.Part range) ≡ true }
+        ensures ok { OnOk result (self.new ≡ after self.old (events.Part range) replies.Done) }
+        ensures err { OnErr result (self.new ≡ self.old) }
+    {
+        let alloc = self.alloc;
+        if let Some(held) = &mut self.held {
+            return held.apply(alloc, range);
+        }
+        Ok(())
+    }
+
+    /// Puts the held batch at the end of the log, and its shards in the place of the ones before.
+    pub(crate) fn publish(&mut self) -> Result<(), AllocError>
+        requires { can self.old events.Publish ≡ true }
+        ensures ok { OnOk result (self.new ≡ after self.old events.Publish replies.Done) }
+        ensures err { OnErr result (self.new ≡ self.old) }
+    {
+        if let Some(held) = &self.held {
+            held.enter(&mut self.log)?;
+            if let Some(held) = self.held.take() {
+                held.show(&mut self.table);
+                return Ok(());
+            }
+        }
+        Ok(())
+    }
+
+    /// Begins a reader's run in the version of this moment, in place of the run that it had.
+    pub(crate) fn pin(&mut self, reader: u8, vertex: u32) -> Result<(), AllocError>
+        requires { can self.old (events.Pin reader vertex) ≡ true }
+        ensures ok { OnOk result (self.new ≡ after self.old (events.Pin reader vertex) replies.Done) }
+        ensures err { OnErr result (self.new ≡ self.old) }
+    {
+        let table = self.table.share(self.alloc)?;
+        let run = ReaderRun {
+            number: self.log.len(),
+            vertex,
+            place: 0,
+            ended: false,
+            table,
+        };
+        self.runs[usize::from(reader)] = Some(run);
+        Ok(())
+    }
+
+    /// Lends a reader's run its next words.
+    pub(crate) fn lend(&mut self, reader: u8) -> Result<Reply, AllocError>
+        requires { can self.old (events.Lend reader) ≡ true }
+        ensures answer { IfOk result (λ reply. Answers self.old (events.Lend reader) reply) }
+        ensures ok { IfOk result (λ reply. self.new ≡ after self.old (events.Lend reader) reply) }
+        ensures err { OnErr result (self.new ≡ self.old) }
+    {
+        let alloc = self.alloc;
+        if let Some(run) = &mut self.runs[usize::from(reader)] {
+            return run.lend(alloc);
+        }
+        Ok(Reply::End)
+    }
+}
+
+// Whether both ends of each edit are among so many vertices.
+fn are_edits_below(vertex_count: u32, edits: &[Edit]) -> bool
+    ensures { result ≡ list_all (is_edit_below vertex_count) edits.now }
+{
+    edits.iter().all(|edit| edit.source() < vertex_count && edit.target() < vertex_count)
+}
