@@ -150,7 +150,8 @@ def replies_of(lines):
             out.writelines(rows + ["driver: cursors graph_model stream_core\n"])
         for name in BELOW:
             shutil.copytree(f"{TOP}/crates/{name}", f"{folder}/crates/{name}", ignore=shutil.ignore_patterns("out"))
-        shutil.copytree(f"{HERE}/driver", f"{folder}/crates/driver")
+        os.makedirs(f"{folder}/crates/driver/src")
+        shutil.copyfile(f"{HERE}/driver.rattle", f"{folder}/crates/driver/src/main.rt")
         replies = []
         for piece in pieces(lines):
             done = subprocess.run(
