@@ -13,12 +13,12 @@ use Rattle.tree_levels.proofs.NodeLists.{joined-append}
 pub rest_set : (row : List Node) (rest words : List ℕ) → joined row ++ rest ≡ words → IsSet words → IsSet rest
 rest_set row rest words e s = (IsSet-parts (joined row) rest (subst IsSet (sym e) s)).1
 
-pub next_leaf : (row more : List Node) (leaf : Node) (rest part words : List ℕ) → joined row ++ rest ≡ words → part ≡ take 32 rest → leaf ≡ leaf_of part → more ≡ row ++ leaf ∷ [] → joined more ++ drop 32 rest ≡ words
+pub next_leaf : (row more : List Node) (leaf : Node) (rest part words : List ℕ) → joined row ++ rest ≡ words → part ≡ take 48 rest → leaf ≡ leaf_of part → more ≡ row ++ leaf ∷ [] → joined more ++ drop 48 rest ≡ words
 next_leaf row more leaf rest part words e is made list =
-    ap (λ l. joined l ++ drop 32 rest) list
-    ∙ ap (λ l. l ++ drop 32 rest) (joined-append row (leaf ∷ []) ∙ ap (λ l. joined row ++ l) (append-nil leaf.words ∙ ap (λ (n : Node). n.words) made ∙ is))
-    ∙ append_assoc (joined row) (take 32 rest) (drop 32 rest)
-    ∙ ap (λ l. joined row ++ l) (take-append-drop 32 rest)
+    ap (λ l. joined l ++ drop 48 rest) list
+    ∙ ap (λ l. l ++ drop 48 rest) (joined-append row (leaf ∷ []) ∙ ap (λ l. joined row ++ l) (append-nil leaf.words ∙ ap (λ (n : Node). n.words) made ∙ is))
+    ∙ append_assoc (joined row) (take 48 rest) (drop 48 rest)
+    ∙ ap (λ l. joined row ++ l) (take-append-drop 48 rest)
     ∙ e
 
 -- the last children of a list, and those before

@@ -21,9 +21,9 @@ pub record Mends (least : ℕ) (nodes : List Node) (at : ℕ) (n : Node) (new : 
   pub most : length new ≤ length nodes
   pub fewest : length nodes ≤ length new + 1
 
--- a row of children, of 32 entries each or fewer than 64, over so many entries with these words
+-- a row of children over so many entries with these words: on the whole 32 entries or more each, and fewer than 64
 pub record IsRow (least entries : ℕ) (list : List ℕ) (row : List Node) : Type 0 where
   pub words : joined row ≡ list
   pub children : All (IsChild least) row
-  pub many : entries < 32 * length row + 32
+  pub many : entries < 64 * length row
   pub few : 32 * length row ≤ entries

@@ -1,4 +1,5 @@
-//! Rows of nodes that are made of a list at once, each half full but for the first or the last.
+//! Rows of nodes that are made of a list at once: leaves of three quarters but for the last, and nodes that are half full but
+//! for the first.
 ghost use Rattle.std.specs.Prelude.{◌≡◌, ◌≤◌, ◌*◌, length, All, IfOk};
 ghost use Rattle.word_sets.specs.Words.{IsSet};
 ghost use Rattle.tree_levels.specs.Node.{joined, inner_of, IsChild, IsInner};
@@ -10,7 +11,10 @@ use crate::leaf::Leaf;
 use crate::level::{FEWEST, Level, MOST};
 use std::alloc::{AllocError, Global};
 
-// How many entries a node of a row has.
+// How many words a leaf of a row has: the fuller the leaves, the fewer slices a tree lends.
+const LEAF_WORDS: usize = 48;
+
+// How many children a node of a row has.
 const HALF: usize = 32;
 
 /// Leaves of these words.
@@ -19,10 +23,10 @@ pub fn leaves(alloc: Global, words: &[u32]) -> Result<Vec<Child<Leaf>>, AllocErr
     requires many { 64 ≤ length words.now }
     ensures { IfOk result (λ row. IsRow 16 (length words.now) words.now row.items) }
 {
-    let mut row = Vec::with_capacity(alloc, words.len() / HALF)?;
+    let mut row = Vec::with_capacity(alloc, words.len() / LEAF_WORDS)?;
     let mut rest = words;
     while MOST <= rest.len() {
-        let (part, others) = rest.split_at(HALF);
+        let (part, others) = rest.split_at(LEAF_WORDS);
         let leaf = Leaf::new(alloc, Vec::from_slice(alloc, part)?)?;
         row.push(Child::of(leaf))?;
         rest = others;

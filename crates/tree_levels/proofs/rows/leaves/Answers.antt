@@ -10,7 +10,7 @@ pub new-requires : goal.new-requires
 new-requires c =
     let i = c.loop-rest.invariant in
     let s = rest_set c.loop-rest.row.items c.loop-rest.rest.now c.args.words.now i.words c.requires.set in
-    IsLeaf-take 32 c.loop-rest.rest.now c.in_ok-from_slice.field-0.items s (omega arith) (omega (arith, i.enough)) (c.in_ok-from_slice.ensures.items ∙ c.split_at.ensures.front)
+    IsLeaf-take 48 c.loop-rest.rest.now c.in_ok-from_slice.field-0.items s (omega arith) (omega (arith, c.loop-rest-test.true)) (c.in_ok-from_slice.ensures.items ∙ c.split_at.ensures.front)
 
 pub loop-rest-preserved : goal.loop-rest-preserved
 loop-rest-preserved c =
@@ -19,7 +19,7 @@ loop-rest-preserved c =
     let list : c.push.new.self.items ≡ c.loop-rest.row.items ++ leaf ∷ [] = c.in_ok-push.ensures.items in
     let part = c.in_ok-from_slice.ensures.items ∙ c.split_at.ensures.front in
     let made : leaf ≡ leaf_of c.in_ok-from_slice.field-0.items = c.of.ensures ∙ c.in_ok-leaf.ensures in
-    let size : length c.in_ok-from_slice.field-0.items ≡ 32 = ap length c.in_ok-from_slice.ensures.items ∙ c.split_at.ensures.front_len in
+    let size : length c.in_ok-from_slice.field-0.items ≡ 48 = ap length c.in_ok-from_slice.ensures.items ∙ c.split_at.ensures.front_len in
     let whole : IsChild 16 (leaf_of c.in_ok-from_slice.field-0.items) = record { fewest = omega arith; most = omega arith; words = omega arith; some = omega arith } in
     let child : IsChild 16 leaf = subst (IsChild 16) (sym made) whole in
     let long : length c.push.new.self.items ≡ length c.loop-rest.row.items + 1 = ap length list ∙ length_push c.loop-rest.row.items leaf in

@@ -6,8 +6,8 @@ abbrev pub invariant-loop-rest : goal.invariant-loop-rest
 invariant-loop-rest l = record {
   words : joined l.row.items ++ l.rest ≡ l.words;
   children : All (IsChild 16) l.row.items;
-  enough : 32 ≤ length l.rest;
-  counted : 32 * length l.row.items + length l.rest ≡ length l.words;
+  enough : 16 ≤ length l.rest;
+  counted : 48 * length l.row.items + length l.rest ≡ length l.words;
 }
 
 abbrev pub decreases-loop-rest : goal.decreases-loop-rest
