@@ -1,5 +1,5 @@
 //! Where the functions of a program begin and end.
-ghost use Rattle.std.specs.Prelude.{◌≡◌, ℕ, ◌<◌, ◌||◌, false, None, IfOk, IfSome, MatchResult, slice_index_or, length};
+ghost use Rattle.std.specs.Prelude.{◌≡◌, ℕ, ◌<◌, ◌||◌, true, false, None, IfOk, IfSome, MatchResult, slice_index_or, length};
 ghost use Rattle.bpf_image.specs.Program.{units};
 ghost use Rattle.verifier.specs.Listing.{listing_of};
 ghost use Rattle.verifier.specs.Functions.{is_place, is_entry};
@@ -29,6 +29,7 @@ fn is_call_at(image: &Image, listing: &[Option<Instruction>], pc: usize) -> bool
 pub fn has_calls(image: &Image, listing: &[Option<Instruction>]) -> bool
     requires listing { listing.now ≡ listing_of image.now (units image.now) }
     requires decodes { first_fault (decoding_fault image.now) (units image.now) ≡ None }
+    ensures some { result ≡ true → (pc : ℕ) × (calls_one (instruction_at image.now pc) ≡ true) }
     ensures one { result ≡ false → HasOneFunction image.now }
     ensures frames { result ≡ false → deepest image.now ≡ 1 }
 {
