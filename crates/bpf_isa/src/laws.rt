@@ -3,7 +3,7 @@ ghost use Rattle.bpf_isa.specs.Encoding.{InstructionFits, IsCodeAt, units_of};
 ghost use Rattle.bpf_isa.specs.Reading.{decoding};
 ghost use Rattle.bpf_isa.specs.declared.instruction.Instruction.{Instruction};
 
-/// For proofs: what `decoded` gives at any unit of the code stands there, inside the code.
+/// For proofs: what `decoding` gives at any unit of the code stands there, inside the code.
 pub fn decoded_is_code(code: &[u8])
     ensures stands { (pc : ℕ) (i : Instruction) (units : ℕ)
         → decoding code.now pc ≡ Ok (i, units) → IsCodeAt code.now pc i units }
