@@ -3,3 +3,7 @@ pub mod MergeLemmas
 pub mod WordLemmas
 pub mod PartLemmas
 pub mod SearchLemmas
+pub mod RangeLemmas
+pub mod EditedLemmas
+pub mod TableLemmas
+pub mod BlockLemmas

@@ -13,7 +13,7 @@ use Rattle.graph_model.specs.Edits.{source_of, target_of, inserts, names, decide
 use Rattle.graph_model.proofs.Around.{one, DifferAt, IsGap, filters_differ, lengths_differ, search_ascending, search_finds, search_misses}
 use Rattle.graph_model.proofs.Numbers.{numbers_below-ascend}
 use Rattle.migration.specs.declared.counts.Counts.{Counts}
-use Rattle.migration.specs.Merge.{decided, AreEditsFrom, IsMerged, Merging, edited, IsEdited}
+use Rattle.migration.specs.Merge.{decision, AreEditsFrom, IsMerged, Merging, merge_step, IsEdited}
 
 -- a test after an edit of its vertex
 abbrev pub test_after : Edit → (ℕ → Bool) → ℕ → Bool
@@ -23,7 +23,7 @@ test_after e test v = if target_of e == v then inserts e else test v
 pub record IsMerging (n : ℕ) (p : ℕ → Bool) (es : List Edit) (u i : ℕ) (m : Merging) : Type 0 where
   pub test : ℕ → Bool
   pub list : m.merged ++ m.rest ≡ filter test (numbers_below n)
-  pub decides : (v : ℕ) → decided (drop i es) u test v ≡ decided es u p v
+  pub decides : (v : ℕ) → decision (drop i es) u test v ≡ decision es u p v
   pub untouched : (k : ℕ) (d : Edit) → i ≤ k → k < length es → test (target_of (get_or es k d)) ≡ p (target_of (get_or es k d))
   pub behind : (k : ℕ) (d : Edit) → i ≤ k → k < length es → All (λ x. x < target_of (get_or es k d)) m.merged
   pub gained : m.counts.added ≡ length (filter (λ v. test v && not (p v)) (numbers_below n))
@@ -55,12 +55,12 @@ no_edit_merged n p es u targets is = record {
 -- all are merged
 pub all_edits_merged : (n : ℕ) (p : ℕ → Bool) (es : List Edit) (u i : ℕ) (m : Merging) → IsMerging n p es u i m → length es ≤ i → IsMerged es u n p (m.merged ++ m.rest) m.counts
 all_edits_merged n p es u i m is ended =
-    let same : (v : ℕ) → is.test v ≡ decided es u p v =
-    λ v. ap (λ l. decided l u is.test v) (sym (drop_all i es ended)) ∙ is.decides v in
+    let same : (v : ℕ) → is.test v ≡ decision es u p v =
+    λ v. ap (λ l. decision l u is.test v) (sym (drop_all i es ended)) ∙ is.decides v in
     record {
-      list = is.list ∙ filter_agree is.test (decided es u p) same (numbers_below n);
-      gained = is.gained ∙ ap length (filter_agree (λ v. is.test v && not (p v)) (λ v. decided es u p v && not (p v)) (λ v. ap (λ b. b && not (p v)) (same v)) (numbers_below n));
-      lost = is.lost ∙ ap length (filter_agree (λ v. p v && not (is.test v)) (λ v. p v && not (decided es u p v)) (λ v. ap (λ b. p v && not b) (same v)) (numbers_below n));
+      list = is.list ∙ filter_agree is.test (decision es u p) same (numbers_below n);
+      gained = is.gained ∙ ap length (filter_agree (λ v. is.test v && not (p v)) (λ v. decision es u p v && not (p v)) (λ v. ap (λ b. b && not (p v)) (same v)) (numbers_below n));
+      lost = is.lost ∙ ap length (filter_agree (λ v. p v && not (is.test v)) (λ v. p v && not (decision es u p v)) (λ v. ap (λ b. p v && not b) (same v)) (numbers_below n));
     }
 
 -- an edit that another of the same pair follows says nothing
@@ -84,9 +84,9 @@ superseded n p es u i m d is from inside same =
       test = is.test;
       list = is.list;
       decides = λ v.
-          ap (λ l. decided l u is.test v) later
+          ap (λ l. decision l u is.test v) later
           ∙ ap (λ o. unwrap_or o (is.test v)) (sym (follows (last_word (drop (i + 1 + 1) es) u v) e f u v (ap (λ s. (s == u) && (target_of e == v)) source ∙ ap (λ t. (source_of f == u) && (t == v)) (sym same))))
-          ∙ sym (ap (λ l. decided l u is.test v) (here ∙ ap (λ l. e ∷ l) later))
+          ∙ sym (ap (λ l. decision l u is.test v) (here ∙ ap (λ l. e ∷ l) later))
           ∙ is.decides v;
       untouched = λ k q low high. is.untouched k q (omega arith) high;
       behind = λ k q low high. is.behind k q (omega arith) high;
@@ -104,9 +104,9 @@ decided_after None e u test v own =
     by_target true = refl
     by_target false = refl
 
-decided_later : (es : List Edit) (u i : ℕ) (test : ℕ → Bool) (d : Edit) (v : ℕ) → i < length es → source_of (get_or es i d) ≡ u → decided (drop (i + 1) es) u (test_after (get_or es i d) test) v ≡ decided (drop i es) u test v
+decided_later : (es : List Edit) (u i : ℕ) (test : ℕ → Bool) (d : Edit) (v : ℕ) → i < length es → source_of (get_or es i d) ≡ u → decision (drop (i + 1) es) u (test_after (get_or es i d) test) v ≡ decision (drop i es) u test v
 decided_later es u i test d v inside own =
-    sym (ap (λ l. decided l u test v) (drop_more es i d inside) ∙ decided_after (last_word (drop (i + 1) es) u v) (get_or es i d) u test v own)
+    sym (ap (λ l. decision l u test v) (drop_more es i d inside) ∙ decided_after (last_word (drop (i + 1) es) u v) (get_or es i d) u test v own)
 
 test_after-own : (e : Edit) (test : ℕ → Bool) → test_after e test (target_of e) ≡ inserts e
 test_after-own e test = ap (λ b. if b then inserts e else test (target_of e)) (eq-eqb (target_of e) (target_of e) refl)
@@ -152,7 +152,7 @@ changing_edit n p es u i m k e d is inside here own low later list behind gained
   test = test_after e is.test;
   list = list;
   decides = λ v.
-      ap (λ x. decided (drop (i + 1) es) u (test_after x is.test) v) here
+      ap (λ x. decision (drop (i + 1) es) u (test_after x is.test) v) here
       ∙ decided_later es u i is.test d v inside (ap source_of (sym here) ∙ own)
       ∙ is.decides v;
   untouched = λ j q from high.
@@ -231,7 +231,7 @@ rest_behind out rest t i behind short before =
     omega (arith, at, other, less))
 
 -- an insertion of a target that is not there
-merge_insertion : (n : ℕ) (p : ℕ → Bool) (es : List Edit) (u i : ℕ) (m : Merging) (s t at : ℕ) (d : Edit) → (is : IsMerging n p es u i m) → i < length es → Insert s t ≡ get_or es i d → s ≡ u → t < n → is.test t ≡ p t → All (λ x. x < t) m.merged → ((j : ℕ) (q : Edit) → i + 1 ≤ j → j < length es → t < target_of (get_or es j q)) → IsGap m.rest t at → IsMerging n p es u (i + 1) (edited (Insert s t) (Err at) m)
+merge_insertion : (n : ℕ) (p : ℕ → Bool) (es : List Edit) (u i : ℕ) (m : Merging) (s t at : ℕ) (d : Edit) → (is : IsMerging n p es u i m) → i < length es → Insert s t ≡ get_or es i d → s ≡ u → t < n → is.test t ≡ p t → All (λ x. x < t) m.merged → ((j : ℕ) (q : Edit) → i + 1 ≤ j → j < length es → t < target_of (get_or es j q)) → IsGap m.rest t at → IsMerging n p es u (i + 1) (merge_step (Insert s t) (Err at) m)
 merge_insertion n p es u i m s t at d is inside here own low same behind later gap =
     let e = Insert s t in
     let g = test_after e is.test in
@@ -247,14 +247,14 @@ merge_insertion n p es u i m s t at d is inside here own low same behind later g
     let f : one (p t && not (g t)) ≡ 0 = ap (λ x. one (x && not (g t))) was in
     let gained = is.gained in
     let lost = is.lost in
-    changing_edit n p es u i m (edited e (Err at) m) e d is inside here own low later
+    changing_edit n p es u i m (merge_step e (Err at) m) e d is inside here own low later
     (sym (list.1 now))
     (λ y above. All-push (λ x. x < y) (m.merged ++ take at m.rest) t (All-weaker (λ x. x < t) (λ x. x < y) (λ x less. omega arith) (m.merged ++ take at m.rest) (rest_behind m.merged m.rest t at behind gap.0 gap.1)) above)
     (omega (arith, gained, more, a, b))
     (omega (arith, lost, other, c, f))
 
 -- a removal of one that is there
-merge_removal : (n : ℕ) (p : ℕ → Bool) (es : List Edit) (u i : ℕ) (m : Merging) (s t at : ℕ) (d : Edit) → (is : IsMerging n p es u i m) → i < length es → Remove s t ≡ get_or es i d → s ≡ u → t < n → is.test t ≡ p t → All (λ x. x < t) m.merged → ((j : ℕ) (q : Edit) → i + 1 ≤ j → j < length es → t < target_of (get_or es j q)) → IsStrictlyIncreasing m.rest → at < length m.rest → get_or m.rest at 0 ≡ t → IsMerging n p es u (i + 1) (edited (Remove s t) (Ok at) m)
+merge_removal : (n : ℕ) (p : ℕ → Bool) (es : List Edit) (u i : ℕ) (m : Merging) (s t at : ℕ) (d : Edit) → (is : IsMerging n p es u i m) → i < length es → Remove s t ≡ get_or es i d → s ≡ u → t < n → is.test t ≡ p t → All (λ x. x < t) m.merged → ((j : ℕ) (q : Edit) → i + 1 ≤ j → j < length es → t < target_of (get_or es j q)) → IsStrictlyIncreasing m.rest → at < length m.rest → get_or m.rest at 0 ≡ t → IsMerging n p es u (i + 1) (merge_step (Remove s t) (Ok at) m)
 merge_removal n p es u i m s t at d is inside here own low same behind later up within found =
     let e = Remove s t in
     let g = test_after e is.test in
@@ -271,14 +271,14 @@ merge_removal n p es u i m s t at d is inside here own low same behind later up 
     let gained = is.gained in
     let lost = is.lost in
     let before : (k : ℕ) → k < at → get_or m.rest k 0 < t = λ k h. (let less = AllPairs-from_increasing m.rest up k at 0 h within in omega (arith, less, found)) in
-    changing_edit n p es u i m (edited e (Ok at) m) e d is inside here own low later
+    changing_edit n p es u i m (merge_step e (Ok at) m) e d is inside here own low later
     (sym (list.1 now))
     (λ y above. All-weaker (λ x. x < t) (λ x. x < y) (λ x less. omega arith) (m.merged ++ take at m.rest) (rest_behind m.merged m.rest t at behind (omega arith) before))
     (omega (arith, gained, more, a, b))
     (omega (arith, lost, other, c, f))
 
 -- by the search's answer
-merge_by : (n : ℕ) (p : ℕ → Bool) (es : List Edit) (u i : ℕ) (m : Merging) (e d : Edit) (r : Result ℕ ℕ) → (is : IsMerging n p es u i m) → i < length es → e ≡ get_or es i d → source_of e ≡ u → target_of e < n → is.test (target_of e) ≡ p (target_of e) → All (λ x. x < target_of e) m.merged → ((j : ℕ) (q : Edit) → i + 1 ≤ j → j < length es → target_of e < target_of (get_or es j q)) → IsStrictlyIncreasing m.rest → MatchResult r (λ at. (at < length m.rest) × (get_or m.rest at 0 ≡ target_of e)) (IsGap m.rest (target_of e)) → IsMerging n p es u (i + 1) (edited e r m)
+merge_by : (n : ℕ) (p : ℕ → Bool) (es : List Edit) (u i : ℕ) (m : Merging) (e d : Edit) (r : Result ℕ ℕ) → (is : IsMerging n p es u i m) → i < length es → e ≡ get_or es i d → source_of e ≡ u → target_of e < n → is.test (target_of e) ≡ p (target_of e) → All (λ x. x < target_of e) m.merged → ((j : ℕ) (q : Edit) → i + 1 ≤ j → j < length es → target_of e < target_of (get_or es j q)) → IsStrictlyIncreasing m.rest → MatchResult r (λ at. (at < length m.rest) × (get_or m.rest at 0 ≡ target_of e)) (IsGap m.rest (target_of e)) → IsMerging n p es u (i + 1) (merge_step e r m)
 merge_by n p es u i m (Insert s t) d (Ok at) is inside here own low same behind later up found =
     let there = (found_in_rest n t at is.test is.test m.merged m.rest is.list low (λ x ne. refl) found.0 found.1).0 in
     idle_edit n p es u i m d is inside (ap source_of (sym here) ∙ own) (ap (λ x. is.test (target_of x)) (sym here) ∙ there ∙ ap inserts here)
@@ -309,7 +309,7 @@ strictly_later es i d sorted inside apart j q from high =
     let ne = apart next in
     omega (arith, one_on, on, at, ne)
 
-few_by : (e : Edit) (r : Result ℕ ℕ) (m : Merging) → ((edited e r m).counts.added ≤ m.counts.added + 1) × ((edited e r m).counts.removed ≤ m.counts.removed + 1)
+few_by : (e : Edit) (r : Result ℕ ℕ) (m : Merging) → ((merge_step e r m).counts.added ≤ m.counts.added + 1) × ((merge_step e r m).counts.removed ≤ m.counts.removed + 1)
 few_by (Insert s t) (Ok i) m = (omega arith, omega arith)
 few_by (Insert s t) (Err i) m = (omega arith, omega arith)
 few_by (Remove s t) (Ok i) m = (omega arith, omega arith)

@@ -14,7 +14,8 @@ use Rattle.migration.specs.declared.groups.Grouping.{Grouping}
 use Rattle.migration.specs.declared.groups.Grouping.TheVariants.{ByVertex}
 use Rattle.migration.specs.Groups.{Grouped, group_of, edits_of}
 use Rattle.migration.specs.Part.{Part, vertex_at, row_at, IsPart, IsEditOf, AreEditsOf, IsPartAfter, AreCounts, IsShard}
-use Rattle.migration.specs.Merge.{decided, AreEditsFrom, IsMerged}
+use Rattle.migration.specs.Merge.{decision, AreEditsFrom, IsMerged}
+use Rattle.migration.specs.Blocks.{is_new, is_gone}
 use Rattle.migration.proofs.WordLemmas.{last_word-filter}
 
 -- the edits of the i-th vertex
@@ -72,13 +73,6 @@ group_word k count es i u v is =
 
 own_word : (p : Part) (es : List Edit) (i v : ℕ) → i < 256 → last_word (own_edits p es i) (vertex_at p i) v ≡ last_word es (vertex_at p i) v
 own_word p es i v small = group_word ByVertex (length p.rows) es i (vertex_at p i) v (omega arith)
-
--- an edge that a batch adds, and one that it takes out
-abbrev pub is_new : List Edit → Graph → ℕ → ℕ → Bool
-is_new es g u v = (after_batch es g).has_edge u v && not (g.has_edge u v)
-
-abbrev pub is_gone : List Edit → Graph → ℕ → ℕ → Bool
-is_gone es g u v = g.has_edge u v && not ((after_batch es g).has_edge u v)
 
 -- where no edit is of a vertex, nothing of it is new or gone
 no_word : (p : Part) (es : List Edit) (u v : ℕ) → AreEditsOf p es → (vertex_at p 0 ≤ u → u < vertex_at p (length p.rows) → ⊥) → last_word es u v ≡ None
@@ -139,11 +133,11 @@ one_done es p g rows row counts more inside few part done merged =
     let n = g.vertex_count in
     let within = part.within in
     let low : u < n = omega arith in
-    let agree : (v : ℕ) → decided (own_edits p es i) u (g.has_edge u) v ≡ (after_batch es g).has_edge u v = λ v. ap (λ o. unwrap_or o (g.has_edge u v)) (own_word p es i v (omega arith)) in
+    let agree : (v : ℕ) → decision (own_edits p es i) u (g.has_edge u) v ≡ (after_batch es g).has_edge u v = λ v. ap (λ o. unwrap_or o (g.has_edge u v)) (own_word p es i v (omega arith)) in
     let long : length (rows ++ row ∷ []) ≡ i + 1 = length_push rows row in
     let next : vertex_at p (length (rows ++ row ∷ [])) ≡ suc u = omega (arith, long) in
-    let new_row : length (filter (λ v. decided (own_edits p es i) u (g.has_edge u) v && not (g.has_edge u v)) (numbers_below n)) ≡ length (filter (is_new es g u) (numbers_below n)) = ap length (filter_agree (λ v. decided (own_edits p es i) u (g.has_edge u) v && not (g.has_edge u v)) (is_new es g u) (λ v. ap (λ b. b && not (g.has_edge u v)) (agree v)) (numbers_below n)) in
-    let gone_row : length (filter (λ v. g.has_edge u v && not (decided (own_edits p es i) u (g.has_edge u) v)) (numbers_below n)) ≡ length (filter (is_gone es g u) (numbers_below n)) = ap length (filter_agree (λ v. g.has_edge u v && not (decided (own_edits p es i) u (g.has_edge u) v)) (is_gone es g u) (λ v. ap (λ b. g.has_edge u v && not b) (agree v)) (numbers_below n)) in
+    let new_row : length (filter (λ v. decision (own_edits p es i) u (g.has_edge u) v && not (g.has_edge u v)) (numbers_below n)) ≡ length (filter (is_new es g u) (numbers_below n)) = ap length (filter_agree (λ v. decision (own_edits p es i) u (g.has_edge u) v && not (g.has_edge u v)) (is_new es g u) (λ v. ap (λ b. b && not (g.has_edge u v)) (agree v)) (numbers_below n)) in
+    let gone_row : length (filter (λ v. g.has_edge u v && not (decision (own_edits p es i) u (g.has_edge u) v)) (numbers_below n)) ≡ length (filter (is_gone es g u) (numbers_below n)) = ap length (filter_agree (λ v. g.has_edge u v && not (decision (own_edits p es i) u (g.has_edge u) v)) (is_gone es g u) (λ v. ap (λ b. g.has_edge u v && not b) (agree v)) (numbers_below n)) in
     let gained = done.gained in
     let lost = done.lost in
     let more_gained = merged.gained in
@@ -155,7 +149,7 @@ one_done es p g rows row counts more inside few part done merged =
             (let same : i ≡ k = omega (arith, long) in
             get_or_push rows row [] k same
             ∙ merged.list
-            ∙ filter_agree (decided (own_edits p es i) u (g.has_edge u)) ((after_batch es g).has_edge u) agree (numbers_below n)
+            ∙ filter_agree (decision (own_edits p es i) u (g.has_edge u)) ((after_batch es g).has_edge u) agree (numbers_below n)
             ∙ sym (neighbours-within (after_batch es g) u low)
             ∙ ap (λ j. neighbours (after_batch es g) (vertex_at p j)) same)
       ];
@@ -294,8 +288,8 @@ few_more es p rows row counts more i is own count inside done merged =
     let one = merged (vertex_at p i) g.vertex_count (g.has_edge (vertex_at p i)) (own_edits_from g.vertex_count p es i is.few own below) (row_in g p i (row_at p i) is.part inside refl) in
     let gained = one.gained in
     let lost = one.lost in (
-      omega (arith, sums.0, gained, length-filter_below (λ v. decided (own_edits p es i) (vertex_at p i) (g.has_edge (vertex_at p i)) v && not (g.has_edge (vertex_at p i) v)) g.vertex_count),
-      omega (arith, sums.1, lost, length-filter_below (λ v. g.has_edge (vertex_at p i) v && not (decided (own_edits p es i) (vertex_at p i) (g.has_edge (vertex_at p i)) v)) g.vertex_count),
+      omega (arith, sums.0, gained, length-filter_below (λ v. decision (own_edits p es i) (vertex_at p i) (g.has_edge (vertex_at p i)) v && not (g.has_edge (vertex_at p i) v)) g.vertex_count),
+      omega (arith, sums.1, lost, length-filter_below (λ v. g.has_edge (vertex_at p i) v && not (decision (own_edits p es i) (vertex_at p i) (g.has_edge (vertex_at p i)) v)) g.vertex_count),
     )
 
 -- the loop over the lists, at its end

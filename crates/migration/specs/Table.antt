@@ -1,10 +1,14 @@
 -- A graph in parts: one for each range of its vertices, in order.
-use Rattle.std.specs.Prelude.{◌≡◌, ◌↔◌, ℕ, ◌+◌, ◌*◌, ◌-◌, ◌<◌, min, List, [], length, map, slice_index_or}
+use Rattle.std.specs.Prelude.{◌≡◌, ◌↔◌, ℕ, ◌+◌, ◌*◌, ◌-◌, ◌/◌, ◌<◌, ◌≤◌, min, List, [], length, map, slice_index_or, Option, Some, None}
+use Rattle.std.specs.Borrow.{Bor}
 use Rattle.std.specs.declared.sync.Arc.{Arc}
 use Rattle.std.specs.declared.alloc.Global.{Global}
 use Rattle.std.specs.Arc.{arc_value}
-use Rattle.graph_model.specs.declared.limits.TheConstants.{RANGE_VERTICES}
+use Rattle.graph_model.specs.declared.limits.TheConstants.{MOST_VERTICES, RANGE_VERTICES}
+use Rattle.graph_model.specs.declared.edit.Edit.{Edit}
 use Rattle.graph_model.specs.Graph.{Graph}
+use Rattle.graph_model.specs.Edits.{after_batch, added, removed, AreEditsBelow}
+use Rattle.migration.specs.declared.counts.Counts.{Counts}
 use Rattle.migration.specs.Part.{Part, IsPart}
 
 -- the parts that shards with owners show
@@ -24,3 +28,21 @@ pub record IsPartAt (g : Graph) (range : ℕ) (p : Part) : Type 0 where
 pub record IsTable (g : Graph) (parts : List Part) : Type 0 where
   pub ranges : (range : ℕ) → (range < length parts) ↔ (RANGE_VERTICES * range < g.vertex_count)
   pub each : (range : ℕ) → range < length parts → IsPartAt g range (part_at parts range)
+
+-- the shard in which a vertex's list stands, if the graph has the vertex's range
+abbrev pub IsShardOf : Graph → ℕ → Option (Bor Part) → Type 0
+IsShardOf g v None = g.vertex_count ≤ RANGE_VERTICES * (v / RANGE_VERTICES)
+IsShardOf g v (Some shard) = IsPartAt g (v / RANGE_VERTICES) shard.now
+
+-- a graph is these parts, and the edits are among its vertices
+pub record IsEditable (parts : List Part) (es : List Edit) : Type 0 where
+  pub graph : Graph
+  pub small : graph.vertex_count ≤ MOST_VERTICES
+  pub table : IsTable graph parts
+  pub below : AreEditsBelow graph.vertex_count es
+
+-- the parts after edits, and what the edits did, whichever graph the parts were before
+pub record AreAfter (es : List Edit) (parts next : List Part) (counts : Counts) : Type 0 where
+  pub table : (g : Graph) → AreEditsBelow g.vertex_count es → IsTable g parts → IsTable (after_batch es g) next
+  pub gained : (g : Graph) → AreEditsBelow g.vertex_count es → IsTable g parts → counts.added ≡ added es g
+  pub lost : (g : Graph) → AreEditsBelow g.vertex_count es → IsTable g parts → counts.removed ≡ removed es g

@@ -2,12 +2,17 @@
 //! makes the next one of it, which shares the lists that it does not change.
 #![tactic(auto)]
 
+mod block;
 mod counts;
 mod groups;
 mod merge;
 mod shard;
+mod shards;
+mod table;
 mod targets;
 
 pub use counts::Counts;
 pub use groups::{Grouping, Groups};
 pub use shard::Shard;
+pub use shards::{empty_shards, shard_of, share_shards};
+pub use table::Table;

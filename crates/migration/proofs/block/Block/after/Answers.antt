@@ -1,0 +1,139 @@
+use Rattle.std.proofs.Common.{◌≡◌, ℕ, ◌<◌, ◌≤◌, ◌+◌, ◌^◌, List, [], ◌++◌, ◌∷◌, length, sym, ap, subst, subst₂, ◌∙◌, arith}
+use Rattle.std.specs.declared.sync.Arc.{Arc}
+use Rattle.std.specs.declared.alloc.Global.{Global}
+use Rattle.std.specs.Arc.{arc_value}
+use Rattle.std.proofs.lemmas.List.{length-map, length_push}
+use Rattle.graph_model.specs.declared.edit.Edit.{Edit}
+use Rattle.graph_model.specs.Graph.{Graph}
+use Rattle.graph_model.specs.Edits.{AreEditsBelow}
+use Rattle.migration.specs.declared.groups.Grouping.{Grouping}
+use Rattle.migration.specs.declared.groups.Grouping.TheVariants.{ByRange}
+use Rattle.migration.specs.Groups.{Grouped, edits_of}
+use Rattle.migration.specs.Part.{Part, AreEditsOf, IsPartAfter, AreCounts}
+use Rattle.migration.specs.Table.{IsPartAt, parts_of, part_at}
+use Rattle.migration.specs.Blocks.{ArePartsFrom, AreEdited}
+use Rattle.migration.proofs.RangeLemmas.{range_edits, range_own}
+use Rattle.migration.proofs.EditedLemmas.{none, none_edited, more_edited, range_edited, range_kept, few_edited, few_counted, few_together, same_counts}
+use Rattle.migration.proofs.TableLemmas.{parts_push, shown_part}
+use Rattle.migration.proofs.block.Block.after.Goals as goal
+use Rattle.migration.proofs.block.Block.after.Goals.{In_ok-push-2}
+
+-- the edits of a group are those of a range
+edits_in : (groups : Grouped) → groups.grouping ≡ ByRange → (range : ℕ) → edits_of groups range ≡ range_edits groups.count groups.edits range
+edits_in groups by_range range = ap (λ k. edits_of record { grouping = k; count = groups.count; edits = groups.edits } range) by_range
+
+-- a place among shards is one among the parts that they show
+inside : (items : List (Arc Part Global)) (parts : List Part) (k : ℕ) → parts_of items ≡ parts → k < length items → k < length parts
+inside items parts k shown h = subst (λ n. k < n) (sym (length-map items arc_value) ∙ ap length shown) h
+
+pub loop-place-init : goal.loop-place-init
+loop-place-init c = record {
+  count = ap (λ l. length (parts_of l)) c.in_ok-shards.ensures.items;
+  done = λ g below parts. subst (λ l. AreEdited c.args.groups.now.edits g c.args.first (parts_of l) none) (sym c.in_ok-shards.ensures.items) (none_edited c.args.groups.now.edits g c.args.first);
+}
+
+pub overflow_add-first : goal.overflow_add-first
+overflow_add-first c =
+    let shown = ap parts_of c.deref-shard-items.ensures.value ∙ c.self.view_is in
+    let at = inside c.deref-shard-items.result.now c.args.self.now c.loop-place.place shown c.loop-place-test.true in
+    let within = c.requires.within in
+    let fits = c.requires.fits in
+    omega arith
+
+pub overflow_add-first-in-loop-place : goal.overflow_add-first-in-loop-place
+overflow_add-first-in-loop-place c =
+    let shown = ap parts_of c.deref-shard-items.ensures.value ∙ c.self.view_is in
+    let at = inside c.deref-shard-items.result.now c.args.self.now c.loop-place.place shown c.loop-place-test.true in
+    let within = c.requires.within in
+    let fits = c.requires.fits in
+    omega arith
+
+pub loop-place-preserved-then-is_empty : goal.loop-place-preserved-then-is_empty
+loop-place-preserved-then-is_empty c =
+    let groups = c.args.groups.now in
+    let range = c.args.first + c.loop-place.place in
+    let shown = ap parts_of c.deref-shard-items.ensures.value ∙ c.self.view_is in
+    let at = inside c.deref-shard-items.result.now c.args.self.now c.loop-place.place shown c.loop-place-test.true in
+    let unedited : range_edits groups.count groups.edits range ≡ [] = sym (edits_in groups c.requires.ranges range) ∙ c.is_empty.ensures.0 c.if-is_empty.true in
+    let same : part_at c.args.self.now c.loop-place.place ≡ arc_value c.in_ok-try_clone.field-0 =
+    sym (c.in_ok-try_clone.ensures ∙ ap arc_value c.shard-item.is ∙ shown_part c.deref-shard-items.result.now c.loop-place.place c.shard-item.result c.loop-place-test.true ∙ ap (λ l. part_at l c.loop-place.place) shown) in
+    let pushed = ap parts_of c.in_ok-push.ensures.items ∙ parts_push c.loop-place.shards.items c.in_ok-try_clone.field-0 in
+    let before = parts_of c.loop-place.shards.items in
+    record {
+      count = ap length pushed ∙ length_push before (arc_value c.in_ok-try_clone.field-0) ∙ ap (λ n. n + 1) c.loop-place.invariant.count;
+      done = λ g below parts. (
+          let kept = range_kept groups.edits g (part_at c.args.self.now c.loop-place.place) groups.count range (parts.each c.loop-place.place at) (parts.inside c.loop-place.place at) unedited in
+          subst (λ l. AreEdited groups.edits g c.args.first l c.loop-place.counts) (sym pushed)
+          (same_counts groups.edits g c.args.first (before ++ arc_value c.in_ok-try_clone.field-0 ∷ []) c.loop-place.counts
+          (more_edited groups.edits g c.args.first before (arc_value c.in_ok-try_clone.field-0 ∷ []) c.loop-place.counts none (c.loop-place.invariant.done g below parts)
+          (subst₂ (λ r q. AreEdited groups.edits g r (q ∷ []) none) (ap (λ n. c.args.first + n) (sym c.loop-place.invariant.count)) same kept))));
+    }
+
+pub apply-requires : goal.apply-requires
+apply-requires c =
+    let groups = c.args.groups.now in
+    let range = c.args.first + c.loop-place.place in
+    let shown = ap parts_of c.deref-shard-items.ensures.value ∙ c.self.view_is in
+    let at = inside c.deref-shard-items.result.now c.args.self.now c.loop-place.place shown c.loop-place-test.true in
+    let own : range_edits groups.count groups.edits range ≡ c.deref-in-loop-place.result.now = sym (c.deref-in-loop-place.ensures.value ∙ c.in_ok-read.ensures ∙ edits_in groups c.requires.ranges range) in
+    let part : part_at c.args.self.now c.loop-place.place ≡ c.deref.result.now =
+    sym (c.deref.ensures ∙ ap arc_value c.shard-item.is ∙ shown_part c.deref-shard-items.result.now c.loop-place.place c.shard-item.result c.loop-place-test.true ∙ ap (λ l. part_at l c.loop-place.place) shown) in
+    let editable = c.requires.editable in
+    subst₂ AreEditsOf part own (range_own editable.graph (part_at c.args.self.now c.loop-place.place) groups.count groups.edits range editable.small (editable.own.each c.loop-place.place at) editable.below)
+
+-- what was done to the shard at hand
+applied : (c : In_ok-push-2) → IsPartAfter (range_edits c.args.groups.now.count c.args.groups.now.edits (c.args.first + c.loop-place.place)) (part_at c.args.self.now c.loop-place.place) c.in_ok-edited.edited × AreCounts (range_edits c.args.groups.now.count c.args.groups.now.edits (c.args.first + c.loop-place.place)) (part_at c.args.self.now c.loop-place.place) c.in_ok-edited.more
+applied c =
+    let groups = c.args.groups.now in
+    let range = c.args.first + c.loop-place.place in
+    let shown = ap parts_of c.deref-shard-items.ensures.value ∙ c.self.view_is in
+    let own : c.deref-in-loop-place.result.now ≡ range_edits groups.count groups.edits range = c.deref-in-loop-place.ensures.value ∙ c.in_ok-read.ensures ∙ edits_in groups c.requires.ranges range in
+    let part : c.deref.result.now ≡ part_at c.args.self.now c.loop-place.place =
+    c.deref.ensures ∙ ap arc_value c.shard-item.is ∙ shown_part c.deref-shard-items.result.now c.loop-place.place c.shard-item.result c.loop-place-test.true ∙ ap (λ l. part_at l c.loop-place.place) shown in
+    (subst₂ (λ es p. IsPartAfter es p c.in_ok-edited.edited) own part c.in_ok-edited.ensures.after, subst₂ (λ es p. AreCounts es p c.in_ok-edited.more) own part c.in_ok-edited.ensures.counts)
+
+few : (c : In_ok-push-2) → (c.loop-place.counts.added + c.in_ok-edited.more.added < 2 ^ 64) × (c.loop-place.counts.removed + c.in_ok-edited.more.removed < 2 ^ 64)
+few c =
+    let groups = c.args.groups.now in
+    let range = c.args.first + c.loop-place.place in
+    let editable = c.requires.editable in
+    let shown = ap parts_of c.deref-shard-items.ensures.value ∙ c.self.view_is in
+    let at = inside c.deref-shard-items.result.now c.args.self.now c.loop-place.place shown c.loop-place-test.true in
+    few_together c.loop-place.counts c.in_ok-edited.more
+    (few_edited groups.edits editable.graph c.args.first (parts_of c.loop-place.shards.items) c.loop-place.counts editable.small (c.loop-place.invariant.done editable.graph editable.below editable.own))
+    (few_counted groups.edits editable.graph (part_at c.args.self.now c.loop-place.place) c.in_ok-edited.more groups.count range editable.small (editable.own.each c.loop-place.place at) (editable.own.inside c.loop-place.place at) editable.below c.in_ok-edited.edited (applied c).0 (applied c).1)
+
+pub plus-counts-requires-clause-added : goal.plus-counts-requires-clause-added
+plus-counts-requires-clause-added c = (few c).0
+
+pub plus-counts-requires-clause-removed : goal.plus-counts-requires-clause-removed
+plus-counts-requires-clause-removed c = (few c).1
+
+pub loop-place-preserved : goal.loop-place-preserved
+loop-place-preserved c =
+    let groups = c.args.groups.now in
+    let range = c.args.first + c.loop-place.place in
+    let before = parts_of c.loop-place.shards.items in
+    let shown = ap parts_of c.deref-shard-items.ensures.value ∙ c.self.view_is in
+    let at = inside c.deref-shard-items.result.now c.args.self.now c.loop-place.place shown c.loop-place-test.true in
+    let pushed = ap parts_of c.in_ok-push-2.ensures.items ∙ parts_push c.loop-place.shards.items c.in_ok-new.field-0 ∙ ap (λ q. before ++ q ∷ []) c.in_ok-new.ensures.ok in
+    record {
+      count = ap length pushed ∙ length_push before c.in_ok-edited.edited ∙ ap (λ n. n + 1) c.loop-place.invariant.count;
+      done = λ g below parts. (
+          let one = range_edited groups.edits g (part_at c.args.self.now c.loop-place.place) c.in_ok-edited.edited c.in_ok-edited.more groups.count range (parts.each c.loop-place.place at) (parts.inside c.loop-place.place at) below (applied c.before).0 (applied c.before).1 in
+          subst₂ (λ l counts. AreEdited groups.edits g c.args.first l counts) (sym pushed) (sym c.plus-counts.ensures)
+          (more_edited groups.edits g c.args.first before (c.in_ok-edited.edited ∷ []) c.loop-place.counts c.in_ok-edited.more (c.loop-place.invariant.done g below parts)
+          (subst (λ r. AreEdited groups.edits g r (c.in_ok-edited.edited ∷ []) c.in_ok-edited.more) (ap (λ n. c.args.first + n) (sym c.loop-place.invariant.count)) one)));
+    }
+
+pub returns-clause-edited : goal.returns-clause-edited
+returns-clause-edited c = c.loop-place.invariant.done
+
+pub returns-clause-same : goal.returns-clause-same
+returns-clause-same c =
+    let shown = ap parts_of c.deref-shard-items.ensures.value ∙ c.self.view_is in
+    let long : length c.deref-shard-items.result.now ≡ length c.args.self.now = sym (length-map c.deref-shard-items.result.now arc_value) ∙ ap length shown in
+    let ended = c.loop-place.auto.place-end in
+    let past = c.loop-place-test.false in
+    let count = c.loop-place.invariant.count in
+    omega (arith, long, count, ended, past)

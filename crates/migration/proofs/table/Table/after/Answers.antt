@@ -1,0 +1,177 @@
+use Rattle.std.proofs.Common.{◌≡◌, ℕ, ◌+◌, ◌*◌, ◌/◌, ◌^◌, ◌<◌, ◌≤◌, List, [], ◌∷◌, ◌++◌, length, get_or, take, sym, ap, subst, subst₂, ◌∙◌, arith}
+use Rattle.std.specs.List.{AllByRecursion}
+use Rattle.std.specs.declared.sync.Arc.{Arc}
+use Rattle.std.specs.declared.alloc.Global.{Global}
+use Rattle.std.specs.Arc.{arc_value}
+use Rattle.std.proofs.lemmas.List.{length-map}
+use Rattle.graph_model.specs.declared.edit.Edit.{Edit}
+use Rattle.graph_model.specs.Graph.{Graph}
+use Rattle.graph_model.specs.Edits.{source_of, AreEditsBelow}
+use Rattle.migration.specs.Groups.{Grouped, edits_of}
+use Rattle.migration.specs.Part.{Part}
+use Rattle.migration.specs.Table.{IsTable, parts_of}
+use Rattle.migration.specs.Blocks.{ArePartsFrom, AreEditable, AreEdited, AreFull, parts_in, sizes_of}
+use Rattle.migration.proofs.RangeLemmas.{range_edits, in_ranges}
+use Rattle.migration.proofs.EditedLemmas.{none, none_edited, more_edited, same_counts, block_kept, few_edited, few_together, all_edited}
+use Rattle.migration.proofs.TableLemmas.{few_parts}
+use Rattle.migration.proofs.BlockLemmas.{blocks_push, sizes_next, parts_made, all_made, same_length, block_parts, block_inside}
+use Rattle.migration.proofs.table.Table.after.Goals as goal
+use Rattle.migration.proofs.table.Table.after.Goals.{In_ok-push-2}
+
+pub of-requires : goal.of-requires
+of-requires c =
+    subst (λ n. AllByRecursion (λ e. source_of e / 256 < n) c.args.edits.now) (ap length (sym c.self.view_is) ∙ sym c.self.invariant.1) (in_ranges c.requires.graph c.args.self.now c.args.edits.now c.requires.table c.requires.below)
+
+abbrev Blocks : Type 0
+Blocks = List (Arc (List Part) Global)
+
+-- the block at hand is one of the table's
+at : (items old : Blocks) (n : ℕ) → items ≡ old → n < length items → n < length old
+at items old n same h = subst (λ l. n < length l) same h
+
+block_of : (items old : Blocks) (n : ℕ) (b : Arc (List Part) Global) → items ≡ old → b ≡ get_or items n b → b ≡ get_or old n b
+block_of items old n b same is = is ∙ ap (λ l. get_or l n b) same
+
+inside : (old : Blocks) (n count : ℕ) (b : Arc (List Part) Global) → AreFull (sizes_of old) → count ≡ length (parts_in old) → n < length old → b ≡ get_or old n b → 32 * n + length (arc_value b) ≤ count
+inside old n count b full all h is = omega (arith, block_inside old n b full h, all, ap (λ b. length (arc_value b)) is)
+
+few : (g : Graph) (parts : List Part) (old : Blocks) (count : ℕ) → count ≡ length (parts_in old) → parts_in old ≡ parts → IsTable g parts → g.vertex_count ≤ 1048576 → count ≤ 4096
+few g parts old count all is table small = omega (arith, few_parts g parts table small, all, ap length is)
+
+-- the shards that are looked at show the block
+long : (shards : List (Arc Part Global)) (block : Arc (List Part) Global) → parts_of shards ≡ arc_value block → length shards ≡ length (arc_value block)
+long shards block is = sym (length-map shards arc_value) ∙ ap length is
+
+pub overflow_mul-first : goal.overflow_mul-first
+overflow_mul-first c =
+    let old = c.self.inside.blocks.items in
+    let h = at c.deref-block-items.result.now old c.loop-number.number c.deref-block-items.ensures.value c.loop-number-test.true in
+    let is = block_of c.deref-block-items.result.now old c.loop-number.number c.block-item.result c.deref-block-items.ensures.value c.block-item.is in
+    omega (arith, inside old c.loop-number.number c.self.inside.count c.block-item.result c.self.invariant.0 c.self.invariant.1 h is, few c.requires.graph c.args.self.now old c.self.inside.count c.self.invariant.1 c.self.view_is c.requires.table c.requires.small)
+
+pub overflow_add-first : goal.overflow_add-first
+overflow_add-first c =
+    let old = c.self.inside.blocks.items in
+    let h = at c.deref-block-items.result.now old c.loop-number.number c.deref-block-items.ensures.value c.loop-number-test.true in
+    let is = block_of c.deref-block-items.result.now old c.loop-number.number c.block-item.result c.deref-block-items.ensures.value c.block-item.is in
+    let size = long c.shards.result.now c.block-item.result (c.shards.ensures ∙ c.deref.ensures) in
+    omega (arith, size, inside old c.loop-number.number c.self.inside.count c.block-item.result c.self.invariant.0 c.self.invariant.1 h is, few c.requires.graph c.args.self.now old c.self.inside.count c.self.invariant.1 c.self.view_is c.requires.table c.requires.small)
+
+pub are_empty-requires : goal.are_empty-requires
+are_empty-requires c =
+    let old = c.self.inside.blocks.items in
+    let h = at c.deref-block-items.result.now old c.loop-number.number c.deref-block-items.ensures.value c.loop-number-test.true in
+    let is = block_of c.deref-block-items.result.now old c.loop-number.number c.block-item.result c.deref-block-items.ensures.value c.block-item.is in
+    let size = long c.shards.result.now c.block-item.result (c.shards.ensures ∙ c.deref.ensures) in
+    let count = ap (λ (g : Grouped). g.count) c.in_ok-groups.ensures in
+    omega (arith, size, count, inside old c.loop-number.number c.self.inside.count c.block-item.result c.self.invariant.0 c.self.invariant.1 h is)
+
+pub loop-number-preserved-then-are_empty : goal.loop-number-preserved-then-are_empty
+loop-number-preserved-then-are_empty c =
+    let es = c.args.edits.now in
+    let number = c.loop-number.number in
+    let old = c.self.inside.blocks.items in
+    let new = c.loop-number.blocks.items in
+    let block = c.block-item.result in
+    let full = c.self.invariant.0 in
+    let h = at c.deref-block-items.result.now old number c.deref-block-items.ensures.value c.loop-number-test.true in
+    let is = block_of c.deref-block-items.result.now old number block c.deref-block-items.ensures.value c.block-item.is in
+    let size = long c.shards.result.now block (c.shards.ensures ∙ c.deref.ensures) in
+    let same : arc_value c.in_ok-try_clone.field-0 ≡ arc_value (get_or old number block) = c.in_ok-try_clone.ensures ∙ ap arc_value is in
+    let unedited : (range : ℕ) → 32 * number ≤ range → range < 32 * number + length (arc_value c.in_ok-try_clone.field-0) → range_edits c.self.inside.count es range ≡ [] =
+    (λ range low high. ap (λ (g : Grouped). edits_of g range) (sym c.in_ok-groups.ensures) ∙ c.are_empty.ensures.0 c.if-are_empty.true range low (omega (arith, high, size, ap length c.in_ok-try_clone.ensures))) in
+    record {
+      sizes = ap sizes_of c.in_ok-push.ensures.items ∙ sizes_next new old number c.in_ok-try_clone.field-0 block h c.loop-number.invariant.sizes (ap length same);
+      done = λ g below table. (
+          let parts = subst (ArePartsFrom g (32 * number)) (sym same) (block_parts g old number block full h table) in
+          let kept = block_kept es g c.self.inside.count (32 * number) (arc_value c.in_ok-try_clone.field-0) parts unedited in
+          subst (λ l. AreEdited es g 0 l c.loop-number.counts) (sym (ap parts_in c.in_ok-push.ensures.items ∙ blocks_push new c.in_ok-try_clone.field-0))
+          (same_counts es g 0 (parts_in new ++ arc_value c.in_ok-try_clone.field-0) c.loop-number.counts
+          (more_edited es g 0 (parts_in new) (arc_value c.in_ok-try_clone.field-0) c.loop-number.counts none (c.loop-number.invariant.done g below table)
+          (subst (λ r. AreEdited es g r (arc_value c.in_ok-try_clone.field-0) none) (sym (parts_made new old number full h c.loop-number.invariant.sizes)) kept))));
+    }
+
+pub after-requires-clause-within : goal.after-requires-clause-within
+after-requires-clause-within c =
+    let old = c.self.inside.blocks.items in
+    let h = at c.deref-block-items.result.now old c.loop-number.number c.deref-block-items.ensures.value c.loop-number-test.true in
+    let is = block_of c.deref-block-items.result.now old c.loop-number.number c.block-item.result c.deref-block-items.ensures.value c.block-item.is in
+    let count = ap (λ (g : Grouped). g.count) c.in_ok-groups.ensures in
+    omega (arith, ap length c.deref-in-loop-number.ensures, count, inside old c.loop-number.number c.self.inside.count c.block-item.result c.self.invariant.0 c.self.invariant.1 h is)
+
+-- the parts of the block at hand
+own_parts : (g : Graph) (old : Blocks) (n : ℕ) (b : Arc (List Part) Global) (parts : List Part) → AreFull (sizes_of old) → n < length old → b ≡ get_or old n b → parts ≡ arc_value b → IsTable g (parts_in old) → ArePartsFrom g (32 * n) parts
+own_parts g old n b parts full h is same table = subst (ArePartsFrom g (32 * n)) (sym (same ∙ ap arc_value is)) (block_parts g old n b full h table)
+
+pub after-requires-clause-editable : goal.after-requires-clause-editable
+after-requires-clause-editable c =
+    let old = c.self.inside.blocks.items in
+    let h = at c.deref-block-items.result.now old c.loop-number.number c.deref-block-items.ensures.value c.loop-number-test.true in
+    let is = block_of c.deref-block-items.result.now old c.loop-number.number c.block-item.result c.deref-block-items.ensures.value c.block-item.is in
+    record {
+      graph = c.requires.graph;
+      small = c.requires.small;
+      own = own_parts c.requires.graph old c.loop-number.number c.block-item.result c.deref-in-loop-number.result.now c.self.invariant.0 h is c.deref-in-loop-number.ensures (subst (IsTable c.requires.graph) (sym c.self.view_is) c.requires.table);
+      below = subst (λ (g : Grouped). AreEditsBelow c.requires.graph.vertex_count g.edits) (sym c.in_ok-groups.ensures) c.requires.below;
+    }
+
+-- what was done to the block at hand
+edited : (c : In_ok-push-2) → (g : Graph) → AreEditsBelow g.vertex_count c.args.edits.now → IsTable g (parts_in c.self.inside.blocks.items) → AreEdited c.args.edits.now g (32 * c.loop-number.number) c.in_ok-edited.edited c.in_ok-edited.more
+edited c =
+    λ g below table.
+    let old = c.self.inside.blocks.items in
+    let h = at c.deref-block-items.result.now old c.loop-number.number c.deref-block-items.ensures.value c.loop-number-test.true in
+    let is = block_of c.deref-block-items.result.now old c.loop-number.number c.block-item.result c.deref-block-items.ensures.value c.block-item.is in
+    let parts = own_parts g old c.loop-number.number c.block-item.result c.deref-in-loop-number.result.now c.self.invariant.0 h is c.deref-in-loop-number.ensures table in
+    let groups : c.in_ok-groups.groups.edits ≡ c.args.edits.now = ap (λ (g : Grouped). g.edits) c.in_ok-groups.ensures in
+    subst (λ es. AreEdited es g (32 * c.loop-number.number) c.in_ok-edited.edited c.in_ok-edited.more) groups (c.in_ok-edited.ensures.edited g (subst (AreEditsBelow g.vertex_count) (sym groups) below) parts)
+
+few_counts : (c : In_ok-push-2) → (c.loop-number.counts.added + c.in_ok-edited.more.added < 2 ^ 64) × (c.loop-number.counts.removed + c.in_ok-edited.more.removed < 2 ^ 64)
+few_counts c =
+    let g = c.requires.graph in
+    let es = c.args.edits.now in
+    let table = subst (IsTable g) (sym c.self.view_is) c.requires.table in
+    few_together c.loop-number.counts c.in_ok-edited.more
+    (few_edited es g 0 (parts_in c.loop-number.blocks.items) c.loop-number.counts c.requires.small (c.loop-number.invariant.done g c.requires.below table))
+    (few_edited es g (32 * c.loop-number.number) c.in_ok-edited.edited c.in_ok-edited.more c.requires.small (edited c g c.requires.below table))
+
+pub plus-counts-requires-clause-added : goal.plus-counts-requires-clause-added
+plus-counts-requires-clause-added c = (few_counts c).0
+
+pub plus-counts-requires-clause-removed : goal.plus-counts-requires-clause-removed
+plus-counts-requires-clause-removed c = (few_counts c).1
+
+pub loop-number-preserved : goal.loop-number-preserved
+loop-number-preserved c =
+    let es = c.args.edits.now in
+    let number = c.loop-number.number in
+    let old = c.self.inside.blocks.items in
+    let new = c.loop-number.blocks.items in
+    let block = c.block-item.result in
+    let h = at c.deref-block-items.result.now old number c.deref-block-items.ensures.value c.loop-number-test.true in
+    let is = block_of c.deref-block-items.result.now old number block c.deref-block-items.ensures.value c.block-item.is in
+    let made : arc_value c.in_ok-new.field-0 ≡ c.in_ok-edited.edited = c.in_ok-new.ensures.ok in
+    let size : length (arc_value c.in_ok-new.field-0) ≡ length (arc_value (get_or old number block)) = ap length made ∙ c.in_ok-edited.ensures.same ∙ ap length c.deref-in-loop-number.ensures ∙ ap (λ b. length (arc_value b)) is in
+    record {
+      sizes = ap sizes_of c.in_ok-push-2.ensures.items ∙ sizes_next new old number c.in_ok-new.field-0 block h c.loop-number.invariant.sizes size;
+      done = λ g below table.
+          subst₂ (λ l counts. AreEdited es g 0 l counts) (sym (ap parts_in c.in_ok-push-2.ensures.items ∙ blocks_push new c.in_ok-new.field-0 ∙ ap (λ l. parts_in new ++ l) made)) (sym c.plus-counts.ensures)
+          (more_edited es g 0 (parts_in new) c.in_ok-edited.edited c.loop-number.counts c.in_ok-edited.more (c.loop-number.invariant.done g below table)
+          (subst (λ r. AreEdited es g r c.in_ok-edited.edited c.in_ok-edited.more) (sym (parts_made new old number c.self.invariant.0 h c.loop-number.invariant.sizes)) (edited c.before g below table)));
+    }
+
+pub invariant_of-result : goal.invariant_of-result
+invariant_of-result c =
+    let old = c.self.inside.blocks.items in
+    let new = c.loop-number.blocks.items in
+    let past : length old ≤ c.loop-number.number = (let test = c.loop-number-test.false in let items = ap length c.deref-block-items.ensures.value in omega arith) in
+    let same = all_made new old c.loop-number.number past c.loop-number.invariant.sizes in
+    (subst AreFull (sym same) c.self.invariant.0, c.self.invariant.1 ∙ sym (same_length new old same))
+
+pub returns : goal.returns
+returns c =
+    let old = c.self.inside.blocks.items in
+    let new = c.loop-number.blocks.items in
+    let past : length old ≤ c.loop-number.number = (let test = c.loop-number-test.false in let items = ap length c.deref-block-items.ensures.value in omega arith) in
+    let same = all_made new old c.loop-number.number past c.loop-number.invariant.sizes in
+    all_edited c.args.edits.now c.args.self.now (parts_in new) c.loop-number.counts (same_length new old same ∙ ap length c.self.view_is) (λ g below table. c.loop-number.invariant.done g below (subst (IsTable g) (sym c.self.view_is) table))

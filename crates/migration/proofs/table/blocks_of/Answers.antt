@@ -1,0 +1,62 @@
+use Rattle.std.proofs.Common.{◌≡◌, ℕ, ◌+◌, ◌-◌, ◌*◌, ◌<◌, ◌≤◌, min, List, [], ◌∷◌, ◌++◌, length, get_or, take, drop, map, refl, sym, ap, subst, ◌∙◌, inl, inr, arith}
+use Rattle.std.specs.Arc.{arc_value}
+use Rattle.std.proofs.Math.Seq.{take-add, take-length}
+use Rattle.std.proofs.lemmas.Bool.{cases_lt}
+use Rattle.std.proofs.lemmas.List.{length_push, length-map, length-take-le, length-drop, get_or_append_left, get_or_push}
+use Rattle.migration.specs.Table.{parts_of}
+use Rattle.migration.specs.Blocks.{parts_in, sizes_of, AreFull}
+use Rattle.migration.proofs.BlockLemmas.{blocks_push, sizes_push}
+use Rattle.migration.proofs.TableLemmas.{parts_append}
+use Rattle.migration.proofs.table.blocks_of.Goals as goal
+
+pub loop-number-preserved : goal.loop-number-preserved
+loop-number-preserved c =
+    let shards = c.args.shards.now in
+    let n = c.loop-number.number in
+    let blocks = c.loop-number.blocks.items in
+    let block = c.in_ok-new.field-0 in
+    let inside : 32 * n < length shards = (let test = c.loop-number-test.true in let end = c.div_ceil-number-end.ensures in omega arith) in
+    let behind = c.min-behind.result in
+    let behind_is : behind ≡ min (length shards) (32 * n + 32) = (let is = c.min-behind.ensures in omega arith) in
+    let made : arc_value block ≡ parts_of (take (behind - 32 * n) (drop (32 * n) shards)) = c.in_ok-new.ensures.ok ∙ c.of.ensures ∙ c.in_ok-own.ensures in
+    let size : length (arc_value block) ≡ behind - 32 * n =
+    ap length made
+    ∙ length-map (take (behind - 32 * n) (drop (32 * n) shards)) arc_value
+    ∙ length-take-le (behind - 32 * n) (drop (32 * n) shards) (omega (arith, length-drop (32 * n) shards, behind_is)) in
+    let sizes : sizes_of c.push.new.self.items ≡ sizes_of blocks ++ length (arc_value block) ∷ [] = ap sizes_of c.in_ok-push.ensures.items ∙ sizes_push blocks block in
+    let before : min (length shards) (32 * n) ≡ 32 * n = omega arith in
+    let all : 32 * n + (behind - 32 * n) ≡ min (length shards) (32 * (n + 1)) = omega (arith, behind_is) in
+    record {
+      count = ap length sizes ∙ length_push (sizes_of blocks) (length (arc_value block)) ∙ ap (λ k. k + 1) c.loop-number.invariant.count;
+      parts =
+          ap parts_in c.in_ok-push.ensures.items
+          ∙ blocks_push blocks block
+          ∙ ap (λ l. l ++ arc_value block) (c.loop-number.invariant.parts ∙ ap (λ k. parts_of (take k shards)) before)
+          ∙ ap (λ l. parts_of (take (32 * n) shards) ++ l) made
+          ∙ sym (parts_append (take (32 * n) shards) (take (behind - 32 * n) (drop (32 * n) shards)))
+          ∙ ap parts_of (sym (take-add (32 * n) (behind - 32 * n) shards))
+          ∙ ap (λ k. parts_of (take k shards)) all;
+      sizes = λ i h. elim (cases_lt i n) [
+        | inl lt ↦ ap (λ l. get_or l i 0) sizes ∙ get_or_append_left (sizes_of blocks) (length (arc_value block) ∷ []) 0 i (omega (arith, c.loop-number.invariant.count)) ∙ c.loop-number.invariant.sizes i lt
+        | inr ge ↦ (
+            let same : n ≡ i = omega arith in
+            ap (λ l. get_or l i 0) sizes ∙ get_or_push (sizes_of blocks) (length (arc_value block)) 0 i (c.loop-number.invariant.count ∙ same) ∙ size ∙ omega (arith, behind_is, same))
+      ];
+    }
+
+pub returns-clause-parts : goal.returns-clause-parts
+returns-clause-parts c =
+    let shards = c.args.shards.now in
+    let all : min (length shards) (32 * c.loop-number.number) ≡ length shards = (let end = c.div_ceil-number-end.ensures in let past = c.loop-number-test.false in omega arith) in
+    c.loop-number.invariant.parts ∙ ap (λ k. parts_of (take k shards)) all ∙ ap parts_of (take-length shards)
+
+pub returns-clause-full : goal.returns-clause-full
+returns-clause-full c =
+    let end = c.div_ceil-number-end.ensures in
+    let past = c.loop-number-test.false in
+    let ended = c.loop-number.auto.number-end in
+    let count = c.loop-number.invariant.count in
+    record {
+      full = λ i h. (let is = c.loop-number.invariant.sizes i (omega arith) in omega (arith, is));
+      few = λ i h. (let is = c.loop-number.invariant.sizes i (omega arith) in omega (arith, is));
+    }

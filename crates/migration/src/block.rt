@@ -1,0 +1,82 @@
+ghost use Rattle.std.specs.Prelude.{◌≡◌, ◌+◌, ◌^◌, ◌<◌, ◌≤◌, length, IfOk};
+ghost use Rattle.graph_model.specs.Graph.{Graph};
+ghost use Rattle.graph_model.specs.Edits.{AreEditsBelow};
+ghost use Rattle.migration.specs.declared.groups.Grouping.TheVariants.{ByRange};
+ghost use Rattle.migration.specs.Blocks.{ArePartsFrom, AreEditable, AreEdited};
+ghost use Rattle.migration.specs.Table.{parts_of};
+
+use crate::counts::Counts;
+use crate::groups::Groups;
+use crate::shard::Shard;
+use graph_model::Edit;
+use std::alloc::{AllocError, Global};
+use std::marker::Model;
+use std::sync::Arc;
+
+/// How many shards a full block has.
+pub(crate) const BLOCK_SHARDS: usize = 32;
+
+/// The shards of ranges one behind another.
+#[derive(Drop)]
+pub(crate) struct Block {
+    shards: Vec<Arc<Shard>>,
+}
+
+impl Model for Block {
+    ghost use Rattle.std.specs.Prelude.{List};
+    ghost use Rattle.migration.specs.Part.{Part};
+    ghost use Rattle.migration.specs.Table.{parts_of};
+
+    ghost Value = { List Part };
+
+    ghost view = { λ b. parts_of b.shards.items };
+}
+
+impl Block {
+    /// These shards.
+    pub fn of(shards: Vec<Arc<Shard>>) -> Block
+        ensures { result ≡ parts_of shards.items }
+    {
+        Block { shards }
+    }
+
+    /// The shards, in order.
+    pub fn shards(&self) -> &[Arc<Shard>]
+        ensures { parts_of result.now ≡ self.now }
+    {
+        &self.shards
+    }
+
+    /// The block after edits, where its first shard is of this range, and what the edits did to its
+    /// shards. A shard that no edit is of is shared. `own` is scratch space.
+    #[inline(never)]
+    pub fn after(
+        &self,
+        alloc: Global,
+        first: usize,
+        groups: &Groups<'_>,
+        own: &mut Vec<Edit>,
+    ) -> Result<(Block, Counts), AllocError>
+        requires ranges { groups.now.grouping ≡ ByRange }
+        requires within { first + length self.now ≤ groups.now.count }
+        requires fits { groups.now.count < 2 ^ 64 }
+        requires editable { AreEditable first self.now groups.now.edits }
+        ensures edited { IfOk result (λ next. (g : Graph) → AreEditsBelow g.vertex_count groups.now.edits
+            → ArePartsFrom g first self.now → AreEdited groups.now.edits g first next.0 next.1) }
+        ensures same { IfOk result (λ next. length next.0 ≡ length self.now) }
+    {
+        let mut shards = Vec::with_capacity(alloc, self.shards.len())?;
+        let mut counts = Counts::NONE;
+        for (place, shard) in self.shards.iter().enumerate() {
+            if groups.is_empty(first + place) {
+                shards.push(Arc::try_clone(shard)?)?;
+                continue;
+            }
+            groups.read(first + place, own)?;
+            let (edited, more) = shard.apply(alloc, own)?;
+            shards.push(Arc::new(alloc, edited)?)?;
+            counts = counts.plus(more);
+        }
+        Ok((Block { shards }, counts))
+    }
+}

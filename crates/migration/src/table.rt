@@ -1,0 +1,100 @@
+//! The shards of a graph, in blocks that tables share.
+ghost use Rattle.std.specs.Prelude.{◌≡◌, ◌≤◌, IfOk};
+ghost use Rattle.graph_model.specs.declared.limits.TheConstants.{MOST_VERTICES};
+ghost use Rattle.graph_model.specs.Graph.{Graph, empty_graph};
+ghost use Rattle.migration.specs.Blocks.{parts_in, sizes_of, AreFull};
+ghost use Rattle.migration.specs.Table.{IsTable, IsShardOf, IsEditable, AreAfter, parts_of};
+
+use crate::block::{BLOCK_SHARDS, Block};
+use crate::counts::Counts;
+use crate::groups::{Grouping, Groups};
+use crate::shard::Shard;
+use crate::shards::{empty_shards, share_shards};
+use graph_model::{Edit, RANGE_VERTICES};
+use std::alloc::{AllocError, Global};
+use std::marker::Model;
+use std::sync::Arc;
+
+/// The shards of a graph, one for each range. A table after a batch shares with the one before each
+/// block of shards in which nothing is edited, and each shard that is not. It never changes after it was
+/// made.
+#[derive(Drop)]
+pub struct Table {
+    blocks: Vec<Arc<Block>>,
+    count: usize,
+}
+
+impl Model for Table {
+    ghost use Rattle.std.specs.Prelude.{◌≡◌, List, length};
+    ghost use Rattle.migration.specs.Part.{Part};
+    ghost use Rattle.migration.specs.Blocks.{parts_in, sizes_of, AreFull};
+
+    ghost Value = { List Part };
+
+    ghost view = { λ t. parts_in t.blocks.items };
+
+    ghost invariant = { λ t. AreFull (sizes_of t.blocks.items) × (t.count ≡ length (parts_in t.blocks.items)) };
+}
+
+/// Blocks of these shards.
+fn blocks_of(alloc: Global, shards: &[Arc<Shard>]) -> Result<Vec<Arc<Block>>, AllocError>
+    ensures parts { IfOk result (λ blocks. parts_in blocks.items ≡ parts_of shards.now) }
+    ensures full { IfOk result (λ blocks. AreFull (sizes_of blocks.items)) }
+{
+    let mut blocks = Vec::new(alloc);
+    for number in 0..shards.len().div_ceil(BLOCK_SHARDS) {
+        let first = BLOCK_SHARDS * number;
+        let behind = shards.len().min(first + BLOCK_SHARDS);
+        let own = share_shards(alloc, &shards[first..behind])?;
+        blocks.push(Arc::new(alloc, Block::of(own))?)?;
+    }
+    Ok(blocks)
+}
+
+impl Table {
+    /// The table of a graph of so many vertices without an edge.
+    pub fn empty(alloc: Global, vertex_count: u32) -> Result<Table, AllocError>
+        requires some { 1 ≤ vertex_count }
+        requires most { vertex_count ≤ MOST_VERTICES }
+        ensures { IfOk result (λ table. IsTable (empty_graph vertex_count) table) }
+    {
+        let shards = empty_shards(alloc, vertex_count)?;
+        let blocks = blocks_of(alloc, &shards)?;
+        let count = shards.len();
+        Ok(Table { blocks, count })
+    }
+
+    /// The shard in which a vertex's list stands. A vertex past the last range has none.
+    pub fn shard_of(&self, vertex: u64) -> Option<&Shard>
+        ensures { (g : Graph) → IsTable g self.now → IsShardOf g vertex result }
+    {
+        let range = (vertex / u64::from(RANGE_VERTICES)) as usize;
+        let block: &Block = self.blocks.get(range / BLOCK_SHARDS)?;
+        let shard: &Shard = block.shards().get(range % BLOCK_SHARDS)?;
+        Some(shard)
+    }
+
+    /// The table after a batch, and what the batch did. This one stays. It takes a step for each block,
+    /// and copies the blocks in which something is edited; each edited shard is made once.
+    pub fn after(&self, alloc: Global, edits: &[Edit]) -> Result<(Table, Counts), AllocError>
+        requires { IsEditable self.now edits.now }
+        ensures { IfOk result (λ next. AreAfter edits.now self.now next.0 next.1) }
+    {
+        let groups = Groups::of(alloc, Grouping::ByRange, self.count, edits)?;
+        let mut blocks = Vec::with_capacity(alloc, self.blocks.len())?;
+        let mut counts = Counts::NONE;
+        let mut own = Vec::new(alloc);
+        for (number, block) in self.blocks.iter().enumerate() {
+            let first = BLOCK_SHARDS * number;
+            if groups.are_empty(first, first + block.shards().len()) {
+                blocks.push(Arc::try_clone(block)?)?;
+                continue;
+            }
+            let (edited, more) = block.after(alloc, first, &groups, &mut own)?;
+            blocks.push(Arc::new(alloc, edited)?)?;
+            counts = counts.plus(more);
+        }
+        let count = self.count;
+        Ok((Table { blocks, count }, counts))
+    }
+}
