@@ -1,6 +1,8 @@
 pub mod Arithmetic
 pub mod State
+pub mod Next
 pub mod Calls
+pub mod Helpers
 pub mod Step
 pub mod Run
 pub mod EdgeMap
