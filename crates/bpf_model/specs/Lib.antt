@@ -7,5 +7,6 @@ pub mod Step
 pub mod Run
 pub mod EdgeMap
 pub mod CallRows
+pub mod HelperRows
 pub mod ArithmeticLaws
 pub mod Laws
