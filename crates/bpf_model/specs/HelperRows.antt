@@ -6,7 +6,7 @@ use Rattle.graph_model.specs.declared.edit.Edit.TheVariants.{Insert}
 use Rattle.graph_model.specs.Graph.{Graph, empty_graph}
 use Rattle.graph_model.specs.Edits.{after_batch}
 use Rattle.bpf_model.specs.declared.trap.TrapKind.TheVariants.{UnsetRegister, UnknownHelper, RoomNotAllowed}
-use Rattle.bpf_model.specs.Next.{Next, Exits, Traps}
+use Rattle.bpf_model.specs.Next.{Exits, Traps}
 use Rattle.bpf_model.specs.EdgeMap.{edge_record}
 use Rattle.bpf_model.specs.CallRows.{code_unit, exit, Leads}
 
