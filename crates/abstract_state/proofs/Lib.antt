@@ -3,3 +3,4 @@ pub mod Bytes
 pub mod Joined
 pub mod Loads
 pub mod Stores
+pub mod Gathers

@@ -15,21 +15,21 @@ use Rattle.abstract_values.specs.declared.value.AbstractValue.{AbstractValue}
 use Rattle.abstract_values.specs.declared.value.AbstractValue.TheVariants.{Unset, Number, Record, Stack}
 use Rattle.abstract_values.specs.Described.{Describes}
 use Rattle.abstract_state.specs.declared.state.AbstractState.{AbstractState}
-use Rattle.abstract_state.specs.Memory.{is_in_record, is_in_frame, frame_index, is_slot, set_from, without_spills, frame_write, is_pointer, may_store, store_result}
-use Rattle.abstract_state.specs.Described.{IsByteAt, DescribesParts, IsAllowed, IsStored}
+use Rattle.abstract_state.specs.Memory.{is_in_record, is_in_frame, frame_index, is_slot, set_from, unset_from, slots_touched, without_spills, frame_write, frame_fill, is_pointer, may_store, store_result}
+use Rattle.abstract_state.specs.Described.{IsByteAt, DescribesParts, IsAllowed, IsWritten, IsStored}
 use Rattle.abstract_state.proofs.Loads.{at_most, address_is, natural, place_in}
 
-abbrev ok : AbstractState → Result AbstractState Cause
+abbrev pub ok : AbstractState → Result AbstractState Cause
 ok s = Ok s
 
-abbrev failed : Cause → Result AbstractState Cause
+abbrev pub failed : Cause → Result AbstractState Cause
 failed cause = Err cause
 
-size_some : (size : Size) → (1 ≤ size_bytes size) × (size_bytes size ≤ 8)
-size_some Byte = (omega arith, omega arith)
-size_some Half = (omega arith, omega arith)
-size_some Word = (omega arith, omega arith)
-size_some Double = (omega arith, omega arith)
+size_some : (size : Size) → 1 ≤ size_bytes size
+size_some Byte = omega arith
+size_some Half = omega arith
+size_some Word = omega arith
+size_some Double = omega arith
 
 -- memories that agree on some bytes have one number there
 pub number_same : (m n : Partial) (a size : ℕ) → ((i : ℕ) → i < size → m (a + i) ≡ n (a + i)) → number_at m a size ≡ number_at n a size
@@ -70,8 +70,8 @@ beside i k n =
     ]
 
 -- a byte stays a byte
-byte_stays : (before after : Partial) (a size n p : ℕ) → IsStored before after a size n → IsByteAt before p → IsByteAt after p
-byte_stays before after a size n p stored b =
+byte_stays : (before after : Partial) (a size p : ℕ) → IsWritten before after a size → IsByteAt before p → IsByteAt after p
+byte_stays before after a size p stored b =
     elim (beside p a size) [
       | inl inside ↦
           let new = stored.inside (p - a) (omega (arith, inside.0, inside.1)) in
@@ -81,22 +81,46 @@ byte_stays before after a size n p stored b =
     ]
 
 -- the number of a slot apart from a store stays
-slot_stays : (before after : Partial) (a size n base : ℕ) → IsStored before after a size n → (base + 8 ≤ a) ⊎ (a + size ≤ base) → number_at before base 8 ≡ number_at after base 8
-slot_stays before after a size n base stored (inl below) =
+slot_stays : (before after : Partial) (a size base : ℕ) → IsWritten before after a size → (base + 8 ≤ a) ⊎ (a + size ≤ base) → number_at before base 8 ≡ number_at after base 8
+slot_stays before after a size base stored (inl below) =
     number_same before after base 8 (λ i lt. sym (stored.outside (base + i) (inl (omega (arith, below, lt)))))
-slot_stays before after a size n base stored (inr above) =
+slot_stays before after a size base stored (inr above) =
     number_same before after base 8 (λ i lt. sym (stored.outside (base + i) (inr (omega (arith, above)))))
 
-apart : (k size j : ℕ) → 1 ≤ size → size ≤ 8 → j ≢ k / 8 → j ≢ (k + size - 1) / 8 → (8 * j + 8 ≤ k) ⊎ (k + size ≤ 8 * j)
-apart k size j some few first last =
-    elim (cases_lt j (k / 8)) [
-      | inl lt ↦ inl (omega (arith, lt))
-      | inr ge ↦ inr (omega (arith, ge, first, last, some, few))
+-- a slot that bytes do not touch lies apart from them
+apart : (k size j : ℕ) → 1 ≤ size → (j < k / 8) ⊎ (k / 8 + slots_touched k size ≤ j) → (8 * j + 8 ≤ k) ⊎ (k + size ≤ 8 * j)
+apart k size j some (inl below) = inl (omega (arith, below))
+apart k size j some (inr above) = inr (omega (arith, above, some))
+
+-- slots that were unset, and those apart from them
+unset_apart : (slots : List AbstractValue) (k n j : ℕ) → (j < k) ⊎ (k + n ≤ j) → get_or (unset_from slots k n) j Unset ≡ get_or slots j Unset
+unset_apart slots k zero j apart = refl
+unset_apart slots k (suc n) j (inl lt) =
+    unset_apart (set slots k Unset) (k + 1) n j (inl (omega (arith, lt))) ∙ set_other slots k j Unset Unset (λ e. omega (arith, lt, e))
+unset_apart slots k (suc n) j (inr ge) =
+    unset_apart (set slots k Unset) (k + 1) n j (inr (omega (arith, ge))) ∙ set_other slots k j Unset Unset (λ e. omega (arith, ge, e))
+
+set_unset : (slots : List AbstractValue) (i : ℕ) → get_or (set slots i Unset) i Unset ≡ Unset
+set_unset [] i = refl
+set_unset (x ∷ xs) zero = refl
+set_unset (x ∷ xs) (suc i) = set_unset xs i
+
+unset_among : (slots : List AbstractValue) (k n j : ℕ) → k ≤ j → j < k + n → get_or (unset_from slots k n) j Unset ≡ Unset
+unset_among slots k zero j low high = absurd (omega (arith, low, high))
+unset_among slots k (suc n) j low high =
+    elim (cases_eq j k) [
+      | inl same ↦ rw same (unset_apart (set slots k Unset) (k + 1) n k (inl (omega arith)) ∙ set_unset slots k)
+      | inr other ↦ unset_among (set slots k Unset) (k + 1) n j (omega (arith, low, other)) (omega (arith, high))
     ]
 
 moved_up : (base k size j : ℕ) → (8 * j + 8 ≤ k) ⊎ (k + size ≤ 8 * j) → (base + 8 * j + 8 ≤ base + k) ⊎ (base + k + size ≤ base + 8 * j)
 moved_up base k size j (inl below) = inl (omega (arith, below))
 moved_up base k size j (inr above) = inr (omega (arith, above))
+
+-- another slot lies apart from a whole one
+apart_whole : (k j : ℕ) → 8 * (k / 8) ≡ k → j ≢ k / 8 → (8 * j + 8 ≤ k) ⊎ (k + 8 ≤ 8 * j)
+apart_whole k j whole other =
+    elim (cases_lt j (k / 8)) [ inl lt ↦ inl (omega (arith, lt)) | inr ge ↦ inr (omega (arith, ge, other, whole)) ]
 
 -- a whole slot is spilled
 spilled_whole : (l top : ℕ) (slots : List AbstractValue) (before after : Partial) (k n j : ℕ) (v : AbstractValue) → 512 ≤ top → n < 2 ^ 64 → 8 * (k / 8) ≡ k → IsStored before after (top - 512 + k) 8 n → Describes l top v (Some n) → Describes l top (get_or slots j Unset) (number_at before (top - 512 + 8 * j) 8) → Describes l top (get_or (set slots (k / 8) v) j Unset) (number_at after (top - 512 + 8 * j) 8)
@@ -110,38 +134,27 @@ spilled_whole l top slots before after k n j v low lt whole stored new old =
           let described = set_described l top slots (k / 8) v (number_at after (top - 512 + 8 * (k / 8)) 8) (subst (λ x. Describes l top v x) there new) in
           subst (λ i. Describes l top (get_or (set slots (k / 8) v) i Unset) (number_at after (top - 512 + 8 * i) 8)) (sym same) described
       | inr other ↦
-          let far = apart k 8 j (omega arith) (omega arith) other (λ e. other (omega (arith, e, whole))) in
-          let stays = slot_stays before after (top - 512 + k) 8 n (top - 512 + 8 * j) stored (moved_up (top - 512) k 8 j far) in
+          let far = apart_whole k j whole other in
+          let stays = slot_stays before after (top - 512 + k) 8 (top - 512 + 8 * j) stored.written (moved_up (top - 512) k 8 j far) in
           let kept : Describes l top (get_or slots j Unset) (number_at after (top - 512 + 8 * j) 8) = subst (λ x. Describes l top (get_or slots j Unset) x) stays old in
           subst (λ w. Describes l top w (number_at after (top - 512 + 8 * j) 8)) (sym (set_other slots (k / 8) j v Unset other)) kept
     ]
 
--- the slots that another store touches are no longer spilled
-spilled_part : (l top : ℕ) (slots : List AbstractValue) (before after : Partial) (k size n j : ℕ) → 512 ≤ top → 1 ≤ size → size ≤ 8 → IsStored before after (top - 512 + k) size n → Describes l top (get_or slots j Unset) (number_at before (top - 512 + 8 * j) 8) → Describes l top (get_or (without_spills slots k size) j Unset) (number_at after (top - 512 + 8 * j) 8)
-spilled_part l top slots before after k size n j low some few stored old =
-    let first = k / 8 in
-    let last = (k + size - 1) / 8 in
-    let x = number_at after (top - 512 + 8 * j) 8 in
-    elim (cases_eq j last) [
-      | inl same ↦
-          subst (λ i. Describes l top (get_or (set (set slots first Unset) last Unset) i Unset) x) (sym same) (set_described l top (set slots first Unset) last Unset x tt)
-      | inr not_last ↦
-          let outer = set_other (set slots first Unset) last j Unset Unset not_last in
-          elim (cases_eq j first) [
-            | inl same ↦
-                let cleared = subst (λ i. Describes l top (get_or (set slots first Unset) i Unset) x) (sym same) (set_described l top slots first Unset x tt) in
-                subst (λ w. Describes l top w x) (sym outer) cleared
-            | inr not_first ↦
-                let far = apart k size j some few not_first not_last in
-                let stays = slot_stays before after (top - 512 + k) size n (top - 512 + 8 * j) stored (moved_up (top - 512) k size j far) in
-                let kept : Describes l top (get_or slots j Unset) x = subst (λ y. Describes l top (get_or slots j Unset) y) stays old in
-                subst (λ w. Describes l top w x) (sym (outer ∙ set_other slots first j Unset Unset not_first)) kept
-          ]
+-- the slots that bytes touch are no longer spilled
+spilled_part : (l top : ℕ) (slots : List AbstractValue) (before after : Partial) (k size j : ℕ) → 512 ≤ top → 1 ≤ size → IsWritten before after (top - 512 + k) size → Describes l top (get_or slots j Unset) (number_at before (top - 512 + 8 * j) 8) → Describes l top (get_or (without_spills slots k size) j Unset) (number_at after (top - 512 + 8 * j) 8)
+spilled_part l top slots before after k size j low some written old =
+    elim (beside j (k / 8) (slots_touched k size)) [
+      | inl among ↦
+          subst (λ w. Describes l top w (number_at after (top - 512 + 8 * j) 8)) (sym (unset_among slots (k / 8) (slots_touched k size) j among.0 among.1)) tt
+      | inr out ↦
+          let stays = slot_stays before after (top - 512 + k) size (top - 512 + 8 * j) written (moved_up (top - 512) k size j (apart k size j some out)) in
+          let kept : Describes l top (get_or slots j Unset) (number_at after (top - 512 + 8 * j) 8) = subst (λ x. Describes l top (get_or slots j Unset) x) stays old in
+          subst (λ w. Describes l top w (number_at after (top - 512 + 8 * j) 8)) (sym (unset_apart slots (k / 8) (slots_touched k size) j out)) kept
     ]
 
 -- every slot after a store in the frame
-spilled_after : (l top : ℕ) (slots : List AbstractValue) (before after : Partial) (k size n j : ℕ) (v : AbstractValue) → 512 ≤ top → n < 2 ^ 64 → 1 ≤ size → size ≤ 8 → IsStored before after (top - 512 + k) size n → Describes l top v (Some n) → Describes l top (get_or slots j Unset) (number_at before (top - 512 + 8 * j) 8) → Describes l top (get_or (cond (is_slot k size) (set slots (k / 8) v) (without_spills slots k size)) j Unset) (number_at after (top - 512 + 8 * j) 8)
-spilled_after l top slots before after k size n j v low lt some few stored new old =
+spilled_after : (l top : ℕ) (slots : List AbstractValue) (before after : Partial) (k size n j : ℕ) (v : AbstractValue) → 512 ≤ top → n < 2 ^ 64 → 1 ≤ size → IsStored before after (top - 512 + k) size n → Describes l top v (Some n) → Describes l top (get_or slots j Unset) (number_at before (top - 512 + 8 * j) 8) → Describes l top (get_or (cond (is_slot k size) (set slots (k / 8) v) (without_spills slots k size)) j Unset) (number_at after (top - 512 + 8 * j) 8)
+spilled_after l top slots before after k size n j v low lt some stored new old =
     elim (cases_Bool (is_slot k size)) [
       | inl is ↦
           let whole = and_parts (eqb size 8) (eqb (k % 8) 0) is in
@@ -149,38 +162,54 @@ spilled_after l top slots before after k size n j v low lt some few stored new o
           let aligned : 8 * (k / 8) ≡ k = omega (arith, eqb-true (k % 8) 0 whole.1) in
           let stored_8 : IsStored before after (top - 512 + k) 8 n = subst (λ z. IsStored before after (top - 512 + k) z n) eight stored in
           rw is (spilled_whole l top slots before after k n j v low lt aligned stored_8 new old)
-      | inr not_is ↦ rw not_is (spilled_part l top slots before after k size n j low some few stored old)
+      | inr not_is ↦ rw not_is (spilled_part l top slots before after k size j low some stored.written old)
     ]
 
-frame_described : (l top : ℕ) (s : AbstractState) (registers before after : Partial) (k size n : ℕ) (v : AbstractValue) → 512 ≤ top → n < 2 ^ 64 → 1 ≤ size → size ≤ 8 → DescribesParts l top s registers before → IsStored before after (top - 512 + k) size n → Describes l top v (Some n) → DescribesParts l top (frame_write s k size v) registers after
-frame_described l top s registers before after k size n v low lt some few d stored new = record {
-  values = d.values;
-  record_set = λ i inside. byte_stays before after (top - 512 + k) size n (record_base + i) stored (d.record_set i inside);
-  frame = record {
-    stack_set = λ i below h. elim (beside i k size) [
+-- the bytes of the frame after some of them were written
+set_after : (top : ℕ) (flags : List Bool) (before after : Partial) (k size i : ℕ) → IsWritten before after (top - 512 + k) size → (get_or flags i false ≡ true → IsByteAt before (top - 512 + i)) → get_or (set_from flags k size) i false ≡ true → IsByteAt after (top - 512 + i)
+set_after top flags before after k size i written old h =
+    elim (beside i k size) [
       | inl inside ↦
-          let b = stored.inside (i - k) (omega (arith, inside.0, inside.1)) in
+          let b = written.inside (i - k) (omega (arith, inside.0, inside.1)) in
           let same : top - 512 + k + (i - k) ≡ top - 512 + i = omega (arith, inside.0) in
           subst (λ p. IsByteAt after p) same b
-      | inr out ↦ byte_stays before after (top - 512 + k) size n (top - 512 + i) stored (d.frame.stack_set i below (sym (flags_other s.bytes_set k size i out) ∙ h))
-    ];
-    spilled = λ j below. spilled_after l top s.slots before after k size n j v low lt some few stored new (d.frame.spilled j below);
+      | inr out ↦ byte_stays before after (top - 512 + k) size (top - 512 + i) written (old (sym (flags_other flags k size i out) ∙ h))
+    ]
+
+frame_described : (l top : ℕ) (s : AbstractState) (registers before after : Partial) (k size n : ℕ) (v : AbstractValue) → 512 ≤ top → n < 2 ^ 64 → 1 ≤ size → DescribesParts l top s registers before → IsStored before after (top - 512 + k) size n → Describes l top v (Some n) → DescribesParts l top (frame_write s k size v) registers after
+frame_described l top s registers before after k size n v low lt some d stored new = record {
+  values = d.values;
+  record_set = λ i inside. byte_stays before after (top - 512 + k) size (record_base + i) stored.written (d.record_set i inside);
+  frame = record {
+    stack_set = λ i below h. set_after top s.bytes_set before after k size i stored.written (d.frame.stack_set i below) h;
+    spilled = λ j below. spilled_after l top s.slots before after k size n j v low lt some stored new (d.frame.spilled j below);
   };
 }
 
--- a store in the record leaves the frame as it was
-record_described : (l top : ℕ) (s : AbstractState) (registers before after : Partial) (place size n : ℕ) → l < 2 ^ 16 → record_base + 2 ^ 17 ≤ top → place + size ≤ l → DescribesParts l top s registers before → IsStored before after (record_base + place) size n → DescribesParts l top s registers after
-record_described l top s registers before after place size n short high inside d stored = record {
+-- the frame after some of its bytes were filled
+pub filled_described : (l top : ℕ) (s : AbstractState) (registers before after : Partial) (k size : ℕ) → 512 ≤ top → 1 ≤ size → DescribesParts l top s registers before → IsWritten before after (top - 512 + k) size → DescribesParts l top (frame_fill s k size) registers after
+filled_described l top s registers before after k size low some d written = record {
   values = d.values;
-  record_set = λ i lt. byte_stays before after (record_base + place) size n (record_base + i) stored (d.record_set i lt);
+  record_set = λ i inside. byte_stays before after (top - 512 + k) size (record_base + i) written (d.record_set i inside);
   frame = record {
-    stack_set = λ i below h. byte_stays before after (record_base + place) size n (top - 512 + i) stored (d.frame.stack_set i below h);
-    spilled = λ j below. subst (λ x. Describes l top (get_or s.slots j Unset) x) (slot_stays before after (record_base + place) size n (top - 512 + 8 * j) stored (inr (omega (arith, inside, short, high)))) (d.frame.spilled j below);
+    stack_set = λ i below h. set_after top s.bytes_set before after k size i written (d.frame.stack_set i below) h;
+    spilled = λ j below. spilled_part l top s.slots before after k size j low some written (d.frame.spilled j below);
+  };
+}
+
+-- what is written in the record leaves the frame as it was
+pub record_described : (l top : ℕ) (s : AbstractState) (registers before after : Partial) (place size : ℕ) → l < 2 ^ 16 → record_base + 2 ^ 17 ≤ top → place + size ≤ l → DescribesParts l top s registers before → IsWritten before after (record_base + place) size → DescribesParts l top s registers after
+record_described l top s registers before after place size short high inside d written = record {
+  values = d.values;
+  record_set = λ i lt. byte_stays before after (record_base + place) size (record_base + i) written (d.record_set i lt);
+  frame = record {
+    stack_set = λ i below h. byte_stays before after (record_base + place) size (top - 512 + i) written (d.frame.stack_set i below h);
+    spilled = λ j below. subst (λ x. Describes l top (get_or s.slots j Unset) x) (slot_stays before after (record_base + place) size (top - 512 + 8 * j) written (inr (omega (arith, inside, short, high)))) (d.frame.spilled j below);
   };
 }
 
 -- what a store leads to
-abbrev Leaves : ℕ → ℕ → AbstractState → Partial → Partial → ℕ → ℕ → Type 0
+abbrev pub Leaves : ℕ → ℕ → AbstractState → Partial → Partial → ℕ → ℕ → Type 0
 Leaves l top s registers after a size = IsAllowed l top a size × DescribesParts l top s registers after
 
 record_store : (l top lo hi : ℕ) (s t : AbstractState) (registers before after : Partial) (v : AbstractValue) (z : ℤ) (size : Size) (x n : ℕ) → l < 2 ^ 16 → record_base + 2 ^ 17 ≤ top → FitsSigned w16 z → store_result l s (Record lo hi) z (size_bytes size) v ≡ ok t → DescribesParts l top s registers before → Describes l top (Record lo hi) (Some x) → IsStored before after (address_at x z) (size_bytes size) n → Leaves l top t registers after (address_at x z) (size_bytes size)
@@ -198,7 +227,7 @@ record_store l top lo hi s t registers before after v z size x n short high fits
                 let address = address_is x (record_base + at.place) z (omega (arith, at.inside, short)) fits moved in
                 let here : IsStored before after (record_base + at.place) (size_bytes size) n = subst (λ a. IsStored before after a (size_bytes size) n) address stored in
                 let allowed : IsAllowed l top (record_base + at.place) (size_bytes size) = inl (and_from _ _ (le-leb record_base (record_base + at.place) (omega arith)) (le-leb ((record_base + at.place) + size_bytes size) (record_base + l) (omega (arith, at.inside)))) in
-                let described = record_described l top s registers before after at.place (size_bytes size) n short high at.inside d here in
+                let described = record_described l top s registers before after at.place (size_bytes size) short high at.inside d here.written in
                 rw address (allowed, subst (λ w. DescribesParts l top w registers after) same described)
             | inr not_is ↦ absurd (let e : failed OutOfRange ≡ ok t = (rw not_is at tests) in cc)
           ]
@@ -224,7 +253,7 @@ frame_store l top offset s t registers before after v z size x n low high fits l
                 let address = address_is x (top - 512 + k) z (omega (arith, inside, low, high)) fits moved in
                 let here : IsStored before after (top - 512 + k) (size_bytes size) n = subst (λ a. IsStored before after a (size_bytes size) n) address stored in
                 let allowed : IsAllowed l top (top - 512 + k) (size_bytes size) = inr (omega arith, omega (arith, inside, low)) in
-                let described = frame_described l top s registers before after k (size_bytes size) n v low lt (size_some size).0 (size_some size).1 d here new in
+                let described = frame_described l top s registers before after k (size_bytes size) n v low lt (size_some size) d here new in
                 rw address (allowed, subst (λ w. DescribesParts l top w registers after) same described)
             | inr not_is ↦ absurd (let e : failed OutOfRange ≡ ok t = (rw not_is at tests) in cc)
           ]

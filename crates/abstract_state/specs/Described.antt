@@ -28,8 +28,12 @@ abbrev pub IsAllowed : ℕ → ℕ → ℕ → ℕ → Type 0
 IsAllowed record_length top a size =
     (in_record record_length a size ≡ true) ⊎ ((top - frame_bytes ≤ a) × (a + size ≤ top))
 
--- a memory after so many low bytes of a number were stored from an address on
-pub record IsStored (before after : Partial) (a size n : ℕ) : Type 0 where
+-- a memory after so many bytes from an address on were written
+pub record IsWritten (before after : Partial) (a size : ℕ) : Type 0 where
   pub outside : (p : ℕ) → (p < a) ⊎ (a + size ≤ p) → after p ≡ before p
   pub inside : (i : ℕ) → i < size → IsByteAt after (a + i)
+
+-- and they are the low bytes of a number
+pub record IsStored (before after : Partial) (a size n : ℕ) : Type 0 where
+  pub written : IsWritten before after a size
   pub number : number_at after a size ≡ Some (n % 256 ^ size)

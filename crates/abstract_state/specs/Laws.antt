@@ -8,8 +8,8 @@ use Rattle.abstract_values.specs.declared.value.AbstractValue.{AbstractValue}
 use Rattle.abstract_values.specs.Described.{Describes}
 use Rattle.abstract_state.specs.declared.state.AbstractState.{AbstractState}
 use Rattle.abstract_state.specs.States.{join_of_states}
-use Rattle.abstract_state.specs.Memory.{load_result, store_result}
-use Rattle.abstract_state.specs.Described.{DescribesParts, IsAllowed, IsStored}
+use Rattle.abstract_state.specs.Memory.{load_result, store_result, gather_result}
+use Rattle.abstract_state.specs.Described.{DescribesParts, IsAllowed, IsWritten, IsStored}
 
 -- what one of two states describes, their join describes too
 abbrev pub JoinDescribesStates : Type 0
@@ -39,3 +39,13 @@ StoreDescribes =
     → Describes record_length top base (Some x) → Describes record_length top v (Some n)
     → IsStored before after (address_at x offset) (size_bytes size) n
     → IsAllowed record_length top (address_at x offset) (size_bytes size) × DescribesParts record_length top b registers after
+
+-- what the rules say of gather describes the memory after it, and its bytes are allowed
+abbrev pub GatherDescribes : Type 0
+GatherDescribes =
+    (record_length top : ℕ) (a b : AbstractState) (registers before after : Partial) (pointer : AbstractValue) (room x : ℕ)
+    → record_length < 2 ^ 16 → record_base + 2 ^ 17 ≤ top → 1 ≤ room
+    → gather_result record_length a pointer room ≡ Ok b
+    → DescribesParts record_length top a registers before → Describes record_length top pointer (Some x)
+    → IsWritten before after x room
+    → IsAllowed record_length top x room × DescribesParts record_length top b registers after

@@ -3,7 +3,7 @@ use Rattle.std.specs.Prelude.{ℕ, zero, suc, ◌+◌, ◌-◌, ◌*◌, ◌/◌
 use Rattle.bpf_isa.specs.declared.instruction.SignedSize.{SignedSize}
 use Rattle.bpf_isa.specs.Sizes.{size_bytes, plain_size}
 use Rattle.bpf_model.specs.declared.cause.Cause.{Cause}
-use Rattle.bpf_model.specs.declared.cause.Cause.TheVariants.{UnsetRegister, PointerUse, OutOfRange, UnsetStackByte}
+use Rattle.bpf_model.specs.declared.cause.Cause.TheVariants.{UnsetRegister, PointerUse, OutOfRange, UnsetStackByte, HelperArgument}
 use Rattle.abstract_values.specs.declared.value.AbstractValue.{AbstractValue}
 use Rattle.abstract_values.specs.declared.value.AbstractValue.TheVariants.{Unset, Number, Record, Stack}
 use Rattle.abstract_state.specs.declared.state.AbstractState.{AbstractState}
@@ -71,9 +71,18 @@ abbrev pub set_from : List Bool → ℕ → ℕ → List Bool
 set_from flags k zero = flags
 set_from flags k (suc n) = set_from (slice_set flags k true) (k + 1) n
 
--- what was spilled is no longer known in the slots that the bytes touch, two at most
+-- what was spilled is no longer known of so many slots from slot j
+abbrev pub unset_from : List AbstractValue → ℕ → ℕ → List AbstractValue
+unset_from slots j zero = slots
+unset_from slots j (suc n) = unset_from (slice_set slots j Unset) (j + 1) n
+
+-- how many slots so many bytes from byte k touch
+abbrev pub slots_touched : ℕ → ℕ → ℕ
+slots_touched k size = (k + size - 1) / 8 + 1 - k / 8
+
+-- nor of all slots that the bytes touch
 abbrev pub without_spills : List AbstractValue → ℕ → ℕ → List AbstractValue
-without_spills slots k size = slice_set (slice_set slots (k / 8) Unset) ((k + size - 1) / 8) Unset
+without_spills slots k size = unset_from slots (k / 8) (slots_touched k size)
 
 -- bytes of the frame are written; a slot that is written as a whole keeps the value
 abbrev pub frame_write : AbstractState → ℕ → ℕ → AbstractValue → AbstractState
@@ -102,6 +111,19 @@ store_result record_length s (Number lo hi) offset size v = Err PointerUse
 store_result record_length s (Record lo hi) offset size v =
     if is_pointer v then Err PointerUse else (if is_in_record record_length lo hi offset size then Ok s else Err OutOfRange)
 store_result record_length s (Stack top) offset size v = frame_store_result s (top +ℤ offset) size v
+
+-- bytes of the frame are filled, and no value is known of a slot that they touch
+abbrev pub frame_fill : AbstractState → ℕ → ℕ → AbstractState
+frame_fill s k size = record s { bytes_set = set_from s.bytes_set k size; slots = without_spills s.slots k size }
+
+-- what is known after the helper gather has filled so many bytes from a pointer on
+abbrev pub gather_result : ℕ → AbstractState → AbstractValue → ℕ → Result AbstractState Cause
+gather_result record_length s Unset room = Err UnsetRegister
+gather_result record_length s (Number lo hi) room = Err HelperArgument
+gather_result record_length s (Record lo hi) room =
+    if is_in_record record_length lo hi (pos 0) room then Ok s else Err OutOfRange
+gather_result record_length s (Stack top) room =
+    if is_in_frame top room then Ok (frame_fill s (frame_index top) room) else Err OutOfRange
 
 -- an answer of the code and the state that it leaves
 abbrev pub store_answer : Result (Unit {0}) Cause → AbstractState → Result AbstractState Cause

@@ -56,7 +56,11 @@ abbrev pub callee_state : AbstractState → AbstractState
 callee_state s =
     record { registers = Unset ∷ argument_of s 1 ∷ argument_of s 2 ∷ argument_of s 3 ∷ argument_of s 4 ∷ argument_of s 5 ∷ Unset ∷ Unset ∷ Unset ∷ Unset ∷ Stack (pos 0) ∷ []; bytes_set = replicate frame_bytes false; slots = replicate frame_slots Unset }
 
--- behind a call R0 is any number and nothing is known of R1 to R5; the rest is as it was
+-- behind a call nothing is known of R1 to R5 and R0 is the answer; the rest is as it was
+abbrev pub state_behind_helper : AbstractState → (answer : AbstractValue) → AbstractState
+state_behind_helper s answer =
+    record s { registers = answer ∷ Unset ∷ Unset ∷ Unset ∷ Unset ∷ Unset ∷ known_of s 6 ∷ known_of s 7 ∷ known_of s 8 ∷ known_of s 9 ∷ known_of s 10 ∷ [] }
+
+-- a function of the program answers with any number
 abbrev pub state_behind_call : AbstractState → AbstractState
-state_behind_call s =
-    record s { registers = Number 0 (2 ^ 64 - 1) ∷ Unset ∷ Unset ∷ Unset ∷ Unset ∷ Unset ∷ known_of s 6 ∷ known_of s 7 ∷ known_of s 8 ∷ known_of s 9 ∷ known_of s 10 ∷ [] }
+state_behind_call s = state_behind_helper s (Number 0 (2 ^ 64 - 1))

@@ -1,6 +1,6 @@
-//! What is known where a function of the program is called.
+//! What is known where a function of the program is called, and behind calls.
 ghost use Rattle.std.specs.Prelude.{◌≡◌};
-ghost use Rattle.abstract_state.specs.States.{known_of, argument_value, argument_of, callee_state, state_behind_call};
+ghost use Rattle.abstract_state.specs.States.{known_of, argument_value, argument_of, callee_state, state_behind_helper, state_behind_call};
 
 use crate::state::{AbstractState, FRAME_SLOTS};
 use abstract_values::AbstractValue;
@@ -42,8 +42,20 @@ pub fn enter_call(state: &AbstractState) -> AbstractState
     }
 }
 
-/// What is known behind a call: R0 is any number, nothing is known of R1 to R5, and R6 to R10 and the
-/// frame are as they were.
+/// What is known behind the call of a helper: R0 is its answer, nothing is known of R1 to R5, and R6 to R10
+/// and the frame are as they were.
+pub fn return_from_helper(state: &mut AbstractState, answer: AbstractValue)
+    ensures { state.new ≡ state_behind_helper state.old answer }
+{
+    let unset = AbstractValue::Unset;
+    let known = state.registers;
+    state.registers = [
+        answer, unset, unset, unset, unset, unset, known[6], known[7], known[8], known[9],
+        known[10],
+    ];
+}
+
+/// What is known behind a call of the program's own function, which answers with any number.
 pub fn return_from_call(state: &mut AbstractState)
     ensures { state.new ≡ state_behind_call state.old }
 {
@@ -51,9 +63,5 @@ pub fn return_from_call(state: &mut AbstractState)
         lo: 0,
         hi: u64::MAX,
     };
-    let unset = AbstractValue::Unset;
-    let known = state.registers;
-    state.registers = [
-        any, unset, unset, unset, unset, unset, known[6], known[7], known[8], known[9], known[10],
-    ];
+    return_from_helper(state, any);
 }

@@ -1,5 +1,5 @@
 //! What is known of all registers and of the stack of a frame at a place in a program, and how loads,
-//! stores, calls and the meeting of two ways change it. No call takes memory.
+//! stores, calls of functions and helpers, and the meeting of two ways change it. No call takes memory.
 #![tactic(auto)]
 
 mod calls;
@@ -11,7 +11,7 @@ mod state;
 #[cfg(test)]
 mod tests;
 
-pub use calls::{enter_call, return_from_call};
+pub use calls::{enter_call, return_from_call, return_from_helper};
 pub use joining::join_into;
-pub use memory::{load, load_signed, store};
+pub use memory::{gather, load, load_signed, store};
 pub use state::AbstractState;

@@ -1,9 +1,9 @@
 //! Loads and stores through what is known of their base (RFC 9669, section 5).
 ghost use Rattle.std.specs.Prelude.{◌≡◌, ◌≤◌, ◌<◌, ◌+◌, ◌+ℤ◌, if◌then◌else◌, Some, None, IfErr, IfSome, negsuc, ◌≤ℤ◌};
 ghost use Rattle.bpf_isa.specs.Sizes.{size_bytes};
-ghost use Rattle.abstract_state.specs.Memory.{is_in_record, is_in_frame, frame_index, is_pointer, load_result, load_signed_result, frame_store_result, store_result, store_answer};
+ghost use Rattle.abstract_state.specs.Memory.{is_in_record, is_in_frame, frame_index, is_pointer, load_result, load_signed_result, frame_store_result, store_result, gather_result, store_answer};
 
-use crate::stack::{any_number, is_whole_slot, load_frame, store_frame};
+use crate::stack::{any_number, fill_frame, is_whole_slot, load_frame, store_frame};
 use crate::state::AbstractState;
 use abstract_values::AbstractValue;
 use bpf_isa::{SignedSize, Size};
@@ -11,7 +11,7 @@ use bpf_model::{Cause, FRAME_BYTES};
 
 /// Whether bytes at an offset from a range of places lie in a record.
 fn is_inside_record(record_length: u16, lo: u16, hi: u16, offset: i16, bytes: usize) -> bool
-    requires few { bytes ≤ 8 }
+    requires few { bytes ≤ FRAME_BYTES }
     ensures { result ≡ is_in_record record_length lo hi offset bytes }
 {
     let offset = i64::from(offset);
@@ -24,7 +24,7 @@ fn is_inside_record(record_length: u16, lo: u16, hi: u16, offset: i16, bytes: us
 
 /// Whether bytes at an offset from a place lie in the frame.
 fn is_inside_frame(top: i16, offset: i16, bytes: usize) -> bool
-    requires { bytes ≤ 8 }
+    requires { bytes ≤ FRAME_BYTES }
     ensures { result ≡ is_in_frame (top +ℤ offset) bytes }
 {
     let place = i64::from(top) + i64::from(offset);
@@ -44,7 +44,7 @@ fn frame_byte(top: i16, offset: i16) -> usize
 
 /// The first byte of the frame at an offset from a place, if so many bytes lie in the frame.
 fn find_in_frame(top: i16, offset: i16, bytes: usize) -> Option<usize>
-    requires { bytes ≤ 8 }
+    requires { bytes ≤ FRAME_BYTES }
     ensures found { result ≡ (if is_in_frame (top +ℤ offset) bytes then Some (frame_index (top +ℤ offset)) else None) }
     ensures inside { IfSome result (λ first. first + bytes ≤ FRAME_BYTES) }
 {
@@ -169,5 +169,38 @@ pub fn store(
             }
         }
         AbstractValue::Stack { offset: top } => store_in_frame(state, top, offset, bytes, value),
+    }
+}
+
+/// What is known after the helper gather has filled so many bytes from a pointer on; it changes nothing
+/// where it is refused. Of a slot that it touches nothing is known.
+pub fn gather(
+    record_length: u16,
+    state: &mut AbstractState,
+    pointer: AbstractValue,
+    room: usize,
+) -> Result<(), Cause>
+    requires some { 1 ≤ room }
+    requires few { room ≤ FRAME_BYTES }
+    ensures filled { gather_result record_length state.old pointer room ≡ store_answer result state.new }
+    ensures unchanged { IfErr result (λ cause. state.new ≡ state.old) }
+{
+    match pointer {
+        AbstractValue::Unset => Err(Cause::UnsetRegister),
+        AbstractValue::Number { .. } => Err(Cause::HelperArgument),
+        AbstractValue::Record { lo, hi } => {
+            if is_inside_record(record_length, lo, hi, 0, room) {
+                Ok(())
+            } else {
+                Err(Cause::OutOfRange)
+            }
+        }
+        AbstractValue::Stack { offset: top } => match find_in_frame(top, 0, room) {
+            None => Err(Cause::OutOfRange),
+            Some(first) => {
+                fill_frame(state, first, room);
+                Ok(())
+            }
+        },
     }
 }

@@ -1,6 +1,6 @@
 //! The bytes and slots of the frame.
 ghost use Rattle.std.specs.Prelude.{◌≡◌, ◌+◌, ◌*◌, ◌-◌, ◌^◌, ◌<◌, ◌≤◌};
-ghost use Rattle.abstract_state.specs.Memory.{is_slot, is_spilled, are_set, any_of_size, frame_value, frame_read, set_from, without_spills, frame_write};
+ghost use Rattle.abstract_state.specs.Memory.{is_slot, is_spilled, are_set, any_of_size, frame_value, frame_read, set_from, unset_from, slots_touched, without_spills, frame_write, frame_fill};
 
 use crate::state::{AbstractState, FRAME_SLOTS};
 use abstract_values::AbstractValue;
@@ -69,14 +69,35 @@ pub(crate) fn load_frame(
     Ok(any_number(bytes))
 }
 
+/// Ends what is known of so many slots from slot `first`.
+fn unset_slots(slots: &mut [AbstractValue; FRAME_SLOTS], first: usize, count: usize)
+    requires inside { first + count ≤ FRAME_SLOTS }
+    ensures { slots.new ≡ unset_from slots.old first count }
+{
+    for i in 0..count {
+        slots[first + i] = AbstractValue::Unset;
+    }
+}
+
 /// Ends what is known of the slots that bytes touch.
 fn end_spills(slots: &mut [AbstractValue; FRAME_SLOTS], first: usize, bytes: usize)
     requires inside { first + bytes ≤ FRAME_BYTES }
     requires some { 1 ≤ bytes }
     ensures { slots.new ≡ without_spills slots.old first bytes }
 {
-    slots[first / 8] = AbstractValue::Unset;
-    slots[(first + bytes - 1) / 8] = AbstractValue::Unset;
+    let slot = first / 8;
+    let last = (first + bytes - 1) / 8;
+    unset_slots(slots, slot, last + 1 - slot);
+}
+
+/// Fills bytes of the frame with numbers of which nothing is kept.
+pub(crate) fn fill_frame(state: &mut AbstractState, first: usize, bytes: usize)
+    requires inside { first + bytes ≤ FRAME_BYTES }
+    requires some { 1 ≤ bytes }
+    ensures { state.new ≡ frame_fill state.old first bytes }
+{
+    set_bytes(&mut state.bytes_set, first, bytes);
+    end_spills(&mut state.slots, first, bytes);
 }
 
 /// Writes a value to bytes of the frame.

@@ -1,9 +1,10 @@
 -- The registers of functions that begin and that go on, as lists and as maps.
-use Rattle.std.proofs.Common.{◌≡◌, ℕ, zero, suc, ◌-◌, nat_le, true, false, List, [], ◌∷◌, get_or, Option, Bool, Some, None, refl, inl, inr, ap, ◌∙◌, arith}
+use Rattle.std.proofs.Common.{◌≡◌, ℕ, zero, suc, ◌≤◌, length, nat_le, List, [], ◌∷◌, get_or, Option, Some, None, refl, inl, inr, ap, ◌∙◌, arith}
 use Rattle.std.specs.Prelude.{ℤ, ◌&&◌}
 use Rattle.std.proofs.lemmas.Bool.{cases_Bool, and_parts, leb-true}
+use Rattle.std.proofs.lemmas.List.{get_or_past}
 use Rattle.std.proofs.Math.Path.{fun_ext}
-use Rattle.bpf_model.specs.State.{Partial, Saved, with_value, only}
+use Rattle.bpf_model.specs.State.{Partial, Saved, with_value, without_values, only}
 use Rattle.bpf_model.specs.Step.{Goes}
 use Rattle.bpf_machine.specs.declared.callers.Kept.{Kept}
 use Rattle.bpf_machine.specs.Seen.{values_of, saved_of}
@@ -58,6 +59,25 @@ kept_at xs pc (suc (suc (suc (suc (suc (suc (suc (suc (suc (suc r)))))))))) =
       | inl is ↦ absurd (let low = leb-true (suc (suc (suc (suc (suc (suc (suc (suc (suc (suc r)))))))))) 9 ((and_parts (nat_le 6 (suc (suc (suc (suc (suc (suc (suc (suc (suc (suc r))))))))))) (nat_le (suc (suc (suc (suc (suc (suc (suc (suc (suc (suc r)))))))))) 9) is).1) in omega (arith, low))
       | inr not_is ↦ rw not_is refl
     ]
+
+answered_at : (xs : List (Option ℕ)) (value r : ℕ) → length xs ≤ 11 → values_of (Some value ∷ None ∷ None ∷ None ∷ None ∷ None ∷ get_or xs 6 None ∷ get_or xs 7 None ∷ get_or xs 8 None ∷ get_or xs 9 None ∷ get_or xs 10 None ∷ []) r ≡ with_value (without_values (values_of xs) 1 5) 0 value r
+answered_at xs value zero few = refl
+answered_at xs value (suc zero) few = refl
+answered_at xs value (suc (suc zero)) few = refl
+answered_at xs value (suc (suc (suc zero))) few = refl
+answered_at xs value (suc (suc (suc (suc zero)))) few = refl
+answered_at xs value (suc (suc (suc (suc (suc zero))))) few = refl
+answered_at xs value (suc (suc (suc (suc (suc (suc zero)))))) few = refl
+answered_at xs value (suc (suc (suc (suc (suc (suc (suc zero))))))) few = refl
+answered_at xs value (suc (suc (suc (suc (suc (suc (suc (suc zero)))))))) few = refl
+answered_at xs value (suc (suc (suc (suc (suc (suc (suc (suc (suc zero))))))))) few = refl
+answered_at xs value (suc (suc (suc (suc (suc (suc (suc (suc (suc (suc zero)))))))))) few = refl
+answered_at xs value (suc (suc (suc (suc (suc (suc (suc (suc (suc (suc (suc r))))))))))) few =
+    let none : get_or xs (suc (suc (suc (suc (suc (suc (suc (suc (suc (suc (suc r))))))))))) None ≡ None = get_or_past xs (suc (suc (suc (suc (suc (suc (suc (suc (suc (suc (suc r))))))))))) None (omega (arith, few)) in
+    grind (arith, none)
+
+pub answered_held : (xs : List (Option ℕ)) (value : ℕ) → length xs ≤ 11 → values_of (Some value ∷ None ∷ None ∷ None ∷ None ∷ None ∷ get_or xs 6 None ∷ get_or xs 7 None ∷ get_or xs 8 None ∷ get_or xs 9 None ∷ get_or xs 10 None ∷ []) ≡ with_value (without_values (values_of xs) 1 5) 0 value
+answered_held xs value few = fun_ext (λ r. answered_at xs value r few)
 
 abbrev saved_record : Partial → ℤ → Saved
 saved_record registers pc = record { registers = registers; return_pc = pc }

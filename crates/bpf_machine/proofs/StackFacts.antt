@@ -1,15 +1,15 @@
 -- The frames in memory, by the bytes of all frames in a row.
-use Rattle.std.proofs.Common.{◌≡◌, ◌≢◌, ℕ, zero, suc, ◌+◌, ◌-◌, ◌*◌, ◌/◌, ◌%◌, ◌<◌, ◌≤◌, true, false, Bool, cond, nat_le, nat_lt, eqb, List, [], ◌∷◌, length, get_or, set, drop, drop-cons, add-one, Option, Some, None, refl, sym, ap, ◌∙◌, arith, inl, inr, ◌⊎◌, eq-eqb}
-use Rattle.std.specs.Prelude.{◌&&◌, ◌||◌}
+use Rattle.std.proofs.Common.{◌≡◌, ℕ, zero, suc, ◌+◌, ◌-◌, ◌*◌, ◌/◌, ◌%◌, ◌<◌, ◌≤◌, true, false, Bool, cond, nat_le, nat_lt, eqb, List, [], ◌∷◌, length, get_or, set, drop, drop-cons, add-one, Option, Some, None, refl, sym, ap, ◌∙◌, arith, inl, inr, ◌⊎◌, eq-eqb}
+use Rattle.std.specs.Prelude.{◌&&◌}
 use Rattle.std.proofs.Math.Path.{fun_ext}
 use Rattle.std.proofs.lemmas.Bool.{cases_Bool, cases_eq, cases_lt, and_parts, and_from, or_left, or_right, le-leb, lt-leb, leb-true, leb-false, lt-ltb, le-ltb, ne_eqb}
 use Rattle.std.proofs.lemmas.List.{get_or-set_same, get_or-set_other}
-use Rattle.bpf_model.specs.State.{Partial, Saved, with_value, with_values, without_values, frame_top, frame_bytes, in_frame, in_frames}
+use Rattle.bpf_model.specs.State.{Partial, with_value, with_values, without_values, frame_top, frame_bytes, in_frame, in_frames}
 use Rattle.bpf_machine.specs.declared.callers.Kept.{Kept}
 use Rattle.bpf_machine.specs.declared.stack.Stack.{Stack}
 use Rattle.bpf_machine.specs.declared.stack.Stack.TheVariants.{One, All}
 use Rattle.bpf_machine.specs.Cells.{frames_in}
-use Rattle.bpf_machine.specs.Seen.{values_of, stack_byte, memory_of, saved_of, no_caller, callers_of}
+use Rattle.bpf_machine.specs.Seen.{values_of, memory_of, no_caller, callers_of}
 
 -- ---- which frame an access lies in
 

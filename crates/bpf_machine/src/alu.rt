@@ -1,6 +1,7 @@
 ghost use Rattle.std.specs.Prelude.{◌≡◌, ℕ, ◌≤ℤ◌, pos, List};
 ghost use Rattle.bpf_isa.specs.Encoding.{number_of};
 ghost use Rattle.bpf_isa.specs.declared.instruction.Instruction.TheVariants.{Alu, MoveSigned, Negate, Swap};
+ghost use Rattle.graph_model.specs.Graph.{Graph};
 ghost use Rattle.bpf_model.specs.Step.{left_of, effect};
 ghost use Rattle.bpf_machine.specs.Seen.{values_of, state_of, answer};
 
@@ -29,8 +30,8 @@ pub fn operate(
     operand: Operand,
 ) -> Turn
     requires { machine.old.pc ≤ℤ pos 4096 }
-    ensures { (record_length : ℕ) (bytes : List ℕ)
-        → effect record_length
+    ensures { (record_length : ℕ) (g : Graph) (bytes : List ℕ)
+        → effect record_length g
         (Alu width operation destination operand)
         (state_of machine.old bytes)
         ≡ answer result (state_of machine.new bytes) }
@@ -53,8 +54,8 @@ pub fn move_signed(
     source: Register,
 ) -> Turn
     requires { machine.old.pc ≤ℤ pos 4096 }
-    ensures { (record_length : ℕ) (bytes : List ℕ)
-        → effect record_length
+    ensures { (record_length : ℕ) (g : Graph) (bytes : List ℕ)
+        → effect record_length g
         (MoveSigned extension destination source)
         (state_of machine.old bytes)
         ≡ answer result (state_of machine.new bytes) }
@@ -68,8 +69,8 @@ pub fn move_signed(
 /// A negation (RFC 9669, section 4.1).
 pub fn negate_register(machine: &mut Machine, width: Width, destination: Register) -> Turn
     requires { machine.old.pc ≤ℤ pos 4096 }
-    ensures { (record_length : ℕ) (bytes : List ℕ)
-        → effect record_length (Negate width destination) (state_of machine.old bytes)
+    ensures { (record_length : ℕ) (g : Graph) (bytes : List ℕ)
+        → effect record_length g (Negate width destination) (state_of machine.old bytes)
         ≡ answer result (state_of machine.new bytes) }
 {
     match machine.register(destination) {
@@ -86,8 +87,8 @@ pub fn swap_register(
     destination: Register,
 ) -> Turn
     requires { machine.old.pc ≤ℤ pos 4096 }
-    ensures { (record_length : ℕ) (bytes : List ℕ)
-        → effect record_length (Swap order bits destination) (state_of machine.old bytes)
+    ensures { (record_length : ℕ) (g : Graph) (bytes : List ℕ)
+        → effect record_length g (Swap order bits destination) (state_of machine.old bytes)
         ≡ answer result (state_of machine.new bytes) }
 {
     match machine.register(destination) {

@@ -1,5 +1,6 @@
 ghost use Rattle.std.specs.Prelude.{◌≡◌, ℕ, ◌≤ℤ◌, pos, List};
 ghost use Rattle.bpf_isa.specs.declared.instruction.Instruction.TheVariants.{Jump, Branch};
+ghost use Rattle.graph_model.specs.Graph.{Graph};
 ghost use Rattle.bpf_model.specs.Step.{effect};
 ghost use Rattle.bpf_machine.specs.Seen.{state_of, answer};
 
@@ -13,8 +14,8 @@ use bpf_model::TrapKind;
 pub fn jump_over(machine: &mut Machine, distance: Distance) -> Turn
     requires from { pos 0 ≤ℤ machine.old.pc }
     requires limit { machine.old.pc ≤ℤ pos 4096 }
-    ensures { (record_length : ℕ) (bytes : List ℕ)
-        → effect record_length (Jump distance) (state_of machine.old bytes)
+    ensures { (record_length : ℕ) (g : Graph) (bytes : List ℕ)
+        → effect record_length g (Jump distance) (state_of machine.old bytes)
         ≡ answer result (state_of machine.new bytes) }
 {
     match distance {
@@ -34,8 +35,8 @@ pub fn branch(
 ) -> Turn
     requires from { pos 0 ≤ℤ machine.old.pc }
     requires limit { machine.old.pc ≤ℤ pos 4096 }
-    ensures { (record_length : ℕ) (bytes : List ℕ)
-        → effect record_length
+    ensures { (record_length : ℕ) (g : Graph) (bytes : List ℕ)
+        → effect record_length g
         (Branch width comparison left right distance)
         (state_of machine.old bytes)
         ≡ answer result (state_of machine.new bytes) }

@@ -1,6 +1,7 @@
 //! Calls of the program's own functions, and their exits (RFC 9669, section 4.3.2).
 ghost use Rattle.std.specs.Prelude.{◌≡◌, ℕ, ◌<◌, ◌≤ℤ◌, pos, List};
 ghost use Rattle.bpf_isa.specs.declared.instruction.Instruction.TheVariants.{CallLocal, Exit};
+ghost use Rattle.graph_model.specs.Graph.{Graph};
 ghost use Rattle.bpf_model.specs.State.{with_value, only};
 ghost use Rattle.bpf_model.specs.Calls.{saved_state};
 ghost use Rattle.bpf_model.specs.Step.{effect};
@@ -69,8 +70,8 @@ fn kept_of(machine: &Machine) -> Kept
 pub fn call(machine: &mut Machine, distance: i32) -> Turn
     requires from { pos 0 ≤ℤ machine.old.pc }
     requires limit { machine.old.pc ≤ℤ pos 4096 }
-    ensures { (record_length : ℕ) (bytes : List ℕ)
-        → effect record_length (CallLocal distance) (state_of machine.old bytes)
+    ensures { (record_length : ℕ) (g : Graph) (bytes : List ℕ)
+        → effect record_length g (CallLocal distance) (state_of machine.old bytes)
         ≡ answer result (state_of machine.new bytes) }
 {
     if machine.callers.count >= MOST_CALLERS {
@@ -86,8 +87,8 @@ pub fn call(machine: &mut Machine, distance: i32) -> Turn
 
 /// The exit of a function, which ends the run where no caller waits.
 pub fn exit(machine: &mut Machine) -> Turn
-    ensures { (record_length : ℕ) (bytes : List ℕ)
-        → effect record_length Exit (state_of machine.old bytes)
+    ensures { (record_length : ℕ) (g : Graph) (bytes : List ℕ)
+        → effect record_length g Exit (state_of machine.old bytes)
         ≡ answer result (state_of machine.new bytes) }
 {
     let Some(value) = machine.register(Register::R0) else {

@@ -6,18 +6,24 @@ use crate::access::{load_plain, load_signed, store_immediate, store_register};
 use crate::alu::{move_signed, negate_register, operate, swap_register};
 use crate::branch::{branch, jump_over};
 use crate::calls::{call, exit};
+use crate::helpers::call_helper;
 use crate::machine::Machine;
 use crate::turn::Turn;
 use bpf_isa::Instruction;
-use bpf_model::TrapKind;
+use graph_model::GraphView;
 
-/// What an instruction does to the machine and the record. A pc inside the code is below 4,096, so the
+/// What an instruction does to the machine and the record, on a graph. A pc inside the code is below 4,096, so the
 /// next one fits.
-pub fn perform(machine: &mut Machine, bytes: &mut [u8], instruction: Instruction) -> Turn
+pub fn perform<G: GraphView>(
+    machine: &mut Machine,
+    bytes: &mut [u8],
+    graph: &G,
+    instruction: Instruction,
+) -> Turn
     requires from { pos 0 ≤ℤ machine.old.pc }
     requires limit { machine.old.pc ≤ℤ pos 4096 }
     requires record { length bytes.old ≤ 256 }
-    ensures step { effect (length bytes.old) instruction (state_of machine.old bytes.old)
+    ensures step { effect (length bytes.old) (G.graph graph.now) instruction (state_of machine.old bytes.old)
         ≡ answer result (state_of machine.new bytes.new) }
     ensures kept { Keeps result bytes.old bytes.new }
 {
@@ -47,7 +53,7 @@ pub fn perform(machine: &mut Machine, bytes: &mut [u8], instruction: Instruction
             right,
             distance,
         } => branch(machine, width, comparison, left, right, distance),
-        Instruction::CallHelper { .. } => Turn::Trapped(TrapKind::UnknownHelper),
+        Instruction::CallHelper { number } => call_helper(machine, bytes, graph, number),
         Instruction::CallLocal { distance } => call(machine, distance),
         Instruction::Exit => exit(machine),
         Instruction::Load {

@@ -7,6 +7,7 @@ mod branch;
 mod callers;
 mod calls;
 mod effect;
+mod helpers;
 mod machine;
 mod memory;
 mod run;

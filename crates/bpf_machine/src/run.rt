@@ -18,7 +18,7 @@ use graph_model::GraphView;
 fn unit_at(pc: i64, count: usize) -> Option<usize>
     ensures inside { IfSome result (λ place. (pc ≡ pos place) × (place < count)) }
     ensures outside { IsNone result
-        → (p : Program) (s : State) → units p ≡ count → step_at p pc s ≡ Traps TrapKind.OutsideCode s.pc }
+        → (p : Program) (g : Graph) (s : State) → units p ≡ count → step_at p g pc s ≡ Traps TrapKind.OutsideCode s.pc }
 {
     match usize::try_from(pc) {
         Ok(place) if place < count => Some(place),
@@ -27,10 +27,15 @@ fn unit_at(pc: i64, count: usize) -> Option<usize>
 }
 
 /// Performs the instruction at the pc, if there is one.
-fn take_turn(machine: &mut Machine, bytes: &mut [u8], image: &Image) -> Turn
+fn take_turn<G: GraphView>(
+    machine: &mut Machine,
+    bytes: &mut [u8],
+    image: &Image,
+    graph: &G,
+) -> Turn
     requires { length bytes.old ≡ image.now.record_length }
-    ensures step { (g : Graph)
-        → step image.now g (state_of machine.old bytes.old) ≡ answer result (state_of machine.new bytes.new) }
+    ensures step { step image.now (G.graph graph.now) (state_of machine.old bytes.old)
+        ≡ answer result (state_of machine.new bytes.new) }
     ensures kept { Keeps result bytes.old bytes.new }
 {
     let code = image.code();
@@ -38,7 +43,7 @@ fn take_turn(machine: &mut Machine, bytes: &mut [u8], image: &Image) -> Turn
         return Turn::Trapped(TrapKind::OutsideCode);
     };
     match decode_at(code, place) {
-        Ok((instruction, _)) => perform(machine, bytes, instruction),
+        Ok((instruction, _)) => perform(machine, bytes, graph, instruction),
         Err(_) => Turn::Trapped(TrapKind::BadInstruction),
     }
 }
@@ -52,7 +57,7 @@ pub fn run_checked<G: GraphView>(image: &Image, bytes: &mut [u8], graph: &G, fue
 {
     let mut machine = Machine::new(image.record_length());
     for steps in 0..fuel {
-        match take_turn(&mut machine, bytes, image) {
+        match take_turn(&mut machine, bytes, image, graph) {
             Turn::Went => {}
             Turn::Exited(value) => {
                 return Outcome::Exit {

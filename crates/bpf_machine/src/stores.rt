@@ -36,7 +36,7 @@ fn set_record(bytes: &mut [u8], place: usize, value: &[u8])
 
 /// Stores bytes from an address on, where all of them lie in the record or in one of the first frames. Else
 /// it stores none and says so.
-fn store_bytes(
+pub fn store_bytes(
     stack: &mut Stack,
     frames: usize,
     bytes: &mut [u8],

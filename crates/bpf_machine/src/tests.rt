@@ -22,6 +22,25 @@ impl GraphView for Edgeless {
     fn vertex_count(&self) -> u32 {
         self.vertices
     }
+
+    fn degree(&self, _vertex: u64) -> u32 {
+        0
+    }
+
+    fn has_edge(&self, _source: u64, _target: u64) -> bool {
+        false
+    }
+
+    fn neighbour(&self, _vertex: u64, _place: u64) -> Option<u32> {
+        None
+    }
+
+    fn gather(&self, _vertex: u64, _first: u64, out: &mut [u8]) -> u32 {
+        for byte in out.iter_mut() {
+            *byte = 255;
+        }
+        0
+    }
 }
 
 const RECORD: [u8; 16] = [

@@ -1,9 +1,12 @@
 pub mod Arithmetic
 pub mod State
+pub mod Next
 pub mod Calls
+pub mod Helpers
 pub mod Step
 pub mod Run
 pub mod EdgeMap
 pub mod CallRows
+pub mod HelperRows
 pub mod ArithmeticLaws
 pub mod Laws

@@ -3,8 +3,8 @@ use thiserror::Error;
 /// Which of the verifier's rules a program breaks. The numbers are part of the script language.
 #[derive(Clone, Copy, Debug, PartialEq, Eq, Error)]
 pub enum Cause {
-    /// No instruction stands there, or a call of a helper: none is known yet.
-    #[error("no known instruction")]
+    /// No instruction stands there.
+    #[error("no instruction")]
     BadInstruction = 1,
     /// A jump goes to no instruction, or out of its function.
     #[error("a jump goes to no instruction of its function")]
@@ -39,6 +39,12 @@ pub enum Cause {
     /// A stack byte is read that may not be set.
     #[error("an unset stack byte is read")]
     UnsetStackByte = 12,
+    /// An argument of a helper is not as the helper wants it.
+    #[error("an argument of a helper is not as it has to be")]
+    HelperArgument = 13,
+    /// A helper is called that there is not.
+    #[error("there is no such helper")]
+    UnknownHelper = 14,
     /// The result of a function is a pointer.
     #[error("the result is a pointer")]
     ResultNotNumber = 15,

@@ -1,6 +1,7 @@
 //! The laws of the definitions. Each function does nothing: its contract is the law.
 ghost use Rattle.bpf_model.specs.Laws.{EndStays, StepsInTurn, RecordAtStart, OneOutcome};
 ghost use Rattle.bpf_model.specs.CallRows.{WorkedCalls};
+ghost use Rattle.bpf_model.specs.HelperRows.{WorkedHelpers};
 
 /// An end of a run stays, however many steps are counted after it.
 pub fn end_stays()
@@ -25,4 +26,9 @@ pub fn one_outcome()
 /// What worked programs of several functions lead to.
 pub fn worked_calls()
     ensures { WorkedCalls }
+{}
+
+/// What worked programs that ask the graph lead to.
+pub fn worked_helpers()
+    ensures { WorkedHelpers }
 {}

@@ -4,6 +4,7 @@
 
 pub mod arithmetic_laws;
 mod cause;
+mod helper;
 pub mod laws;
 mod limits;
 mod outcome;
@@ -12,7 +13,8 @@ mod row;
 mod trap;
 
 pub use cause::Cause;
-pub use limits::{FRAME_BYTES, MOST_FRAMES};
+pub use helper::Helper;
+pub use limits::{FRAME_BYTES, MOST_FRAMES, MOST_GATHER_BYTES};
 pub use outcome::Outcome;
 pub use reduction::Reduction;
 pub use row::Row;

@@ -17,6 +17,8 @@ pub enum TrapKind {
     NinthFrame = 7,
     /// A helper is called that there is not.
     UnknownHelper = 8,
+    /// The helper gather is lent so many bytes as it may not have.
+    RoomNotAllowed = 9,
     /// The function exits while R0 is not set.
     UnsetResult = 10,
 }

@@ -1,12 +1,12 @@
 -- A vertex's list in a table of parts.
-use Rattle.std.proofs.Common.{◌≡◌, ℕ, ◌+◌, ◌-◌, ◌*◌, ◌/◌, ◌%◌, ◌<◌, ◌≤◌, List, [], length, map, get_or, sym, ap, subst, ◌∙◌, arith}
+use Rattle.std.proofs.Common.{◌≡◌, ℕ, ◌*◌, ◌/◌, ◌%◌, ◌<◌, ◌≤◌, List, [], length, get_or, sym, ap, ◌∙◌, arith}
 use Rattle.std.specs.declared.sync.Arc.{Arc}
 use Rattle.std.specs.declared.alloc.Global.{Global}
 use Rattle.std.specs.Arc.{arc_value}
-use Rattle.std.proofs.lemmas.List.{length-map, get_or-map}
+use Rattle.std.proofs.lemmas.List.{get_or-map}
 use Rattle.graph_model.specs.Graph.{Graph, neighbours}
-use Rattle.migration.specs.Part.{Part, row_at, vertex_at, IsPart}
-use Rattle.migration.specs.Table.{IsTable, IsPartAt, parts_of, part_at}
+use Rattle.migration.specs.Part.{Part, row_at}
+use Rattle.migration.specs.Table.{IsTable, parts_of, part_at}
 
 -- past the last part no vertex is
 pub past_parts : (g : Graph) (parts : List Part) (v : ℕ) → IsTable g parts → length parts ≤ v / 256 → g.vertex_count ≤ v

@@ -1,4 +1,5 @@
-ghost use Rattle.std.specs.Prelude.{◌≡◌, ◌<◌, ◌++◌, [], length, MatchOption};
+ghost use Rattle.std.specs.Prelude.{◌≡◌, ◌<◌, ◌≤◌, ◌++◌, [], length, drop, MatchOption};
+ghost use Rattle.graph_model.specs.declared.limits.TheConstants.{MOST_VERTICES};
 ghost use Rattle.graph_model.specs.Graph.{Graph, neighbours};
 ghost use Rattle.migration.specs.Part.{row_at};
 ghost use Rattle.migration.specs.Table.{IsTable, parts_of};
@@ -48,6 +49,26 @@ impl<'a> Cursor<'a> {
     {
         match place_of(shards, u64::from(vertex)) {
             Some((shard, place)) => Cursor::of(shard, place),
+            None => Cursor {
+                shard: None,
+                vertex: 0,
+                place: 0,
+            },
+        }
+    }
+
+    /// The neighbours of a vertex from a place on, both by 64-bit numbers, of which none is cut. A vertex
+    /// outside has none.
+    pub fn from_place(shards: &'a [Arc<Shard>], vertex: u64, first: u64) -> Cursor<'a>
+        ensures left { (g : Graph) → IsTable g (parts_of shards.now) → result ≡ drop first (neighbours g vertex) }
+        ensures small { length result ≤ MOST_VERTICES }
+    {
+        match place_of(shards, vertex) {
+            Some((shard, own)) => Cursor {
+                shard: Some(shard),
+                vertex: own,
+                place: first.min(u64::from(shard.degree(own))) as u32,
+            },
             None => Cursor {
                 shard: None,
                 vertex: 0,

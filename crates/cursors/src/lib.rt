@@ -5,6 +5,8 @@
 mod answers;
 mod cursor;
 mod place;
+mod words;
 
 pub use answers::{degree, has_edge, neighbour};
 pub use cursor::Cursor;
+pub use words::gather;

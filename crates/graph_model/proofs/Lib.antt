@@ -1,6 +1,7 @@
 pub mod Numbers
 pub mod Around
 pub mod Neighbours
+pub mod ViewLemmas
 pub mod Pairs
 pub mod Batches
 pub mod Pasts

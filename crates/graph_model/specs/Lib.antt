@@ -2,4 +2,5 @@ pub mod Graph
 pub mod Edits
 pub mod Shared
 pub mod Past
+pub mod Views
 pub mod Laws

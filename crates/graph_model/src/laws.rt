@@ -1,5 +1,5 @@
 //! The laws of the definitions. Each function does nothing: its contract is the law.
-ghost use Rattle.graph_model.specs.Laws.{NeighboursAscend, NeighboursAreTargets, OneEdit, EditsInTurn, ChangeOfSize, ReplayIsGraph};
+ghost use Rattle.graph_model.specs.Laws.{NeighboursAscend, NeighboursAreTargets, EdgesAreNeighbours, OneEdit, EditsInTurn, ChangeOfSize, ReplayIsGraph};
 
 /// A vertex's neighbours are strictly ascending.
 pub fn neighbours_ascend()
@@ -9,6 +9,11 @@ pub fn neighbours_ascend()
 /// A vertex's neighbours are exactly the targets of its edges.
 pub fn neighbours_are_targets()
     ensures { NeighboursAreTargets }
+{}
+
+/// An edge is asked for between two numbers exactly where the second is a neighbour of the first.
+pub fn edges_are_neighbours()
+    ensures { EdgesAreNeighbours }
 {}
 
 /// One edit decides its own pair and leaves every other.

@@ -5,6 +5,7 @@ use Rattle.bpf_isa.specs.declared.register.Register.{Register}
 use Rattle.bpf_isa.specs.declared.instruction.Operand.{Operand}
 use Rattle.bpf_isa.specs.declared.instruction.Instruction.{Instruction}
 use Rattle.bpf_isa.specs.declared.instruction.Instruction.TheVariants.{Alu, MoveSigned, Negate, Swap, Jump, Branch, CallHelper, CallLocal, Exit, Load, LoadSigned, Store, StoreRegister, Wide}
+use Rattle.bpf_model.specs.Helpers.{helper_of}
 use Rattle.bpf_model.specs.Step.{immediate_value, units_over}
 use Rattle.bpf_isa.specs.Sizes.{size_bytes}
 use Rattle.bpf_model.specs.declared.cause.Cause.{Cause}
@@ -17,6 +18,7 @@ use Rattle.abstract_state.specs.States.{with_register, callee_state, state_behin
 use Rattle.abstract_state.specs.Memory.{load_result, load_signed_result, store_result}
 use Rattle.verifier_rules.specs.Rules.{Ways, bind, constant, known_register, known_operand, known_left, onward, write_ways, behind_store, target, branch_sides, side_way, branch_ways, call_ways, exit_ways, transfer}
 use Rattle.verifier_rules.specs.Described.{IsWay}
+use Rattle.verifier_rules.proofs.Asked.{helper_call_way}
 use Rattle.verifier_rules.proofs.Parts.{ok, bind_ok, writes_from}
 use Rattle.verifier.specs.Walks.{next_pcs, called_pcs, IsOneOf}
 
@@ -104,7 +106,9 @@ ways_lead l pc (Branch w c left right distance) a ws h =
     let sides = bind_ok (branch_sides w c left right u.0 b.0) (λ sides. ok (branch_ways pc distance a left right sides)) ws b.2 in
     let same : branch_ways pc distance a left right sides.0 ≡ ws = (let e : ok (branch_ways pc distance a left right sides.0) ≡ ok ws = sides.2 in cc) in
     branch_leads pc distance a left right sides.0 ws same
-ways_lead l pc (CallHelper number) a ws h = absurd cc
+ways_lead l pc (CallHelper number) a ws h =
+    let way = helper_call_way l pc (helper_of number) a ws h in
+    one_leads (pos (pc + 1)) way.0 ws way.1
 ways_lead l pc (CallLocal distance) a ws h =
     let same : call_ways pc distance a ≡ ws = (let e : ok (call_ways pc distance a) ≡ ok ws = h in cc) in
     two_lead (target pc distance) (pos (pc + 1)) (callee_state a) (state_behind_call a) ws same

@@ -4,6 +4,7 @@ pub mod Equations
 pub mod Walks
 pub mod Verdict
 pub mod VerdictRows
+pub mod HelperVerdicts
 pub mod Sound
 pub mod Laws
 pub mod Tables

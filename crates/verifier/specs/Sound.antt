@@ -1,9 +1,10 @@
--- A program that was accepted never goes wrong: every state that a run of it reaches is described by
+-- A program that was accepted never goes wrong, on whatever graph: every state that a run of it reaches is described by
 -- what is known at its pc, in whatever frame and with whatever callers, no step traps, and the run exits
 -- within the bound.
 use Rattle.std.specs.Prelude.{◌≡◌, ℕ, ◌+◌, ◌<◌, ◌≤◌, ℤ, pos, unsigned_abs, List, [], ◌∷◌, length, Some, slice_index}
 use Rattle.bpf_image.specs.Program.{Program, units, IsImage}
 use Rattle.graph_model.specs.Graph.{Graph}
+use Rattle.bpf_model.specs.Helpers.{IsView}
 use Rattle.bpf_model.specs.State.{Partial, Saved, State, start, frame_top, most_frames}
 use Rattle.bpf_model.specs.Step.{Next, Goes, Exits, Traps}
 use Rattle.bpf_model.specs.Run.{after}
@@ -64,11 +65,11 @@ pub record IsRecord (p : Program) (bytes : List ℕ) : Type 0 where
   pub are_bytes : (i : ℕ) → slice_index bytes i < 256
 
 abbrev pub NeverGoesWrong : Program → Type 0
-NeverGoesWrong p = (g : Graph) (bytes : List ℕ) → IsRecord p bytes → (k : ℕ) → IsFine p k (after p g k (start bytes))
+NeverGoesWrong p = (g : Graph) (bytes : List ℕ) → IsView g → IsRecord p bytes → (k : ℕ) → IsFine p k (after p g k (start bytes))
 
 -- every run exits within the bound
 abbrev pub AlwaysExits : Program → Type 0
-AlwaysExits p = (g : Graph) (bytes : List ℕ) → IsRecord p bytes → (v : ℕ) × (after p g (longest p) (start bytes) ≡ Exits v)
+AlwaysExits p = (g : Graph) (bytes : List ℕ) → IsView g → IsRecord p bytes → (v : ℕ) × (after p g (longest p) (start bytes) ≡ Exits v)
 
 -- what an accepted program keeps
 pub record IsVerified (p : Program) (bound frames : ℕ) : Type 0 where

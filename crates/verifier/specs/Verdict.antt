@@ -29,14 +29,14 @@ abbrev pub first_fault : (ℕ → Option Cause) → ℕ → Option Refusal
 first_fault fault zero = None
 first_fault fault (suc n) = fault_after (first_fault fault n) (fault n) n
 
--- ---- first pass: each instruction is one that is known
+-- ---- first pass: an instruction stands wherever one has to start
 
-abbrev pub unknown_cause : Option Instruction → Option Cause
-unknown_cause None = Some BadInstruction
-unknown_cause (Some i) = None
+abbrev pub missing_cause : Option Instruction → Option Cause
+missing_cause None = Some BadInstruction
+missing_cause (Some i) = None
 
 abbrev pub decoding_fault : Program → ℕ → Option Cause
-decoding_fault p pc = if is_start p pc then unknown_cause (instruction_at p pc) else None
+decoding_fault p pc = if is_start p pc then missing_cause (instruction_at p pc) else None
 
 -- ---- second pass: where jumps and calls land, and what stands last in each function
 

@@ -1,5 +1,6 @@
 ghost use Rattle.verifier.specs.Laws.{AssignedSolves, OneSolution};
 ghost use Rattle.verifier.specs.VerdictRows.{WorkedVerdicts};
+ghost use Rattle.verifier.specs.HelperVerdicts.{WorkedHelperVerdicts};
 
 /// What is known at each pc solves the equations of the abstract pass.
 pub fn assigned_solves()
@@ -14,4 +15,9 @@ pub fn one_solution()
 /// The verdicts on worked programs of several functions.
 pub fn worked_verdicts()
     ensures { WorkedVerdicts }
+{}
+
+/// The verdicts on worked programs that call helpers.
+pub fn worked_helper_verdicts()
+    ensures { WorkedHelperVerdicts }
 {}

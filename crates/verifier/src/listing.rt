@@ -1,7 +1,7 @@
 //! The first pass: which instruction starts at each pc (RFC 9669, section 3).
 ghost use Rattle.std.specs.Prelude.{◌≡◌, None, Some, MatchResult};
 ghost use Rattle.bpf_image.specs.Program.{units};
-ghost use Rattle.verifier.specs.Listing.{is_known, known_one, listing_of};
+ghost use Rattle.verifier.specs.Listing.{decoded_one, listing_of};
 ghost use Rattle.verifier.specs.Verdict.{first_fault, decoding_fault, unless_memory};
 ghost use Rattle.bpf_isa.specs.Reading.{decoding};
 
@@ -11,31 +11,18 @@ use bpf_isa::{Instruction, decode_at};
 use bpf_model::Cause;
 use std::alloc::Global;
 
-/// Whether the verifier knows the instruction.
-fn is_known_here(instruction: Instruction) -> bool
-    ensures { result ≡ is_known instruction }
-{
-    !matches!(instruction, Instruction::CallHelper { .. })
-}
-
-/// The instruction that the units at a pc spell, if it is known.
-fn known_at(image: &Image, pc: usize) -> Option<Instruction>
-    ensures { result ≡ known_one (decoding image.now.code pc) }
+/// The instruction that the units at a pc spell, if they spell one.
+fn decode_one(image: &Image, pc: usize) -> Option<Instruction>
+    ensures { result ≡ decoded_one (decoding image.now.code pc) }
 {
     match decode_at(image.code(), pc) {
-        Ok((instruction, _)) => {
-            if is_known_here(instruction) {
-                Some(instruction)
-            } else {
-                None
-            }
-        }
+        Ok((instruction, _)) => Some(instruction),
         Err(_) => None,
     }
 }
 
 /// What starts at each pc of a program: nothing at the second unit of a wide instruction. Refuses the
-/// first instruction that is not known.
+/// first place where an instruction has to start and none stands.
 pub fn list(alloc: Global, image: &Image) -> Result<Vec<Option<Instruction>>, Refusal>
     ensures { MatchResult result
         (λ listing. (listing.items ≡ listing_of image.now (units image.now))
@@ -47,7 +34,7 @@ pub fn list(alloc: Global, image: &Image) -> Result<Vec<Option<Instruction>>, Re
     let mut next = 0;
     for pc in 0..end {
         if pc == next {
-            let Some(instruction) = known_at(image, pc) else {
+            let Some(instruction) = decode_one(image, pc) else {
                 let cause = Cause::BadInstruction;
                 return Err(Refusal { cause, pc });
             };

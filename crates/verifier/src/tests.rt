@@ -81,10 +81,11 @@ fn one_unit_and_an_exit(rt: HostRuntime) -> Result<(), Fail> {
         (0x0701_0000_ffff_ffff, Err((Cause::OutOfRange, 0))),
         (0x0700_0000_0100_0000, Err((Cause::UnsetRegister, 0))),
         (0xb400_0000_0100_0000, Ok(2)),
-        // 0xff is no instruction; helpers are not known yet; a call as the last instruction of its
-        // function, and one of itself.
+        // 0xff is no instruction; a helper that there is not, and one that is asked with the record's
+        // address; a call as the last instruction of its function, and one of itself.
         (0xff00_0000_0000_0000, Err((Cause::BadInstruction, 0))),
-        (0x8500_0000_0100_0000, Err((Cause::BadInstruction, 0))),
+        (0x8500_0000_0600_0000, Err((Cause::UnknownHelper, 0))),
+        (0x8500_0000_0100_0000, Err((Cause::HelperArgument, 0))),
         (0x8510_0000_0000_0000, Err((Cause::FallsOff, 0))),
         (0x8510_0000_ffff_ffff, Err((Cause::CallTarget, 0))),
         // Jumps: to the next instruction, past the end, before the start, to themselves.

@@ -31,14 +31,14 @@ use Rattle.verifier_rules.proofs.Stored.{stored_number}
 use Rattle.verifier_rules.proofs.Writes.{put_follows}
 
 -- an access in the record or in the current frame
-allowed : (l : ℕ) (s : State) (a size : ℕ) → IsAllowed l (top s) a size → may_access l s a size ≡ true
+pub allowed : (l : ℕ) (s : State) (a size : ℕ) → IsAllowed l (top s) a size → may_access l s a size ≡ true
 allowed l s a size (inl within) = or_left _ _ within
 allowed l s a size (inr inside) =
     let here : in_frame (length s.callers) a size ≡ true = and_from _ _ (le-leb _ _ inside.0) (le-leb _ _ inside.1) in
     or_right _ _ (or_left _ _ here)
 
 -- it lies beside the callers' frames
-apart_below : (l n a size k i : ℕ) → l ≤ 256 → IsAllowed l (frame_top n) a size → k < n → i < frame_bytes → (frame_top k - frame_bytes + i < a) ⊎ (a + size ≤ frame_top k - frame_bytes + i)
+pub apart_below : (l n a size k i : ℕ) → l ≤ 256 → IsAllowed l (frame_top n) a size → k < n → i < frame_bytes → (frame_top k - frame_bytes + i < a) ⊎ (a + size ≤ frame_top k - frame_bytes + i)
 apart_below l n a size k i short (inl within) low lt =
     let both = and_parts (nat_le record_base a) (nat_le (a + size) (record_base + l)) within in
     let ends : a + size ≤ record_base + l = leb-true (a + size) (record_base + l) both.1 in
@@ -83,11 +83,11 @@ store_follows l pc i b v z a s size x n ws short fits lt at described base value
     let t = parts.0 in
     let ways : onward (pc + 1) t ≡ ws = (let e : ok (onward (pc + 1) t) ≡ ok ws = parts.2 in cc) in
     let memory = with_values s.memory (address_at x z) (low_bytes size n) in
-    let write_ways = stored_number s.memory (address_at x z) size n in
-    let left = store_describes l (top s) a t s.registers s.memory memory b v z size x n (omega (arith, short)) (omega arith) (top_below l a s described) fits lt parts.1 described.parts base value write_ways in
+    let written = stored_number s.memory (address_at x z) size n in
+    let left = store_describes l (top s) a t s.registers s.memory memory b v z size x n (omega (arith, short)) (omega arith) (top_below l a s described) fits lt parts.1 described.parts base value written in
     let may = allowed l s (address_at x z) (size_bytes size) left.0 in
     let moved : s.pc +ℤ pos 1 ≡ pos (pc + 1) = ap (λ y. y +ℤ pos 1) at in
     let after : State = record s { pc = s.pc +ℤ pos 1; memory = memory } in
     let known : DescribesState l t after = record { parts = left.1; frame_register = described.frame_register; few_callers = described.few_callers } in
-    let keeps : KeepsFrames (length s.callers) s.memory memory = λ k j low below. write_ways.outside (frame_top k - frame_bytes + j) (apart_below l (length s.callers) (address_at x z) (size_bytes size) k j short left.0 low below) in
+    let keeps : KeepsFrames (length s.callers) s.memory memory = λ k j low below. written.written.outside (frame_top k - frame_bytes + j) (apart_below l (length s.callers) (address_at x z) (size_bytes size) k j short left.0 low below) in
     rw may (subst (λ u. Follows l i a s u (Goes after)) ways (stays (pos (pc + 1), t) (inl refl) moved known refl keeps))

@@ -5,4 +5,6 @@ pub mod Writes
 pub mod Accesses
 pub mod Splits
 pub mod Frames
+pub mod Told
+pub mod Asked
 pub mod Steps

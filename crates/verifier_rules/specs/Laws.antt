@@ -3,6 +3,8 @@ use Rattle.std.specs.Prelude.{◌≡◌, ℕ, ◌<◌, ◌≤◌, ℤ, pos, Ok}
 use Rattle.bpf_isa.specs.declared.instruction.Instruction.{Instruction}
 use Rattle.bpf_isa.specs.declared.instruction.Instruction.TheVariants.{CallLocal}
 use Rattle.bpf_isa.specs.Encoding.{InstructionFits}
+use Rattle.graph_model.specs.Graph.{Graph}
+use Rattle.bpf_model.specs.Helpers.{IsView}
 use Rattle.bpf_model.specs.State.{State, live_frames, most_frames}
 use Rattle.bpf_model.specs.Step.{effect}
 use Rattle.abstract_state.specs.declared.state.AbstractState.{AbstractState}
@@ -13,10 +15,10 @@ use Rattle.verifier_rules.specs.Described.{DescribesState, Follows}
 abbrev pub MayCall : Instruction → State → Type 0
 MayCall i s = (distance : ℤ) → i ≡ CallLocal distance → live_frames s < most_frames
 
--- a step from a described state does not trap: in any frame it goes on by one of the ways that the rules
--- give, enters a function, returns to a caller, or exits
+-- on every graph that a program may run on, a step from a described state does not trap: in any frame it goes
+-- on by one of the ways that the rules give, enters a function, returns to a caller, or exits
 abbrev pub StepDescribes : Type 0
 StepDescribes =
-    (record_length pc : ℕ) (i : Instruction) (a : AbstractState) (s : State) (ws : Ways)
-    → record_length ≤ 256 → InstructionFits i → s.pc ≡ pos pc → DescribesState record_length a s → MayCall i s
-    → transfer record_length pc i a ≡ Ok ws → Follows record_length i a s ws (effect record_length i s)
+    (g : Graph) (record_length pc : ℕ) (i : Instruction) (a : AbstractState) (s : State) (ws : Ways)
+    → IsView g → record_length ≤ 256 → InstructionFits i → s.pc ≡ pos pc → DescribesState record_length a s → MayCall i s
+    → transfer record_length pc i a ≡ Ok ws → Follows record_length i a s ws (effect record_length g i s)

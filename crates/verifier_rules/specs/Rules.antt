@@ -1,7 +1,8 @@
 -- What an instruction asks of the state that is known before it: the first broken rule, or the ways that
 -- a run may go on, each with what is known there.
-use Rattle.std.specs.Prelude.{ℕ, ◌+◌, ◌==◌, if◌then◌else◌, ℤ, pos, ◌+ℤ◌, Bool, false, List, [], ◌∷◌, ◌++◌, Option, Some, None, Result, Ok, Err, slice_index_or}
+use Rattle.std.specs.Prelude.{ℕ, ◌+◌, ◌-◌, ◌/◌, ◌^◌, ◌==◌, ◌&&◌, if◌then◌else◌, ℤ, pos, ◌+ℤ◌, Bool, true, false, List, [], ◌∷◌, ◌++◌, Option, Some, None, Result, Ok, Err, slice_index_or}
 use Rattle.bpf_isa.specs.declared.register.Register.{Register}
+use Rattle.bpf_isa.specs.declared.register.Register.TheVariants.{R1, R2, R3, R4}
 use Rattle.bpf_isa.specs.declared.instruction.Width.{Width}
 use Rattle.bpf_isa.specs.declared.instruction.Operation.{Operation}
 use Rattle.bpf_isa.specs.declared.instruction.Operation.TheVariants.{Move}
@@ -13,17 +14,20 @@ use Rattle.bpf_isa.specs.declared.instruction.Instruction.TheVariants.{Alu, Move
 use Rattle.bpf_isa.specs.Encoding.{number_of}
 use Rattle.bpf_model.specs.Arithmetic.{low}
 use Rattle.bpf_model.specs.Step.{immediate_value, units_over}
+use Rattle.bpf_model.specs.declared.helper.Helper.{Helper}
+use Rattle.bpf_model.specs.declared.helper.Helper.TheVariants.{Degree, HasEdge, Neighbour, VertexCount, Gather}
+use Rattle.bpf_model.specs.Helpers.{helper_of, is_room}
 use Rattle.bpf_isa.specs.Sizes.{size_bytes}
 use Rattle.bpf_model.specs.declared.cause.Cause.{Cause}
-use Rattle.bpf_model.specs.declared.cause.Cause.TheVariants.{BadInstruction, UnsetRegister, FrameRegister, ResultNotNumber}
+use Rattle.bpf_model.specs.declared.cause.Cause.TheVariants.{UnsetRegister, FrameRegister, HelperArgument, UnknownHelper, ResultNotNumber}
 use Rattle.abstract_values.specs.declared.branch.Sides.{Sides}
 use Rattle.abstract_values.specs.declared.value.AbstractValue.{AbstractValue}
 use Rattle.abstract_values.specs.declared.value.AbstractValue.TheVariants.{Unset, Number, Record, Stack}
 use Rattle.abstract_values.specs.Values.{alu_result, negate_result, move_signed_result, swap_result}
 use Rattle.abstract_values.specs.Narrowing.{narrowing}
 use Rattle.abstract_state.specs.declared.state.AbstractState.{AbstractState}
-use Rattle.abstract_state.specs.States.{register, with_register, callee_state, state_behind_call}
-use Rattle.abstract_state.specs.Memory.{load_result, load_signed_result, store_result}
+use Rattle.abstract_state.specs.States.{register, with_register, callee_state, state_behind_helper, state_behind_call}
+use Rattle.abstract_state.specs.Memory.{load_result, load_signed_result, store_result, gather_result}
 
 -- goes on with what was found, or breaks the same rule
 abbrev pub bind : {A B : Type 0} → Result A Cause → (A → Result B Cause) → Result B Cause
@@ -102,11 +106,66 @@ abbrev pub branch_ways : ℕ → ℤ → AbstractState → Register → Operand 
 branch_ways pc distance s left right sides =
     side_way s left right (target pc distance) sides.taken ++ side_way s left right (pos (pc + 1)) sides.passed
 
--- ---- calls and instructions
+-- ---- calls of functions
 
 -- the way into a function, and the way on behind its call
 abbrev pub call_ways : ℕ → ℤ → AbstractState → Ways
 call_ways pc distance s = (target pc distance, callee_state s) ∷ (pos (pc + 1), state_behind_call s) ∷ []
+
+-- ---- helpers
+
+abbrev pub is_number : AbstractValue → Bool
+is_number Unset = false
+is_number (Number lo hi) = true
+is_number (Record lo hi) = false
+is_number (Stack offset) = false
+
+-- the room that gather is lent, where it is known and allowed
+abbrev pub known_room : AbstractValue → Option ℕ
+known_room Unset = None
+known_room (Number lo hi) = if lo == hi && is_room lo then Some lo else None
+known_room (Record lo hi) = None
+known_room (Stack offset) = None
+
+-- the run goes on behind a helper whose answer is at most this number
+abbrev pub answered : ℕ → AbstractState → (most : ℕ) → Ways
+answered pc s most = onward (pc + 1) (state_behind_helper s (Number 0 most))
+
+-- a helper is asked with one number, or with two
+abbrev pub asked_with_one : ℕ → AbstractState → (most : ℕ) → Result Ways Cause
+asked_with_one pc s most =
+    bind (known_register s R1) (λ a. if is_number a then Ok (answered pc s most) else Err HelperArgument)
+
+abbrev pub asked_with_two : ℕ → AbstractState → (most : ℕ) → Result Ways Cause
+asked_with_two pc s most =
+    bind (known_register s R1) (λ a. bind (known_register s R2) (λ b.
+    if is_number a && is_number b then Ok (answered pc s most) else Err HelperArgument))
+
+-- gather fills its room from a pointer on, and answers with no more than the words that the room has
+abbrev pub gather_ways : ℕ → ℕ → AbstractState → (pointer : AbstractValue) → (room : Option ℕ) → Result Ways Cause
+gather_ways record_length pc s pointer None = Err HelperArgument
+gather_ways record_length pc s pointer (Some room) =
+    bind (gather_result record_length s pointer room) (λ t. Ok (answered pc t (room / 4)))
+
+abbrev pub gather_call : ℕ → ℕ → AbstractState → Result Ways Cause
+gather_call record_length pc s =
+    bind (known_register s R1) (λ v. bind (known_register s R2) (λ first.
+    bind (known_register s R3) (λ pointer. bind (known_register s R4) (λ room.
+    if is_number v && is_number first then gather_ways record_length pc s pointer (known_room room) else Err HelperArgument))))
+
+-- the call of a helper: its arguments are set, and each is of its kind
+abbrev pub helper_ways : ℕ → ℕ → Helper → AbstractState → Result Ways Cause
+helper_ways record_length pc Degree s = asked_with_one pc s (2 ^ 32 - 1)
+helper_ways record_length pc HasEdge s = asked_with_two pc s 1
+helper_ways record_length pc Neighbour s = asked_with_two pc s (2 ^ 64 - 1)
+helper_ways record_length pc VertexCount s = Ok (answered pc s (2 ^ 32 - 1))
+helper_ways record_length pc Gather s = gather_call record_length pc s
+
+abbrev pub helper_call_ways : ℕ → ℕ → Option Helper → AbstractState → Result Ways Cause
+helper_call_ways record_length pc None s = Err UnknownHelper
+helper_call_ways record_length pc (Some helper) s = helper_ways record_length pc helper s
+
+-- ---- instructions
 
 -- the result of a function is a number
 abbrev pub exit_ways : AbstractValue → Result Ways Cause
@@ -115,7 +174,7 @@ exit_ways (Number lo hi) = Ok []
 exit_ways (Record lo hi) = Err ResultNotNumber
 exit_ways (Stack offset) = Err ResultNotNumber
 
--- the instruction at a pc: the broken rule of the lowest cause, or the ways onward. Helpers come later.
+-- the instruction at a pc: the broken rule of the lowest cause, or the ways onward.
 unfoldable pub transfer : ℕ → ℕ → Instruction → AbstractState → Result Ways Cause
 transfer record_length pc (Alu width operation destination operand) s =
     bind (known_left operation s destination) (λ a. bind (known_operand width s operand) (λ b.
@@ -130,7 +189,7 @@ transfer record_length pc (Jump distance) s = Ok ((target pc (units_over distanc
 transfer record_length pc (Branch width comparison left right distance) s =
     bind (known_register s left) (λ a. bind (known_operand width s right) (λ b.
     bind (branch_sides width comparison left right a b) (λ sides. Ok (branch_ways pc distance s left right sides))))
-transfer record_length pc (CallHelper number) s = Err BadInstruction
+transfer record_length pc (CallHelper number) s = helper_call_ways record_length pc (helper_of number) s
 transfer record_length pc (CallLocal distance) s = Ok (call_ways pc distance s)
 transfer record_length pc Exit s = exit_ways (slice_index_or s.registers 0 Unset)
 transfer record_length pc (Load size destination base offset) s =

@@ -6,6 +6,7 @@
 mod access;
 mod arithmetic;
 mod branches;
+mod helpers;
 pub mod laws;
 mod onward;
 mod reading;

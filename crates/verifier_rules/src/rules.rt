@@ -5,6 +5,7 @@ ghost use Rattle.verifier_rules.specs.Answers.{answer_ways};
 use crate::access::{load_extended, load_plain, store_immediate, store_register};
 use crate::arithmetic::{extend_register, negate_register, operate, set_wide, swap_register};
 use crate::branches::{branch, exit};
+use crate::helpers::call_helper;
 use crate::onward::Onward;
 use abstract_state::AbstractState;
 use bpf_isa::Instruction;
@@ -45,7 +46,7 @@ pub fn step_over(
             right,
             ..
         } => branch(state, width, comparison, left, right),
-        Instruction::CallHelper { .. } => Err(Cause::BadInstruction),
+        Instruction::CallHelper { number } => call_helper(record_length, state, number),
         Instruction::CallLocal { .. } => Ok(Onward::Calls),
         Instruction::Exit => exit(state),
         Instruction::Load {

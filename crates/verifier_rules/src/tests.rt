@@ -172,7 +172,7 @@ fn other_causes(rt: HostRuntime) -> Result<(), Fail> {
         source: Register::R9,
     };
     assert_eq!(rt; at_entry(call), Ok(Onward::Calls));
-    assert_eq!(rt; at_entry(helper), Err(Cause::BadInstruction));
+    assert_eq!(rt; at_entry(helper), Err(Cause::HelperArgument));
     assert_eq!(rt; at_entry(wide), Err(Cause::FrameRegister));
     assert_eq!(rt; at_entry(extension), Err(Cause::UnsetRegister));
     assert_eq!(rt; at_entry(Instruction::Exit), Err(Cause::UnsetRegister));

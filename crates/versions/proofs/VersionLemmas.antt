@@ -5,7 +5,8 @@ use Rattle.graph_model.specs.declared.entry.Entry.{Entry}
 use Rattle.graph_model.specs.Graph.{Graph, IsGraph, neighbours, edge_count, empty_graph}
 use Rattle.graph_model.specs.Edits.{after_batch, added, removed, AreEditsBelow}
 use Rattle.graph_model.specs.Past.{Past, graph_of, number_of, opening, longer}
-use Rattle.graph_model.proofs.Neighbours.{Contains-neighbours}
+use Rattle.graph_model.specs.Views.{is_edge}
+use Rattle.graph_model.proofs.ViewLemmas.{neighbour-is_edge, is_edge-neighbour}
 use Rattle.graph_model.proofs.Batches.{change_of_size, edge_count-empty_graph, edge_count-le, new_edges-le}
 use Rattle.graph_model.proofs.Pasts.{graph_of-longer, vertex_count-graph_of, number_of-longer, IsPast-longer, IsGraph-graph_of}
 use Rattle.migration.specs.declared.counts.Counts.{Counts}
@@ -89,9 +90,6 @@ same_bool false true to from = from refl
 same_bool false false to from = refl
 
 -- a pair is an edge of a version where its target is among its source's neighbours
-pub edge_listed : (p : Past) (parts : List Part) (edges u v : ℕ) (b : Bool) → IsVersion p parts edges → (b ≡ true → Contains (neighbours (graph_of p) u) v) → (Contains (neighbours (graph_of p) u) v → b ≡ true) → b ≡ (graph_of p).has_edge u v
-edge_listed p parts edges u v b is to from =
-    let among = Contains-neighbours (graph_of p) u v in
-    same_bool b ((graph_of p).has_edge u v)
-    (λ t. (among.0 (to t)).2)
-    (λ e. let ends = IsGraph-graph_of p is.past u v e in from (among.1 (ends.0, ends.1, e)))
+pub edge_listed : (p : Past) (u v : ℕ) (b : Bool) → (b ≡ true → Contains (neighbours (graph_of p) u) v) → (Contains (neighbours (graph_of p) u) v → b ≡ true) → b ≡ is_edge (graph_of p) u v
+edge_listed p u v b to from =
+    same_bool b (is_edge (graph_of p) u v) (λ t. is_edge-neighbour (graph_of p) u v (to t)) (λ e. from (neighbour-is_edge (graph_of p) u v e))

@@ -257,6 +257,35 @@ fn single_questions_are_answered(rt: HostRuntime) -> Result<(), Fail> {
     Ok(())
 }
 
+// Vertex 299 has the neighbours 3 and 4.
+#[test]
+fn neighbours_are_gathered(rt: HostRuntime) -> Result<(), Fail> {
+    let pin = with_two_ranges(rt.alloc())?.pin()?;
+    let version = pin.version();
+    let none = [255; 12];
+    for (vertex, first, count, words) in [
+        (299, 0, 2, [3, 0, 0, 0, 4, 0, 0, 0, 255, 255, 255, 255]),
+        (
+            299,
+            1,
+            1,
+            [4, 0, 0, 0, 255, 255, 255, 255, 255, 255, 255, 255],
+        ),
+        (299, 2, 0, none),
+        (299, 0x1_0000_0000, 0, none),
+        (0x1_0000_012b, 0, 0, none),
+    ] {
+        let mut out = [0; 12];
+        assert_eq!(rt; version.gather(vertex, first, &mut out), count);
+        assert_eq!(rt;
+            out.as_slice(),
+            words.as_slice(),
+            "of {vertex} from {first}"
+        );
+    }
+    Ok(())
+}
+
 // A version that was pinned before removals lists what it listed.
 #[test]
 fn a_pin_stays_under_removals(rt: HostRuntime) -> Result<(), Fail> {

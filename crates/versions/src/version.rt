@@ -1,7 +1,8 @@
-ghost use Rattle.std.specs.Prelude.{◌≡◌, ◌<◌, ◌≤◌, length, slice_get, IfOk};
+ghost use Rattle.std.specs.Prelude.{◌≡◌, ◌/◌, ◌%◌, ◌<◌, ◌≤◌, length, slice_get, IfOk};
 ghost use Rattle.graph_model.specs.declared.limits.TheConstants.{MOST_BATCHES, MOST_VERTICES};
 ghost use Rattle.graph_model.specs.Graph.{neighbours, edge_count, degree};
 ghost use Rattle.graph_model.specs.Edits.{AreEditsBelow, added, removed};
+ghost use Rattle.graph_model.specs.Views.{is_edge, neighbour_words, neighbours_among, word_bytes};
 ghost use Rattle.graph_model.specs.Past.{IsPast, graph_of, number_of, opening, longer};
 
 use crate::log::Log;
@@ -99,7 +100,7 @@ impl Version {
 
     /// Whether there is an edge from a vertex to another.
     pub fn has_edge(&self, source: u64, target: u64) -> bool
-        ensures { result ≡ (graph_of self.now).has_edge source target }
+        ensures { result ≡ is_edge (graph_of self.now) source target }
     {
         cursors::has_edge(&self.shards, source, target)
     }
@@ -109,6 +110,16 @@ impl Version {
         ensures { result ≡ slice_get (neighbours (graph_of self.now) vertex) place }
     {
         cursors::neighbour(&self.shards, vertex, place)
+    }
+
+    /// Fills a slice with the neighbours of a vertex from a place on, each as four bytes, the lowest first,
+    /// and with bytes 255 where there are no more. It tells how many there were.
+    pub fn gather(&self, vertex: u64, first: u64, out: &mut [u8]) -> u32
+        requires { length out.old % 4 ≡ 0 }
+        ensures words { out.new ≡ word_bytes (neighbour_words (graph_of self.now) vertex first (length out.old / 4)) }
+        ensures count { result ≡ neighbours_among (graph_of self.now) vertex first (length out.old / 4) }
+    {
+        cursors::gather(&self.shards, vertex, first, out)
     }
 
     /// The version after one more batch. This one stays.

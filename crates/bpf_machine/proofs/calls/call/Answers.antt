@@ -1,16 +1,16 @@
-use Rattle.std.proofs.Common.{◌≡◌, ◌-◌, ◌<◌, true, ltb, ◌∷◌, suc, length, ap, sym, ◌∙◌, rules, arith, w32, to_z, of_z}
+use Rattle.std.proofs.Common.{◌≡◌, ◌-◌, true, ltb, ◌∷◌, suc, length, ap, sym, ◌∙◌, rules, arith, w32, to_z, of_z}
 use Rattle.std.specs.Prelude.{pos, ◌+ℤ◌}
 use Rattle.std.proofs.lemmas.Int.{to_z-of_z}
 use Rattle.std.proofs.lemmas.Bool.{lt-ltb}
 use Rattle.bpf_model.specs.State.{with_value, only, without_values, frame_top, frame_bytes, most_frames}
 use Rattle.bpf_machine.specs.Cells.{cells_of}
-use Rattle.bpf_machine.specs.Seen.{values_of, memory_of, saved_of, callers_of}
+use Rattle.bpf_machine.specs.Seen.{values_of, memory_of, callers_of}
 use Rattle.bpf_machine.proofs.CallFacts.{goes_same}
 use Rattle.bpf_machine.proofs.StackFacts.{callers_count}
 use Rattle.bpf_machine.proofs.calls.call.Goals as goal
 
 pub returns : goal.returns
-returns c record_length bytes =
+returns c record_length g bytes =
     let count = callers_count c.args.machine.now.callers.kept c.args.machine.now.callers.count in
     let pushed = c.push.ensures.count in
     let few = c.if-machine-ge-MOST_CALLERS.false in

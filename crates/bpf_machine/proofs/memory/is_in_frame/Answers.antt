@@ -1,4 +1,4 @@
-use Rattle.std.proofs.Common.{◌≡◌, ap, ◌∙◌}
+use Rattle.std.proofs.Common.{ap, ◌∙◌}
 use Rattle.bpf_model.specs.State.{in_frames}
 use Rattle.bpf_machine.proofs.memory.is_in_frame.Goals as goal
 

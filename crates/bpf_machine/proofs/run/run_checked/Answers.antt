@@ -15,7 +15,7 @@ returns-in-Exited g c =
     let graph = g.G.GraphView.graph c.args.graph.now in
     let short : length c.loop-steps.bytes ≤ 256 = omega (arith, c.loop-steps.auto.bytes, c.record_length.ensures.image.record_length.1) in
     let kept : c.take_turn.new.bytes ≡ c.loop-steps.bytes = (rw c.in-Exited.is at c.take_turn.ensures.kept) in
-    let exits = (rw c.in-Exited.is at (c.take_turn.ensures.step graph)) in (
+    let exits = (rw c.in-Exited.is at c.take_turn.ensures.step) in (
       c.loop-steps.steps,
       refl,
       c.loop-steps-test.true,
@@ -29,7 +29,7 @@ returns-in-Trapped g c =
     let graph = g.G.GraphView.graph c.args.graph.now in
     let short : length c.loop-steps.bytes ≤ 256 = omega (arith, c.loop-steps.auto.bytes, c.record_length.ensures.image.record_length.1) in
     let kept : c.take_turn.new.bytes ≡ c.loop-steps.bytes = (rw c.in-Trapped.is at c.take_turn.ensures.kept) in
-    let traps = (rw c.in-Trapped.is at (c.take_turn.ensures.step graph)) in
+    let traps = (rw c.in-Trapped.is at c.take_turn.ensures.step) in
     let fits : FitsSigned w64 c.take_turn.new.machine.pc = search rules in
     let pc = sym (to_z-of_z w64 c.take_turn.new.machine.pc fits) in (
       c.loop-steps.steps,
@@ -42,7 +42,7 @@ returns-in-Trapped g c =
 pub loop-steps-preserved : goal.loop-steps-preserved
 loop-steps-preserved g c =
     let graph = g.G.GraphView.graph c.args.graph.now in
-    let goes = (rw c.in-Went.is at (c.take_turn.ensures.step graph)) in
+    let goes = (rw c.in-Went.is at c.take_turn.ensures.step) in
     rw add-one (after_more c.args.image.now graph c.loop-steps.steps (start c.args.bytes.now) (state_of c.loop-steps.machine c.loop-steps.bytes) _ c.loop-steps.invariant goes)
 
 pub returns : goal.returns

@@ -1,4 +1,4 @@
-use Rattle.std.proofs.Common.{◌≡◌, sym, inl, inr, arith, ◌+◌, ◌-◌, ◌/◌, ◌%◌}
+use Rattle.std.proofs.Common.{sym, inl, inr, arith, ◌-◌, ◌/◌, ◌%◌}
 use Rattle.bpf_machine.proofs.StackFacts.{IsOutside, found_inside, found_outside}
 use Rattle.bpf_machine.proofs.stack.find_spot.Goals.{then-frame-frames-via-then-frame-frames, then-frame-frames-via-else-frame-frames+then-place-lt-FRAME_START, then-frame-frames-via-else-frame-frames+else-place-lt-FRAME_START+then-size-place}
 use Rattle.bpf_machine.proofs.stack.find_spot.Goals as goal

@@ -1,4 +1,4 @@
-use Rattle.std.proofs.Common.{◌≡◌, ◌<◌, ℕ, List, Bool, true, false, length, take, refl, sym, ap, ap₂, ◌∙◌, rules, FitsSigned, w64, to_z, of_z}
+use Rattle.std.proofs.Common.{◌≡◌, ℕ, Bool, true, false, length, take, refl, sym, ap, ap₂, ◌∙◌, rules, FitsSigned, w64, to_z, of_z}
 use Rattle.std.specs.Prelude.{◌||◌, pos, ◌+ℤ◌}
 use Rattle.std.proofs.lemmas.Int.{to_z-of_z}
 use Rattle.bpf_isa.specs.declared.instruction.Size.{Size}

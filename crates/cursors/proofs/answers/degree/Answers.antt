@@ -1,4 +1,4 @@
-use Rattle.std.proofs.Common.{◌≡◌, length, sym, ap}
+use Rattle.std.proofs.Common.{length, sym, ap}
 use Rattle.graph_model.proofs.Neighbours.{neighbours-outside}
 use Rattle.cursors.proofs.answers.degree.Goals as goal
 

@@ -1,4 +1,4 @@
-use Rattle.std.proofs.Common.{◌≡◌, Contains, subst}
+use Rattle.std.proofs.Common.{Contains, subst}
 use Rattle.std.proofs.lemmas.Bool.{false≢true}
 use Rattle.graph_model.proofs.Neighbours.{neighbours-outside, Contains-nil}
 use Rattle.cursors.proofs.answers.has_edge.Goals as goal

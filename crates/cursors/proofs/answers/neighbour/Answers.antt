@@ -1,5 +1,5 @@
-use Rattle.std.proofs.Common.{◌≡◌, ◌+◌, ◌<◌, ◌≤◌, Some, None, List, ℕ, ◌++◌, length, get_or, drop, sym, ap, subst, ◌∙◌, slice_get, arith}
-use Rattle.std.proofs.lemmas.Option.{slice_get_past, slice_get-get_or}
+use Rattle.std.proofs.Common.{sym, ap, ◌∙◌, slice_get, arith}
+use Rattle.std.proofs.lemmas.Option.{slice_get_past}
 use Rattle.graph_model.proofs.Neighbours.{neighbours-outside}
 use Rattle.cursors.proofs.LentLemmas.{first_lent}
 use Rattle.cursors.proofs.answers.neighbour.Goals as goal

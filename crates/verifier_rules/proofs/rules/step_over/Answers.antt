@@ -8,8 +8,9 @@ unfolding transfer
 returns-in-Jump c pc = rw c.in-Jump.is refl
 
 pub returns-in-CallHelper : goal.returns-in-CallHelper
-unfolding transfer
-returns-in-CallHelper c pc = rw c.in-CallHelper.is refl
+returns-in-CallHelper c =
+    let fits : FitsSigned w32 c.in-CallHelper.number = search rules in
+    rw c.in-CallHelper.is (simp to_z-of_z at c.call_helper.ensures)
 
 pub returns-in-CallLocal : goal.returns-in-CallLocal
 unfolding transfer

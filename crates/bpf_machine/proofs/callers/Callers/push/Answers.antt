@@ -1,6 +1,6 @@
-use Rattle.std.proofs.Common.{◌≡◌, ◌<◌, ◌∷◌, length, get_or, set, add-one, refl, rules, arith}
+use Rattle.std.proofs.Common.{◌≡◌, ◌<◌, length, get_or, set, add-one, refl, rules, arith}
 use Rattle.std.proofs.lemmas.List.{get_or-set_same}
-use Rattle.bpf_machine.specs.Seen.{saved_of, no_caller, callers_of}
+use Rattle.bpf_machine.specs.Seen.{no_caller}
 use Rattle.bpf_machine.proofs.StackFacts.{callers_before}
 use Rattle.bpf_machine.proofs.callers.Callers.push.Goals as goal
 

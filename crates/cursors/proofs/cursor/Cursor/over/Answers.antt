@@ -1,4 +1,4 @@
-use Rattle.std.proofs.Common.{◌≡◌, ◌≤◌, sym, subst}
+use Rattle.std.proofs.Common.{◌≤◌, sym, subst}
 use Rattle.graph_model.proofs.Neighbours.{neighbours-outside}
 use Rattle.cursors.proofs.cursor.Cursor.over.Goals as goal
 

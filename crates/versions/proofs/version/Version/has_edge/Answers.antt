@@ -1,4 +1,5 @@
 use Rattle.std.proofs.Common.{◌≡◌, ap, subst, sym, ◌∙◌}
+use Rattle.graph_model.specs.Views.{is_edge}
 use Rattle.graph_model.specs.Past.{Past, graph_of}
 use Rattle.migration.specs.Table.{IsTable, parts_of}
 use Rattle.versions.specs.Version.{past_of}
@@ -10,5 +11,5 @@ returns c =
     let past : Past = past_of c.self.inside.vertex_count c.self.inside.log in
     let parts = parts_of c.self.inside.shards.items in
     let listed = c.has_edge.ensures (graph_of past) (subst (λ l. IsTable (graph_of past) (parts_of l)) (sym c.deref.ensures.value) c.self.invariant.table) in
-    edge_listed past parts c.self.inside.edge_count c.args.source c.args.target c.has_edge.result c.self.invariant listed.0 listed.1
-    ∙ ap (λ p. (graph_of p).has_edge c.args.source c.args.target) c.self.view_is
+    edge_listed past c.args.source c.args.target c.has_edge.result listed.0 listed.1
+    ∙ ap (λ p. is_edge (graph_of p) c.args.source c.args.target) c.self.view_is
