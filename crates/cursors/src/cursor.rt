@@ -2,12 +2,11 @@ ghost use Rattle.std.specs.Prelude.{◌≡◌, ◌<◌, ◌≤◌, ◌++◌, [],
 ghost use Rattle.graph_model.specs.declared.limits.TheConstants.{MOST_VERTICES};
 ghost use Rattle.graph_model.specs.Graph.{Graph, neighbours};
 ghost use Rattle.migration.specs.Part.{row_at};
-ghost use Rattle.migration.specs.Table.{IsTable, parts_of};
+ghost use Rattle.migration.specs.Table.{IsShardOf};
 
 use crate::place::place_of;
 use migration::Shard;
 use std::marker::Model;
-use std::sync::Arc;
 
 /// A vertex's neighbours, lent in slices. A slice lives as long as the shards, and not as long as the
 /// cursor. How the list is cut into slices is left open.
@@ -43,11 +42,11 @@ impl<'a> Cursor<'a> {
         }
     }
 
-    /// The neighbours of a vertex of the graph that the shards are. A vertex outside has none.
-    pub fn over(shards: &'a [Arc<Shard>], vertex: u32) -> Cursor<'a>
-        ensures { (g : Graph) → IsTable g (parts_of shards.now) → result ≡ neighbours g vertex }
+    /// The neighbours of a vertex, where this is the shard in which they stand. A vertex outside has none.
+    pub fn over(shard: Option<&'a Shard>, vertex: u32) -> Cursor<'a>
+        ensures { (g : Graph) → IsShardOf g vertex shard.entry → result ≡ neighbours g vertex }
     {
-        match place_of(shards, u64::from(vertex)) {
+        match place_of(shard, u64::from(vertex)) {
             Some((shard, place)) => Cursor::of(shard, place),
             None => Cursor {
                 shard: None,
@@ -59,11 +58,11 @@ impl<'a> Cursor<'a> {
 
     /// The neighbours of a vertex from a place on, both by 64-bit numbers, of which none is cut. A vertex
     /// outside has none.
-    pub fn from_place(shards: &'a [Arc<Shard>], vertex: u64, first: u64) -> Cursor<'a>
-        ensures left { (g : Graph) → IsTable g (parts_of shards.now) → result ≡ drop first (neighbours g vertex) }
+    pub fn from_place(shard: Option<&'a Shard>, vertex: u64, first: u64) -> Cursor<'a>
+        ensures left { (g : Graph) → IsShardOf g vertex shard.entry → result ≡ drop first (neighbours g vertex) }
         ensures small { length result ≤ MOST_VERTICES }
     {
-        match place_of(shards, vertex) {
+        match place_of(shard, vertex) {
             Some((shard, own)) => Cursor {
                 shard: Some(shard),
                 vertex: own,

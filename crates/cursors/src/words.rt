@@ -4,12 +4,11 @@ ghost use Rattle.std.specs.Int.{w32, to_le_bytes};
 ghost use Rattle.graph_model.specs.declared.limits.TheConstants.{MOST_VERTICES};
 ghost use Rattle.graph_model.specs.Graph.{Graph};
 ghost use Rattle.graph_model.specs.Views.{words_from, neighbour_words, neighbours_among, word_bytes};
-ghost use Rattle.migration.specs.Table.{IsTable, parts_of};
+ghost use Rattle.migration.specs.Table.{IsShardOf};
 
 use crate::cursor::Cursor;
 use migration::Shard;
 use std::marker::Model;
-use std::sync::Arc;
 
 /// The word where there is no neighbour. It is no vertex.
 const NO_WORD: u32 = u32::MAX;
@@ -79,16 +78,16 @@ fn fill(cursor: Cursor<'_>, out: &mut [u8]) -> u32
     found
 }
 
-/// Fills a slice with the neighbours of a vertex of the graph that the shards are, from a place on, each
-/// as four bytes, the lowest first, and with bytes 255 where there are no more. It tells how many there
+/// Fills a slice with the neighbours of a vertex, in whose shard they stand, from a place on, each as four
+/// bytes, the lowest first, and with bytes 255 where there are no more. It tells how many there
 /// were. Vertex and place are not cut: a vertex outside has no neighbours. It takes no memory, and one
 /// pass over the places that are wanted.
-pub fn gather(shards: &[Arc<Shard>], vertex: u64, first: u64, out: &mut [u8]) -> u32
+pub fn gather(shard: Option<&Shard>, vertex: u64, first: u64, out: &mut [u8]) -> u32
     requires { length out.old % 4 ≡ 0 }
-    ensures words { (g : Graph) → IsTable g (parts_of shards.now)
+    ensures words { (g : Graph) → IsShardOf g vertex shard.entry
         → out.new ≡ word_bytes (neighbour_words g vertex first (length out.old / 4)) }
-    ensures count { (g : Graph) → IsTable g (parts_of shards.now)
+    ensures count { (g : Graph) → IsShardOf g vertex shard.entry
         → result ≡ neighbours_among g vertex first (length out.old / 4) }
 {
-    fill(Cursor::from_place(shards, vertex, first), out)
+    fill(Cursor::from_place(shard, vertex, first), out)
 }

@@ -1,16 +1,16 @@
 -- Where a part stands in the blocks of a table.
-use Rattle.std.proofs.Common.{◌≡◌, ℕ, zero, suc, ◌+◌, ◌-◌, ◌*◌, ◌/◌, ◌%◌, ◌<◌, ◌≤◌, min, List, [], ◌∷◌, ◌++◌, length, get_or, take, drop, map, flat_map, refl, sym, ap, subst, ◌∙◌, inl, inr, length-append, arith}
+use Rattle.std.proofs.Common.{◌≡◌, ℕ, zero, suc, ◌+◌, ◌*◌, ◌/◌, ◌%◌, ◌<◌, ◌≤◌, List, [], ◌∷◌, ◌++◌, length, get_or, take, refl, sym, ap, subst, ◌∙◌, inl, inr, length-append, arith}
 use Rattle.std.specs.declared.sync.Arc.{Arc}
 use Rattle.std.specs.declared.alloc.Global.{Global}
 use Rattle.std.specs.Arc.{arc_value}
 use Rattle.std.proofs.lemmas.Bool.{cases_lt}
-use Rattle.std.proofs.lemmas.List.{length_push, length-map, map_push, take-map, get_or-map, flat_map_more}
+use Rattle.std.proofs.lemmas.List.{length-map, map_push, take-map, get_or-map, flat_map_more}
 use Rattle.std.proofs.lemmas.List.Concat.{get_or-flat_map, flat_map-cons}
 use Rattle.std.proofs.lemmas.List.Folds.{length-flat_map-take}
 use Rattle.std.proofs.Math.Seq.{take-suc}
 use Rattle.graph_model.specs.Graph.{Graph}
 use Rattle.migration.specs.Part.{Part}
-use Rattle.migration.specs.Table.{IsTable, IsPartAt, parts_of, part_at}
+use Rattle.migration.specs.Table.{IsTable, IsPartAt, part_at}
 use Rattle.migration.specs.Blocks.{ArePartsFrom, parts_in, sizes_of, AreFull}
 
 abbrev Blocks : Type 0

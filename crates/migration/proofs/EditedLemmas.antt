@@ -1,5 +1,5 @@
 -- Parts of some ranges under edit, one part or one block after another.
-use Rattle.std.proofs.Common.{◌≡◌, ℕ, zero, suc, ◌+◌, ◌-◌, ◌*◌, ◌^◌, ◌<◌, ◌≤◌, min, Bool, List, [], ◌∷◌, ◌++◌, length, get_or, refl, sym, ap, ap₂, subst, ◌∙◌, inl, inr, le_trans, mul-le-mul, length-append, add-zero, arith}
+use Rattle.std.proofs.Common.{◌≡◌, ℕ, suc, ◌+◌, ◌-◌, ◌*◌, ◌^◌, ◌<◌, ◌≤◌, Bool, List, [], ◌∷◌, ◌++◌, length, refl, sym, ap, ap₂, subst, inl, inr, le_trans, mul-le-mul, length-append, add-zero, arith}
 use Rattle.std.proofs.lemmas.Bool.{cases_lt}
 use Rattle.std.proofs.lemmas.List.{get_or_append_left, get_or-append_right}
 use Rattle.graph_model.specs.declared.edit.Edit.{Edit}
@@ -7,11 +7,11 @@ use Rattle.graph_model.specs.Graph.{Graph, count_pairs}
 use Rattle.graph_model.specs.Edits.{after_batch, added, removed, AreEditsBelow}
 use Rattle.graph_model.proofs.Pairs.{count_pairs-le}
 use Rattle.migration.specs.declared.counts.Counts.{Counts}
-use Rattle.migration.specs.Part.{Part, IsPart, AreEditsOf, IsPartAfter, AreCounts}
+use Rattle.migration.specs.Part.{Part, IsPart, IsPartAfter, AreCounts}
 use Rattle.migration.specs.Table.{IsTable, IsPartAt, AreAfter, part_at}
-use Rattle.migration.specs.Blocks.{ArePartsFrom, AreEditable, AreEdited, is_new, is_gone, vertices_in, count_in}
+use Rattle.migration.specs.Blocks.{ArePartsFrom, AreEdited, is_new, is_gone, vertices_in, count_in}
 use Rattle.migration.proofs.PartLemmas.{count_none}
-use Rattle.migration.proofs.RangeLemmas.{range_edits, range_below, range_own, part_after, range_gained, range_lost, no_edit, same_part}
+use Rattle.migration.proofs.RangeLemmas.{range_edits, range_below, part_after, range_gained, range_lost, no_edit, same_part}
 
 abbrev nothing : Part
 nothing = record { range = 0; rows = [] }
@@ -87,8 +87,8 @@ pub rest_from : (g : Graph) (first : ℕ) (p : Part) (parts : List Part) → Are
 rest_from g first p parts all = record {
   inside = λ k h. (let in_all = all.inside (k + 1) (omega arith) in omega arith);
   each = λ k h. (
-    let place : first + suc k ≡ first + 1 + k = omega arith in
-    subst (λ r. IsPartAt g r (part_at parts k)) place (all.each (suc k) (omega arith)));
+      let place : first + suc k ≡ first + 1 + k = omega arith in
+      subst (λ r. IsPartAt g r (part_at parts k)) place (all.each (suc k) (omega arith)));
 }
 
 -- parts of ranges that no edit is of
@@ -147,17 +147,19 @@ all_edited es before parts counts long done = record {
     each = λ r h. (let same : 0 + r ≡ r = omega arith in subst (λ k. IsPartAt (after_batch es g) k (part_at parts r)) same ((done g below table).each r h));
   };
   gained = λ g below table. (
-    let is = (done g below table).gained in
-    omega (arith, is, start g (is_new es g), end g (is_new es g), ap (λ m. count_pairs m g.vertex_count (is_new es g)) (whole g table)));
+      let is = (done g below table).gained in
+      omega (arith, is, start g (is_new es g), end g (is_new es g), ap (λ m. count_pairs m g.vertex_count (is_new es g)) (whole g table)));
   lost = λ g below table. (
-    let is = (done g below table).lost in
-    omega (arith, is, start g (is_gone es g), end g (is_gone es g), ap (λ m. count_pairs m g.vertex_count (is_gone es g)) (whole g table)));
+      let is = (done g below table).lost in
+      omega (arith, is, start g (is_gone es g), end g (is_gone es g), ap (λ m. count_pairs m g.vertex_count (is_gone es g)) (whole g table)));
 }
   where
     start : (g : Graph) (test : ℕ → ℕ → Bool) → count_in g 0 test ≡ 0
     start g test = count_none (vertices_in g.vertex_count 0) g.vertex_count test (λ w x h. absurd (omega arith))
+
     end : (g : Graph) (test : ℕ → ℕ → Bool) → count_in g (0 + length parts) test ≡ count_in g (length parts) test
     end g test = (let same : 0 + length parts ≡ length parts = omega arith in ap (λ r. count_in g r test) same)
+
     whole : (g : Graph) → IsTable g before → vertices_in g.vertex_count (length parts) ≡ g.vertex_count
     whole g table =
         let past : 256 * length before < g.vertex_count → ⊥ = λ h. (let inside = (table.ranges (length before)).1 h in omega arith) in

@@ -1,18 +1,18 @@
 -- A part of a graph under edit, one vertex after another.
-use Rattle.std.proofs.Common.{◌≡◌, ◌==◌, ℕ, zero, suc, ◌+◌, ◌-◌, ◌*◌, ◌%◌, ◌^◌, ◌<◌, ◌≤◌, Bool, true, false, not, ◌&&◌, cond, if◌then◌else◌, unwrap_or, Some, None, List, [], ◌∷◌, ◌++◌, length, get_or, filter, replicate, refl, sym, ap, ap₂, subst, ◌∙◌, inl, inr, le_trans, mul-le-mul, length-append, add-zero, eqb-true, eq-eqb, arith}
+use Rattle.std.proofs.Common.{◌≡◌, ◌==◌, ℕ, zero, suc, ◌+◌, ◌-◌, ◌*◌, ◌%◌, ◌^◌, ◌<◌, ◌≤◌, Bool, true, false, not, ◌&&◌, cond, if◌then◌else◌, unwrap_or, Some, None, List, [], ◌∷◌, ◌++◌, length, get_or, filter, replicate, refl, sym, ap, ap₂, subst, ◌∙◌, inl, inr, le_trans, mul-le-mul, add-zero, eqb-true, eq-eqb, arith}
 use Rattle.std.specs.List.{AllByRecursion}
-use Rattle.std.proofs.lemmas.Bool.{cases_lt, cases_eq, cases_Bool, and_parts, false_from_ne_true}
+use Rattle.std.proofs.lemmas.Bool.{cases_lt, cases_Bool, and_parts, false_from_ne_true}
 use Rattle.std.proofs.lemmas.List.{length_push, get_or_append_left, get_or_push, get_or-replicate, length-replicate}
-use Rattle.std.proofs.lemmas.List.Elements.{All-from_recursion, recursion_from_All, filter_agree}
+use Rattle.std.proofs.lemmas.List.Elements.{filter_agree}
 use Rattle.graph_model.specs.declared.edit.Edit.{Edit}
-use Rattle.graph_model.specs.Graph.{Graph, neighbours, numbers_below, count_pairs, new_edges, empty_graph}
-use Rattle.graph_model.specs.Edits.{source_of, target_of, inserts, names, decided_first, last_word, after_batch, added, removed, IsEditBelow, AreEditsBelow}
+use Rattle.graph_model.specs.Graph.{Graph, neighbours, numbers_below, count_pairs, empty_graph}
+use Rattle.graph_model.specs.Edits.{source_of, target_of, inserts, names, decided_first, last_word, after_batch, added, removed, AreEditsBelow}
 use Rattle.graph_model.proofs.Neighbours.{length-filter_below, length-neighbours, neighbours-within, neighbours-empty_graph}
 use Rattle.graph_model.proofs.Pairs.{count_pairs-le, count_pairs-suc, count_pairs-zero}
 use Rattle.migration.specs.declared.counts.Counts.{Counts}
 use Rattle.migration.specs.declared.groups.Grouping.{Grouping}
 use Rattle.migration.specs.declared.groups.Grouping.TheVariants.{ByVertex}
-use Rattle.migration.specs.Groups.{Grouped, group_of, edits_of}
+use Rattle.migration.specs.Groups.{group_of, edits_of}
 use Rattle.migration.specs.Part.{Part, vertex_at, row_at, IsPart, IsEditOf, AreEditsOf, IsPartAfter, AreCounts, IsShard}
 use Rattle.migration.specs.Merge.{decision, AreEditsFrom, IsMerged}
 use Rattle.migration.specs.Blocks.{is_new, is_gone}

@@ -1,7 +1,7 @@
 -- The edits of a range of a graph: which part they are of, what they say, and what they do.
-use Rattle.std.proofs.Common.{◌≡◌, ◌==◌, ◌↔◌, ℕ, zero, suc, ◌+◌, ◌-◌, ◌*◌, ◌/◌, ◌%◌, ◌<◌, ◌≤◌, min, Bool, true, false, not, ◌&&◌, cond, if◌then◌else◌, Option, Some, None, unwrap_or, List, [], ◌∷◌, ◌++◌, length, filter, refl, sym, ap, subst, ◌∙◌, inl, inr, eqb-true, arith}
+use Rattle.std.proofs.Common.{◌≡◌, ◌==◌, ℕ, zero, suc, ◌+◌, ◌-◌, ◌*◌, ◌/◌, ◌<◌, ◌≤◌, Bool, false, not, ◌&&◌, cond, if◌then◌else◌, Some, None, unwrap_or, List, [], ◌∷◌, length, refl, sym, ap, subst, ◌∙◌, inl, inr, eqb-true, arith}
 use Rattle.std.specs.List.{AllByRecursion}
-use Rattle.std.proofs.lemmas.Bool.{cases_eq, cases_Bool, and_parts, false_from_ne_true}
+use Rattle.std.proofs.lemmas.Bool.{cases_Bool, and_parts, false_from_ne_true}
 use Rattle.std.proofs.lemmas.List.Elements.{filter_agree}
 use Rattle.graph_model.specs.declared.edit.Edit.{Edit}
 use Rattle.graph_model.specs.Graph.{Graph, numbers_below, count_pairs}
@@ -9,7 +9,7 @@ use Rattle.graph_model.specs.Edits.{source_of, target_of, inserts, names, decide
 use Rattle.graph_model.proofs.Neighbours.{neighbours_agree}
 use Rattle.graph_model.proofs.Pairs.{count_pairs-suc}
 use Rattle.migration.specs.declared.groups.Grouping.TheVariants.{ByRange}
-use Rattle.migration.specs.Groups.{Grouped, edits_of}
+use Rattle.migration.specs.Groups.{edits_of}
 use Rattle.migration.specs.Part.{Part, vertex_at, IsPart, AreEditsOf}
 use Rattle.migration.specs.Table.{IsTable, IsPartAt}
 use Rattle.migration.specs.Blocks.{is_new, is_gone, vertices_in}

@@ -1,10 +1,8 @@
 -- A search in a vertex's list.
-use Rattle.std.proofs.Common.{◌≡◌, ◌↔◌, ℕ, ◌^◌, ◌<◌, ◌≤◌, true, false, List, length, get_or, Contains, Result, Ok, Err, is_ok, MatchResult, nat_cmp, refl, sym, ap, subst, ◌∙◌, inl, inr, arith}
-use Rattle.std.specs.Bool.{IsTrue}
+use Rattle.std.proofs.Common.{◌≡◌, ◌↔◌, ℕ, ◌^◌, ◌<◌, ◌≤◌, true, List, length, get_or, Contains, Result, Ok, Err, is_ok, MatchResult, nat_cmp, refl, sym, subst, ◌∙◌, inl, inr, arith}
 use Rattle.std.specs.List.Sorted.{IsStrictlyIncreasing, IsBinarySearchResult}
 use Rattle.std.proofs.lemmas.Bool.{cases_lt, false≢true}
 use Rattle.std.proofs.lemmas.List.{get_or_default}
-use Rattle.graph_model.specs.Graph.{neighbours}
 use Rattle.graph_model.proofs.Around.{IsGap, search_ascending}
 use Rattle.graph_model.proofs.Neighbours.{IsStrictlyIncreasing-neighbours, Contains-neighbours}
 use Rattle.migration.specs.Part.{Part, row_at, vertex_at, IsShard}

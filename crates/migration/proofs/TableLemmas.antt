@@ -1,13 +1,13 @@
 -- A table of parts: the first one, its blocks, and a vertex's part in it.
-use Rattle.std.proofs.Common.{◌≡◌, ℕ, zero, suc, ◌+◌, ◌-◌, ◌*◌, ◌/◌, ◌%◌, ◌<◌, ◌≤◌, min, List, [], ◌∷◌, ◌++◌, length, get_or, take, map, replicate, refl, sym, ap, subst, ◌∙◌, inl, inr, length-append, arith}
+use Rattle.std.proofs.Common.{◌≡◌, ℕ, ◌+◌, ◌-◌, ◌*◌, ◌/◌, ◌<◌, ◌≤◌, min, List, [], ◌∷◌, ◌++◌, length, get_or, replicate, refl, sym, subst, ◌∙◌, inl, inr, arith}
 use Rattle.std.specs.declared.sync.Arc.{Arc}
 use Rattle.std.specs.declared.alloc.Global.{Global}
 use Rattle.std.specs.Arc.{arc_value}
 use Rattle.std.proofs.lemmas.Bool.{cases_lt}
-use Rattle.std.proofs.lemmas.List.{length_push, get_or_append_left, get_or_push, get_or-replicate, length-replicate, length-map, get_or-map, map_push, map-append}
+use Rattle.std.proofs.lemmas.List.{length_push, get_or_append_left, get_or_push, get_or-replicate, length-replicate, get_or-map, map_push, map-append}
 use Rattle.graph_model.specs.Graph.{Graph, empty_graph}
 use Rattle.graph_model.proofs.Neighbours.{neighbours-empty_graph}
-use Rattle.migration.specs.Part.{Part, vertex_at, IsPart}
+use Rattle.migration.specs.Part.{Part}
 use Rattle.migration.specs.Table.{IsTable, IsPartAt, parts_of, part_at}
 
 abbrev nothing : Part

@@ -1,5 +1,5 @@
 -- A part of a graph: one range of its vertices, each with the ascending list of its targets.
-use Rattle.std.specs.Prelude.{◌≡◌, ℕ, ◌+◌, ◌*◌, ◌-◌, ◌/◌, ◌<◌, ◌≤◌, min, List, [], length, slice_index_or}
+use Rattle.std.specs.Prelude.{◌≡◌, ℕ, ◌+◌, ◌*◌, ◌<◌, ◌≤◌, List, [], length, slice_index_or}
 use Rattle.std.specs.List.{AllByRecursion}
 use Rattle.graph_model.specs.declared.limits.TheConstants.{MOST_VERTICES, MOST_RANGES, RANGE_VERTICES}
 use Rattle.graph_model.specs.declared.edit.Edit.{Edit}

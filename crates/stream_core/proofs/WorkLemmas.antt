@@ -9,7 +9,8 @@ use Rattle.migration.specs.Table.{IsPartAt, part_at}
 use Rattle.store_model.specs.Core.{range_of, is_done, is_open}
 use Rattle.stream_core.specs.Tables.{own_edits, IsTableInWork}
 use Rattle.stream_core.specs.Work.{Work, holding_of, IsEditable, IsWorkAfter}
-use Rattle.stream_core.proofs.TableLemmas.{own_edits_of, in_ranges, range_within, table_applied}
+use Rattle.migration.proofs.RangeLemmas.{range_own}
+use Rattle.stream_core.proofs.TableLemmas.{in_ranges, range_within, table_applied}
 
 not_true : (b : Bool) → not b ≡ true → b ≡ false
 not_true false e = refl
@@ -36,7 +37,7 @@ part_before g w range table inside able =
 
 pub own_inside : (w : Work) (range : ℕ) → IsEditable range w → AreEditsOf (part_at w.parts range) (own_edits w.entry.batch range)
 own_inside w range is =
-    own_edits_of is.graph (part_at w.parts range) w.entry.batch range is.small (part_before is.graph w range is.table (range_inside w range is) is.still_open) is.below
+    range_own is.graph (part_at w.parts range) 0 w.entry.batch range is.small (part_before is.graph w range is.table (range_inside w range is) is.still_open) is.below
 
 abbrev work : Work → List ℕ → List Part → Work
 work w done parts = record w { done = done; parts = parts }

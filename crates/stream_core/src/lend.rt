@@ -4,7 +4,7 @@ ghost use Rattle.migration.specs.Table.{IsTable, parts_of};
 ghost use Rattle.store_model.specs.Events.{IsBeginning};
 
 use cursors::Cursor;
-use migration::Shard;
+use migration::{Shard, shard_of};
 use std::sync::Arc;
 
 /// The next words of a vertex's neighbours from a place on, as they lie in one slice: whole slices before
@@ -14,7 +14,7 @@ pub(crate) fn lent_from(shards: &[Arc<Shard>], vertex: u32, place: usize) -> Opt
         → MatchOption result (drop place (neighbours g vertex) ≡ [])
         (λ words. (0 < length words.now) × IsBeginning words.now (drop place (neighbours g vertex))) }
 {
-    let mut cursor = Cursor::over(shards, vertex);
+    let mut cursor = Cursor::over(shard_of(shards, u64::from(vertex)), vertex);
     let mut before = place;
     while let Some(slice) = cursor.next_slice() {
         if before < slice.len() {

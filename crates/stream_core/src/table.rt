@@ -7,8 +7,8 @@ ghost use Rattle.migration.specs.Part.{AreEditsOf, IsPartAfter};
 ghost use Rattle.migration.specs.Table.{IsTable, parts_of, part_at};
 ghost use Rattle.store_model.specs.Core.{range_of};
 
-use graph_model::{Edit, RANGE_VERTICES};
-use migration::{Grouping, Groups, Shard};
+use graph_model::Edit;
+use migration::{Grouping, Groups, Shard, empty_shards, share_shards};
 use std::alloc::{AllocError, Global};
 use std::marker::Model;
 use std::sync::Arc;
@@ -38,13 +38,7 @@ impl Table {
         requires most { vertex_count ≤ MOST_VERTICES }
         ensures { IfOk result (λ table. IsTable (empty_graph vertex_count) table) }
     {
-        let count = (vertex_count - 1) / RANGE_VERTICES + 1;
-        let mut shards = Vec::with_capacity(alloc, count as usize)?;
-        for range in 0..count {
-            let left = vertex_count - RANGE_VERTICES * range;
-            let shard = Shard::new(alloc, range, left.min(RANGE_VERTICES) as u16)?;
-            shards.push(Arc::new(alloc, shard)?)?;
-        }
+        let shards = empty_shards(alloc, vertex_count)?;
         Ok(Table { shards })
     }
 
@@ -52,10 +46,7 @@ impl Table {
     pub fn share(&self, alloc: Global) -> Result<Table, AllocError>
         ensures { IfOk result (λ table. table ≡ self.now) }
     {
-        let mut shards = Vec::with_capacity(alloc, self.shards.len())?;
-        for shard in &self.shards {
-            shards.push(Arc::try_clone(shard)?)?;
-        }
+        let shards = share_shards(alloc, &self.shards)?;
         Ok(Table { shards })
     }
 

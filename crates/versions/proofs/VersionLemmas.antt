@@ -1,18 +1,17 @@
 -- A version's graph, the first version, and the next.
-use Rattle.std.proofs.Common.{◌≡◌, ℕ, ◌+◌, ◌-◌, ◌*◌, ◌<◌, ◌≤◌, Bool, true, false, List, [], length, Contains, sym, ap, subst, ◌∙◌, refl, le_trans, mul-le-mul, arith}
+use Rattle.std.proofs.Common.{◌≡◌, ℕ, ◌+◌, ◌-◌, ◌*◌, ◌<◌, ◌≤◌, Bool, true, false, List, Contains, sym, ap, subst, refl, le_trans, mul-le-mul, arith}
 use Rattle.graph_model.specs.declared.edit.Edit.{Edit}
 use Rattle.graph_model.specs.declared.entry.Entry.{Entry}
-use Rattle.graph_model.specs.Graph.{Graph, IsGraph, neighbours, edge_count, empty_graph}
+use Rattle.graph_model.specs.Graph.{neighbours, edge_count, empty_graph}
 use Rattle.graph_model.specs.Edits.{after_batch, added, removed, AreEditsBelow}
 use Rattle.graph_model.specs.Past.{Past, graph_of, number_of, opening, longer}
 use Rattle.graph_model.specs.Views.{is_edge}
 use Rattle.graph_model.proofs.ViewLemmas.{neighbour-is_edge, is_edge-neighbour}
 use Rattle.graph_model.proofs.Batches.{change_of_size, edge_count-empty_graph, edge_count-le, new_edges-le}
-use Rattle.graph_model.proofs.Pasts.{graph_of-longer, vertex_count-graph_of, number_of-longer, IsPast-longer, IsGraph-graph_of}
+use Rattle.graph_model.proofs.Pasts.{graph_of-longer, vertex_count-graph_of, number_of-longer, IsPast-longer}
 use Rattle.migration.specs.declared.counts.Counts.{Counts}
 use Rattle.migration.specs.Part.{Part}
-use Rattle.migration.specs.Table.{IsTable}
-use Rattle.versions.specs.Shards.{IsEditable, AreAfter}
+use Rattle.migration.specs.Table.{IsTable, IsEditable, AreAfter}
 use Rattle.versions.specs.Version.{IsVersion, IsVertexCount}
 
 -- edits below a version's vertices are below its graph's

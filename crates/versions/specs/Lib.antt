@@ -1,4 +1,3 @@
 pub mod Log
 pub mod Version
-pub mod Shards
 pub mod Receipt

@@ -6,7 +6,6 @@ mod log;
 mod pin;
 mod publisher;
 mod receipt;
-mod shards;
 mod store;
 mod version;
 mod view;

@@ -6,13 +6,11 @@ ghost use Rattle.graph_model.specs.Views.{is_edge, neighbour_words, neighbours_a
 ghost use Rattle.graph_model.specs.Past.{IsPast, graph_of, number_of, opening, longer};
 
 use crate::log::Log;
-use crate::shards::{empty_shards, next_shards};
 use cursors::Cursor;
 use graph_model::Entry;
-use migration::{Counts, Shard};
+use migration::{Counts, Table};
 use std::alloc::{AllocError, Global};
 use std::marker::Model;
-use std::sync::Arc;
 
 /// One state of a graph: what the log of its batches makes of the graph without an edge. It never
 /// changes after it was made.
@@ -20,20 +18,19 @@ use std::sync::Arc;
 pub struct Version {
     vertex_count: u32,
     log: Log,
-    shards: Vec<Arc<Shard>>,
+    shards: Table,
     edge_count: u64,
 }
 
 impl Model for Version {
     ghost use Rattle.graph_model.specs.Past.{Past};
-    ghost use Rattle.migration.specs.Table.{parts_of};
     ghost use Rattle.versions.specs.Version.{past_of, IsVersion};
 
     ghost Value = { Past };
 
     ghost view = { λ v. past_of v.vertex_count v.log };
 
-    ghost invariant = { λ v. IsVersion (past_of v.vertex_count v.log) (parts_of v.shards.items) v.edge_count };
+    ghost invariant = { λ v. IsVersion (past_of v.vertex_count v.log) v.shards v.edge_count };
 }
 
 /// A version's next one, and what the batch between them did.
@@ -54,7 +51,7 @@ impl Version {
         Ok(Version {
             vertex_count,
             log: Log::empty(alloc),
-            shards: empty_shards(alloc, vertex_count)?,
+            shards: Table::empty(alloc, vertex_count)?,
             edge_count: 0,
         })
     }
@@ -87,7 +84,7 @@ impl Version {
     pub fn cursor(&self, vertex: u32) -> Cursor<'_>
         ensures { result ≡ neighbours (graph_of self.now) vertex }
     {
-        Cursor::over(&self.shards, vertex)
+        Cursor::over(self.shards.shard_of(u64::from(vertex)), vertex)
     }
 
     /// How many neighbours a vertex has. A vertex outside has none.
@@ -95,21 +92,21 @@ impl Version {
         ensures value { result ≡ degree (graph_of self.now) vertex }
         ensures small { result ≤ MOST_VERTICES }
     {
-        cursors::degree(&self.shards, vertex)
+        cursors::degree(self.shards.shard_of(vertex), vertex)
     }
 
     /// Whether there is an edge from a vertex to another.
     pub fn has_edge(&self, source: u64, target: u64) -> bool
         ensures { result ≡ is_edge (graph_of self.now) source target }
     {
-        cursors::has_edge(&self.shards, source, target)
+        cursors::has_edge(self.shards.shard_of(source), source, target)
     }
 
     /// The neighbour at a place of a vertex's neighbours, from 0; there is none past their end.
     pub fn neighbour(&self, vertex: u64, place: u64) -> Option<u32>
         ensures { result ≡ slice_get (neighbours (graph_of self.now) vertex) place }
     {
-        cursors::neighbour(&self.shards, vertex, place)
+        cursors::neighbour(self.shards.shard_of(vertex), vertex, place)
     }
 
     /// Fills a slice with the neighbours of a vertex from a place on, each as four bytes, the lowest first,
@@ -119,7 +116,7 @@ impl Version {
         ensures words { out.new ≡ word_bytes (neighbour_words (graph_of self.now) vertex first (length out.old / 4)) }
         ensures count { result ≡ neighbours_among (graph_of self.now) vertex first (length out.old / 4) }
     {
-        cursors::gather(&self.shards, vertex, first, out)
+        cursors::gather(self.shards.shard_of(vertex), vertex, first, out)
     }
 
     /// The version after one more batch. This one stays.
@@ -130,7 +127,7 @@ impl Version {
         ensures gained { IfOk result (λ next. next.counts.added ≡ added entry.batch (graph_of self.now)) }
         ensures lost { IfOk result (λ next. next.counts.removed ≡ removed entry.batch (graph_of self.now)) }
     {
-        let (shards, counts) = next_shards(alloc, &self.shards, entry.batch.edits())?;
+        let (shards, counts) = self.shards.after(alloc, entry.batch.edits())?;
         let version = Version {
             vertex_count: self.vertex_count,
             log: self.log.with(alloc, entry)?,

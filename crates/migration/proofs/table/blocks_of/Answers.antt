@@ -1,10 +1,10 @@
-use Rattle.std.proofs.Common.{◌≡◌, ℕ, ◌+◌, ◌-◌, ◌*◌, ◌<◌, ◌≤◌, min, List, [], ◌∷◌, ◌++◌, length, get_or, take, drop, map, refl, sym, ap, subst, ◌∙◌, inl, inr, arith}
+use Rattle.std.proofs.Common.{◌≡◌, ◌+◌, ◌-◌, ◌*◌, ◌<◌, min, [], ◌∷◌, ◌++◌, length, get_or, take, drop, sym, ap, ◌∙◌, inl, inr, arith}
 use Rattle.std.specs.Arc.{arc_value}
 use Rattle.std.proofs.Math.Seq.{take-add, take-length}
 use Rattle.std.proofs.lemmas.Bool.{cases_lt}
 use Rattle.std.proofs.lemmas.List.{length_push, length-map, length-take-le, length-drop, get_or_append_left, get_or_push}
 use Rattle.migration.specs.Table.{parts_of}
-use Rattle.migration.specs.Blocks.{parts_in, sizes_of, AreFull}
+use Rattle.migration.specs.Blocks.{parts_in, sizes_of}
 use Rattle.migration.proofs.BlockLemmas.{blocks_push, sizes_push}
 use Rattle.migration.proofs.TableLemmas.{parts_append}
 use Rattle.migration.proofs.table.blocks_of.Goals as goal

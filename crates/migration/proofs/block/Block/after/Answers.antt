@@ -1,17 +1,13 @@
-use Rattle.std.proofs.Common.{◌≡◌, ℕ, ◌<◌, ◌≤◌, ◌+◌, ◌^◌, List, [], ◌++◌, ◌∷◌, length, sym, ap, subst, subst₂, ◌∙◌, arith}
+use Rattle.std.proofs.Common.{◌≡◌, ℕ, ◌<◌, ◌+◌, ◌^◌, List, [], ◌++◌, ◌∷◌, length, sym, ap, subst, subst₂, ◌∙◌, arith}
 use Rattle.std.specs.declared.sync.Arc.{Arc}
 use Rattle.std.specs.declared.alloc.Global.{Global}
 use Rattle.std.specs.Arc.{arc_value}
 use Rattle.std.proofs.lemmas.List.{length-map, length_push}
-use Rattle.graph_model.specs.declared.edit.Edit.{Edit}
-use Rattle.graph_model.specs.Graph.{Graph}
-use Rattle.graph_model.specs.Edits.{AreEditsBelow}
-use Rattle.migration.specs.declared.groups.Grouping.{Grouping}
 use Rattle.migration.specs.declared.groups.Grouping.TheVariants.{ByRange}
 use Rattle.migration.specs.Groups.{Grouped, edits_of}
 use Rattle.migration.specs.Part.{Part, AreEditsOf, IsPartAfter, AreCounts}
-use Rattle.migration.specs.Table.{IsPartAt, parts_of, part_at}
-use Rattle.migration.specs.Blocks.{ArePartsFrom, AreEdited}
+use Rattle.migration.specs.Table.{parts_of, part_at}
+use Rattle.migration.specs.Blocks.{AreEdited}
 use Rattle.migration.proofs.RangeLemmas.{range_edits, range_own}
 use Rattle.migration.proofs.EditedLemmas.{none, none_edited, more_edited, range_edited, range_kept, few_edited, few_counted, few_together, same_counts}
 use Rattle.migration.proofs.TableLemmas.{parts_push, shown_part}

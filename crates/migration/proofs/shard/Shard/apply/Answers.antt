@@ -1,11 +1,10 @@
-use Rattle.std.proofs.Common.{◌≡◌, ℕ, ◌<◌, ◌≤◌, ◌+◌, ◌%◌, ◌^◌, Bool, filter, List, [], ◌∷◌, ◌++◌, length, get_or, refl, sym, ap, subst, subst₂, ◌∙◌, arith}
+use Rattle.std.proofs.Common.{◌≡◌, ℕ, ◌<◌, ◌+◌, ◌%◌, ◌^◌, Bool, filter, [], length, get_or, refl, sym, ap, subst, subst₂, ◌∙◌, arith}
 use Rattle.std.specs.List.{AllByRecursion}
 use Rattle.std.proofs.lemmas.List.{get_or_read, length_push}
-use Rattle.graph_model.specs.declared.edit.Edit.{Edit}
-use Rattle.graph_model.specs.Graph.{Graph, numbers_below}
-use Rattle.graph_model.specs.Edits.{source_of, AreEditsBelow}
+use Rattle.graph_model.specs.Graph.{numbers_below}
+use Rattle.graph_model.specs.Edits.{source_of}
 use Rattle.migration.specs.Groups.{Grouped, edits_of}
-use Rattle.migration.specs.Part.{Part, row_at, vertex_at, IsPart, AreEditsOf, IsShard, IsPartAfter, AreCounts}
+use Rattle.migration.specs.Part.{Part, row_at, vertex_at, AreEditsOf, IsPartAfter, AreCounts}
 use Rattle.migration.specs.Merge.{AreEditsFrom, IsMerged}
 use Rattle.migration.proofs.PartLemmas.{own_edits, own_edits_from, in_groups, nothing_done, row_done, row_kept, row_in, few_more, rows_done, next_shard, IsDone}
 use Rattle.migration.proofs.shard.Shard.apply.Goals as goal

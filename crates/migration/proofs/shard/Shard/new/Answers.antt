@@ -1,4 +1,4 @@
-use Rattle.std.proofs.Common.{◌≡◌, List, ℕ, [], replicate, sym, ap, subst, ◌∙◌, arith}
+use Rattle.std.proofs.Common.{◌≡◌, [], replicate, sym, ap, subst, ◌∙◌, arith}
 use Rattle.migration.specs.Part.{IsShard}
 use Rattle.migration.proofs.PartLemmas.{empty_shard}
 use Rattle.migration.proofs.shard.Shard.new.Goals as goal

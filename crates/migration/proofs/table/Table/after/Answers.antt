@@ -1,18 +1,17 @@
-use Rattle.std.proofs.Common.{◌≡◌, ℕ, ◌+◌, ◌*◌, ◌/◌, ◌^◌, ◌<◌, ◌≤◌, List, [], ◌∷◌, ◌++◌, length, get_or, take, sym, ap, subst, subst₂, ◌∙◌, arith}
+use Rattle.std.proofs.Common.{◌≡◌, ℕ, ◌+◌, ◌*◌, ◌/◌, ◌^◌, ◌<◌, ◌≤◌, List, [], ◌++◌, length, get_or, sym, ap, subst, subst₂, ◌∙◌, arith}
 use Rattle.std.specs.List.{AllByRecursion}
 use Rattle.std.specs.declared.sync.Arc.{Arc}
 use Rattle.std.specs.declared.alloc.Global.{Global}
 use Rattle.std.specs.Arc.{arc_value}
 use Rattle.std.proofs.lemmas.List.{length-map}
-use Rattle.graph_model.specs.declared.edit.Edit.{Edit}
 use Rattle.graph_model.specs.Graph.{Graph}
 use Rattle.graph_model.specs.Edits.{source_of, AreEditsBelow}
 use Rattle.migration.specs.Groups.{Grouped, edits_of}
 use Rattle.migration.specs.Part.{Part}
 use Rattle.migration.specs.Table.{IsTable, parts_of}
-use Rattle.migration.specs.Blocks.{ArePartsFrom, AreEditable, AreEdited, AreFull, parts_in, sizes_of}
+use Rattle.migration.specs.Blocks.{ArePartsFrom, AreEdited, AreFull, parts_in, sizes_of}
 use Rattle.migration.proofs.RangeLemmas.{range_edits, in_ranges}
-use Rattle.migration.proofs.EditedLemmas.{none, none_edited, more_edited, same_counts, block_kept, few_edited, few_together, all_edited}
+use Rattle.migration.proofs.EditedLemmas.{none, more_edited, same_counts, block_kept, few_edited, few_together, all_edited}
 use Rattle.migration.proofs.TableLemmas.{few_parts}
 use Rattle.migration.proofs.BlockLemmas.{blocks_push, sizes_next, parts_made, all_made, same_length, block_parts, block_inside}
 use Rattle.migration.proofs.table.Table.after.Goals as goal

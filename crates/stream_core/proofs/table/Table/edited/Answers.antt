@@ -1,7 +1,7 @@
 use Rattle.std.proofs.Common.{◌≡◌, ◌<◌, length, sym, ap, subst, subst₂, ◌∙◌}
 use Rattle.std.specs.Arc.{arc_value}
 use Rattle.std.proofs.lemmas.List.{length-map}
-use Rattle.cursors.proofs.TableLemmas.{shown_part}
+use Rattle.migration.proofs.TableLemmas.{shown_part}
 use Rattle.migration.specs.Groups.{Grouped, edits_of}
 use Rattle.migration.specs.Part.{IsPartAfter}
 use Rattle.migration.specs.Table.{part_at}

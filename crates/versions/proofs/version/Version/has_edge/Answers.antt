@@ -1,7 +1,6 @@
-use Rattle.std.proofs.Common.{◌≡◌, ap, subst, sym, ◌∙◌}
+use Rattle.std.proofs.Common.{ap, ◌∙◌}
 use Rattle.graph_model.specs.Views.{is_edge}
 use Rattle.graph_model.specs.Past.{Past, graph_of}
-use Rattle.migration.specs.Table.{IsTable, parts_of}
 use Rattle.versions.specs.Version.{past_of}
 use Rattle.versions.proofs.VersionLemmas.{edge_listed}
 use Rattle.versions.proofs.version.Version.has_edge.Goals as goal
@@ -9,7 +8,6 @@ use Rattle.versions.proofs.version.Version.has_edge.Goals as goal
 pub returns : goal.returns
 returns c =
     let past : Past = past_of c.self.inside.vertex_count c.self.inside.log in
-    let parts = parts_of c.self.inside.shards.items in
-    let listed = c.has_edge.ensures (graph_of past) (subst (λ l. IsTable (graph_of past) (parts_of l)) (sym c.deref.ensures.value) c.self.invariant.table) in
+    let listed = c.has_edge.ensures (graph_of past) (c.shard_of.ensures (graph_of past) c.self.invariant.table) in
     edge_listed past c.args.source c.args.target c.has_edge.result listed.0 listed.1
     ∙ ap (λ p. is_edge (graph_of p) c.args.source c.args.target) c.self.view_is

@@ -1,34 +1,33 @@
-use Rattle.std.proofs.Common.{◌≡◌, ◌+◌, ◌-◌, ◌<◌, sym, ap, subst, subst₂, ◌∙◌, arith}
+use Rattle.std.proofs.Common.{◌+◌, ◌-◌, ◌<◌, sym, ap, subst, ◌∙◌, arith}
 use Rattle.graph_model.specs.Edits.{added, removed, AreEditsBelow}
 use Rattle.graph_model.specs.Past.{Past, graph_of, number_of}
-use Rattle.migration.specs.Table.{parts_of}
-use Rattle.versions.specs.Shards.{IsEditable, AreAfter}
+use Rattle.migration.specs.Table.{IsEditable, AreAfter}
 use Rattle.versions.specs.Version.{past_of, IsVersion}
 use Rattle.versions.proofs.VersionLemmas.{editable, few_edges, Did, did, next_version}
 use Rattle.versions.proofs.version.Version.next.Goals as goal
 use Rattle.versions.proofs.version.Version.next.Goals.{In_ok-with}
 
-pub next_shards-requires : goal.next_shards-requires
-next_shards-requires c =
+pub after-requires : goal.after-requires
+after-requires c =
     let past : Past = past_of c.self.inside.vertex_count c.self.inside.log in
     let below : AreEditsBelow past.vertex_count c.args.entry.batch = subst (λ (p : Past). AreEditsBelow p.vertex_count c.args.entry.batch) (sym c.self.view_is) c.requires.below in
-    subst₂ (λ l es. IsEditable (parts_of l) es) (sym c.deref.ensures.value) (sym c.edits.ensures) (editable past (parts_of c.self.inside.shards.items) c.self.inside.edge_count c.args.entry.batch c.self.invariant below)
+    subst (IsEditable c.self.inside.shards) (sym c.edits.ensures) (editable past c.self.inside.shards c.self.inside.edge_count c.args.entry.batch c.self.invariant below)
 
 below : (c : In_ok-with) → AreEditsBelow c.self.inside.vertex_count c.args.entry.batch
 below c = subst (λ (p : Past). AreEditsBelow p.vertex_count c.args.entry.batch) (sym c.self.view_is) c.requires.below
 
-after : (c : In_ok-with) → AreAfter c.args.entry.batch (parts_of c.self.inside.shards.items) (parts_of c.in_ok-shards.shards.items) c.in_ok-shards.counts
-after c = subst₂ (λ l es. AreAfter es (parts_of l) (parts_of c.in_ok-shards.shards.items) c.in_ok-shards.counts) c.deref.ensures.value c.edits.ensures c.in_ok-shards.ensures
+after : (c : In_ok-with) → AreAfter c.args.entry.batch c.self.inside.shards c.in_ok-shards.shards c.in_ok-shards.counts
+after c = subst (λ es. AreAfter es c.self.inside.shards c.in_ok-shards.shards c.in_ok-shards.counts) c.edits.ensures c.in_ok-shards.ensures
 
 -- what the batch did
 done : (c : In_ok-with) → Did (past_of c.self.inside.vertex_count c.self.inside.log) c.args.entry c.self.inside.edge_count c.in_ok-shards.counts
 done c =
-    did (past_of c.self.inside.vertex_count c.self.inside.log) (parts_of c.self.inside.shards.items) (parts_of c.in_ok-shards.shards.items) c.self.inside.edge_count c.args.entry c.in_ok-shards.counts c.self.invariant (below c) (after c)
+    did (past_of c.self.inside.vertex_count c.self.inside.log) c.self.inside.shards c.in_ok-shards.shards c.self.inside.edge_count c.args.entry c.in_ok-shards.counts c.self.invariant (below c) (after c)
 
 pub overflow_add-version : goal.overflow_add-version
 overflow_add-version c =
     let few = (done c).few in
-    let so_far = few_edges (past_of c.self.inside.vertex_count c.self.inside.log) (parts_of c.self.inside.shards.items) c.self.inside.edge_count c.self.invariant in
+    let so_far = few_edges (past_of c.self.inside.vertex_count c.self.inside.log) c.self.inside.shards c.self.inside.edge_count c.self.invariant in
     omega (arith, few, so_far)
 
 pub overflow_sub-version : goal.overflow_sub-version
@@ -38,8 +37,8 @@ pub invariant_of-version : goal.invariant_of-version
 invariant_of-version c =
     let past : Past = past_of c.self.inside.vertex_count c.self.inside.log in
     let room : number_of past < 4096 = subst (λ (p : Past). number_of p < 4096) (sym c.self.view_is) c.requires.room in
-    subst (λ log. IsVersion (past_of c.self.inside.vertex_count log) (parts_of c.in_ok-shards.shards.items) (c.self.inside.edge_count + c.in_ok-shards.counts.added - c.in_ok-shards.counts.removed)) (sym c.in_ok-with.ensures)
-    (next_version past (parts_of c.self.inside.shards.items) (parts_of c.in_ok-shards.shards.items) c.self.inside.edge_count c.args.entry c.in_ok-shards.counts c.self.invariant (below c) room (after c))
+    subst (λ log. IsVersion (past_of c.self.inside.vertex_count log) c.in_ok-shards.shards (c.self.inside.edge_count + c.in_ok-shards.counts.added - c.in_ok-shards.counts.removed)) (sym c.in_ok-with.ensures)
+    (next_version past c.self.inside.shards c.in_ok-shards.shards c.self.inside.edge_count c.args.entry c.in_ok-shards.counts c.self.invariant (below c) room (after c))
 
 pub returns-clause-gained : goal.returns-clause-gained
 returns-clause-gained c = (done c).gained ∙ ap (λ p. added c.args.entry.batch (graph_of p)) c.self.view_is
