@@ -4,7 +4,7 @@ import struct
 
 from assembler import Fault as TextFault
 from assembler import assemble
-from bpf import BITS_64, run
+from bpf import BITS_64, Graph, run
 from verifier import Refused, verify
 
 LONG_LINE, WORDS, ORDER, RANGE, NAME, ARGUMENT, FRONTIER, TOO_MANY, LOG_FULL, OPEN_BLOCK = range(1, 11)
@@ -120,13 +120,13 @@ class Session:
         length, code, bound = self.programs[program]
         test(len(hexadecimal(argument)) != length - 16, ARGUMENT)
         test(any(low >= high for low, high in zip(frontier, frontier[1:])), FRONTIER)
-        edges, numbers, rows = self.pins[pin], [], []
+        graph, numbers, rows = Graph(self.vertices, self.pins[pin]), [], []
         for source in frontier or range(self.vertices):
-            targets = sorted(target for start, target in edges if start == source)
+            targets = graph.neighbours(source)
             own = []
             for place, target in enumerate(targets):
                 record = struct.pack("<IIII", source, target, place, len(targets)) + hexadecimal(argument)
-                own.append(run(code, record, bound))
+                own.append(run(code, record, graph, bound))
             if own:
                 rows.append(f"row {source} {REDUCTIONS[reducer](own)}")
             numbers += own

@@ -76,6 +76,24 @@ class Writer:
         low, high = struct.unpack("<ii", struct.pack("<Q", self.choice(WIDE_NUMBERS)))
         return unit(0x18, target, immediate=low) + unit(0, immediate=high)
 
+    def asking(self, state):
+        """The call of a helper, and the instructions that give it its arguments."""
+        helper = self.choice([1, 2, 3, 3, 4, 5, 5, 5]) if self.often(0.97) else self.choice([0, 6, -1, 7, 261])
+        items = []
+        for register in (1, 2):
+            if state.registers[register][0] != "number" or self.often(0.6):
+                items.append(self.choice([unit(0xB7, register, immediate=self.choice([0, 1, 2, 3, 4, -1])), unit(0xBF, register, self.choice([0, 3, 6, 7]))]))
+                if state.registers[1] == ("record", 0, 0) and register == 2 and self.often(0.5):
+                    items = [unit(0x61, 2, 1, self.choice([0, 4, 8])), unit(0x61, 1, 1, self.choice([0, 4]))]
+        if helper == 5:
+            base = self.choice([place for place, value in enumerate(state.registers) if value[0] in ("record", "stack")])
+            step = self.choice([0, 0, 4, 1]) if state.registers[base][0] == "record" else self.choice([-256, -64, -24, -20, -16, -16, -13, -8])
+            items = [unit(0xBF, 3, base), unit(7, 3, immediate=step)] + [item for item in items if item[1] >> 4 != 3]
+            items.append(unit(0xB7, 4, immediate=self.choice([4, 8, 8, 12, 16, 16, 24, 64, 256]) if self.often(0.95) else self.choice([0, 2, 18, 260, -4])))
+        if self.often(0.03) and items:
+            items.pop(self.random.randrange(len(items)))
+        return items + [unit(0x85, immediate=helper)]
+
     def code(self, length):
         if self.often(0.3):
             items = self.with_functions(length)
@@ -122,6 +140,9 @@ class Writer:
     def steps(self, state, length, items, most):
         """More instructions, and what is known behind them."""
         for _ in range(self.random.randrange(most)):
+            if self.often(0.08):
+                items, state = self.asked(state, length, items)
+                continue
             for _ in range(8):
                 item = self.instruction(state)
                 try:
@@ -134,6 +155,19 @@ class Writer:
                     state = ways[-1][1]
                     break
             items.append(item)
+        return items, state
+
+    def asked(self, state, length, items):
+        """The call of a helper, mostly one that is accepted, and what is known behind it."""
+        for _ in range(4):
+            call, behind = self.asking(state), state.copy()
+            try:
+                for item in call:
+                    behind = ways_from(behind, length, 0, *decode(item, 0))[-1][1]
+                return items + call, behind
+            except (Broken, NoInstruction):
+                if self.often(0.03):
+                    return items + call, state
         return items, state
 
     def ended(self, items, state):

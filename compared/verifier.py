@@ -1,12 +1,13 @@
 """The verifier: the causes by which a program is refused, and the bound and the frames of one that is accepted."""
 from bisect import bisect_right
 
-from bpf import FRAME_BYTES, MOST_FRAMES, BITS_64, NoInstruction, calculated, decode, extended, negated, signed, swapped
+from bpf import ARGUMENTS, BITS_32, BITS_64, FRAME_BYTES, MOST_FRAMES, ROOMS, NoInstruction, calculated, decode, extended, negated, signed, swapped
 
 UNSET = ("unset",)
 BAD_INSTRUCTION, JUMP_OUT, JUMP_BACK, CALL_TARGET, FALLS_OFF, TOO_DEEP, TOO_LONG = 1, 2, 3, 4, 5, 6, 7
 MOST_COUNTED = 1_000_000
 UNSET_REGISTER, FRAME_REGISTER, POINTER_USE, OUT_OF_RANGE, UNSET_BYTE, NOT_A_NUMBER = 8, 9, 10, 11, 12, 15
+HELPER_ARGUMENT, UNKNOWN_HELPER = 13, 14
 OPPOSITES = {"eq": "ne", "gt": "le", "ge": "lt", "sgt": "sle", "sge": "slt"}
 OPPOSITES |= {second: first for first, second in OPPOSITES.items()}
 
@@ -127,9 +128,9 @@ class State:
         passed = [UNSET if value[0] == "stack" else value for value in self.registers[1:6]]
         return State([UNSET, *passed, *[UNSET] * 4, ("stack", 0)], frozenset(), {})
 
-    def returned(self):
-        """What is known behind the call."""
-        return State([number(0, BITS_64), *[UNSET] * 5, *self.registers[6:]], self.is_set, dict(self.spilled))
+    def returned(self, answer=number(0, BITS_64)):
+        """What is known behind the call of a function or a helper."""
+        return State([answer, *[UNSET] * 5, *self.registers[6:]], self.is_set, dict(self.spilled))
 
     def operand(self, operand, bits):
         kind, value = operand
@@ -224,6 +225,38 @@ def store(state, record_length, size, base, offset, value):
         state.spilled[place // 8] = value
 
 
+def ask(state, record_length, helper):
+    """What is known behind the call of a helper."""
+    if helper not in ARGUMENTS:
+        raise Broken(UNKNOWN_HELPER)
+    arguments = state.registers[1 : 1 + ARGUMENTS[helper]]
+    read(*arguments)
+    if any(value[0] != "number" for value in arguments[:2]):
+        raise Broken(HELPER_ARGUMENT)
+    if helper == 5:
+        return gather(state, record_length, *arguments[2:])
+    most = {1: BITS_32, 2: 1, 3: BITS_64, 4: BITS_32}[helper]
+    return state.returned(number(0, most))
+
+
+def gather(state, record_length, base, room):
+    if not is_pointer(base) or room[0] != "number" or not is_constant(room[1:]) or room[1] not in ROOMS:
+        raise Broken(HELPER_ARGUMENT)
+    size = room[1]
+    behind = state.returned(number(0, size // 4))
+    if base[0] == "record":
+        if not is_in_record(record_length, base, 0, size):
+            raise Broken(OUT_OF_RANGE)
+        return behind
+    place = place_in_frame(base, 0, size)
+    if place is None:
+        raise Broken(OUT_OF_RANGE)
+    behind.is_set |= set(range(place, place + size))
+    for slot in range(place // 8, (place + size - 1) // 8 + 1):
+        behind.spilled.pop(slot, None)
+    return behind
+
+
 def branch_ways(state, pc, bits, comparison, left, operand, distance):
     first, second = state.registers[left], state.operand(operand, bits)
     read(first, second)
@@ -260,6 +293,8 @@ def ways_from(state, record_length, pc, instruction, units):
         return branch_ways(state, pc, *parts)
     if kind == "local":
         return [(pc + 1 + parts[0], state.entered()), (pc + 1, state.returned())]
+    if kind == "helper":
+        return [(pc + 1, ask(state, record_length, parts[0]))]
     if kind == "alu":
         bits, operation, destination, operand = parts
         left, right = registers[destination], state.operand(operand, bits)
@@ -298,15 +333,13 @@ def ways_from(state, record_length, pc, instruction, units):
 
 
 def listed(code):
-    """The instructions by their pcs. Helpers are not known yet."""
+    """The instructions by their pcs."""
     instructions, pc = {}, 0
     while 8 * pc < len(code):
         try:
             instruction, units = decode(code, pc)
         except NoInstruction:
             raise Refused(BAD_INSTRUCTION, pc) from None
-        if instruction[0] == "helper":
-            raise Refused(BAD_INSTRUCTION, pc)
         instructions[pc] = (instruction, units)
         pc += units
     return instructions

@@ -9,8 +9,14 @@ LENGTHS = {
     "pair_hash": 16, "short_hash": 16, "weight": 24, "even_degree": 16, "clamp": 20, "signed_parts": 16,
     "unsigned_parts": 17, "bits_set": 16, "swapped": 16, "chosen": 17, "signed_argument": 24, "signed_sums": 16,
     "over_stack": 16, "middle": 21, "many_values": 24, "written_record": 20, "nested": 16, "lent": 20, "framed": 16,
+    "mutual": 16, "neighbour_score": 20, "walk": 19, "three_steps": 19, "triangles": 16, "gathered_record": 32,
+    "far_numbers": 16,
+    "asking": 16,
 }
-REFUSED = {"any_byte": (24, 11, 1), "stack_table": (16, 10, 12), "loop": (20, 3, 10), "lent_stack": (16, 8, 6)}
+REFUSED = {
+    "any_byte": (24, 11, 1), "stack_table": (16, 10, 12), "loop": (20, 3, 10), "lent_stack": (16, 8, 6),
+    "chosen_room": (16, 13, 9), "pointer_vertex": (16, 13, 0), "wide_gather": (20, 11, 5), "sixth_helper": (16, 14, 1),
+}
 HEAD = '''\
 //! Vectors from outside, which `compiled/make.py` wrote. Clang 19 made the bytes of each program out of
 //! `compiled/programs.c`, and the numbers are those of the same C as native code.
@@ -37,7 +43,8 @@ def extent(code):
             onward = [pc + 1 + offset]
         elif opcode == 0x85:
             onward = [pc + 1]
-            entry = pc + 1 + int.from_bytes(units[pc][4:8], "little", signed=True)
+            if units[pc][1] >> 4 == 1:  # else a helper is called
+                entry = pc + 1 + int.from_bytes(units[pc][4:8], "little", signed=True)
         elif opcode & 7 in (5, 6):
             onward = [pc + 1, pc + 1 + offset]
         else:

@@ -18,6 +18,56 @@ static const struct { u32 source, degree, targets[4]; } graph[SOURCES] = {
     { 69999, 2, { 1, 69999 } },
 };
 
+// How many vertices the graph has.
+enum { VERTICES = 70000 };
+
+static u64 degree(u64 vertex)
+{
+    for (int s = 0; s < SOURCES; s++)
+        if (graph[s].source == vertex)
+            return graph[s].degree;
+    return 0;
+}
+
+static u64 neighbour(u64 vertex, u64 place)
+{
+    for (int s = 0; s < SOURCES; s++)
+        if (graph[s].source == vertex && place < graph[s].degree)
+            return graph[s].targets[place];
+    return NO_NEIGHBOUR;
+}
+
+static u64 has_edge(u64 source, u64 target)
+{
+    for (u64 place = 0; place < degree(source); place++)
+        if (neighbour(source, place) == target)
+            return 1;
+    return 0;
+}
+
+static u64 vertex_count(void)
+{
+    return VERTICES;
+}
+
+static u64 gather(u64 vertex, u64 first, void *words, u64 room)
+{
+    u64 count = 0;
+    for (u64 k = 0; k < room / 4; k++) {
+        u64 found = neighbour(vertex, first + k);
+        u32 word = found == NO_NEIGHBOUR ? NO_WORD : (u32)found;
+        memcpy((u8 *)words + 4 * k, &word, 4);
+        count += found != NO_NEIGHBOUR;
+    }
+    return count;
+}
+
+// It is called by a program that is refused.
+static u64 no_helper(u64 vertex)
+{
+    return 0;
+}
+
 static u64 reduced(const char *reducer, u64 sofar, u64 next)
 {
     if (strcmp(reducer, "sum") == 0)
@@ -96,4 +146,18 @@ int main(void)
     RUN(lent, "max", "ff0000ff")
     RUN(lent, "min", "00000000")
     PLAIN(framed)
+    PLAIN(mutual)
+    RUN(neighbour_score, "sum", "04030201")
+    RUN(neighbour_score, "max", "01ff00fe")
+    RUN(walk, "min", "000000")
+    RUN(walk, "sum", "010001")
+    RUN(walk, "max", "020100")
+    RUN(three_steps, "sum", "000000")
+    RUN(three_steps, "max", "010203")
+    RUN(three_steps, "min", "020001")
+    PLAIN(triangles)
+    RUN(gathered_record, "sum", "05000000000000000000000000000000")
+    RUN(gathered_record, "max", "ff0102030405060708090a0b0c0d0e0f")
+    PLAIN(far_numbers)
+    PLAIN(asking)
 }

@@ -15,6 +15,27 @@ struct edge {
     u8 argument[];
 };
 
+// The helpers, by their numbers: what a program asks of the graph that it runs on. `native.c` has its own.
+#ifdef __bpf__
+static u64 (*const degree)(u64 vertex) = (void *)1;
+static u64 (*const has_edge)(u64 source, u64 target) = (void *)2;
+static u64 (*const neighbour)(u64 vertex, u64 place) = (void *)3;
+static u64 (*const vertex_count)(void) = (void *)4;
+static u64 (*const gather)(u64 vertex, u64 first, void *words, u64 room) = (void *)5;
+static u64 (*const no_helper)(u64 vertex) = (void *)6;
+#else
+static u64 degree(u64 vertex);
+static u64 has_edge(u64 source, u64 target);
+static u64 neighbour(u64 vertex, u64 place);
+static u64 vertex_count(void);
+static u64 gather(u64 vertex, u64 first, void *words, u64 room);
+static u64 no_helper(u64 vertex);
+#endif
+
+// What neighbour answers where there is none, and what gather writes there.
+#define NO_NEIGHBOUR 0xffffffffffffffffULL
+#define NO_WORD 0xffffffffu
+
 // A hash of the two vertices: multiplications, shifts, exclusive ors and wide constants.
 u64 pair_hash(struct edge *e, u64 length)
 {
@@ -249,7 +270,127 @@ FUNCTION(framed) u64 framed_sum(u64 x, u64 y)
     return kept[0] + (kept[1] >> 2);
 }
 
+// ---- programs that ask the graph
+
+// Whether the target has an edge back to the source.
+u64 mutual(struct edge *e, u64 length)
+{
+    return has_edge(e->target, e->source);
+}
+
+// The degrees of the target's first four neighbours, each times a byte of the argument: gathered into the stack.
+u64 neighbour_score(struct edge *e, u64 length)
+{
+    u32 words[4];
+    gather(e->target, 0, words, sizeof words);
+    u64 score = 0;
+#pragma clang loop unroll(full)
+    for (u32 k = 0; k < 4; k++)
+        score += e->argument[k] * degree(words[k]);
+    return score;
+}
+
+// Where three steps from the target lead, each to the neighbour at the place that the argument says. From no vertex
+// no step leads to one.
+u64 walk(struct edge *e, u64 length)
+{
+    u64 first = neighbour(e->target, e->argument[0]);
+    u64 second = neighbour(first, e->argument[1]);
+    return neighbour(second, e->argument[2]);
+}
+
+// The same, where each place counts round the neighbours, and the walk ends early at a vertex without one.
+u64 three_steps(struct edge *e, u64 length)
+{
+    u64 vertex = e->target;
+#pragma clang loop unroll(full)
+    for (u32 step = 0; step < 3; step++) {
+        u64 choices = degree(vertex);
+        if (choices == 0)
+            break;
+        vertex = neighbour(vertex, e->argument[step] % choices);
+    }
+    return vertex;
+}
+
+// How many of the source's first six neighbours are neighbours of the target, too.
+u64 triangles(struct edge *e, u64 length)
+{
+    u32 words[6];
+    gather(e->source, 0, words, sizeof words);
+    u64 count = 0;
+#pragma clang loop unroll(full)
+    for (u32 k = 0; k < 6; k++)
+        if (words[k] != NO_WORD)
+            count += has_edge(e->target, words[k]);
+    return count;
+}
+
+// The target's neighbours behind the first are gathered into the record, behind four bytes of the argument.
+u64 gathered_record(struct edge *e, u64 length)
+{
+    u64 count = gather(e->target, 1, e->argument + 4, 12);
+    u64 sum = e->argument[0];
+    for (u32 k = 0; k < 3; k++)
+        sum = sum * 31 + *(u32 *)&e->argument[4 + 4 * k];
+    return sum * 4 + count;
+}
+
+// Vertices and places past 2^32 are not cut: none of them is in the graph. How far it is round all vertices.
+u64 far_numbers(struct edge *e, u64 length)
+{
+    u64 wide = 0x100000000ULL;
+    u64 far = degree(wide | e->source) + has_edge(e->source, wide | e->target);
+    if (neighbour(e->source, wide | e->place) == NO_NEIGHBOUR)
+        far += 1000;
+    u64 count = vertex_count();
+    return far * count + (e->target + count - e->source) % count;
+}
+
+// Each of its functions asks: what is known of the caller's values is as before the call.
+FUNCTION(asking) u64 asking_weight(u64 vertex, u64 target);
+
+PROGRAM(asking) u64 asking(struct edge *e, u64 length)
+{
+    u64 there = asking_weight(e->source, e->target);
+    u64 back = asking_weight(e->target, e->source);
+    return there * 100 + back * e->degree;
+}
+
+FUNCTION(asking) u64 asking_weight(u64 vertex, u64 target)
+{
+    u64 edge = has_edge(vertex, target);
+    return edge * degree(target) + degree(vertex);
+}
+
 // ---- refused
+
+// The room is one of two: none that is known.
+u64 chosen_room(struct edge *e, u64 length)
+{
+    u32 words[2];
+    words[1] = 7;
+    gather(e->target, 0, words, e->place > 3 ? 8 : 4);
+    return words[1];
+}
+
+// A pointer is no vertex.
+u64 pointer_vertex(struct edge *e, u64 length)
+{
+    return degree((u64)e);
+}
+
+// The room is larger than what is left of the record.
+u64 wide_gather(struct edge *e, u64 length)
+{
+    return gather(e->target, 0, e->argument, 16);
+}
+
+// There is no helper of that number.
+u64 sixth_helper(struct edge *e, u64 length)
+{
+    return no_helper(e->source);
+}
 
 // The argument byte at the target: it may lie behind the record.
 u64 any_byte(struct edge *e, u64 length)

@@ -467,6 +467,8 @@ fn causes_have_numbers_and_texts(rt: HostRuntime) -> Result<(), Fail> {
         (Cause::PointerUse, 10),
         (Cause::OutOfRange, 11),
         (Cause::UnsetStackByte, 12),
+        (Cause::HelperArgument, 13),
+        (Cause::UnknownHelper, 14),
         (Cause::ResultNotNumber, 15),
         (Cause::OutOfMemory, 16),
     ];

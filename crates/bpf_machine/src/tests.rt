@@ -1,6 +1,7 @@
 mod arithmetic;
 mod branches;
 mod calls;
+mod helpers;
 mod stores;
 
 use super::*;
@@ -169,10 +170,10 @@ fn traps(rt: HostRuntime) -> Result<(), Fail> {
         // A branch reads both.
         ([0x1d, 0x31, 0, 0, 0, 0, 0, 0], TrapKind::UnsetRegister),
         ([0x15, 0x03, 0, 0, 0, 0, 0, 0], TrapKind::UnsetRegister),
-        // No instruction, and helpers, which are not known yet.
+        // No instruction, and no helper.
         ([0xff, 0, 0, 0, 0, 0, 0, 0], TrapKind::BadInstruction),
         ([0xb7, 0x10, 0, 0, 0, 0, 0, 0], TrapKind::BadInstruction),
-        ([0x85, 0, 0, 0, 1, 0, 0, 0], TrapKind::UnknownHelper),
+        ([0x85, 0, 0, 0, 9, 0, 0, 0], TrapKind::UnknownHelper),
     ];
     for (unit, kind) in rows {
         assert_eq!(rt; run_one(rt.alloc(), unit, 9)?, trap(kind, 0), "{unit:?}");
@@ -192,6 +193,7 @@ fn traps_have_numbers(rt: HostRuntime) -> Result<(), Fail> {
         (TrapKind::FrameRegister, 6),
         (TrapKind::NinthFrame, 7),
         (TrapKind::UnknownHelper, 8),
+        (TrapKind::RoomNotAllowed, 9),
         (TrapKind::UnsetResult, 10),
     ] {
         assert_eq!(rt; kind as u8, number);

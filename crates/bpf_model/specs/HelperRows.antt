@@ -1,7 +1,7 @@
 -- Worked programs that ask the graph: what comes of each after so many steps, on small graphs that are given
 -- by their edges. Each follows from the definitions by computing. Codes are instruction by instruction, as
 -- bytes.
-use Rattle.std.specs.Prelude.{◌≡◌, ℕ, pos, List, [], ◌∷◌, ◌++◌}
+use Rattle.std.specs.Prelude.{ℕ, pos, List, [], ◌∷◌, ◌++◌}
 use Rattle.graph_model.specs.declared.edit.Edit.TheVariants.{Insert}
 use Rattle.graph_model.specs.Graph.{Graph, empty_graph}
 use Rattle.graph_model.specs.Edits.{after_batch}

@@ -8,6 +8,7 @@ mod checked;
 mod compiled;
 mod edits;
 mod ends;
+mod helpers;
 mod programs;
 mod standard;
 

@@ -16,7 +16,7 @@ use Rattle.verifier.specs.Functions.{start_above, is_entry, entry_from, function
 use Rattle.verifier.specs.Walks.{next_pcs, called_pcs, IsOneOf}
 use Rattle.verifier.specs.Verdict.{first_fault, decoding_fault, flow_fault, flow_cause, landing_cause, calling_cause, falling_cause}
 use Rattle.verifier.proofs.Faults.{NoFault-first}
-use Rattle.verifier.proofs.Listed.{inside, units_inside, next_starts, stands_at}
+use Rattle.verifier.proofs.Listed.{inside, next_starts, stands_at}
 
 abbrev some_cause : Cause → Option Cause
 some_cause cause = Some cause

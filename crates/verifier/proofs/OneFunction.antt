@@ -1,13 +1,13 @@
 -- Code of one function: it has one frame, and ends where the code ends.
-use Rattle.std.proofs.Common.{◌≡◌, ℕ, zero, suc, ◌+◌, ◌-◌, ◌<◌, ◌≤◌, Bool, true, false, eqb, List, [], ◌∷◌, length, get_or, replicate, Option, Some, None, refl, sym, ap, ◌∙◌, arith, inl, inr}
-use Rattle.std.specs.Prelude.{◌||◌, ℤ, unsigned_abs}
+use Rattle.std.proofs.Common.{◌≡◌, ℕ, zero, suc, ◌+◌, ◌-◌, ◌<◌, ◌≤◌, false, eqb, List, [], ◌∷◌, length, get_or, replicate, Option, Some, None, refl, sym, ap, ◌∙◌, arith, inl, inr}
+use Rattle.std.specs.Prelude.{ℤ, unsigned_abs}
 use Rattle.std.proofs.lemmas.Bool.{cases_lt, ne_eqb}
 use Rattle.bpf_isa.specs.declared.instruction.Instruction.{Instruction}
 use Rattle.bpf_isa.specs.declared.instruction.Instruction.TheVariants.{CallLocal}
 use Rattle.bpf_image.specs.Program.{Program, units}
 use Rattle.verifier.specs.Listing.{instruction_at, start_from}
 use Rattle.verifier.specs.Verdict.{first_fault, decoding_fault}
-use Rattle.verifier.specs.Functions.{entry_called, is_place, is_called, is_entry, entry_from, function_end}
+use Rattle.verifier.specs.Functions.{entry_called, is_called, is_entry, entry_from, function_end}
 use Rattle.verifier.specs.Walks.{is_call, called_pcs, next_pcs, greatest, weight_over, weight_from, frame_rule, deepest}
 use Rattle.verifier.specs.Tables.{calls_one, HasOneFunction, HasEnds}
 use Rattle.verifier.proofs.Listed.{none_past, stands_at}

@@ -1,7 +1,6 @@
 -- Worked programs of several functions, with records of 16 bytes, and the verdict on each. They follow from
 -- the definitions by computing.
 use Rattle.std.specs.Prelude.{◌≡◌, ℕ, List, [], ◌∷◌, ◌++◌}
-use Rattle.bpf_image.specs.Program.{Program}
 use Rattle.bpf_model.specs.CallRows.{code_unit, exit, call_over, set_r0, kept_register, nine_deep}
 use Rattle.bpf_model.specs.declared.cause.Cause.{Cause}
 use Rattle.bpf_model.specs.declared.cause.Cause.TheVariants.{JumpOut, CallTarget, FallsOff, TooDeep, UnsetRegister}

@@ -10,7 +10,7 @@ use Rattle.bpf_model.specs.declared.cause.Cause.{Cause}
 use Rattle.bpf_model.specs.declared.cause.Cause.TheVariants.{HelperArgument}
 use Rattle.bpf_model.specs.declared.helper.Helper.{Helper}
 use Rattle.bpf_model.specs.declared.helper.Helper.TheVariants.{Degree, HasEdge, Neighbour, VertexCount, Gather}
-use Rattle.bpf_model.specs.State.{Partial, State, record_base, with_value, with_values, without_values, frame_top, frame_bytes, may_access}
+use Rattle.bpf_model.specs.State.{Partial, State, with_value, with_values, without_values, frame_top, frame_bytes}
 use Rattle.bpf_model.specs.Helpers.{IsView, no_neighbour, with_answer, is_room, gather, argument, helper_effect}
 use Rattle.bpf_model.specs.Next.{Goes}
 use Rattle.bpf_model.specs.Step.{call_helper}
@@ -25,7 +25,7 @@ use Rattle.abstract_state.proofs.Gathers.{gather_describes}
 use Rattle.verifier_rules.specs.Rules.{Ways, bind, known_register, is_number, known_room, onward, answered, asked_with_one, asked_with_two, gather_ways, gather_call, helper_ways, helper_call_ways}
 use Rattle.verifier_rules.specs.Described.{DescribesState, KeepsFrames, Follows, stays}
 use Rattle.verifier_rules.proofs.Parts.{ok, failed, bind_ok}
-use Rattle.verifier_rules.proofs.Known.{top, top_below, register_read}
+use Rattle.verifier_rules.proofs.Known.{top, register_read}
 use Rattle.verifier_rules.proofs.Stored.{bytes_written}
 use Rattle.verifier_rules.proofs.Accesses.{allowed, apart_below}
 use Rattle.verifier_rules.proofs.Told.{degree_most, flag_most, neighbour_most, among_most, bytes_below, written_length}

@@ -1,4 +1,4 @@
-use Rattle.std.proofs.Common.{◌≡◌, ◌/◌, ◌∙◌, length, replicate, ap, sym, refl}
+use Rattle.std.proofs.Common.{◌≡◌, ◌/◌, ◌∙◌, length, replicate, ap, sym}
 use Rattle.bpf_image.specs.Program.{units}
 use Rattle.verifier.proofs.OneFunction.{ends_of}
 use Rattle.verifier.proofs.functions.ends_of_one.Goals as goal

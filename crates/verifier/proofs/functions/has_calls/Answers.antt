@@ -1,8 +1,7 @@
-use Rattle.std.proofs.Common.{◌≡◌, ℕ, ◌/◌, ◌<◌, ◌≤◌, ◌∙◌, false, length, ap, sym, arith, inl, inr}
+use Rattle.std.proofs.Common.{◌≡◌, ◌/◌, length, ap, sym, arith, inl, inr}
 use Rattle.std.proofs.lemmas.Bool.{cases_eq}
 use Rattle.bpf_image.specs.Program.{units, IsImage}
-use Rattle.verifier.specs.Listing.{instruction_at}
-use Rattle.verifier.specs.Tables.{calls_one, HasOneFunction}
+use Rattle.verifier.specs.Tables.{HasOneFunction}
 use Rattle.verifier.proofs.OneFunction.{no_calls, one_frame}
 use Rattle.verifier.proofs.functions.has_calls.Goals as goal
 

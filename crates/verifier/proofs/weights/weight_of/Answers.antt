@@ -1,5 +1,4 @@
-use Rattle.std.proofs.Common.{◌≡◌, ◌∙◌, sym, Some, arith}
-use Rattle.verifier.specs.Listing.{instruction_at}
+use Rattle.std.proofs.Common.{◌∙◌, sym}
 use Rattle.verifier.proofs.Flowing.{Flows}
 use Rattle.verifier.proofs.WeightTable.{capped_none, called_most, next_most, weighed_at}
 use Rattle.verifier.proofs.weights.weight_of.Goals as goal
