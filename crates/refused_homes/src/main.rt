@@ -8,6 +8,7 @@ use gapped_array::GappedArray;
 use neighbour_btree::NeighbourTree;
 use std::alloc::{AllocError, Global};
 use std::io;
+use std::io::Read;
 
 /// Why it came to no end.
 #[derive(Clone, Copy, PartialEq, Eq)]
@@ -175,7 +176,18 @@ fn change_homes(alloc: Global) -> Result<(), Stop> {
     grow_and_shrink(alloc, array.words(1))
 }
 
+/// Makes so many allocations, and gives each back. What is refused is an allocation of a fixed number: with so many
+/// before it, it is one of those that matter.
+fn spend(alloc: Global, count: usize) {
+    for _ in 0..count {
+        let _spent: Result<Vec<u8>, AllocError> = Vec::with_capacity(alloc, 1);
+    }
+}
+
 fn main(rt: HostRuntime) -> io::Result<()> {
+    let mut bytes = [0; 512];
+    let count = rt.stdin().read(&mut bytes)?;
+    spend(rt.alloc(), count);
     let text = match change_homes(rt.alloc()) {
         Ok(()) => "done",
         Err(stop) => stop.text(),

@@ -7,6 +7,7 @@ ghost use Rattle.graph_model.specs.Edits.{AreEditsBelow};
 
 use std::alloc::{AllocError, Global};
 use std::io;
+use std::io::Read;
 use versions::{Batch, Edit, Publisher, Store, Version};
 
 /// What came of it.
@@ -105,7 +106,18 @@ fn publish_twice(alloc: Global) -> Told {
     }
 }
 
+/// Makes so many allocations, and gives each back. What is refused is an allocation of a fixed number: with so many
+/// before it, it is one of those that matter.
+fn spend(alloc: Global, count: usize) {
+    for _ in 0..count {
+        let _spent: Result<Vec<u8>, AllocError> = Vec::with_capacity(alloc, 1);
+    }
+}
+
 fn main(rt: HostRuntime) -> io::Result<()> {
+    let mut bytes = [0; 512];
+    let count = rt.stdin().read(&mut bytes)?;
+    spend(rt.alloc(), count);
     let told = publish_twice(rt.alloc());
     println!(rt; "{}", told.text())
 }

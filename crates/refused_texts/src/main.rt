@@ -4,8 +4,9 @@
 
 use bpf_asm::{AssembleError, DisassembleError, assemble, disassemble};
 use bpf_image::Image;
-use std::alloc::Global;
+use std::alloc::{AllocError, Global};
 use std::io;
+use std::io::Read;
 use verifier::verify;
 
 /// What came of it.
@@ -83,7 +84,18 @@ fn each_in_turn(alloc: Global) -> Told {
     }
 }
 
+/// Makes so many allocations, and gives each back. What is refused is an allocation of a fixed number: with so many
+/// before it, it is one of those that matter.
+fn spend(alloc: Global, count: usize) {
+    for _ in 0..count {
+        let _spent: Result<Vec<u8>, AllocError> = Vec::with_capacity(alloc, 1);
+    }
+}
+
 fn main(rt: HostRuntime) -> io::Result<()> {
+    let mut bytes = [0; 512];
+    let count = rt.stdin().read(&mut bytes)?;
+    spend(rt.alloc(), count);
     let told = each_in_turn(rt.alloc());
     println!(rt; "{}", told.text())
 }
