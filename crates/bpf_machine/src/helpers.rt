@@ -18,7 +18,7 @@ use graph_model::GraphView;
 const NO_NEIGHBOUR: u64 = u64::MAX;
 
 /// The registers behind the call of a helper: R1 to R5 are unset.
-fn answered_registers(registers: &[Option<u64>; 11], value: u64) -> [Option<u64>; 11]
+fn registers_behind(registers: &[Option<u64>; 11], value: u64) -> [Option<u64>; 11]
     ensures { values_of result ≡ with_value (without_values (values_of registers.now) 1 5) 0 value }
 {
     [
@@ -43,7 +43,7 @@ fn go_on_with(machine: &mut Machine, value: u64) -> Turn
     ensures step { (bytes : List ℕ)
         → Goes (with_answer (state_of machine.old bytes) value) ≡ answer result (state_of machine.new bytes) }
 {
-    machine.registers = answered_registers(&machine.registers, value);
+    machine.registers = registers_behind(&machine.registers, value);
     machine.pc += 1;
     Turn::Went
 }

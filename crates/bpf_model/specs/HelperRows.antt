@@ -30,8 +30,8 @@ abbrev pub degree_of_0 : List ℕ
 degree_of_0 = set_register 1 0 ++ call_number 1 ++ exit
 
 -- mov r1, 0; mov r2, 2; call the helper; exit
-abbrev pub asked_of_0_and_2 : ℕ → List ℕ
-asked_of_0_and_2 helper = set_register 1 0 ++ set_register 2 2 ++ call_number helper ++ exit
+abbrev pub question_of_0_and_2 : ℕ → List ℕ
+question_of_0_and_2 helper = set_register 1 0 ++ set_register 2 2 ++ call_number helper ++ exit
 
 -- mov r1, 0; call 1; mov r0, r1; exit
 abbrev pub argument_behind_helper : List ℕ
@@ -49,8 +49,8 @@ abbrev pub WorkedHelpers : Type 0
 WorkedHelpers =
     (bytes : List ℕ)
     → Leads triangle bytes degree_of_0 3 (Exits 2)
-    × Leads triangle bytes (asked_of_0_and_2 2) 4 (Exits 1)
-    × Leads triangle bytes (asked_of_0_and_2 3) 4 (Exits 18446744073709551615)
+    × Leads triangle bytes (question_of_0_and_2 2) 4 (Exits 1)
+    × Leads triangle bytes (question_of_0_and_2 3) 4 (Exits 18446744073709551615)
     × Leads triangle bytes (call_number 4 ++ exit) 2 (Exits 4)
     × Leads triangle bytes (call_number 6 ++ exit) 1 (Traps UnknownHelper (pos 0))
     × Leads triangle bytes argument_behind_helper 3 (Traps UnsetRegister (pos 2))

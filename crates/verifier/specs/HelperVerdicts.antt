@@ -2,7 +2,7 @@
 -- definitions by computing.
 use Rattle.std.specs.Prelude.{◌≡◌, ℕ, List, [], ◌∷◌, ◌++◌}
 use Rattle.bpf_model.specs.CallRows.{code_unit, exit}
-use Rattle.bpf_model.specs.HelperRows.{set_register, call_number, degree_of_0, asked_of_0_and_2, argument_behind_helper, gather_to_stack}
+use Rattle.bpf_model.specs.HelperRows.{set_register, call_number, degree_of_0, question_of_0_and_2, argument_behind_helper, gather_to_stack}
 use Rattle.bpf_model.specs.declared.cause.Cause.TheVariants.{UnsetRegister, OutOfRange, HelperArgument, UnknownHelper}
 use Rattle.verifier.specs.Verdict.{Accepted}
 use Rattle.verifier.specs.VerdictRows.{of_code, refusal_at}
@@ -24,8 +24,8 @@ room_not_constant =
 abbrev pub WorkedHelperVerdicts : Type 0
 WorkedHelperVerdicts =
     (of_code degree_of_0 ≡ Accepted 3 1)
-    × (of_code (asked_of_0_and_2 2) ≡ Accepted 4 1)
-    × (of_code (asked_of_0_and_2 3) ≡ Accepted 4 1)
+    × (of_code (question_of_0_and_2 2) ≡ Accepted 4 1)
+    × (of_code (question_of_0_and_2 3) ≡ Accepted 4 1)
     × (of_code (call_number 4 ++ exit) ≡ Accepted 2 1)
     × (of_code (call_number 6 ++ exit) ≡ refusal_at UnknownHelper 0)
     × (of_code (call_number 1 ++ exit) ≡ refusal_at HelperArgument 0)

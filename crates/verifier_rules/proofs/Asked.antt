@@ -22,7 +22,7 @@ use Rattle.abstract_state.specs.States.{state_behind_helper}
 use Rattle.abstract_state.specs.Memory.{gather_result}
 use Rattle.abstract_state.specs.Described.{DescribesParts}
 use Rattle.abstract_state.proofs.Gathers.{gather_describes}
-use Rattle.verifier_rules.specs.Rules.{Ways, bind, known_register, is_number, known_room, onward, answered, asked_with_one, asked_with_two, gather_ways, gather_call, helper_ways, helper_call_ways}
+use Rattle.verifier_rules.specs.Rules.{Ways, bind, known_register, is_number, known_room, onward, way_with_answer, one_number_call, two_number_call, gather_ways, gather_call, helper_ways, helper_call_ways}
 use Rattle.verifier_rules.specs.Described.{DescribesState, KeepsFrames, Follows, stays}
 use Rattle.verifier_rules.proofs.Parts.{ok, failed, bind_ok}
 use Rattle.verifier_rules.proofs.Known.{top, register_read}
@@ -47,9 +47,9 @@ answered_values l t b registers most answer le lt all (suc (suc (suc (suc (suc (
 answered_values l t b registers most answer le lt all (suc (suc (suc (suc (suc (suc (suc (suc (suc (suc (suc r))))))))))) = tt
 
 -- the run goes on, with this memory
-answer_follows : (l pc : ℕ) (i : Instruction) (a b : AbstractState) (s : State) (memory : Partial) (most answer : ℕ) (ws : Ways) → s.pc ≡ pos pc → DescribesState l a s → DescribesParts l (top s) b s.registers memory → KeepsFrames (length s.callers) s.memory memory → answer ≤ most → most < 2 ^ 64 → ok (answered pc b most) ≡ ok ws → Follows l i a s ws (Goes (with_answer (record s { memory = memory }) answer))
+answer_follows : (l pc : ℕ) (i : Instruction) (a b : AbstractState) (s : State) (memory : Partial) (most answer : ℕ) (ws : Ways) → s.pc ≡ pos pc → DescribesState l a s → DescribesParts l (top s) b s.registers memory → KeepsFrames (length s.callers) s.memory memory → answer ≤ most → most < 2 ^ 64 → ok (way_with_answer pc b most) ≡ ok ws → Follows l i a s ws (Goes (with_answer (record s { memory = memory }) answer))
 answer_follows l pc i a b s memory most answer ws at described parts keeps le lt h =
-    let ways : answered pc b most ≡ ws = cc in
+    let ways : way_with_answer pc b most ≡ ws = cc in
     let moved : s.pc +ℤ pos 1 ≡ pos (pc + 1) = ap (λ z. z +ℤ pos 1) at in
     let after : State = with_answer (record s { memory = memory }) answer in
     let known : DescribesState l (state_behind_helper b (Number 0 most)) after = record {
@@ -60,7 +60,7 @@ answer_follows l pc i a b s memory most answer ws at described parts keeps le lt
     subst (λ u. Follows l i a s u (Goes after)) ways (stays (pos (pc + 1), state_behind_helper b (Number 0 most)) (inl refl) moved known refl keeps)
 
 -- and memory is as it was
-plain_follows : (l pc : ℕ) (i : Instruction) (a : AbstractState) (s : State) (most answer : ℕ) (ws : Ways) → s.pc ≡ pos pc → DescribesState l a s → answer ≤ most → most < 2 ^ 64 → ok (answered pc a most) ≡ ok ws → Follows l i a s ws (Goes (with_answer s answer))
+plain_follows : (l pc : ℕ) (i : Instruction) (a : AbstractState) (s : State) (most answer : ℕ) (ws : Ways) → s.pc ≡ pos pc → DescribesState l a s → answer ≤ most → most < 2 ^ 64 → ok (way_with_answer pc a most) ≡ ok ws → Follows l i a s ws (Goes (with_answer s answer))
 plain_follows l pc i a s most answer ws at described le lt h =
     answer_follows l pc i a a s s.memory most answer ws at described described.parts (λ k j low below. refl) le lt h
 
@@ -69,19 +69,19 @@ of_kind : {A : Type 0} (test : Bool) (r : Result A Cause) (y : A) → cond test 
 of_kind true r y h = h
 of_kind false r y h = absurd cc
 
-one_follows : (l pc : ℕ) (i : Instruction) (a : AbstractState) (s : State) (most : ℕ) (answer : ℕ → ℕ) (ws : Ways) → s.pc ≡ pos pc → DescribesState l a s → ((n : ℕ) → answer n ≤ most) → most < 2 ^ 64 → asked_with_one pc a most ≡ ok ws → Follows l i a s ws (argument s 1 (λ n. Goes (with_answer s (answer n))))
+one_follows : (l pc : ℕ) (i : Instruction) (a : AbstractState) (s : State) (most : ℕ) (answer : ℕ → ℕ) (ws : Ways) → s.pc ≡ pos pc → DescribesState l a s → ((n : ℕ) → answer n ≤ most) → most < 2 ^ 64 → one_number_call pc a most ≡ ok ws → Follows l i a s ws (argument s 1 (λ n. Goes (with_answer s (answer n))))
 one_follows l pc i a s most answer ws at described le lt h =
-    let u = bind_ok (known_register a R1) (λ u. cond (is_number u) (ok (answered pc a most)) (failed HelperArgument)) ws h in
+    let u = bind_ok (known_register a R1) (λ u. cond (is_number u) (ok (way_with_answer pc a most)) (failed HelperArgument)) ws h in
     let x = register_read l a s R1 u.0 described u.1 in
-    rw x.there (plain_follows l pc i a s most (answer x.number) ws at described (le x.number) lt (of_kind (is_number u.0) (ok (answered pc a most)) ws u.2))
+    rw x.there (plain_follows l pc i a s most (answer x.number) ws at described (le x.number) lt (of_kind (is_number u.0) (ok (way_with_answer pc a most)) ws u.2))
 
-two_follows : (l pc : ℕ) (i : Instruction) (a : AbstractState) (s : State) (most : ℕ) (answer : ℕ → ℕ → ℕ) (ws : Ways) → s.pc ≡ pos pc → DescribesState l a s → ((m n : ℕ) → answer m n ≤ most) → most < 2 ^ 64 → asked_with_two pc a most ≡ ok ws → Follows l i a s ws (argument s 1 (λ m. argument s 2 (λ n. Goes (with_answer s (answer m n)))))
+two_follows : (l pc : ℕ) (i : Instruction) (a : AbstractState) (s : State) (most : ℕ) (answer : ℕ → ℕ → ℕ) (ws : Ways) → s.pc ≡ pos pc → DescribesState l a s → ((m n : ℕ) → answer m n ≤ most) → most < 2 ^ 64 → two_number_call pc a most ≡ ok ws → Follows l i a s ws (argument s 1 (λ m. argument s 2 (λ n. Goes (with_answer s (answer m n)))))
 two_follows l pc i a s most answer ws at described le lt h =
-    let u = bind_ok (known_register a R1) (λ u. bind (known_register a R2) (λ v. cond (is_number u && is_number v) (ok (answered pc a most)) (failed HelperArgument))) ws h in
-    let v = bind_ok (known_register a R2) (λ v. cond (is_number u.0 && is_number v) (ok (answered pc a most)) (failed HelperArgument)) ws u.2 in
+    let u = bind_ok (known_register a R1) (λ u. bind (known_register a R2) (λ v. cond (is_number u && is_number v) (ok (way_with_answer pc a most)) (failed HelperArgument))) ws h in
+    let v = bind_ok (known_register a R2) (λ v. cond (is_number u.0 && is_number v) (ok (way_with_answer pc a most)) (failed HelperArgument)) ws u.2 in
     let x = register_read l a s R1 u.0 described u.1 in
     let y = register_read l a s R2 v.0 described v.1 in
-    rw (x.there, y.there) (plain_follows l pc i a s most (answer x.number y.number) ws at described (le x.number y.number) lt (of_kind (is_number u.0 && is_number v.0) (ok (answered pc a most)) ws v.2))
+    rw (x.there, y.there) (plain_follows l pc i a s most (answer x.number y.number) ws at described (le x.number y.number) lt (of_kind (is_number u.0 && is_number v.0) (ok (way_with_answer pc a most)) ws v.2))
 
 -- ---- gather
 
@@ -120,7 +120,7 @@ room_parts room h =
 
 gathers : (l pc : ℕ) (i : Instruction) (g : Graph) (a : AbstractState) (s : State) (pointer : AbstractValue) (room v first p : ℕ) (ws : Ways) → l ≤ 256 → s.pc ≡ pos pc → DescribesState l a s → Describes l (top s) pointer (Some p) → is_room room ≡ true → gather_ways l pc a pointer (Some room) ≡ ok ws → Follows l i a s ws (gather l g s v first p room)
 gathers l pc i g a s pointer room v first p ws short at described base is h =
-    let parts = bind_ok (gather_result l a pointer room) (λ t. ok (answered pc t (room / 4))) ws h in
+    let parts = bind_ok (gather_result l a pointer room) (λ t. ok (way_with_answer pc t (room / 4))) ws h in
     let of_room = room_parts room is in
     let bytes = word_bytes (neighbour_words g v first (room / 4)) in
     let long : length bytes ≡ room = written_length g v first (room / 4) ∙ of_room.words in
@@ -197,24 +197,24 @@ helper_call_follows l pc i g (Some helper) a s ws few short at described h = hel
 
 -- ---- where the run goes on
 
-answered_way : (pc : ℕ) (a : AbstractState) (most : ℕ) (ws : Ways) → ok (answered pc a most) ≡ ok ws → (b : AbstractState) × (onward (pc + 1) b ≡ ws)
-answered_way pc a most ws h = (state_behind_helper a (Number 0 most), (let same : answered pc a most ≡ ws = cc in same))
+answered_way : (pc : ℕ) (a : AbstractState) (most : ℕ) (ws : Ways) → ok (way_with_answer pc a most) ≡ ok ws → (b : AbstractState) × (onward (pc + 1) b ≡ ws)
+answered_way pc a most ws h = (state_behind_helper a (Number 0 most), (let same : way_with_answer pc a most ≡ ws = cc in same))
 
-one_way : (pc : ℕ) (a : AbstractState) (most : ℕ) (ws : Ways) → asked_with_one pc a most ≡ ok ws → (b : AbstractState) × (onward (pc + 1) b ≡ ws)
+one_way : (pc : ℕ) (a : AbstractState) (most : ℕ) (ws : Ways) → one_number_call pc a most ≡ ok ws → (b : AbstractState) × (onward (pc + 1) b ≡ ws)
 one_way pc a most ws h =
-    let u = bind_ok (known_register a R1) (λ u. cond (is_number u) (ok (answered pc a most)) (failed HelperArgument)) ws h in
-    answered_way pc a most ws (of_kind (is_number u.0) (ok (answered pc a most)) ws u.2)
+    let u = bind_ok (known_register a R1) (λ u. cond (is_number u) (ok (way_with_answer pc a most)) (failed HelperArgument)) ws h in
+    answered_way pc a most ws (of_kind (is_number u.0) (ok (way_with_answer pc a most)) ws u.2)
 
-two_way : (pc : ℕ) (a : AbstractState) (most : ℕ) (ws : Ways) → asked_with_two pc a most ≡ ok ws → (b : AbstractState) × (onward (pc + 1) b ≡ ws)
+two_way : (pc : ℕ) (a : AbstractState) (most : ℕ) (ws : Ways) → two_number_call pc a most ≡ ok ws → (b : AbstractState) × (onward (pc + 1) b ≡ ws)
 two_way pc a most ws h =
-    let u = bind_ok (known_register a R1) (λ u. bind (known_register a R2) (λ v. cond (is_number u && is_number v) (ok (answered pc a most)) (failed HelperArgument))) ws h in
-    let v = bind_ok (known_register a R2) (λ v. cond (is_number u.0 && is_number v) (ok (answered pc a most)) (failed HelperArgument)) ws u.2 in
-    answered_way pc a most ws (of_kind (is_number u.0 && is_number v.0) (ok (answered pc a most)) ws v.2)
+    let u = bind_ok (known_register a R1) (λ u. bind (known_register a R2) (λ v. cond (is_number u && is_number v) (ok (way_with_answer pc a most)) (failed HelperArgument))) ws h in
+    let v = bind_ok (known_register a R2) (λ v. cond (is_number u.0 && is_number v) (ok (way_with_answer pc a most)) (failed HelperArgument)) ws u.2 in
+    answered_way pc a most ws (of_kind (is_number u.0 && is_number v.0) (ok (way_with_answer pc a most)) ws v.2)
 
 gather_way : (l pc : ℕ) (a : AbstractState) (pointer : AbstractValue) (room : Option ℕ) (ws : Ways) → gather_ways l pc a pointer room ≡ ok ws → (b : AbstractState) × (onward (pc + 1) b ≡ ws)
 gather_way l pc a pointer None ws h = absurd cc
 gather_way l pc a pointer (Some room) ws h =
-    let t = bind_ok (gather_result l a pointer room) (λ t. ok (answered pc t (room / 4))) ws h in
+    let t = bind_ok (gather_result l a pointer room) (λ t. ok (way_with_answer pc t (room / 4))) ws h in
     answered_way pc t.0 (room / 4) ws t.2
 
 helper_way : (l pc : ℕ) (helper : Helper) (a : AbstractState) (ws : Ways) → helper_ways l pc helper a ≡ ok ws → (b : AbstractState) × (onward (pc + 1) b ≡ ws)

@@ -128,24 +128,24 @@ known_room (Record lo hi) = None
 known_room (Stack offset) = None
 
 -- the run goes on behind a helper whose answer is at most this number
-abbrev pub answered : ℕ → AbstractState → (most : ℕ) → Ways
-answered pc s most = onward (pc + 1) (state_behind_helper s (Number 0 most))
+abbrev pub way_with_answer : ℕ → AbstractState → (most : ℕ) → Ways
+way_with_answer pc s most = onward (pc + 1) (state_behind_helper s (Number 0 most))
 
 -- a helper is asked with one number, or with two
-abbrev pub asked_with_one : ℕ → AbstractState → (most : ℕ) → Result Ways Cause
-asked_with_one pc s most =
-    bind (known_register s R1) (λ a. if is_number a then Ok (answered pc s most) else Err HelperArgument)
+abbrev pub one_number_call : ℕ → AbstractState → (most : ℕ) → Result Ways Cause
+one_number_call pc s most =
+    bind (known_register s R1) (λ a. if is_number a then Ok (way_with_answer pc s most) else Err HelperArgument)
 
-abbrev pub asked_with_two : ℕ → AbstractState → (most : ℕ) → Result Ways Cause
-asked_with_two pc s most =
+abbrev pub two_number_call : ℕ → AbstractState → (most : ℕ) → Result Ways Cause
+two_number_call pc s most =
     bind (known_register s R1) (λ a. bind (known_register s R2) (λ b.
-    if is_number a && is_number b then Ok (answered pc s most) else Err HelperArgument))
+    if is_number a && is_number b then Ok (way_with_answer pc s most) else Err HelperArgument))
 
 -- gather fills its room from a pointer on, and answers with no more than the words that the room has
 abbrev pub gather_ways : ℕ → ℕ → AbstractState → (pointer : AbstractValue) → (room : Option ℕ) → Result Ways Cause
 gather_ways record_length pc s pointer None = Err HelperArgument
 gather_ways record_length pc s pointer (Some room) =
-    bind (gather_result record_length s pointer room) (λ t. Ok (answered pc t (room / 4)))
+    bind (gather_result record_length s pointer room) (λ t. Ok (way_with_answer pc t (room / 4)))
 
 abbrev pub gather_call : ℕ → ℕ → AbstractState → Result Ways Cause
 gather_call record_length pc s =
@@ -155,10 +155,10 @@ gather_call record_length pc s =
 
 -- the call of a helper: its arguments are set, and each is of its kind
 abbrev pub helper_ways : ℕ → ℕ → Helper → AbstractState → Result Ways Cause
-helper_ways record_length pc Degree s = asked_with_one pc s (2 ^ 32 - 1)
-helper_ways record_length pc HasEdge s = asked_with_two pc s 1
-helper_ways record_length pc Neighbour s = asked_with_two pc s (2 ^ 64 - 1)
-helper_ways record_length pc VertexCount s = Ok (answered pc s (2 ^ 32 - 1))
+helper_ways record_length pc Degree s = one_number_call pc s (2 ^ 32 - 1)
+helper_ways record_length pc HasEdge s = two_number_call pc s 1
+helper_ways record_length pc Neighbour s = two_number_call pc s (2 ^ 64 - 1)
+helper_ways record_length pc VertexCount s = Ok (way_with_answer pc s (2 ^ 32 - 1))
 helper_ways record_length pc Gather s = gather_call record_length pc s
 
 abbrev pub helper_call_ways : ℕ → ℕ → Option Helper → AbstractState → Result Ways Cause

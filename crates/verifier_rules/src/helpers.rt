@@ -3,7 +3,7 @@ ghost use Rattle.std.specs.Prelude.{◌≡◌, ◌+◌, ◌≤◌, ℕ, IfSome};
 ghost use Rattle.bpf_isa.specs.declared.instruction.Instruction.TheVariants.{CallHelper};
 ghost use Rattle.abstract_values.specs.declared.value.AbstractValue.TheVariants.{Number};
 ghost use Rattle.abstract_state.specs.States.{state_behind_helper};
-ghost use Rattle.verifier_rules.specs.Rules.{is_number, known_room, asked_with_one, asked_with_two, gather_call, helper_ways, transfer};
+ghost use Rattle.verifier_rules.specs.Rules.{is_number, known_room, one_number_call, two_number_call, gather_call, helper_ways, transfer};
 ghost use Rattle.verifier_rules.specs.Answers.{write_answer, answer_ways};
 
 use crate::onward::Onward;
@@ -48,7 +48,7 @@ fn answer_up_to(state: &mut AbstractState, most: u64)
 
 /// The call of a helper that is asked with one number.
 fn ask_with_one(state: &mut AbstractState, most: u64) -> Result<(), Cause>
-    ensures { (pc : ℕ) → asked_with_one pc state.old most ≡ write_answer (pc + 1) result state.new }
+    ensures { (pc : ℕ) → one_number_call pc state.old most ≡ write_answer (pc + 1) result state.new }
 {
     let asked = read_register(state, Register::R1)?;
     if !is_any_number(asked) {
@@ -60,7 +60,7 @@ fn ask_with_one(state: &mut AbstractState, most: u64) -> Result<(), Cause>
 
 /// The call of a helper that is asked with two numbers.
 fn ask_with_two(state: &mut AbstractState, most: u64) -> Result<(), Cause>
-    ensures { (pc : ℕ) → asked_with_two pc state.old most ≡ write_answer (pc + 1) result state.new }
+    ensures { (pc : ℕ) → two_number_call pc state.old most ≡ write_answer (pc + 1) result state.new }
 {
     let first = read_register(state, Register::R1)?;
     let second = read_register(state, Register::R2)?;
