@@ -1,5 +1,13 @@
 //! The laws of the definitions. Each function does nothing: its contract is the law.
-ghost use Rattle.graph_model.specs.Laws.{NeighboursAscend, NeighboursAreTargets, EdgesAreNeighbours, OneEdit, EditsInTurn, ChangeOfSize, ReplayIsGraph};
+ghost use Rattle.graph_model.specs.Laws.{
+  NeighboursAscend,
+  NeighboursAreTargets,
+  EdgesAreNeighbours,
+  OneEdit,
+  EditsInTurn,
+  ChangeOfSize,
+  ReplayIsGraph,
+};
 
 /// A vertex's neighbours are strictly ascending.
 pub fn neighbours_ascend()
