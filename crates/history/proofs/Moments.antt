@@ -9,11 +9,17 @@ use Rattle.history.proofs.Beginnings.{prefix_self, prefix_more, prefix_trans, pr
 pub same_moment : (a b : Moment) → OneStore a b → a.past.log ≡ b.past.log → a ≡ b
 same_moment a b one logs = λ i. record { past = record { vertex_count = sym one.1 i; log = logs i }; book = sym one.0 i }
 
+pub one_store_back : (a b : Moment) → OneStore a b → OneStore b a
+one_store_back a b one = (sym one.0, sym one.1)
+
+pub one_store_onwards : (a b c : Moment) → OneStore a b → OneStore b c → OneStore a c
+one_store_onwards a b c p q = (q.0 ∙ p.0, q.1 ∙ p.1)
+
 pub begins_itself : (a : Moment) → Begins a a
 begins_itself a = ((refl, refl), prefix_self a.past.log)
 
 pub begins_onwards : (a b c : Moment) → Begins a b → Begins b c → Begins a c
-begins_onwards a b c p q = ((q.0.0 ∙ p.0.0, q.0.1 ∙ p.0.1), prefix_trans a.past.log b.past.log c.past.log p.1 q.1)
+begins_onwards a b c p q = (one_store_onwards a b c p.0 q.0, prefix_trans a.past.log b.past.log c.past.log p.1 q.1)
 
 pub begins_one : (a b : Moment) → Begins a b → Begins b a → a ≡ b
 begins_one a b p q = same_moment a b p.0 (prefix_whole a.past.log b.past.log p.1 (prefix_length b.past.log a.past.log q.1))

@@ -35,6 +35,10 @@ pub record Beginning : Type 0 where
 abbrev pub beginning_of : Moment → Beginning
 beginning_of m = record { log = m.past.log; book = m.book }
 
+-- the moment of a version with so many vertices and these batches
+abbrev pub moment_of : ℕ → Beginning → Moment
+moment_of n k = record { past = record { vertex_count = n; log = k.log }; book = k.book }
+
 -- no batch
 abbrev pub no_batch : Book → Beginning
 no_batch b = record { log = []; book = b }
