@@ -1,6 +1,5 @@
 -- The version that waits to be shown.
-use Rattle.std.proofs.Common.{◌≡◌, ◌≤◌, List, [], ◌∷◌, ◌++◌, map, fold, length, Option, Some, None, unwrap_or, Result, Ok, Err, IfOk, MatchResult, MatchOption, refl, sym, ap, ◌∙◌, subst, arith}
-use Rattle.std.specs.List.{AllByRecursion}
+use Rattle.std.proofs.Common.{◌≡◌, List, [], ◌∷◌, ◌++◌, map, fold, Option, Some, None, unwrap_or, Result, Ok, Err, IfOk, MatchResult, MatchOption, refl, sym, ap, ◌∙◌, subst, arith}
 use Rattle.std.proofs.lemmas.List.{map-append}
 use Rattle.history.specs.Moment.{Moment, Begins}
 use Rattle.history.proofs.Moments.{begins_itself}

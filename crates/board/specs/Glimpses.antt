@@ -1,6 +1,5 @@
 -- What a pass of the board knows: a version's moment, or nothing.
-use Rattle.std.specs.Prelude.{◌≡◌, Bool, true, false}
-use Rattle.logbook.specs.Pages.{Book}
+use Rattle.std.specs.Prelude.{◌≡◌, true, false}
 use Rattle.history.specs.Moment.{Moment, opening_moment, OneStore}
 use Rattle.board.specs.declared.glimpse.Glimpse.{Glimpse}
 

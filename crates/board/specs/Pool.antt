@@ -3,7 +3,7 @@ use Rattle.std.specs.Prelude.{◌≡◌, ◌⊎◌, ℕ, true, false, List, [], 
 use Rattle.std.specs.List.{AllByRecursion}
 use mathlib.Core.Option.{some}
 use lib.ListN.{get_elem?}
-use Rattle.history.specs.Moment.{Moment, opening_moment, OneStore}
+use Rattle.history.specs.Moment.{Moment, OneStore}
 use Rattle.board.specs.declared.glimpse.Glimpse.{Glimpse}
 use Rattle.board.specs.declared.member.Member.{Member}
 use Rattle.board.specs.Glimpses.{stranger, Knows}

@@ -1,4 +1,5 @@
 ghost use Rattle.std.specs.Prelude.{◌≡◌, true, IfOk};
+ghost use Rattle.std.specs.Arc.{arc_value};
 ghost use Rattle.left_right.specs.Sides.{view as glimpse_of};
 ghost use Rattle.crossbeam_queue.specs.Passes.{view as member_of, IsPassOf};
 ghost use Rattle.board.specs.Pool.{member, maker};
@@ -15,18 +16,20 @@ use std::sync::{Arc, Wait};
 use store_model::READERS;
 
 /// A board that shows this version, and a reader. There can be 16 readers at once.
-pub fn open<R: Wait>(alloc: Global, version: Version, rt: &R) -> Result<(Board, Reader), AllocError>
-    ensures board { IfOk result (λ ends. ends.0 ≡ showing version) }
-    ensures reader { IfOk result (λ ends. ends.1 ≡ version) }
+pub fn open<R: Wait>(
+    alloc: Global,
+    version: &Arc<Version>,
+    rt: &R,
+) -> Result<(Board, Reader), AllocError>
+    ensures board { IfOk result (λ ends. ends.0 ≡ showing (arc_value version.now)) }
+    ensures reader { IfOk result (λ ends. ends.1 ≡ arc_value version.now) }
 {
-    let vertex_count = version.vertex_count();
-    let number = version.number();
-    let known = version.known();
-    let version = Arc::new(alloc, version)?;
     let first = Shown {
-        version: Arc::try_clone(&version)?,
+        version: Arc::try_clone(version)?,
     };
-    let second = Shown { version };
+    let second = Shown {
+        version: Arc::try_clone(version)?,
+    };
     let (pool, mut membership) = Pool::ruled(alloc, usize::from(READERS))?;
     let pool = Arc::new(alloc, pool)?;
     let writer = Writer::new(alloc, first, second, usize::from(READERS))?;
@@ -41,9 +44,9 @@ pub fn open<R: Wait>(alloc: Global, version: Version, rt: &R) -> Result<(Board, 
                 writer: Some(writer),
             },
             Reader {
-                vertex_count,
-                number,
-                known,
+                vertex_count: version.vertex_count(),
+                number: version.number(),
+                known: version.known(),
                 inner: Some(inner),
                 pool,
                 membership,

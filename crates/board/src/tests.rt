@@ -13,6 +13,9 @@ use std::test::Fail;
 use std::thread;
 use store_model::READERS;
 
+// How many versions are shown while another thread reads.
+const SHOWN: u64 = 200;
+
 // Shows the version after `last`, by an empty batch.
 fn show_next<R: Wait>(
     rt: &R,
@@ -44,31 +47,67 @@ fn show_next<R: Wait>(
     Ok(next)
 }
 
+// Shows so many versions after the first, one after another.
+fn show_many<R: Wait>(
+    rt: &R,
+    alloc: Global,
+    head: &Head,
+    board: &mut Board,
+    first: Arc<Version>,
+    count: u64,
+) -> Result<(), AllocError>
+    requires history { head.now ≡ (arc_value first).book }
+    requires first { number_of (arc_value first).past ≡ 0 }
+    requires shown { board.old ≡ showing (arc_value first) }
+    requires room { count ≤ MOST_BATCHES }
+{
+    let mut last = first;
+    'versions: for _number in 0..count {
+        last = show_next(rt, alloc, head, board, &last)?;
+    }
+    Ok(())
+}
+
+// The number of the last version that a reader pins before the board ends.
+fn last_read<R: Wait>(rt: &R, mut reader: Reader) -> u64 {
+    let mut last = 0;
+    for _ in rt.forever() {
+        match reader.pin() {
+            Ok(version) => last = version.number(),
+            Err(_) => break,
+        }
+        thread::yield_now();
+    }
+    last
+}
+
 // What a reader pins, and then pins again, over three versions.
 fn read_three<R: Wait>(
     rt: &R,
     alloc: Global,
     head: &Head,
     board: &mut Board,
+    first: &Version,
     reader: &mut Reader,
 ) -> Result<[u64; 3], Fail>
-    requires history { head.now ≡ reader.old.book }
-    requires first { number_of reader.old.past ≡ 0 }
-    requires shown { board.old ≡ showing reader.old }
+    requires history { head.now ≡ first.now.book }
+    requires first { number_of first.now.past ≡ 0 }
+    requires shown { board.old ≡ showing first.now }
 {
-    let first = reader.pin()?;
-    let second = show_next(rt, alloc, head, board, &first)?;
-    let seen = reader.pin()?.number();
+    let at_first = reader.pin()?.number();
+    let second = show_next(rt, alloc, head, board, first)?;
+    let then = reader.pin()?.number();
     show_next(rt, alloc, head, board, &second)?;
-    Ok([first.number(), seen, reader.pin()?.number()])
+    Ok([at_first, then, reader.pin()?.number()])
 }
 
 #[test]
 fn what_is_shown_is_pinned(rt: HostRuntime) -> Result<(), Fail> {
     let alloc = rt.alloc();
     let (head, known) = Head::new();
-    let (mut board, mut reader) = open(alloc, Version::opening(4, known), &rt)?;
-    let numbers = read_three(&rt, alloc, &head, &mut board, &mut reader);
+    let first = Arc::new(alloc, Version::opening(4, known))?;
+    let (mut board, mut reader) = open(alloc, &first, &rt)?;
+    let numbers = read_three(&rt, alloc, &head, &mut board, &first, &mut reader);
     board.close(&rt);
     assert_eq!(rt; numbers?, [0, 1, 2]);
     assert_eq!(rt;
@@ -98,9 +137,25 @@ fn count_readers(alloc: Global, reader: &mut Reader) -> Result<[usize; 2], Alloc
 fn a_reader_that_is_gone_leaves_its_place(rt: HostRuntime) -> Result<(), Fail> {
     let alloc = rt.alloc();
     let (_head, known) = Head::new();
-    let (board, mut reader) = open(alloc, Version::opening(4, known), &rt)?;
+    let first = Arc::new(alloc, Version::opening(4, known))?;
+    let (board, mut reader) = open(alloc, &first, &rt)?;
     let counts = count_readers(alloc, &mut reader);
     board.close(&rt);
     assert_eq!(rt; counts?, [15, 15]);
+    Ok(())
+}
+
+#[test]
+fn another_thread_reads(rt: HostRuntime) -> Result<(), Fail> {
+    let alloc = rt.alloc();
+    let (head, known) = Head::new();
+    let first = Arc::new(alloc, Version::opening(4, known))?;
+    let (mut board, reader) = open(alloc, &first, &rt)?;
+    let child = thread::spawn(&rt, move || last_read(&rt, reader));
+    let shown = show_many(&rt, alloc, &head, &mut board, first, SHOWN);
+    board.close(&rt);
+    let last = child?.join(&rt);
+    shown?;
+    assert!(rt; last <= SHOWN);
     Ok(())
 }

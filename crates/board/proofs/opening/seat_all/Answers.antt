@@ -1,4 +1,4 @@
-use Rattle.std.proofs.Common.{◌≡◌, sym, ap, ◌∙◌, true}
+use Rattle.std.proofs.Common.{sym, ap, ◌∙◌}
 use Rattle.left_right.specs.Sides.{view}
 use Rattle.history.specs.Moment.{Moment}
 use Rattle.board.specs.declared.glimpse.Glimpse.{Glimpse}

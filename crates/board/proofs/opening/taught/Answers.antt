@@ -1,4 +1,3 @@
-use Rattle.std.proofs.Common.{rules}
 use Rattle.std.specs.Arc.{arc_value}
 use Rattle.board.specs.declared.shown.Shown.{Shown}
 use Rattle.board.proofs.Growing.{admits, forks, merges}

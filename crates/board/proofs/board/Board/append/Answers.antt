@@ -1,8 +1,7 @@
-use Rattle.std.proofs.Common.{◌≡◌, List, sym, ap, ◌∙◌, subst, map, drop, None, Some}
+use Rattle.std.proofs.Common.{sym, ap, ◌∙◌, subst, drop}
 use Rattle.std.specs.Arc.{arc_value}
-use Rattle.left_right.specs.Sides.{view}
 use Rattle.history.specs.Moment.{Moment, Begins}
-use Rattle.board.specs.Reading.{Showing, first_of, IsBoard}
+use Rattle.board.specs.Reading.{Showing}
 use Rattle.board.proofs.Waiting.{at_some, appends, ok_appends}
 use Rattle.board.proofs.board.Board.append.Goals as goal
 

@@ -1,4 +1,4 @@
-use Rattle.std.proofs.Common.{◌≡◌, sym, ◌∙◌, ap, subst, drop}
+use Rattle.std.proofs.Common.{sym, ◌∙◌, subst, drop}
 use Rattle.std.specs.Arc.{arc_value}
 use Rattle.left_right.specs.Sides.{view}
 use Rattle.history.specs.Moment.{Moment, Begins}

@@ -1,4 +1,3 @@
-use Rattle.std.proofs.Common.{rules, sym, subst, Some, IfSome, ap}
 use Rattle.left_right.specs.Sides.{view}
 use Rattle.crossbeam_queue.specs.Passes.{view as member_of}
 use Rattle.history.specs.Moment.{moment_of}

@@ -1,4 +1,4 @@
-use Rattle.std.proofs.Common.{◌≡◌, ◌≤◌, sym, ap, ◌∙◌, subst, arith, length}
+use Rattle.std.proofs.Common.{◌≡◌, ap, ◌∙◌, subst, arith, length}
 use Rattle.std.specs.Arc.{arc_value}
 use Rattle.history.specs.Moment.{Moment, Begins}
 use Rattle.history.proofs.Moments.{fewer_begins}
