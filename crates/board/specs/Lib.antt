@@ -1,0 +1,4 @@
+pub mod Glimpses
+pub mod Shows
+pub mod Pool
+pub mod Reading

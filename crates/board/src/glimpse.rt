@@ -1,0 +1,7 @@
+use crate::version::Version;
+
+/// What a pass of the board knows: a version's moment, or nothing. No value of it is made.
+pub struct Glimpse {
+    pub knows: bool,
+    pub version: Version,
+}

@@ -1,0 +1,7 @@
+use crate::version::Version;
+
+/// What a pass of the pool knows: that it is the only one, or a moment of the store. No value of it is made.
+pub struct Member {
+    pub sole: bool,
+    pub of: Version,
+}

@@ -1,0 +1,161 @@
+ghost use Rattle.std.specs.Prelude.{◌≡◌, ◌+◌, ◌<◌, ◌≤◌, IfOk};
+ghost use Rattle.std.specs.Arc.{arc_value};
+ghost use Rattle.graph_model.specs.Past.{number_of};
+ghost use Rattle.graph_model.specs.declared.limits.TheConstants.{MOST_BATCHES};
+ghost use Rattle.board.specs.Reading.{showing};
+
+use crate::{Board, PinError, Reader, Version, open};
+use graph_model::{Batch, Entry};
+use history::Head;
+use std::alloc::{AllocError, Global};
+use std::sync::{Arc, Wait};
+use std::test::Fail;
+use std::thread;
+use store_model::READERS;
+
+// How many versions are shown while another thread reads.
+const SHOWN: u64 = 200;
+
+// Shows the version after `last`, by an empty batch.
+fn show_next<R: Wait>(
+    rt: &R,
+    alloc: Global,
+    head: &Head,
+    board: &mut Board,
+    last: &Version,
+) -> Result<Arc<Version>, AllocError>
+    requires history { head.now ≡ last.now.book }
+    requires room { number_of last.now.past < MOST_BATCHES }
+    requires shown { board.old ≡ showing last.now }
+    ensures shown { IfOk result (λ next. board.new ≡ showing (arc_value next)) }
+    ensures history { IfOk result (λ next. head.now ≡ (arc_value next).book) }
+    ensures number { IfOk result (λ next. number_of (arc_value next).past ≡ number_of last.now.past + 1) }
+{
+    let entry = Entry {
+        feed: 0,
+        batch: Batch::empty(),
+    };
+    let number = last.number();
+    let Some(known) = head.add(&last.known(), number, &entry) else {
+        return Err(AllocError);
+    };
+    let next = Arc::new(alloc, last.next(number + 1, known, &entry))?;
+    board
+        .append(Arc::try_clone(&next)?)
+        .map_err(|_| AllocError)?;
+    board.show(rt)?;
+    Ok(next)
+}
+
+// Shows so many versions after the first, one after another.
+fn show_many<R: Wait>(
+    rt: &R,
+    alloc: Global,
+    head: &Head,
+    board: &mut Board,
+    first: Arc<Version>,
+    count: u64,
+) -> Result<(), AllocError>
+    requires history { head.now ≡ (arc_value first).book }
+    requires first { number_of (arc_value first).past ≡ 0 }
+    requires shown { board.old ≡ showing (arc_value first) }
+    requires room { count ≤ MOST_BATCHES }
+{
+    let mut last = first;
+    'versions: for _number in 0..count {
+        last = show_next(rt, alloc, head, board, &last)?;
+    }
+    Ok(())
+}
+
+// The number of the last version that a reader pins before the board ends.
+fn last_read<R: Wait>(rt: &R, mut reader: Reader) -> u64 {
+    let mut last = 0;
+    for _ in rt.forever() {
+        match reader.pin() {
+            Ok(version) => last = version.number(),
+            Err(_) => break,
+        }
+        thread::yield_now();
+    }
+    last
+}
+
+// What a reader pins, and then pins again, over three versions.
+fn read_three<R: Wait>(
+    rt: &R,
+    alloc: Global,
+    head: &Head,
+    board: &mut Board,
+    first: &Version,
+    reader: &mut Reader,
+) -> Result<[u64; 3], Fail>
+    requires history { head.now ≡ first.now.book }
+    requires first { number_of first.now.past ≡ 0 }
+    requires shown { board.old ≡ showing first.now }
+{
+    let at_first = reader.pin()?.number();
+    let second = show_next(rt, alloc, head, board, first)?;
+    let then = reader.pin()?.number();
+    show_next(rt, alloc, head, board, &second)?;
+    Ok([at_first, then, reader.pin()?.number()])
+}
+
+#[test]
+fn what_is_shown_is_pinned(rt: HostRuntime) -> Result<(), Fail> {
+    let alloc = rt.alloc();
+    let (head, known) = Head::new();
+    let first = Arc::new(alloc, Version::opening(4, known))?;
+    let (mut board, mut reader) = open(alloc, &first, &rt)?;
+    let numbers = read_three(&rt, alloc, &head, &mut board, &first, &mut reader);
+    board.close(&rt);
+    assert_eq!(rt; numbers?, [0, 1, 2]);
+    assert_eq!(rt;
+        reader.pin().map(|version| version.number()),
+        Err(PinError::Closed)
+    );
+    Ok(())
+}
+
+// How many readers beside this one can be made, and how many when those are gone.
+fn count_readers(alloc: Global, reader: &mut Reader) -> Result<[usize; 2], AllocError> {
+    let mut counts = [0, 0];
+    for count in counts.iter_mut() {
+        let mut others = Vec::new(alloc);
+        for _ in 0..2 * READERS {
+            match reader.another() {
+                Ok(other) => others.push(other)?,
+                Err(_) => break,
+            }
+        }
+        *count = others.len();
+    }
+    Ok(counts)
+}
+
+#[test]
+fn a_reader_that_is_gone_leaves_its_place(rt: HostRuntime) -> Result<(), Fail> {
+    let alloc = rt.alloc();
+    let (_head, known) = Head::new();
+    let first = Arc::new(alloc, Version::opening(4, known))?;
+    let (board, mut reader) = open(alloc, &first, &rt)?;
+    let counts = count_readers(alloc, &mut reader);
+    board.close(&rt);
+    assert_eq!(rt; counts?, [15, 15]);
+    Ok(())
+}
+
+#[test]
+fn another_thread_reads(rt: HostRuntime) -> Result<(), Fail> {
+    let alloc = rt.alloc();
+    let (head, known) = Head::new();
+    let first = Arc::new(alloc, Version::opening(4, known))?;
+    let (mut board, reader) = open(alloc, &first, &rt)?;
+    let child = thread::spawn(&rt, move || last_read(&rt, reader));
+    let shown = show_many(&rt, alloc, &head, &mut board, first, SHOWN);
+    board.close(&rt);
+    let last = child?.join(&rt);
+    shown?;
+    assert!(rt; last <= SHOWN);
+    Ok(())
+}

@@ -1,0 +1,6 @@
+pub mod Changes
+pub mod Views
+pub mod Putting
+pub mod Taking
+pub mod Feeds
+pub mod Counting

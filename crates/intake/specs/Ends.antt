@@ -1,0 +1,65 @@
+-- What is known of the two kinds of ends of a queue: feeds put batches in, and one end takes them out.
+use Rattle.std.specs.Prelude.{◌≡◌, ℕ, ◌+◌, ◌%◌, ◌^◌, ◌≤◌, List, [], ◌∷◌, ◌++◌, length}
+use Rattle.atomic_table.specs.Seated.{TableId}
+use Rattle.graph_model.specs.declared.edit.Edit.{Edit}
+use Rattle.graph_model.specs.declared.entry.Entry.{Entry}
+use Rattle.store_model.specs.declared.limits.TheConstants.{FEEDS, QUEUE_PLACES}
+use Rattle.store_model.specs.Core.{of_feed}
+
+-- a feed: what it has put, in order, how often it was refused, and which queue it puts into
+pub record Feeding : Type 0 where
+  pub feed : ℕ
+  pub sent : List Entry
+  pub refused : ℕ
+  pub queue : TableId
+
+-- the taking end: what it has taken, in order, how often it found nothing, and which queue it takes from
+pub record Taking : Type 0 where
+  pub taken : List Entry
+  pub empties : ℕ
+  pub queue : TableId
+
+-- a feed and a taking end that have done nothing
+abbrev pub new_feed : ℕ → TableId → Feeding
+new_feed feed queue = record { feed = feed; sent = []; refused = 0; queue = queue }
+
+abbrev pub new_taking : TableId → Taking
+new_taking queue = record { taken = []; empties = 0; queue = queue }
+
+-- a counter of 64 bits, one further
+abbrev pub one_more : ℕ → ℕ
+one_more n = (n + 1) % 2 ^ 64
+
+-- the feed has put a batch
+abbrev pub after_put : Feeding → List Edit → Feeding
+after_put s batch = record s { sent = s.sent ++ (record { feed = s.feed; batch = batch }) ∷ [] }
+
+-- it was refused
+abbrev pub after_refusal : Feeding → Feeding
+after_refusal s = record s { refused = one_more s.refused }
+
+-- an entry was taken
+abbrev pub after_pop : Taking → Entry → Taking
+after_pop t e = record t { taken = t.taken ++ e ∷ [] }
+
+-- nothing was found
+abbrev pub after_nothing : Taking → Taking
+after_nothing t = record t { empties = one_more t.empties }
+
+-- it is the feed of this number at this queue
+abbrev pub IsFeedOf : TableId → ℕ → Feeding → Type 0
+IsFeedOf queue feed s = (s.queue ≡ queue) × (s.feed ≡ feed)
+
+-- at some moment the queue held as many batches as it may, and these and what was taken before were, of the
+-- feed, all that it had put
+pub record WasFull (s : Feeding) : Type 0 where
+  pub taken : List Entry
+  pub items : List Entry
+  pub full : length items ≡ QUEUE_PLACES
+  pub all : of_feed s.feed (taken ++ items) ≡ s.sent
+
+-- at some moment the queue held nothing: all that the feeds had put was taken
+pub record WasEmpty (t : Taking) : Type 0 where
+  pub sent : ℕ → List Entry
+  pub all : (feed : ℕ) → of_feed feed t.taken ≡ sent feed
+  pub no_other : (feed : ℕ) → FEEDS ≤ feed → sent feed ≡ []

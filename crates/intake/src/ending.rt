@@ -1,0 +1,67 @@
+ghost use Rattle.std.specs.Prelude.{◌≡◌, ◌+◌, ◌≤◌, ◌++◌, [], length, vec_capacity};
+ghost use Rattle.crossbeam_queue.specs.Passes.{view as hand_of, IsPassOf};
+ghost use Rattle.store_model.specs.declared.limits.TheConstants.{FEEDS, QUEUE_PLACES};
+ghost use Rattle.store_model.specs.Core.{of_feed};
+ghost use Rattle.intake.specs.Ends.{IsFeedOf};
+ghost use Rattle.intake.specs.Hands.{taker};
+ghost use Rattle.intake.specs.Rule.{Left};
+
+use crate::delivery::{EndFeed, Queue, Seat, Take};
+use crate::intake::Intake;
+use crate::outlet::Outlet;
+use graph_model::Entry;
+use std::sync::Wait;
+
+impl Intake {
+    /// Ends the queue, after which nobody puts or takes: the batches that waited, in order. It takes no memory.
+    pub fn finish<R: Wait>(self, first: Outlet, second: Outlet, rt: &R) -> Vec<Entry>
+        requires first { IsFeedOf self.queue 0 first }
+        requires second { IsFeedOf self.queue 1 second }
+        ensures first { of_feed 0 (self.taken ++ result.items) ≡ first.sent }
+        ensures second { of_feed 1 (self.taken ++ result.items) ≡ second.sent }
+        ensures no_other { length (self.taken ++ result.items) ≡ length first.sent + length second.sent }
+        ensures few { length result.items ≤ QUEUE_PLACES }
+    {
+        let Intake {
+            empties: _,
+            room,
+            queue,
+            mut pass,
+        } = self;
+        let Outlet {
+            feed: _,
+            refused: _,
+            queue: _,
+            pass: first,
+        } = first;
+        let Outlet {
+            feed: _,
+            refused: _,
+            queue: _,
+            pass: second,
+        } = second;
+        queue.absorb::<EndFeed>(&mut pass, first);
+        queue.absorb::<EndFeed>(&mut pass, second);
+        all_left(&queue, pass, room, rt)
+    }
+}
+
+// What the queue holds, put behind `left`, once the feeds have ended.
+fn all_left<R: Wait>(queue: &Queue, mut pass: Seat, mut left: Vec<Entry>, rt: &R) -> Vec<Entry>
+    requires pass { IsPassOf queue.now pass }
+    requires ended { hand_of pass ≡ taker (hand_of pass).taken FEEDS (hand_of pass).ended }
+    requires both { length (hand_of pass).ended ≡ FEEDS }
+    requires room { (left.items ≡ []) × (QUEUE_PLACES ≤ vec_capacity left) }
+    ensures { Left (hand_of pass) result.items }
+{
+    queue.learn_as::<Take>(&mut pass);
+    'taking: for _ in rt.forever() {
+        let Some(entry) = queue.pop_as::<Take, R>(rt, &mut pass) else {
+            return left;
+        };
+        if left.push(entry).is_err() {
+            unreachable!()
+        }
+    }
+    unreachable!()
+}

@@ -1,0 +1,14 @@
+//! What the passes of the queue know. No value of it is ever made.
+use graph_model::Entry;
+use std::collections::LinkedList;
+
+/// What a pass knows: one that takes, what was taken and what it knows of the feeds; one of a feed, what the feed put.
+pub struct Hand {
+    pub takes: bool,
+    pub taken: LinkedList<Entry>,
+    pub made: u64,
+    pub ended: LinkedList<LinkedList<Entry>>,
+    pub feeds: bool,
+    pub feed: u8,
+    pub sent: LinkedList<Entry>,
+}

@@ -1,0 +1,54 @@
+ghost use Rattle.std.specs.Prelude.{◌≡◌, IfOk};
+ghost use Rattle.intake.specs.Ends.{new_taking, new_feed};
+
+use crate::delivery::{NewFeed, Queue};
+use crate::intake::Intake;
+use crate::outlet::Outlet;
+use std::alloc::{AllocError, Global};
+use std::sync::Arc;
+use store_model::QUEUE_PLACES;
+
+/// The ends of one queue.
+#[derive(Drop)]
+pub struct Opened {
+    pub intake: Intake,
+    /// Feed A's, which is feed 0.
+    pub first: Outlet,
+    /// Feed B's, which is feed 1.
+    pub second: Outlet,
+}
+
+/// A queue with room for 64 batches, into which nothing was put.
+pub fn open(alloc: Global) -> Result<Opened, AllocError>
+    ensures intake { IfOk result (λ ends. ends.intake ≡ new_taking ends.intake.queue) }
+    ensures first { IfOk result (λ ends. ends.first ≡ new_feed 0 ends.intake.queue) }
+    ensures second { IfOk result (λ ends. ends.second ≡ new_feed 1 ends.intake.queue) }
+{
+    let room = Vec::with_capacity(alloc, QUEUE_PLACES)?;
+    let (queue, mut pass) = Queue::ruled(alloc, QUEUE_PLACES)?;
+    let first = queue.another::<NewFeed>(&mut pass);
+    let second = queue.another::<NewFeed>(&mut pass);
+    let taken_from = Arc::new(alloc, queue)?;
+    let put_first = Arc::try_clone(&taken_from)?;
+    let put_second = Arc::try_clone(&taken_from)?;
+    Ok(Opened {
+        intake: Intake {
+            empties: 0,
+            room,
+            queue: taken_from,
+            pass,
+        },
+        first: Outlet {
+            feed: 0,
+            refused: 0,
+            queue: put_first,
+            pass: first,
+        },
+        second: Outlet {
+            feed: 1,
+            refused: 0,
+            queue: put_second,
+            pass: second,
+        },
+    })
+}

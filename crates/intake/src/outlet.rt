@@ -1,0 +1,55 @@
+ghost use Rattle.std.specs.Prelude.{◌≡◌, IfOk, IfErr};
+ghost use Rattle.intake.specs.Ends.{after_put, after_refusal, WasFull, IsFeedOf};
+
+use crate::delivery::{Put, Queue, Seat};
+use graph_model::{Batch, Entry};
+use std::marker::Model;
+use std::sync::{Arc, Wait};
+
+/// The end of the queue at which one feed puts its batches.
+#[derive(Drop)]
+pub struct Outlet {
+    pub(crate) feed: u8,
+    pub(crate) refused: u64,
+    pub(crate) queue: Arc<Queue>,
+    pub(crate) pass: Seat,
+}
+
+impl Model for Outlet {
+    ghost use Rattle.std.specs.Prelude.{◌≡◌};
+    ghost use Rattle.std.specs.Arc.{arc_value};
+    ghost use Rattle.crossbeam_queue.specs.Passes.{view as hand_of, IsPassOf, ruled_capacity};
+    ghost use Rattle.store_model.specs.declared.limits.TheConstants.{QUEUE_PLACES};
+    ghost use Rattle.intake.specs.Hands.{feeder};
+    ghost use Rattle.intake.specs.Ends.{Feeding};
+
+    ghost Value = { Feeding };
+
+    ghost view = { λ s. record { feed = s.feed; sent = (hand_of s.pass).sent; refused = s.refused; queue = s.pass.table_id } };
+
+    ghost invariant = { λ s. IsPassOf (arc_value s.queue) s.pass × (ruled_capacity (arc_value s.queue) ≡ QUEUE_PLACES)
+        × (hand_of s.pass ≡ feeder s.feed (hand_of s.pass).sent) };
+}
+
+impl Outlet {
+    /// Puts a batch last into the queue. Where the queue is full, the batch comes back, and the refusal is counted.
+    pub fn put<R: Wait>(&mut self, batch: Batch, rt: &R) -> Result<(), Batch>
+        ensures same_feed { IsFeedOf self.old.queue self.old.feed self.new }
+        ensures put { IfOk result (λ _. self.new ≡ after_put self.old batch) }
+        ensures back { IfErr result (λ back. back ≡ batch) }
+        ensures refused { IfErr result (λ _. self.new ≡ after_refusal self.old) }
+        ensures full { IfErr result (λ _. WasFull self.old) }
+    {
+        let entry = Entry {
+            feed: self.feed,
+            batch,
+        };
+        match self.queue.push_as::<Put, R>(rt, &mut self.pass, entry) {
+            Ok(()) => Ok(()),
+            Err(entry) => {
+                self.refused = self.refused.wrapping_add(1);
+                Err(entry.batch)
+            }
+        }
+    }
+}

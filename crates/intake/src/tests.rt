@@ -1,0 +1,109 @@
+use crate::{Intake, Outlet, open};
+use graph_model::{Batch, Edit, Entry};
+use std::alloc::{AllocError, Global};
+use std::sync::Wait;
+use std::test::Fail;
+use std::thread;
+use store_model::QUEUE_PLACES;
+
+// How many batches each feed puts.
+const EACH: u32 = 500;
+
+fn batch_of(alloc: Global, target: u32) -> Result<Batch, AllocError> {
+    Batch::new(alloc, Vec::from_slice(alloc, &[Edit::Insert(0, target)])?)
+}
+
+// A batch for each target below `EACH`.
+fn batches(alloc: Global) -> Result<Vec<Batch>, AllocError> {
+    let mut all = Vec::new(alloc);
+    for target in 0..EACH {
+        all.push(batch_of(alloc, target)?)?;
+    }
+    Ok(all)
+}
+
+// Puts all batches, each as soon as there is room.
+fn put_all<R: Wait>(rt: &R, mut outlet: Outlet, batches: Vec<Batch>) {
+    for batch in batches {
+        let mut next = batch;
+        for _ in rt.forever() {
+            match outlet.put(next, rt) {
+                Ok(()) => break,
+                Err(back) => {
+                    thread::yield_now();
+                    next = back;
+                }
+            }
+        }
+    }
+}
+
+// Waits for the next batch.
+fn take<R: Wait>(rt: &R, intake: &mut Intake) -> Entry {
+    for _ in rt.forever() {
+        match intake.pop(rt) {
+            Some(entry) => return entry,
+            None => thread::yield_now(),
+        }
+    }
+    unreachable!()
+}
+
+fn target_of(entry: &Entry) -> Option<u32> {
+    entry.batch.edits().first().map(|edit| edit.target())
+}
+
+#[test]
+fn sixty_four_batches_fit(rt: HostRuntime) -> Result<(), Fail> {
+    let alloc = rt.alloc();
+    let mut ends = open(alloc)?;
+    for target in 0..QUEUE_PLACES as u32 {
+        assert!(rt; ends.first.put(batch_of(alloc, target)?, &rt).is_ok());
+    }
+    match ends.second.put(batch_of(alloc, 99)?, &rt) {
+        Ok(()) => return Err(Fail::new("there was room")),
+        Err(back) => assert_eq!(rt; back.edits(), [Edit::Insert(0, 99)].as_slice()),
+    }
+    let Some(first) = ends.intake.pop(&rt) else {
+        return Err(Fail::new("nothing was there"));
+    };
+    assert_eq!(rt; target_of(&first), Some(0));
+    assert!(rt; ends.second.put(batch_of(alloc, 99)?, &rt).is_ok());
+    let left = ends.intake.finish(ends.first, ends.second, &rt);
+    assert_eq!(rt; left.len(), QUEUE_PLACES);
+    assert_eq!(rt; left.last().map(|entry| entry.feed), Some(1));
+    Ok(())
+}
+
+#[test]
+fn an_empty_queue_gives_nothing(rt: HostRuntime) -> Result<(), Fail> {
+    let mut ends = open(rt.alloc())?;
+    assert!(rt; ends.intake.pop(&rt).is_none());
+    let left = ends.intake.finish(ends.first, ends.second, &rt);
+    assert!(rt; left.is_empty());
+    Ok(())
+}
+
+#[test]
+fn each_feed_arrives_in_its_order(rt: HostRuntime) -> Result<(), Fail> {
+    let alloc = rt.alloc();
+    let mut ends = open(alloc)?;
+    let first = ends.first;
+    let second = ends.second;
+    let (ours, theirs) = (batches(alloc)?, batches(alloc)?);
+    let one = thread::spawn(&rt, move || put_all(&rt, first, ours))?;
+    let two = thread::spawn(&rt, move || put_all(&rt, second, theirs))?;
+    let mut next = [0, 0];
+    for _ in 0..2 * EACH {
+        let entry = take(&rt, &mut ends.intake);
+        let feed = usize::from(entry.feed);
+        assert!(rt; feed < next.len());
+        assert_eq!(rt; target_of(&entry), Some(next[feed]));
+        next[feed] = next[feed].saturating_add(1);
+    }
+    one.join(&rt);
+    two.join(&rt);
+    assert_eq!(rt; next, [EACH, EACH]);
+    assert!(rt; ends.intake.pop(&rt).is_none());
+    Ok(())
+}
