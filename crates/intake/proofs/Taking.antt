@@ -1,6 +1,7 @@
 -- An entry is taken, and the pass that takes learns.
-use Rattle.std.proofs.Common.{◌≡◌, ◌≢◌, ℕ, ◌≤◌, true, false, List, [], ◌∷◌, ◌++◌, length, refl, sym, ap, ◌∙◌, subst, inl, inr, arith, append_assoc, append-nil}
+use Rattle.std.proofs.Common.{◌≡◌, ◌<◌, ◌≢◌, ℕ, ◌≤◌, true, false, List, [], ◌∷◌, ◌++◌, length, refl, sym, ap, ◌∙◌, subst, inl, inr, arith, append_assoc, append-nil, length-append, lt_of_not-le}
 use Rattle.std.proofs.lemmas.List.{length-map}
+use native.Mathlib.Decide.{dec_le}
 use Rattle.crossbeam_queue.specs.Fifo.{Pops, Learns, Held}
 use Rattle.graph_model.specs.declared.entry.Entry.{Entry}
 use Rattle.graph_model.specs.Edits.{AreEditsBelow}
@@ -12,6 +13,7 @@ use Rattle.intake.specs.Hands.{taker}
 use Rattle.intake.specs.Rule.{entries_of, Facts, FitsTaker, Fits, Keeps, Left, Takes}
 use Rattle.intake.specs.Ends.{Taking, WasEmpty}
 use Rattle.intake.proofs.Beginning.{begun}
+use Rattle.intake.proofs.Changes.{of_feed_append, of_feed_own}
 use Rattle.intake.proofs.Views.{all_set}
 
 abbrev with_taken : Facts → List Entry → Facts
@@ -85,3 +87,16 @@ was_empty v t made taken ([], none, left) = record {
       ap (of_feed p) (sym (ap (λ l. l ++ []) taken ∙ append-nil t.taken)) ∙ here);
 }
 was_empty v t made taken (x ∷ items, none, left) = absurd (omega arith)
+
+-- what was taken is of a feed that was made
+pub of_made : (n : ℕ) (taken rest : List Entry) (ended : List (List Entry)) (x : Entry) → Left (taker n (taken ++ x ∷ []) FEEDS ended) rest → x.feed < FEEDS
+of_made n taken rest ended x knows = elim (dec_le FEEDS x.feed) [
+  | yes le ↦ (
+      let p : ℕ = x.feed in
+      let all : (of_feed p taken ++ of_feed p (x ∷ [])) ++ of_feed p rest ≡ [] =
+      ap (λ (l : List Entry). l ++ of_feed p rest) (sym (of_feed_append p taken (x ∷ []))) ∙ sym (of_feed_append p (taken ++ x ∷ []) rest) ∙ knows.unmade p le in
+      let one = ap (length {A = Entry}) (of_feed_own p x refl) in
+      let none = ap (length {A = Entry}) all in
+      absurd (omega (arith, length-append (of_feed p taken ++ of_feed p (x ∷ [])) (of_feed p rest), length-append (of_feed p taken) (of_feed p (x ∷ [])))))
+  | no lt ↦ lt_of_not-le lt
+]

@@ -23,12 +23,18 @@ pub record Taking : Type 0 where
   pub empties : ℕ
   pub queue : TableId
 
+abbrev pub feeding : ℕ → ℕ → List Entry → ℕ → TableId → Feeding
+feeding n feed sent refused queue = record { vertex_count = n; feed = feed; sent = sent; refused = refused; queue = queue }
+
+abbrev pub taking : ℕ → List Entry → ℕ → TableId → Taking
+taking n taken empties queue = record { vertex_count = n; taken = taken; empties = empties; queue = queue }
+
 -- a feed and a taking end that have done nothing
 abbrev pub new_feed : ℕ → ℕ → TableId → Feeding
-new_feed n feed queue = record { vertex_count = n; feed = feed; sent = []; refused = 0; queue = queue }
+new_feed n feed queue = feeding n feed [] 0 queue
 
 abbrev pub new_taking : ℕ → TableId → Taking
-new_taking n queue = record { vertex_count = n; taken = []; empties = 0; queue = queue }
+new_taking n queue = taking n [] 0 queue
 
 -- a counter of 64 bits, one further
 abbrev pub one_more : ℕ → ℕ

@@ -1,11 +1,9 @@
-ghost use Rattle.std.specs.Prelude.{◌≡◌, ◌+◌, ◌≤◌, ◌++◌, length, IfSome, IfNone};
-ghost use Rattle.store_model.specs.declared.limits.TheConstants.{QUEUE_PLACES};
-ghost use Rattle.store_model.specs.Core.{of_feed};
+ghost use Rattle.std.specs.Prelude.{◌≡◌, ◌<◌, IfSome, IfNone};
 ghost use Rattle.graph_model.specs.Edits.{AreEditsBelow};
-ghost use Rattle.intake.specs.Ends.{after_pop, after_nothing, WasEmpty, IsFeedOf};
+ghost use Rattle.store_model.specs.declared.limits.TheConstants.{FEEDS};
+ghost use Rattle.intake.specs.Ends.{after_pop, after_nothing, WasEmpty};
 
-use crate::delivery::{EndFeed, Queue, Seat, Take};
-use crate::outlet::Outlet;
+use crate::delivery::{Queue, Seat, Take};
 use graph_model::Entry;
 use std::marker::Model;
 use std::sync::{Arc, Wait};
@@ -27,11 +25,11 @@ impl Model for Intake {
     ghost use Rattle.crossbeam_queue.specs.Passes.{view as hand_of, IsPassOf, ruled_capacity};
     ghost use Rattle.store_model.specs.declared.limits.TheConstants.{FEEDS, QUEUE_PLACES};
     ghost use Rattle.intake.specs.Hands.{taker};
-    ghost use Rattle.intake.specs.Ends.{Taking};
+    ghost use Rattle.intake.specs.Ends.{Taking, taking};
 
     ghost Value = { Taking };
 
-    ghost view = { λ t. record { vertex_count = t.vertex_count; taken = (hand_of t.pass).taken; empties = t.empties; queue = t.pass.table_id } };
+    ghost view = { λ t. taking t.vertex_count (hand_of t.pass).taken t.empties t.pass.table_id };
 
     ghost invariant = { λ t. IsPassOf (arc_value t.queue) t.pass × (hand_of t.pass ≡ taker t.vertex_count (hand_of t.pass).taken FEEDS [])
         × (t.room.items ≡ []) × (QUEUE_PLACES ≤ vec_capacity t.room) };
@@ -41,6 +39,7 @@ impl Intake {
     /// Takes the batch that waits longest. Where none waits, that is counted.
     pub fn pop<R: Wait>(&mut self, rt: &R) -> Option<Entry>
         ensures same_queue { (self.new.queue ≡ self.old.queue) × (self.new.vertex_count ≡ self.old.vertex_count) }
+        ensures feed { IfSome result (λ entry. entry.feed < FEEDS) }
         ensures below { IfSome result (λ entry. AreEditsBelow self.old.vertex_count entry.batch) }
         ensures some { IfSome result (λ entry. self.new ≡ after_pop self.old entry) }
         ensures none { IfNone result (self.new ≡ after_nothing self.old) }

@@ -1,4 +1,5 @@
-ghost use Rattle.std.specs.Prelude.{◌≡◌, IfOk, IfErr};
+ghost use Rattle.std.specs.Prelude.{◌≡◌, ◌<◌, IfOk, IfErr};
+ghost use Rattle.store_model.specs.declared.limits.TheConstants.{FEEDS};
 ghost use Rattle.graph_model.specs.Edits.{AreEditsBelow};
 ghost use Rattle.intake.specs.Ends.{after_put, after_refusal, WasFull, IsFeedOf};
 
@@ -19,19 +20,19 @@ pub struct Outlet {
 }
 
 impl Model for Outlet {
-    ghost use Rattle.std.specs.Prelude.{◌≡◌};
+    ghost use Rattle.std.specs.Prelude.{◌≡◌, ◌<◌};
     ghost use Rattle.std.specs.Arc.{arc_value};
     ghost use Rattle.crossbeam_queue.specs.Passes.{view as hand_of, IsPassOf, ruled_capacity};
-    ghost use Rattle.store_model.specs.declared.limits.TheConstants.{QUEUE_PLACES};
+    ghost use Rattle.store_model.specs.declared.limits.TheConstants.{FEEDS, QUEUE_PLACES};
     ghost use Rattle.intake.specs.Hands.{feeder};
-    ghost use Rattle.intake.specs.Ends.{Feeding};
+    ghost use Rattle.intake.specs.Ends.{Feeding, feeding};
 
     ghost Value = { Feeding };
 
-    ghost view = { λ s. record { vertex_count = s.vertex_count; feed = s.feed; sent = (hand_of s.pass).sent; refused = s.refused; queue = s.pass.table_id } };
+    ghost view = { λ s. feeding s.vertex_count s.feed (hand_of s.pass).sent s.refused s.pass.table_id };
 
     ghost invariant = { λ s. IsPassOf (arc_value s.queue) s.pass × (ruled_capacity (arc_value s.queue) ≡ QUEUE_PLACES)
-        × (hand_of s.pass ≡ feeder s.vertex_count s.feed (hand_of s.pass).sent) };
+        × (hand_of s.pass ≡ feeder s.vertex_count s.feed (hand_of s.pass).sent) × (s.feed < FEEDS) };
 }
 
 impl Outlet {
@@ -39,6 +40,7 @@ impl Outlet {
     pub fn put<R: Wait>(&mut self, batch: Batch, rt: &R) -> Result<(), Batch>
         requires below { AreEditsBelow self.old.vertex_count batch }
         ensures same_feed { IsFeedOf self.old.vertex_count self.old.queue self.old.feed self.new }
+        ensures is_feed { self.old.feed < FEEDS }
         ensures put { IfOk result (λ _. self.new ≡ after_put self.old batch) }
         ensures back { IfErr result (λ back. back ≡ batch) }
         ensures refused { IfErr result (λ _. self.new ≡ after_refusal self.old) }
