@@ -31,7 +31,8 @@ impl Model for Intake {
 
     ghost view = { λ t. taking t.vertex_count (hand_of t.pass).taken t.empties t.pass.table_id };
 
-    ghost invariant = { λ t. IsPassOf (arc_value t.queue) t.pass × (hand_of t.pass ≡ taker t.vertex_count (hand_of t.pass).taken FEEDS [])
+    ghost invariant = { λ t. IsPassOf (arc_value t.queue) t.pass
+        × (hand_of t.pass ≡ taker t.vertex_count (hand_of t.pass).taken FEEDS [])
         × (t.room.items ≡ []) × (QUEUE_PLACES ≤ vec_capacity t.room) };
 }
 
