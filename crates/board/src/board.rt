@@ -24,7 +24,8 @@ impl Model for Board {
 
     ghost Value = { Showing };
 
-    ghost view = { λ b. seen_as b.writer (λ w. arc_value w.desk.shown.value.version) (λ w. map arc_value (drop w.behind w.log.items)) };
+    ghost view = { λ b. seen_as b.writer
+        (λ w. arc_value w.desk.shown.value.version) (λ w. map arc_value (drop w.behind w.log.items)) };
 
     ghost invariant = { λ b. MatchOption b.writer ⊥ (λ w. IsBoard (arc_value w.desk.shown.value.version)
         (map arc_value (drop w.behind w.log.items)) (glimpse_of w.desk.place)) };

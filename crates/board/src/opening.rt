@@ -70,9 +70,9 @@ fn seat_all(
     ensures knows { IfOk result (λ inner. glimpse_of inner.place ≡ glimpse_of writer.old.desk.place) }
     ensures pass { IfOk result (λ _. IsPassOf pool.now membership.new) }
     ensures member { IfOk result (λ _. member_of membership.new ≡ member (glimpse_of writer.old.desk.place).version) }
-    ensures kept { IfOk result (λ _. (writer.new.desk.shown ≡ writer.old.desk.shown) × (writer.new.log ≡ writer.old.log)
-        × (writer.new.behind ≡ writer.old.behind)
-        × (glimpse_of writer.new.desk.place ≡ glimpse_of writer.old.desk.place)) }
+    ensures shown { IfOk result (λ _. writer.new.desk.shown ≡ writer.old.desk.shown) }
+    ensures log { IfOk result (λ _. (writer.new.log ≡ writer.old.log) × (writer.new.behind ≡ writer.old.behind)) }
+    ensures known { IfOk result (λ _. glimpse_of writer.new.desk.place ≡ glimpse_of writer.old.desk.place) }
 {
     let mine = taught(writer)?;
     let first = taught(writer)?;
@@ -89,9 +89,9 @@ fn seat_all(
 // A reader that knows what the writer knows.
 fn taught(writer: &mut Writer) -> Result<Inner, AllocError>
     ensures knows { IfOk result (λ inner. glimpse_of inner.place ≡ glimpse_of writer.old.desk.place) }
-    ensures kept { (writer.new.desk.shown ≡ writer.old.desk.shown) × (writer.new.log ≡ writer.old.log)
-        × (writer.new.behind ≡ writer.old.behind)
-        × (glimpse_of writer.new.desk.place ≡ glimpse_of writer.old.desk.place) }
+    ensures shown { writer.new.desk.shown ≡ writer.old.desk.shown }
+    ensures log { (writer.new.log ≡ writer.old.log) × (writer.new.behind ≡ writer.old.behind) }
+    ensures known { glimpse_of writer.new.desk.place ≡ glimpse_of writer.old.desk.place }
 {
     let mut inner = writer.factory().reader()?;
     inner.learn::<Notes>(writer.tell::<Notes>());

@@ -37,7 +37,8 @@ impl Model for Reader {
 
     ghost invariant = { λ r. (r.number ≡ count_of r.known)
         × IfSome r.inner (λ inner. Knows (moment_of r.vertex_count r.known) (glimpse_of inner.place))
-        × IsPassOf (arc_value r.pool) r.membership × IsMember (moment_of r.vertex_count r.known) (member_of r.membership) };
+        × IsPassOf (arc_value r.pool) r.membership
+        × IsMember (moment_of r.vertex_count r.known) (member_of r.membership) };
 }
 
 impl Reader {

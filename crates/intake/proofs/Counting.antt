@@ -37,34 +37,34 @@ count_two (x ∷ xs) none =
     ]
 
 -- what was taken and what is left are as many as the two feeds put
-pub count_left : (taken items : List Entry) (ended : List (List Entry)) → length ended ≡ FEEDS → Left (taker taken FEEDS ended) items
+pub count_left : (n : ℕ) (taken items : List Entry) (ended : List (List Entry)) → length ended ≡ FEEDS → Left (taker n taken FEEDS ended) items
     → length taken + length items ≡ length (slice_index_or ended 0 []) + length (slice_index_or ended 1 [])
-count_left taken items ended both left =
+count_left n taken items ended both left =
     let all : length (taken ++ items) ≡ length (of_feed 0 (taken ++ items)) + length (of_feed 1 (taken ++ items)) = count_two (taken ++ items) left.unmade in
     let a = ap (length {A = Entry}) (left.ended 0 (omega arith)) in
     let b = ap (length {A = Entry}) (left.ended 1 (omega arith)) in
     omega (arith, length-append taken items)
 
 -- there is room for one more that was taken
-pub room : (taken start xs rest : List Entry) (x : Entry) (ended : List (List Entry)) → length ended ≡ FEEDS → Left (taker taken FEEDS ended) start
-    → Left (taker ((taken ++ xs) ++ x ∷ []) FEEDS ended) rest → length xs < QUEUE_PLACES
-room taken start xs rest x ended both before after =
-    let a = count_left taken start ended both before in
-    let b = count_left ((taken ++ xs) ++ x ∷ []) rest ended both after in
+pub room : (n : ℕ) (taken start xs rest : List Entry) (x : Entry) (ended : List (List Entry)) → length ended ≡ FEEDS → Left (taker n taken FEEDS ended) start
+    → Left (taker n ((taken ++ xs) ++ x ∷ []) FEEDS ended) rest → length xs < QUEUE_PLACES
+room n taken start xs rest x ended both before after =
+    let a = count_left n taken start ended both before in
+    let b = count_left n ((taken ++ xs) ++ x ∷ []) rest ended both after in
     let few = before.bounded in
     omega (arith, length-append (taken ++ xs) (x ∷ []), length-append taken xs)
 
 -- where the queue holds nothing, what was taken since is what was left
-pub is_left : (taken start xs items : List Entry) (ended : List (List Entry)) → length ended ≡ FEEDS → Left (taker taken FEEDS ended) start
-    → length items ≡ 0 → Left (taker (taken ++ xs) FEEDS ended) items → Left (taker taken FEEDS ended) xs
-is_left taken start xs [] ended both before none after =
+pub is_left : (n : ℕ) (taken start xs items : List Entry) (ended : List (List Entry)) → length ended ≡ FEEDS → Left (taker n taken FEEDS ended) start
+    → length items ≡ 0 → Left (taker n (taken ++ xs) FEEDS ended) items → Left (taker n taken FEEDS ended) xs
+is_left n taken start xs [] ended both before none after =
     let whole : (taken ++ xs) ++ [] ≡ taken ++ xs = append-nil (taken ++ xs) in
-    let a = count_left taken start ended both before in
-    let b = count_left (taken ++ xs) [] ended both after in
+    let a = count_left n taken start ended both before in
+    let b = count_left n (taken ++ xs) [] ended both after in
     let few = before.bounded in
     record {
       ended = λ k lt. ap (of_feed k) (sym whole) ∙ after.ended k lt;
       unmade = λ p le. ap (of_feed p) (sym whole) ∙ after.unmade p le;
       bounded = omega (arith, length-append taken xs);
     }
-is_left taken start xs (x ∷ items) ended both before none after = absurd (omega arith)
+is_left n taken start xs (x ∷ items) ended both before none after = absurd (omega arith)

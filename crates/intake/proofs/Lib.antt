@@ -1,5 +1,6 @@
 pub mod Changes
 pub mod Views
+pub mod Beginning
 pub mod Putting
 pub mod Taking
 pub mod Feeds

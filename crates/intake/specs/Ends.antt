@@ -6,25 +6,35 @@ use Rattle.graph_model.specs.declared.entry.Entry.{Entry}
 use Rattle.store_model.specs.declared.limits.TheConstants.{FEEDS, QUEUE_PLACES}
 use Rattle.store_model.specs.Core.{of_feed}
 
--- a feed: what it has put, in order, how often it was refused, and which queue it puts into
+-- a feed: how many vertices its edits are about, what it has put, in order, how often it was refused, and which queue
+-- it puts into
 pub record Feeding : Type 0 where
+  pub vertex_count : ℕ
   pub feed : ℕ
   pub sent : List Entry
   pub refused : ℕ
   pub queue : TableId
 
--- the taking end: what it has taken, in order, how often it found nothing, and which queue it takes from
+-- the taking end: how many vertices the edits are about, what it has taken, in order, how often it found nothing, and
+-- which queue it takes from
 pub record Taking : Type 0 where
+  pub vertex_count : ℕ
   pub taken : List Entry
   pub empties : ℕ
   pub queue : TableId
 
--- a feed and a taking end that have done nothing
-abbrev pub new_feed : ℕ → TableId → Feeding
-new_feed feed queue = record { feed = feed; sent = []; refused = 0; queue = queue }
+abbrev pub feeding : ℕ → ℕ → List Entry → ℕ → TableId → Feeding
+feeding n feed sent refused queue = record { vertex_count = n; feed = feed; sent = sent; refused = refused; queue = queue }
 
-abbrev pub new_taking : TableId → Taking
-new_taking queue = record { taken = []; empties = 0; queue = queue }
+abbrev pub taking : ℕ → List Entry → ℕ → TableId → Taking
+taking n taken empties queue = record { vertex_count = n; taken = taken; empties = empties; queue = queue }
+
+-- a feed and a taking end that have done nothing
+abbrev pub new_feed : ℕ → ℕ → TableId → Feeding
+new_feed n feed queue = feeding n feed [] 0 queue
+
+abbrev pub new_taking : ℕ → TableId → Taking
+new_taking n queue = taking n [] 0 queue
 
 -- a counter of 64 bits, one further
 abbrev pub one_more : ℕ → ℕ
@@ -46,9 +56,9 @@ after_pop t e = record t { taken = t.taken ++ e ∷ [] }
 abbrev pub after_nothing : Taking → Taking
 after_nothing t = record t { empties = one_more t.empties }
 
--- it is the feed of this number at this queue
-abbrev pub IsFeedOf : TableId → ℕ → Feeding → Type 0
-IsFeedOf queue feed s = (s.queue ≡ queue) × (s.feed ≡ feed)
+-- it is the feed of this number at this queue, over so many vertices
+abbrev pub IsFeedOf : ℕ → TableId → ℕ → Feeding → Type 0
+IsFeedOf n queue feed s = (s.vertex_count ≡ n) × (s.queue ≡ queue) × (s.feed ≡ feed)
 
 -- at some moment the queue held as many batches as it may, and these and what was taken before were, of the
 -- feed, all that it had put

@@ -2,8 +2,12 @@
 use graph_model::Entry;
 use std::collections::LinkedList;
 
-/// What a pass knows: one that takes, what was taken and what it knows of the feeds; one of a feed, what the feed put.
+/// What a pass knows: the first one, whether it has said how many vertices there are; one that takes, what was taken
+/// and what it knows of the feeds; one of a feed, what the feed put.
 pub struct Hand {
+    pub opens: bool,
+    pub waits: bool,
+    pub vertex_count: u32,
     pub takes: bool,
     pub taken: LinkedList<Entry>,
     pub made: u64,

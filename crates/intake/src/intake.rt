@@ -1,10 +1,9 @@
-ghost use Rattle.std.specs.Prelude.{◌≡◌, ◌+◌, ◌≤◌, ◌++◌, length, IfSome, IfNone};
-ghost use Rattle.store_model.specs.declared.limits.TheConstants.{QUEUE_PLACES};
-ghost use Rattle.store_model.specs.Core.{of_feed};
-ghost use Rattle.intake.specs.Ends.{after_pop, after_nothing, WasEmpty, IsFeedOf};
+ghost use Rattle.std.specs.Prelude.{◌≡◌, ◌<◌, IfSome, IfNone};
+ghost use Rattle.graph_model.specs.Edits.{AreEditsBelow};
+ghost use Rattle.store_model.specs.declared.limits.TheConstants.{FEEDS};
+ghost use Rattle.intake.specs.Ends.{after_pop, after_nothing, WasEmpty};
 
-use crate::delivery::{EndFeed, Queue, Seat, Take};
-use crate::outlet::Outlet;
+use crate::delivery::{Queue, Seat, Take};
 use graph_model::Entry;
 use std::marker::Model;
 use std::sync::{Arc, Wait};
@@ -12,6 +11,7 @@ use std::sync::{Arc, Wait};
 /// The end of the queue at which batches are taken.
 #[derive(Drop)]
 pub struct Intake {
+    pub(crate) vertex_count: u32,
     pub(crate) empties: u64,
     // Room for all that the queue may hold at the end, so that the end needs no memory.
     pub(crate) room: Vec<Entry>,
@@ -25,28 +25,33 @@ impl Model for Intake {
     ghost use Rattle.crossbeam_queue.specs.Passes.{view as hand_of, IsPassOf, ruled_capacity};
     ghost use Rattle.store_model.specs.declared.limits.TheConstants.{FEEDS, QUEUE_PLACES};
     ghost use Rattle.intake.specs.Hands.{taker};
-    ghost use Rattle.intake.specs.Ends.{Taking};
+    ghost use Rattle.intake.specs.Ends.{Taking, taking};
 
     ghost Value = { Taking };
 
-    ghost view = { λ t. record { taken = (hand_of t.pass).taken; empties = t.empties; queue = t.pass.table_id } };
+    ghost view = { λ t. taking t.vertex_count (hand_of t.pass).taken t.empties t.pass.table_id };
 
-    ghost invariant = { λ t. IsPassOf (arc_value t.queue) t.pass × (hand_of t.pass ≡ taker (hand_of t.pass).taken FEEDS [])
+    ghost invariant = { λ t. IsPassOf (arc_value t.queue) t.pass
+        × (hand_of t.pass ≡ taker t.vertex_count (hand_of t.pass).taken FEEDS [])
         × (t.room.items ≡ []) × (QUEUE_PLACES ≤ vec_capacity t.room) };
 }
 
 impl Intake {
     /// Takes the batch that waits longest. Where none waits, that is counted.
     pub fn pop<R: Wait>(&mut self, rt: &R) -> Option<Entry>
-        ensures same_queue { self.new.queue ≡ self.old.queue }
+        ensures same_queue { (self.new.queue ≡ self.old.queue) × (self.new.vertex_count ≡ self.old.vertex_count) }
+        ensures feed { IfSome result (λ entry. entry.feed < FEEDS) }
+        ensures below { IfSome result (λ entry. AreEditsBelow self.old.vertex_count entry.batch) }
         ensures some { IfSome result (λ entry. self.new ≡ after_pop self.old entry) }
         ensures none { IfNone result (self.new ≡ after_nothing self.old) }
         ensures empty { IfNone result (WasEmpty self.old) }
     {
-        let entry = self.queue.pop_as::<Take, R>(rt, &mut self.pass);
-        if entry.is_none() {
-            self.empties = self.empties.wrapping_add(1);
+        match self.queue.pop_as::<Take, R>(rt, &mut self.pass) {
+            Some(parcel) => Some(parcel.entry),
+            None => {
+                self.empties = self.empties.wrapping_add(1);
+                None
+            }
         }
-        entry
     }
 }

@@ -7,6 +7,7 @@ mod hand;
 mod intake;
 mod opening;
 mod outlet;
+mod parcel;
 
 pub use intake::Intake;
 pub use opening::{Opened, open};

@@ -1,9 +1,11 @@
 ghost use Rattle.std.specs.Prelude.{◌≡◌, IfOk};
 ghost use Rattle.intake.specs.Ends.{new_taking, new_feed};
 
-use crate::delivery::{NewFeed, Queue};
+use crate::delivery::{Begin, NewFeed, Queue, Say};
 use crate::intake::Intake;
 use crate::outlet::Outlet;
+use crate::parcel::Parcel;
+use graph_model::{Batch, Entry};
 use std::alloc::{AllocError, Global};
 use std::sync::Arc;
 use store_model::QUEUE_PLACES;
@@ -18,14 +20,27 @@ pub struct Opened {
     pub second: Outlet,
 }
 
-/// A queue with room for 64 batches, into which nothing was put.
-pub fn open(alloc: Global) -> Result<Opened, AllocError>
-    ensures intake { IfOk result (λ ends. ends.intake ≡ new_taking ends.intake.queue) }
-    ensures first { IfOk result (λ ends. ends.first ≡ new_feed 0 ends.intake.queue) }
-    ensures second { IfOk result (λ ends. ends.second ≡ new_feed 1 ends.intake.queue) }
+/// A queue with room for 64 batches of edits of a graph with so many vertices. Nothing was put into it.
+pub fn open(alloc: Global, vertex_count: u32) -> Result<Opened, AllocError>
+    ensures intake { IfOk result (λ ends. ends.intake ≡ new_taking vertex_count ends.intake.queue) }
+    ensures first { IfOk result (λ ends. ends.first ≡ new_feed vertex_count 0 ends.intake.queue) }
+    ensures second { IfOk result (λ ends. ends.second ≡ new_feed vertex_count 1 ends.intake.queue) }
 {
     let room = Vec::with_capacity(alloc, QUEUE_PLACES)?;
     let (queue, mut pass) = Queue::ruled(alloc, QUEUE_PLACES)?;
+    let opening = Parcel {
+        vertex_count,
+        entry: Entry {
+            feed: 0,
+            batch: Batch::empty(),
+        },
+    };
+    let Ok(()) = queue.try_push_as::<Say>(&mut pass, opening) else {
+        return Err(AllocError);
+    };
+    let Some(_) = queue.try_pop_as::<Begin>(&mut pass) else {
+        return Err(AllocError);
+    };
     let first = queue.another::<NewFeed>(&mut pass);
     let second = queue.another::<NewFeed>(&mut pass);
     let taken_from = Arc::new(alloc, queue)?;
@@ -33,18 +48,21 @@ pub fn open(alloc: Global) -> Result<Opened, AllocError>
     let put_second = Arc::try_clone(&taken_from)?;
     Ok(Opened {
         intake: Intake {
+            vertex_count,
             empties: 0,
             room,
             queue: taken_from,
             pass,
         },
         first: Outlet {
+            vertex_count,
             feed: 0,
             refused: 0,
             queue: put_first,
             pass: first,
         },
         second: Outlet {
+            vertex_count,
             feed: 1,
             refused: 0,
             queue: put_second,

@@ -1,3 +1,7 @@
+ghost use Rattle.std.specs.Prelude.{◌≡◌, ◌<◌, IfOk};
+ghost use Rattle.graph_model.specs.Edits.{AreEditsBelow};
+ghost use Rattle.intake.specs.declared.tests.TheConstants.{VERTICES};
+
 use crate::{Intake, Outlet, open};
 use graph_model::{Batch, Edit, Entry};
 use std::alloc::{AllocError, Global};
@@ -6,35 +10,46 @@ use std::test::Fail;
 use std::thread;
 use store_model::QUEUE_PLACES;
 
+const VERTICES: u32 = 1_000;
+
 // How many batches each feed puts.
 const EACH: u32 = 500;
 
-fn batch_of(alloc: Global, target: u32) -> Result<Batch, AllocError> {
+fn batch_of(alloc: Global, target: u32) -> Result<Batch, AllocError>
+    requires { target < VERTICES }
+    ensures { IfOk result (λ batch. AreEditsBelow VERTICES batch) }
+{
     Batch::new(alloc, Vec::from_slice(alloc, &[Edit::Insert(0, target)])?)
 }
 
-// A batch for each target below `EACH`.
-fn batches(alloc: Global) -> Result<Vec<Batch>, AllocError> {
-    let mut all = Vec::new(alloc);
-    for target in 0..EACH {
-        all.push(batch_of(alloc, target)?)?;
-    }
-    Ok(all)
-}
-
-// Puts all batches, each as soon as there is room.
-fn put_all<R: Wait>(rt: &R, mut outlet: Outlet, batches: Vec<Batch>) {
-    for batch in batches {
-        let mut next = batch;
-        for _ in rt.forever() {
-            match outlet.put(next, rt) {
-                Ok(()) => break,
-                Err(back) => {
-                    thread::yield_now();
-                    next = back;
-                }
+// Puts a batch as soon as there is room.
+fn put<R: Wait>(rt: &R, outlet: &mut Outlet, batch: Batch)
+    requires count { outlet.old.vertex_count ≡ VERTICES }
+    requires below { AreEditsBelow VERTICES batch }
+    ensures { outlet.new.vertex_count ≡ VERTICES }
+{
+    let mut next = batch;
+    'tries: for _ in rt.forever() {
+        match outlet.put(next, rt) {
+            Ok(()) => break,
+            Err(back) => {
+                thread::yield_now();
+                next = back;
             }
         }
+    }
+}
+
+// Puts a batch for each target below `EACH`. Where there is no memory for one it is empty.
+fn put_all<R: Wait>(rt: &R, alloc: Global, mut outlet: Outlet)
+    requires { outlet.vertex_count ≡ VERTICES }
+{
+    'targets: for target in 0..EACH {
+        let batch = match batch_of(alloc, target) {
+            Ok(batch) => batch,
+            Err(_) => Batch::empty(),
+        };
+        put(rt, &mut outlet, batch);
     }
 }
 
@@ -56,7 +71,7 @@ fn target_of(entry: &Entry) -> Option<u32> {
 #[test]
 fn sixty_four_batches_fit(rt: HostRuntime) -> Result<(), Fail> {
     let alloc = rt.alloc();
-    let mut ends = open(alloc)?;
+    let mut ends = open(alloc, VERTICES)?;
     for target in 0..QUEUE_PLACES as u32 {
         assert!(rt; ends.first.put(batch_of(alloc, target)?, &rt).is_ok());
     }
@@ -77,7 +92,7 @@ fn sixty_four_batches_fit(rt: HostRuntime) -> Result<(), Fail> {
 
 #[test]
 fn an_empty_queue_gives_nothing(rt: HostRuntime) -> Result<(), Fail> {
-    let mut ends = open(rt.alloc())?;
+    let mut ends = open(rt.alloc(), VERTICES)?;
     assert!(rt; ends.intake.pop(&rt).is_none());
     let left = ends.intake.finish(ends.first, ends.second, &rt);
     assert!(rt; left.is_empty());
@@ -87,12 +102,11 @@ fn an_empty_queue_gives_nothing(rt: HostRuntime) -> Result<(), Fail> {
 #[test]
 fn each_feed_arrives_in_its_order(rt: HostRuntime) -> Result<(), Fail> {
     let alloc = rt.alloc();
-    let mut ends = open(alloc)?;
+    let mut ends = open(alloc, VERTICES)?;
     let first = ends.first;
     let second = ends.second;
-    let (ours, theirs) = (batches(alloc)?, batches(alloc)?);
-    let one = thread::spawn(&rt, move || put_all(&rt, first, ours))?;
-    let two = thread::spawn(&rt, move || put_all(&rt, second, theirs))?;
+    let one = thread::spawn(&rt, move || put_all(&rt, alloc, first))?;
+    let two = thread::spawn(&rt, move || put_all(&rt, alloc, second))?;
     let mut next = [0, 0];
     for _ in 0..2 * EACH {
         let entry = take(&rt, &mut ends.intake);

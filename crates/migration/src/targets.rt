@@ -55,6 +55,7 @@ impl Targets {
     }
 
     /// Another owner of the same list.
+    #[inline(always)]
     pub fn share(&self) -> Result<Targets, AllocError>
         ensures { IfOk result (λ list. list ≡ self.now) }
     {
@@ -69,6 +70,7 @@ impl Targets {
     /// The targets after edits of the vertex, in their order, and what the edits did. These targets stay;
     /// where the edits change nothing, the list is shared. Both lists are scratch space: the edits are
     /// sorted in place, and what `merged` held is lost.
+    #[inline(never)]
     pub fn after(
         &self,
         alloc: Global,

@@ -1,6 +1,7 @@
-ghost use Rattle.std.specs.Prelude.{◌≡◌, ◌<◌, [], ◌∷◌, ◌++◌, length, IfOk};
+ghost use Rattle.std.specs.Prelude.{◌≡◌, ◌<◌, [], ◌∷◌, ◌++◌, length, Some, IfOk};
 ghost use Rattle.std.specs.List.{flat_map};
 ghost use Rattle.graph_model.specs.declared.limits.TheConstants.{MOST_BATCHES};
+ghost use Rattle.graph_model.specs.Shared.{shared_items};
 ghost use Rattle.versions.specs.Log.{entries_in};
 
 use graph_model::Entry;
@@ -9,13 +10,14 @@ use std::marker::Model;
 use std::sync::Arc;
 
 // How many entries a full chunk has.
-const CHUNK: usize = 64;
+const CHUNK: usize = 32;
 
-/// The entries of a version, in order. Logs share the chunks that they have in common, so that a
-/// longer log copies the list of chunks and less than one chunk.
+/// The entries of a version, in order. Logs share the chunks that they have in common, and the list of
+/// them: a longer log copies less than one chunk, and the list where a chunk becomes full.
 #[derive(Drop)]
 pub struct Log {
-    full: Vec<Arc<Vec<Entry>>>,
+    // None is the empty list, which can be made without memory.
+    full: Option<Arc<Vec<Arc<Vec<Entry>>>>>,
     // What comes after the full chunks.
     last: Vec<Entry>,
     len: u64,
@@ -24,13 +26,14 @@ pub struct Log {
 impl Model for Log {
     ghost use Rattle.std.specs.Prelude.{◌≡◌, List, length};
     ghost use Rattle.graph_model.specs.declared.entry.Entry.{Entry};
+    ghost use Rattle.graph_model.specs.Shared.{shared_items};
     ghost use Rattle.versions.specs.Log.{entries_of};
 
     ghost Value = { List Entry };
 
-    ghost view = { λ l. entries_of l.full.items l.last.items };
+    ghost view = { λ l. entries_of (shared_items l.full) l.last.items };
 
-    ghost invariant = { λ l. l.len ≡ length (entries_of l.full.items l.last.items) };
+    ghost invariant = { λ l. l.len ≡ length (entries_of (shared_items l.full) l.last.items) };
 }
 
 impl Log {
@@ -39,7 +42,7 @@ impl Log {
         ensures { result ≡ [] }
     {
         Log {
-            full: Vec::new(alloc),
+            full: None,
             last: Vec::new(alloc),
             len: 0,
         }
@@ -57,20 +60,50 @@ impl Log {
         requires { length self.now < MOST_BATCHES }
         ensures { IfOk result (λ log. log ≡ self.now ++ entry ∷ []) }
     {
-        let mut full = shared_chunks(alloc, &self.full)?;
         let mut last = shared_entries(alloc, &self.last)?;
         last.push(entry)?;
         let len = self.len + 1;
         if last.len() < CHUNK {
+            let full = shared_list(&self.full)?;
             return Ok(Log { full, last, len });
         }
-        full.push(Arc::new(alloc, last)?)?;
+        let full = with_chunk(alloc, &self.full, Arc::new(alloc, last)?)?;
         Ok(Log {
-            full,
+            full: Some(full),
             last: Vec::new(alloc),
             len,
         })
     }
+}
+
+// Another owner of a list of chunks.
+fn shared_list(
+    list: &Option<Arc<Vec<Arc<Vec<Entry>>>>>,
+) -> Result<Option<Arc<Vec<Arc<Vec<Entry>>>>>, AllocError>
+    ensures { IfOk result (λ copy. shared_items copy ≡ shared_items list.now) }
+{
+    match list {
+        None => Ok(None),
+        Some(chunks) => Ok(Some(Arc::try_clone(chunks)?)),
+    }
+}
+
+// A list with one chunk more.
+fn with_chunk(
+    alloc: Global,
+    list: &Option<Arc<Vec<Arc<Vec<Entry>>>>>,
+    chunk: Arc<Vec<Entry>>,
+) -> Result<Arc<Vec<Arc<Vec<Entry>>>>, AllocError>
+    ensures { IfOk result (λ longer. flat_map entries_in (shared_items (Some longer))
+        ≡ flat_map entries_in (shared_items list.now) ++ entries_in chunk) }
+{
+    let before: &[Arc<Vec<Entry>>] = match list {
+        None => &[],
+        Some(chunks) => chunks.as_slice(),
+    };
+    let mut chunks = shared_chunks(alloc, before)?;
+    chunks.push(chunk)?;
+    Ok(Arc::new(alloc, chunks)?)
 }
 
 // Other owners of these chunks, in a list with room for one more.

@@ -8,7 +8,7 @@ use Rattle.board.proofs.opening.seat_all.Goals as goal
 
 pub try_push_as-requires-clause-rule : goal.try_push_as-requires-clause-rule
 try_push_as-requires-clause-rule c =
-    let same = c.in_ok-first.ensures.knows ∙ c.in_ok-mine.ensures.kept.3 in
+    let same = c.in_ok-first.ensures.knows ∙ c.in_ok-mine.ensures.known in
     seeds (λ r. view r.place) _ _ _ _ (ap (λ (v : Member). v.sole) c.requires.pass.1) (ap (λ (g : Glimpse). g.knows) same ∙ c.requires.knows)
 
 pub try_push_as-requires-in-seats-clause-rule : goal.try_push_as-requires-in-seats-clause-rule

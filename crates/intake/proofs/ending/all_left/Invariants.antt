@@ -7,6 +7,6 @@ use Rattle.intake.proofs.ending.all_left.Given as goal
 abbrev pub invariant-taking : goal.invariant-taking
 invariant-taking g l = record {
   pass : IsPassOf l.queue l.pass;
-  hand : view l.pass ≡ taker ((view l.fn.pass).taken ++ l.left.items) FEEDS (view l.fn.pass).ended;
+  hand : view l.pass ≡ taker (view l.fn.pass).vertex_count ((view l.fn.pass).taken ++ l.left.items) FEEDS (view l.fn.pass).ended;
   room : QUEUE_PLACES ≤ vec_capacity l.left;
 }

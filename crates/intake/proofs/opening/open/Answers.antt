@@ -1,12 +1,19 @@
-use Rattle.std.proofs.Common.{ap}
-use Rattle.intake.proofs.Feeds.{begins, forks}
+use Rattle.std.proofs.Common.{ap, refl, inl}
+use Rattle.intake.proofs.Beginning.{says, all_begins}
+use Rattle.intake.proofs.Feeds.{forks}
 use Rattle.intake.proofs.opening.open.Goals as goal
 
 pub ruled-requires-clause-rule : goal.ruled-requires-clause-rule
-ruled-requires-clause-rule c = begins
+ruled-requires-clause-rule c = inl (inl (refl, refl))
+
+pub try_push_as-requires-clause-rule : goal.try_push_as-requires-clause-rule
+try_push_as-requires-clause-rule c = says _ _ _ _ (ap (λ v. v.opens) c.in_ok-queue.ensures.3)
+
+pub try_pop_as-requires-clause-rule : goal.try_pop_as-requires-clause-rule
+try_pop_as-requires-clause-rule c = all_begins _ _ (ap (λ v. v.waits) c.in-Ok.ensures.rule)
 
 pub another-first-requires-clause-rule : goal.another-first-requires-clause-rule
-another-first-requires-clause-rule c = forks _ _ (ap (λ v. v.takes) c.in_ok-queue.ensures.3)
+another-first-requires-clause-rule c = forks _ _ (ap (λ v. v.takes) c.in-Some.ensures.rule)
 
 pub another-second-requires-clause-rule : goal.another-second-requires-clause-rule
 another-second-requires-clause-rule c = forks _ _ (ap (λ v. v.takes) c.another-first.ensures.rule.0)

@@ -1,4 +1,4 @@
-use Rattle.std.proofs.Common.{◌≡◌, ◌++◌, ◌∷◌, [], sym, ap, ◌∙◌, subst, arith, length, List, length-append, refl}
+use Rattle.std.proofs.Common.{◌≡◌, ℕ, ◌++◌, ◌∷◌, [], sym, ap, ◌∙◌, subst, arith, length, List, length-append, refl}
 use Rattle.crossbeam_queue.specs.Passes.{view}
 use Rattle.store_model.specs.declared.limits.TheConstants.{FEEDS}
 use Rattle.graph_model.specs.declared.entry.Entry.{Entry}
@@ -29,14 +29,15 @@ absorb-requires-2-clause-rule g c =
 
 pub returns-clause-no_other : goal.returns-clause-no_other
 returns-clause-no_other g c =
+    let n : ℕ = c.self.inside.vertex_count in
     let taken : List Entry = (view c.self.inside.pass).taken in
     let ended : List (List Entry) = (view c.first.inside.pass).sent ∷ (view c.second.inside.pass).sent ∷ [] in
-    let hand : view c.absorb-2.new.pass ≡ taker taken FEEDS ended =
+    let hand : view c.absorb-2.new.pass ≡ taker n taken FEEDS ended =
     c.absorb-2.ensures.rule
-    ∙ ap (λ (v : Hand). taker v.taken v.made (v.ended ++ (view c.second.inside.pass).sent ∷ [])) c.absorb.ensures.rule
-    ∙ ap (λ (v : Hand). taker v.taken v.made ((v.ended ++ (view c.first.inside.pass).sent ∷ []) ++ (view c.second.inside.pass).sent ∷ [])) c.self.invariant.1 in
-    let rest : Left (taker taken FEEDS ended) c.all_left.result.items = subst (λ (v : Hand). Left v c.all_left.result.items) hand c.all_left.ensures in
-    let all = count_left taken c.all_left.result.items ended refl rest in
+    ∙ ap (λ (v : Hand). taker v.vertex_count v.taken v.made (v.ended ++ (view c.second.inside.pass).sent ∷ [])) c.absorb.ensures.rule
+    ∙ ap (λ (v : Hand). taker v.vertex_count v.taken v.made ((v.ended ++ (view c.first.inside.pass).sent ∷ []) ++ (view c.second.inside.pass).sent ∷ [])) c.self.invariant.1 in
+    let rest : Left (taker n taken FEEDS ended) c.all_left.result.items = subst (λ (v : Hand). Left v c.all_left.result.items) hand c.all_left.ensures in
+    let all = count_left n taken c.all_left.result.items ended refl rest in
     let a = ap (λ (t : Taking). length t.taken) c.self.view_is in
     let b = ap (λ (s : Feeding). length s.sent) c.first.view_is in
     let d = ap (λ (s : Feeding). length s.sent) c.second.view_is in

@@ -1,13 +1,30 @@
-use Rattle.std.proofs.Common.{ap}
-use Rattle.intake.proofs.Taking.{pops, left, was_empty, where_none}
+use Rattle.std.proofs.Common.{◌≡◌, ℕ, List, [], ◌∷◌, ◌++◌, ap, ◌∙◌, subst}
+use Rattle.crossbeam_queue.specs.Passes.{view}
+use Rattle.graph_model.specs.declared.entry.Entry.{Entry}
+use Rattle.store_model.specs.declared.limits.TheConstants.{FEEDS}
+use Rattle.intake.specs.declared.hand.Hand.{Hand}
+use Rattle.intake.specs.Hands.{taker}
+use Rattle.intake.specs.Rule.{Left}
+use Rattle.intake.specs.Ends.{Taking}
+use Rattle.intake.proofs.Taking.{pops, left, was_empty, of_made}
 use Rattle.intake.proofs.intake.Intake.pop.Goals as goal
 
-pub pop_as-entry-requires-clause-rule : goal.pop_as-entry-requires-clause-rule
-pop_as-entry-requires-clause-rule g c =
+pub pop_as-requires-clause-rule : goal.pop_as-requires-clause-rule
+pop_as-requires-clause-rule g c =
     let hand = c.self.invariant.1 in
     (pops _ _ (ap (λ v. v.takes) hand), left _ _ (ap (λ v. v.takes) hand))
 
-pub returns-then-is_none-clause-empty : goal.returns-then-is_none-clause-empty
-returns-then-is_none-clause-empty g c =
+pub returns-in-None-clause-empty : goal.returns-in-None-clause-empty
+returns-in-None-clause-empty g c =
     let hand = c.self.invariant.1 in
-    where_none _ _ _ _ c.pop_as-entry.ensures.rule (λ none. was_empty _ _ (ap (λ v. v.made) hand) (cc) none.1)
+    was_empty _ _ (ap (λ v. v.made) hand) (ap (λ (t : Taking). t.taken) c.self.view_is) c.in-None.ensures.rule.1
+
+pub returns-in-Some-clause-feed : goal.returns-in-Some-clause-feed
+returns-in-Some-clause-feed g c =
+    let n : ℕ = c.self.inside.vertex_count in
+    let taken : List Entry = (view c.self.inside.pass).taken in
+    let e : Entry = c.in-Some.parcel.entry in
+    let took = c.in-Some.ensures.rule in
+    let hand : view c.pop_as.new.pass ≡ taker n (taken ++ e ∷ []) FEEDS [] =
+    took.0 ∙ ap (λ (v : Hand). taker v.vertex_count (v.taken ++ e ∷ []) v.made v.ended) c.self.invariant.1 in
+    of_made n taken took.2.0 [] e (subst (λ (v : Hand). Left v took.2.0) hand took.2.1)

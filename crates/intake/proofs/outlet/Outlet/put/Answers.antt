@@ -1,8 +1,17 @@
-use Rattle.std.proofs.Common.{sym, ap}
+use Rattle.std.proofs.Common.{◌≡◌, sym, ap, ◌∙◌, subst}
+use Rattle.crossbeam_queue.specs.Passes.{view, ruled_capacity}
+use Rattle.graph_model.specs.Edits.{AreEditsBelow}
+use Rattle.store_model.specs.declared.limits.TheConstants.{QUEUE_PLACES}
+use Rattle.intake.specs.declared.hand.Hand.{Hand}
+use Rattle.intake.specs.Ends.{Feeding}
 use Rattle.intake.proofs.Putting.{pushes, waits}
 use Rattle.intake.proofs.outlet.Outlet.put.Goals as goal
 
 pub push_as-requires-clause-rule : goal.push_as-requires-clause-rule
 push_as-requires-clause-rule g c =
     let hand = c.self.invariant.2 in
-    (pushes _ _ _ _ (cc) (ap (λ v. v.feeds) hand) (sym (ap (λ v. v.feed) hand)), waits _ _ (ap (λ v. v.feeds) hand))
+    let places : ruled_capacity c.deref.result.now ≡ QUEUE_PLACES = ap ruled_capacity c.deref.ensures ∙ c.self.invariant.1 in
+    let count = ap (λ (s : Feeding). s.vertex_count) c.self.view_is in
+    let below : AreEditsBelow (view c.self.inside.pass).vertex_count c.args.batch =
+    subst (λ n. AreEditsBelow n c.args.batch) (sym (ap (λ (v : Hand). v.vertex_count) hand ∙ count)) c.requires.below in
+    (pushes _ _ _ _ places (ap (λ v. v.feeds) hand) (sym (ap (λ v. v.feed) hand)) below, waits _ _ (ap (λ v. v.feeds) hand))
