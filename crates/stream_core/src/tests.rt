@@ -1,5 +1,6 @@
 use super::{Event, Reply, World, run, shards, step};
 use graph_model::{Batch, Edit};
+use migration::shard_of;
 use std::alloc::{AllocError, Global};
 use std::test::Fail;
 
@@ -47,8 +48,8 @@ fn row_at_once(rt: HostRuntime) -> Result<(), Fail> {
     let alloc = rt.alloc();
     let (world, replies) = run(alloc, 4, &row(alloc)?)?;
     assert_eq!(rt; replies, row_replies(alloc)?);
-    assert!(rt; cursors::has_edge(shards(&world), 0, 1));
-    assert_eq!(rt; cursors::degree(shards(&world), 0), 1);
+    assert!(rt; cursors::has_edge(shard_of(shards(&world), 0), 0, 1));
+    assert_eq!(rt; cursors::degree(shard_of(shards(&world), 0), 0), 1);
     Ok(())
 }
 

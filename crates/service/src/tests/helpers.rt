@@ -99,18 +99,18 @@ fn calls_that_are_refused(rt: HostRuntime) -> Result<(), Fail> {
 #[test]
 fn neighbours_are_gathered(rt: HostRuntime) -> Result<(), Fail> {
     let graph = "graph 4\nbatch A\n+ 0 1\n+ 0 2\n+ 0 3\nend\npin a\n";
-    for (room, wanted) in [
+    for (room, run, wanted) in [
         (
             "16",
+            "run p a max -\n",
             "program p bound 8 frames 1\nrun p a edges 3 total 4294967295\nrow 0 4294967295\n",
         ),
-        ("18", "refused p cause 13 pc 5\n"),
-        ("0", "refused p cause 13 pc 5\n"),
-        ("260", "refused p cause 13 pc 5\n"),
+        ("18", "", "refused p cause 13 pc 5\n"),
+        ("0", "", "refused p cause 13 pc 5\n"),
+        ("260", "", "refused p cause 13 pc 5\n"),
         // The third word is not written.
-        ("8", "refused p cause 12 pc 6\n"),
+        ("8", "", "refused p cause 12 pc 6\n"),
     ] {
-        let run = if room == "16" { "run p a max -\n" } else { "" };
         let script = format!(in rt.alloc();
             "{graph}program p 16\n{GATHERED_BEFORE}{room}{GATHERED_BEHIND}end\n{run}"
         )?;
