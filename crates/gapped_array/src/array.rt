@@ -85,7 +85,8 @@ impl GappedArray {
     /// Opens a vertex's list, which is empty. It takes no memory.
     pub fn open_run(&mut self, vertex: u8)
         requires { IsNone (slice_index_or self.old vertex None) }
-        ensures { self.new ≡ slice_set self.old vertex (Some []) }
+        ensures opened { self.new ≡ slice_set self.old vertex (Some []) }
+        ensures vertices { length self.old ≡ VERTICES }
     {
         self.runs[vertex as usize] = Some(Run {
             segment: 0,
@@ -101,6 +102,7 @@ impl GappedArray {
         requires set { IsSet words.now }
         ensures ok { OnOk result (self.new ≡ slice_set self.old vertex (Some words.now)) }
         ensures err { OnErr result (self.new ≡ self.old) }
+        ensures vertices { length self.old ≡ VERTICES }
     {
         if words.is_empty() {
             self.open_run(vertex);

@@ -5,3 +5,4 @@ pub mod ViewLemmas
 pub mod Pairs
 pub mod Batches
 pub mod Pasts
+pub mod HomeLemmas

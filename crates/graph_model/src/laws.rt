@@ -8,6 +8,7 @@ ghost use Rattle.graph_model.specs.Laws.{
   ChangeOfSize,
   ReplayIsGraph,
 };
+ghost use Rattle.graph_model.specs.HomeLaws.{HomesHold, HomesStay, HomeOfLonger, HomesAtLimits};
 
 /// A vertex's neighbours are strictly ascending.
 pub fn neighbours_ascend()
@@ -42,4 +43,24 @@ pub fn change_of_size()
 /// A log whose edits name vertices makes a graph.
 pub fn replay_is_graph()
     ensures { ReplayIsGraph }
+{}
+
+/// After a batch a vertex's home may keep as many neighbours as it has.
+pub fn homes_hold()
+    ensures { HomesHold }
+{}
+
+/// A home that may keep as many as there are stays.
+pub fn homes_stay()
+    ensures { HomesStay }
+{}
+
+/// With one batch more the home before and the degree after decide.
+pub fn home_of_longer()
+    ensures { HomeOfLonger }
+{}
+
+/// The limits, each at its last degree and one past it.
+pub fn homes_at_limits()
+    ensures { HomesAtLimits }
 {}

@@ -75,7 +75,7 @@ start_of blocks i all h =
 -- a part of a block, among all
 pub part_in_block : (blocks : Blocks) (i k : ℕ) (d : Arc (List Part) Global) → AreFull (sizes_of blocks) → i < length blocks → k < length (arc_value (get_or blocks i d)) → part_at (parts_in blocks) (32 * i + k) ≡ part_at (arc_value (get_or blocks i d)) k
 part_in_block blocks i k d all h within =
-    ap (λ n. part_at (parts_in blocks) (n + k)) (sym (start_of blocks i all h)) ∙ get_or-flat_map arc_value blocks i k d (record { range = 0; rows = [] }) h within
+    ap (λ n. part_at (parts_in blocks) (n + k)) (sym (start_of blocks i all h)) ∙ get_or-flat_map arc_value blocks i k d (record { range = 0; rows = []; homes = [] }) h within
 
 pub part_inside : (blocks : Blocks) (i k : ℕ) (d : Arc (List Part) Global) → AreFull (sizes_of blocks) → i < length blocks → k < length (arc_value (get_or blocks i d)) → 32 * i + k < length (parts_in blocks)
 part_inside blocks i k d all h within =

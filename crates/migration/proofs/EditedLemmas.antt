@@ -14,7 +14,7 @@ use Rattle.migration.proofs.PartLemmas.{count_none}
 use Rattle.migration.proofs.RangeLemmas.{range_edits, range_below, part_after, range_gained, range_lost, no_edit, same_part}
 
 abbrev nothing : Part
-nothing = record { range = 0; rows = [] }
+nothing = record { range = 0; rows = []; homes = [] }
 
 abbrev pub none : Counts
 none = record { added = 0; removed = 0 }

@@ -7,3 +7,5 @@ pub mod RangeLemmas
 pub mod EditedLemmas
 pub mod TableLemmas
 pub mod BlockLemmas
+pub mod ListLemmas
+pub mod HomeLemmas

@@ -1,5 +1,5 @@
 -- A part of a graph under edit, one vertex after another.
-use Rattle.std.proofs.Common.{◌≡◌, ◌==◌, ℕ, zero, suc, ◌+◌, ◌-◌, ◌*◌, ◌%◌, ◌^◌, ◌<◌, ◌≤◌, Bool, true, false, not, ◌&&◌, cond, if◌then◌else◌, unwrap_or, Some, None, List, [], ◌∷◌, ◌++◌, length, get_or, filter, replicate, refl, sym, ap, ap₂, subst, ◌∙◌, inl, inr, le_trans, mul-le-mul, add-zero, eqb-true, eq-eqb, arith}
+use Rattle.std.proofs.Common.{◌≡◌, ◌==◌, ℕ, zero, suc, ◌+◌, ◌-◌, ◌*◌, ◌%◌, ◌^◌, ◌<◌, ◌≤◌, Bool, true, false, not, ◌&&◌, cond, if◌then◌else◌, unwrap_or, Some, None, List, [], ◌∷◌, ◌++◌, length, get_or, filter, replicate, refl, sym, ap, ap₂, subst, subst₂, ◌∙◌, inl, inr, le_trans, mul-le-mul, add-zero, eqb-true, eq-eqb, arith}
 use Rattle.std.specs.List.{AllByRecursion}
 use Rattle.std.proofs.lemmas.Bool.{cases_lt, cases_Bool, and_parts, false_from_ne_true}
 use Rattle.std.proofs.lemmas.List.{length_push, get_or_append_left, get_or_push, get_or-replicate, length-replicate}
@@ -13,10 +13,15 @@ use Rattle.migration.specs.declared.counts.Counts.{Counts}
 use Rattle.migration.specs.declared.groups.Grouping.{Grouping}
 use Rattle.migration.specs.declared.groups.Grouping.TheVariants.{ByVertex}
 use Rattle.migration.specs.Groups.{group_of, edits_of}
-use Rattle.migration.specs.Part.{Part, vertex_at, row_at, IsPart, IsEditOf, AreEditsOf, IsPartAfter, AreCounts, IsShard}
+use Rattle.graph_model.specs.declared.home.Home.{Home}
+use Rattle.graph_model.specs.declared.home.Home.TheVariants.{Block}
+use Rattle.graph_model.specs.Homes.{home_after, IsHomeOf}
+use Rattle.migration.specs.Part.{Part, vertex_at, row_at, home_at, IsPart, IsEditOf, AreEditsOf, IsPartAfter, AreCounts, AreHomes, AreHomesAfter, IsShard}
 use Rattle.migration.specs.Merge.{decision, AreEditsFrom, IsMerged}
 use Rattle.migration.specs.Blocks.{is_new, is_gone}
+use Rattle.word_sets.specs.Words.{IsSet}
 use Rattle.migration.proofs.WordLemmas.{last_word-filter}
+use Rattle.migration.proofs.HomeLemmas.{set_merged}
 
 -- the edits of the i-th vertex
 abbrev pub own_edits : Part → List Edit → ℕ → List Edit
@@ -205,7 +210,7 @@ all_done es p q counts own range count done = (
 )
 
 -- a range without an edge
-pub empty_shard : (range vertices : ℕ) → range < 4096 → 1 ≤ vertices → vertices ≤ 256 → IsShard record { range = range; rows = replicate vertices [] }
+pub empty_shard : (range vertices : ℕ) → range < 4096 → 1 ≤ vertices → vertices ≤ 256 → IsShard record { range = range; rows = replicate vertices []; homes = replicate vertices Block }
 empty_shard range vertices low some few =
     let long : length {A = List ℕ} (replicate vertices []) ≡ vertices = length-replicate vertices [] in
     record {
@@ -217,6 +222,12 @@ empty_shard range vertices low some few =
       part = record {
         within = omega (arith, long);
         each = λ i h. get_or-replicate vertices i [] [] (omega (arith, long)) ∙ sym (neighbours-empty_graph 1048576 (256 * range + i));
+      };
+      homes = record {
+        count = length-replicate vertices Block ∙ sym long;
+        each = λ i h. (
+            let inside : i < vertices = omega (arith, length-replicate vertices Block) in
+            subst₂ (λ home row. IsHomeOf home (length {A = ℕ} row)) (sym (get_or-replicate vertices i Block Block inside)) (sym (get_or-replicate vertices i [] [] inside)) (omega arith));
       };
     }
 
@@ -232,8 +243,8 @@ below_graph n p (e ∷ es) is within own = (
 )
 
 -- the shard after edits
-pub next_shard : (es : List Edit) (p q : Part) → IsShard p → AreEditsOf p es → IsPartAfter es p q → IsShard q
-next_shard es p q is own after =
+pub next_shard : (es : List Edit) (p q : Part) → IsShard p → AreEditsOf p es → IsPartAfter es p q → AreHomes q → IsShard q
+next_shard es p q is own after homes =
     let range = after.range in
     let count = after.count in
     let low = is.low in
@@ -246,6 +257,7 @@ next_shard es p q is own after =
       graph = after_batch es is.graph;
       small = is.small;
       part = after.part is.graph (below_graph is.graph.vertex_count p es is.small is.part.within own) is.part;
+      homes = homes;
     }
 
 -- no count passes the number of pairs
@@ -293,12 +305,36 @@ few_more es p rows row counts more i is own count inside done merged =
     )
 
 -- the loop over the lists, at its end
-pub rows_done : (es : List Edit) (p : Part) (rows items : List (List ℕ)) (counts : Counts) (i : ℕ) → AreEditsOf p es → items ≡ p.rows → length rows ≡ i → i ≤ length items → length items ≤ i → ((g : Graph) → AreEditsBelow g.vertex_count es → IsPart g p → IsDone es p g rows counts) → IsPartAfter es p record { range = p.range; rows = rows } × AreCounts es p counts
-rows_done es p rows items counts i own same count ended within done =
-    all_done es p record { range = p.range; rows = rows } counts own refl (omega (arith, ap length same, count)) done
+pub rows_done : (es : List Edit) (p : Part) (rows : List (List ℕ)) (homes : List Home) (counts : Counts) → AreEditsOf p es → length rows ≡ length p.rows → ((g : Graph) → AreEditsBelow g.vertex_count es → IsPart g p → IsDone es p g rows counts) → IsPartAfter es p record { range = p.range; rows = rows; homes = homes } × AreCounts es p counts
+rows_done es p rows homes counts own count done =
+    all_done es p record { range = p.range; rows = rows; homes = homes } counts own refl count done
 
 -- a list of a shard is short
 pub few_targets : (p : Part) (i : ℕ) → IsShard p → i < length p.rows → length (row_at p i) ≤ 1048576
 few_targets p i is inside =
     let small = is.small in
     omega (arith, ap length (is.part.each i inside), length-neighbours is.graph (vertex_at p i))
+
+-- what is known of the edits that were read for a vertex is known of its own
+pub merged_own : (es own : List Edit) (p : Part) (row : List ℕ) (more : Counts) (i : ℕ) → own ≡ own_edits p es i → ((u n : ℕ) (q : ℕ → Bool) → AreEditsFrom u n own → row_at p i ≡ filter q (numbers_below n) → IsMerged own u n q row more)
+    → (u n : ℕ) (q : ℕ → Bool) → AreEditsFrom u n (own_edits p es i) → row_at p i ≡ filter q (numbers_below n) → IsMerged (own_edits p es i) u n q row more
+merged_own es own p row more i is merged u n q from same =
+    subst (λ l. IsMerged l u n q row more) is (merged u n q (subst (AreEditsFrom u n) (sym is) from) same)
+
+-- such a list is a set
+pub set_more : (es : List Edit) (p : Part) (row : List ℕ) (more : Counts) (i : ℕ) → IsShard p → AreEditsOf p es → i < length p.rows
+    → ((u n : ℕ) (q : ℕ → Bool) → AreEditsFrom u n (own_edits p es i) → row_at p i ≡ filter q (numbers_below n) → IsMerged (own_edits p es i) u n q row more)
+    → IsSet row
+set_more es p row more i is own inside merged =
+    let g = is.graph in
+    let below = below_graph g.vertex_count p es is.small is.part.within own in
+    set_merged (own_edits p es i) (vertex_at p i) g.vertex_count (g.has_edge (vertex_at p i)) row more is.small
+    (merged (vertex_at p i) g.vertex_count (g.has_edge (vertex_at p i)) (own_edits_from g.vertex_count p es i is.few own below) (row_in g p i (row_at p i) is.part inside refl))
+
+-- and a vertex that edits are of is done with it
+pub row_edited : (es : List Edit) (p : Part) (g : Graph) (rows : List (List ℕ)) (row : List ℕ) (counts more : Counts) (i : ℕ) → length rows ≡ i → i < length p.rows → length p.rows ≤ 256 → AreEditsOf p es → AreEditsBelow g.vertex_count es → IsPart g p → IsDone es p g rows counts
+    → ((u n : ℕ) (q : ℕ → Bool) → AreEditsFrom u n (own_edits p es i) → row_at p i ≡ filter q (numbers_below n) → IsMerged (own_edits p es i) u n q row more)
+    → IsDone es p g (rows ++ row ∷ []) record { added = counts.added + more.added; removed = counts.removed + more.removed }
+row_edited es p g rows row counts more i count inside few own below part done merged =
+    row_done es p g rows row counts more i count inside few part done
+    (merged (vertex_at p i) g.vertex_count (g.has_edge (vertex_at p i)) (own_edits_from g.vertex_count p es i few own below) (row_in g p i (row_at p i) part inside refl))

@@ -5,16 +5,17 @@ use Rattle.std.specs.declared.alloc.Global.{Global}
 use Rattle.std.specs.Arc.{arc_value}
 use Rattle.std.proofs.lemmas.Bool.{cases_lt}
 use Rattle.std.proofs.lemmas.List.{length_push, get_or_append_left, get_or_push, get_or-replicate, length-replicate, get_or-map, map_push, map-append}
+use Rattle.graph_model.specs.declared.home.Home.TheVariants.{Block}
 use Rattle.graph_model.specs.Graph.{Graph, empty_graph}
 use Rattle.graph_model.proofs.Neighbours.{neighbours-empty_graph}
 use Rattle.migration.specs.Part.{Part}
 use Rattle.migration.specs.Table.{IsTable, IsPartAt, parts_of, part_at}
 
 abbrev nothing : Part
-nothing = record { range = 0; rows = [] }
+nothing = record { range = 0; rows = []; homes = [] }
 
 -- one part more of a graph without an edge
-pub empty_part : (n range : ℕ) (parts : List Part) (p : Part) → 256 * range < n → length parts ≡ range → ((r : ℕ) → r < length parts → IsPartAt (empty_graph n) r (part_at parts r)) → p ≡ record { range = range; rows = replicate (min 256 (n - 256 * range)) [] }
+pub empty_part : (n range : ℕ) (parts : List Part) (p : Part) → 256 * range < n → length parts ≡ range → ((r : ℕ) → r < length parts → IsPartAt (empty_graph n) r (part_at parts r)) → p ≡ record { range = range; rows = replicate (min 256 (n - 256 * range)) []; homes = replicate (min 256 (n - 256 * range)) Block }
     → (r : ℕ) → r < length (parts ++ p ∷ []) → IsPartAt (empty_graph n) r (part_at (parts ++ p ∷ []) r)
 empty_part n range parts p some long so_far is r h =
     elim (cases_lt r (length parts)) [
@@ -23,7 +24,7 @@ empty_part n range parts p some long so_far is r h =
           let same : length parts ≡ r = omega (arith, length_push parts p) in
           let size : length {A = List ℕ} (replicate (min 256 (n - 256 * range)) []) ≡ min 256 (n - 256 * range) = length-replicate (min 256 (n - 256 * range)) [] in
           subst (IsPartAt (empty_graph n) r) (sym (get_or_push parts p nothing r same ∙ is))
-          (subst (λ k. IsPartAt (empty_graph n) k (record { range = range; rows = replicate (min 256 (n - 256 * range)) [] })) (sym long ∙ same) record {
+          (subst (λ k. IsPartAt (empty_graph n) k (record { range = range; rows = replicate (min 256 (n - 256 * range)) []; homes = replicate (min 256 (n - 256 * range)) Block })) (sym long ∙ same) record {
             number = refl;
             size = size;
             part = record {

@@ -4,3 +4,4 @@ pub mod Table
 pub mod Blocks
 pub mod Lent
 pub mod Merge
+pub mod Lists

@@ -16,7 +16,7 @@ abbrev pub parts_of : List (Arc Part Global) → List Part
 parts_of shards = map arc_value shards
 
 abbrev pub part_at : List Part → ℕ → Part
-part_at parts range = slice_index_or parts range (record { range = 0; rows = [] })
+part_at parts range = slice_index_or parts range (record { range = 0; rows = []; homes = [] })
 
 -- the part of a range of a graph: only the last one of a graph may have fewer than 256 vertices
 pub record IsPartAt (g : Graph) (range : ℕ) (p : Part) : Type 0 where

@@ -4,12 +4,13 @@
 
 mod block;
 mod counts;
+mod edited;
 mod groups;
+mod lists;
 mod merge;
 mod shard;
 mod shards;
 mod table;
-mod targets;
 
 pub use counts::Counts;
 pub use groups::{Grouping, Groups};

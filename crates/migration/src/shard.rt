@@ -1,33 +1,36 @@
 ghost use Rattle.std.specs.Prelude.{◌≡◌, ◌↔◌, ◌<◌, ◌≤◌, [], length, replicate, Contains, IsTrue, IfOk};
+ghost use Rattle.graph_model.specs.declared.home.Home.TheVariants.{Block};
 ghost use Rattle.graph_model.specs.declared.limits.TheConstants.{MOST_VERTICES, MOST_RANGES, RANGE_VERTICES};
 
 use crate::counts::Counts;
+use crate::edited::edited_list;
 use crate::groups::{Grouping, Groups};
-use crate::targets::Targets;
-use graph_model::Edit;
+use crate::lists::Lists;
+use graph_model::{Edit, Home, MOST_VERTICES};
 use std::alloc::{AllocError, Global};
 use std::marker::Model;
 
 /// A range of a graph's vertices in one version: its number, and for each of its vertices the
-/// ascending list of its targets. It never changes after it was made.
+/// ascending list of its targets, in its home. It never changes after it was made.
 #[derive(Drop)]
 pub struct Shard {
     range: u32,
-    rows: Vec<Targets>,
+    lists: Lists,
 }
 
 impl Model for Shard {
     ghost use Rattle.migration.specs.Part.{Part, IsShard};
+    ghost use Rattle.migration.specs.Lists.{part_of, AreKept};
 
     ghost Value = { Part };
 
-    ghost view = { λ s. record { range = s.range; rows = s.rows.items } };
+    ghost view = { λ s. part_of s.range s.lists };
 
-    ghost invariant = { λ s. IsShard (record { range = s.range; rows = s.rows.items }) };
+    ghost invariant = { λ s. AreKept s.lists × IsShard (part_of s.range s.lists) };
 }
 
 impl Shard {
-    ghost use Rattle.migration.specs.Part.{row_at, IsShard, AreEditsOf, IsPartAfter, AreCounts};
+    ghost use Rattle.migration.specs.Part.{row_at, home_at, IsShard, AreEditsOf, IsPartAfter, AreCounts, AreHomesAfter};
     ghost use Rattle.migration.specs.Lent.{IsLentAt};
 
     /// A range of so many vertices, without an edge.
@@ -35,13 +38,14 @@ impl Shard {
         requires range { range < MOST_RANGES }
         requires some { 1 ≤ vertices }
         requires few { vertices ≤ RANGE_VERTICES }
-        ensures { IfOk result (λ shard. shard ≡ record { range = range; rows = replicate vertices [] }) }
+        ensures { IfOk result (λ shard. shard ≡ record {
+          range = range;
+          rows = replicate vertices [];
+          homes = replicate vertices Block;
+        }) }
     {
-        let mut rows = Vec::with_capacity(alloc, usize::from(vertices))?;
-        for _ in 0..vertices {
-            rows.push(Targets::none())?;
-        }
-        Ok(Shard { range, rows })
+        let lists = Lists::empty(alloc, vertices)?;
+        Ok(Shard { range, lists })
     }
 
     /// The range after a batch of edits of its vertices, to vertices that a graph may have, and what the
@@ -51,24 +55,28 @@ impl Shard {
         requires { AreEditsOf self.now edits.now }
         ensures after { IfOk result (λ next. IsPartAfter edits.now self.now next.0) }
         ensures counts { IfOk result (λ next. AreCounts edits.now self.now next.1) }
+        ensures homes { IfOk result (λ next. AreHomesAfter self.now next.0) }
     {
-        let groups = Groups::of(alloc, Grouping::ByVertex, self.rows.len(), edits)?;
-        let mut rows = Vec::with_capacity(alloc, self.rows.len())?;
+        let count = self.lists.count();
+        let groups = Groups::of(alloc, Grouping::ByVertex, count, edits)?;
+        let mut lists = Lists::new(alloc, count)?;
         let mut counts = Counts::NONE;
         let mut own = Vec::new(alloc);
+        let mut gathered = Vec::new(alloc);
         let mut merged = Vec::new(alloc);
-        for (place, row) in self.rows.iter().enumerate() {
-            if groups.is_empty(place) {
-                rows.push(row.share()?)?;
+        for vertex in 0..count {
+            if groups.is_empty(vertex) {
+                lists.push_kept(alloc, &self.lists, vertex)?;
                 continue;
             }
-            groups.read(place, &mut own)?;
-            let (next, more) = row.after(alloc, &mut own, &mut merged)?;
-            rows.push(next)?;
+            groups.read(vertex, &mut own)?;
+            let more = edited_list(&self.lists, vertex, &mut own, &mut gathered, &mut merged)?;
+            let home = self.lists.home(vertex).after(merged.len() as u32);
+            lists.push(alloc, home, &merged)?;
             counts = counts.plus(more);
         }
         let range = self.range;
-        Ok((Shard { range, rows }, counts))
+        Ok((Shard { range, lists }, counts))
     }
 
     /// How many vertices it has: from 1 to 256.
@@ -77,17 +85,15 @@ impl Shard {
         // The lists of a shard are those of a graph.
         ensures shard { IsShard self.now }
     {
-        self.rows.len() as u16
+        self.lists.count() as u16
     }
 
-    // The list of a vertex.
-    fn row(&self, vertex: u8) -> &[u32]
+    /// The home of a vertex's list, where `vertex` counts from the range's first.
+    pub fn home(&self, vertex: u8) -> Home
         requires { vertex < length self.now.rows }
-        ensures value { result.now ≡ row_at self.now vertex }
-        ensures small { length result.now ≤ MOST_VERTICES }
-        ensures shard { IsShard self.now }
+        ensures { result ≡ home_at self.now vertex }
     {
-        self.rows[usize::from(vertex)].as_slice()
+        self.lists.home(usize::from(vertex))
     }
 
     /// How many targets a vertex has, where `vertex` counts from the range's first.
@@ -96,7 +102,7 @@ impl Shard {
         ensures value { result ≡ length (row_at self.now vertex) }
         ensures small { result ≤ MOST_VERTICES }
     {
-        self.row(vertex).len() as u32
+        self.lists.degree(usize::from(vertex))
     }
 
     /// A vertex's targets from a place on, as many as lie side by side. How a list is cut into such slices
@@ -106,10 +112,7 @@ impl Shard {
         ensures lent { IsLentAt (row_at self.now vertex) place result.now }
         ensures small { length (row_at self.now vertex) ≤ MOST_VERTICES }
     {
-        match self.row(vertex).get(place as usize..) {
-            None => &[],
-            Some(rest) => rest,
-        }
+        self.lists.lent_at(usize::from(vertex), place)
     }
 
     /// Whether a vertex has a target.
@@ -117,10 +120,10 @@ impl Shard {
         requires { vertex < length self.now.rows }
         ensures { IsTrue result ↔ Contains (row_at self.now vertex) target }
     {
-        let targets = self.row(vertex);
-        match u32::try_from(target) {
-            Ok(target) => targets.binary_search(&target).is_ok(),
-            Err(_) => false,
+        let lists = &self.lists;
+        if target >= u64::from(MOST_VERTICES) {
+            return false;
         }
+        lists.contains(usize::from(vertex), target as u32)
     }
 }

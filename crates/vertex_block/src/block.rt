@@ -9,21 +9,41 @@ use word_sets::{WORD_LIMIT, place};
 /// How many words a block can hold.
 pub const PLACES: usize = 12;
 
-/// A set of at most [`PLACES`] words, each below `WORD_LIMIT`. Clauses see it as the ascending list of its words.
-#[derive(Drop)]
+/// A set of at most [`PLACES`] words, each below `WORD_LIMIT`, in 52 bytes. Clauses see it as the ascending list of
+/// its words.
+#[derive(Clone, Copy)]
 pub struct VertexBlock {
-    words: ArrayVec<u32, PLACES>,
+    // 0 stands at the places that are free, so that a block is told by its words.
+    places: [u32; PLACES],
+    len: u32,
 }
 
 impl Model for VertexBlock {
-    ghost use Rattle.std.specs.Prelude.{List, ℕ};
-    ghost use Rattle.word_sets.specs.Words.{IsSet};
+    ghost use Rattle.std.specs.Prelude.{◌++◌, ◌-◌, List, ℕ, length, replicate, take};
+    ghost use Rattle.vertex_block.specs.Block.{IsBlock};
+    ghost use Rattle.vertex_block.specs.Given.{places_told};
 
     ghost Value = { List ℕ };
 
-    ghost view = { λ b. b.words.items };
+    ghost view = { λ b. take b.len b.places };
 
-    ghost invariant = { λ b. IsSet b.words.items };
+    ghost invariant = { λ b. IsBlock b.len b.places };
+
+    ghost inverse = { λ ws. record { places = ws ++ replicate (12 - length ws) 0; len = length ws } };
+
+    ghost inverse_ok = { λ b is. places_told b is };
+}
+
+// A list of a block's words.
+fn list_of(words: &[u32]) -> ArrayVec<u32, PLACES>
+    requires { length words.now ≤ PLACES }
+    ensures { result.items ≡ words.now }
+{
+    let mut list = ArrayVec::new();
+    match list.try_extend_from_slice(words) {
+        Ok(()) => list,
+        Err(_) => unreachable!(),
+    }
 }
 
 impl VertexBlock {
@@ -32,18 +52,22 @@ impl VertexBlock {
         ensures { result ≡ [] }
     {
         VertexBlock {
-            words: ArrayVec::new(),
+            places: [0; PLACES],
+            len: 0,
         }
     }
 
-    /// Another block of the same words.
-    pub fn copy(&self) -> VertexBlock
-        ensures { result ≡ self.now }
+    /// The set of these words.
+    pub fn of(words: &[u32]) -> VertexBlock
+        requires set { IsSet words.now }
+        requires fits { length words.now ≤ PLACES }
+        ensures { result ≡ words.now }
     {
-        let mut words = ArrayVec::new();
-        match words.try_extend_from_slice(self.words.as_slice()) {
-            Ok(()) => VertexBlock { words },
-            Err(_) => unreachable!(),
+        let mut places = [0; PLACES];
+        places[..words.len()].copy_from_slice(words);
+        VertexBlock {
+            places,
+            len: words.len() as u32,
         }
     }
 
@@ -53,21 +77,21 @@ impl VertexBlock {
         ensures set { IsSet result.now }
         ensures fits { length result.now ≤ PLACES }
     {
-        self.words.as_slice()
+        &self.places[..self.len as usize]
     }
 
     /// Whether each place has a word.
     pub fn is_full(&self) -> bool
         ensures { IsTrue result ↔ (length self.now ≡ PLACES) }
     {
-        self.words.is_full()
+        self.len as usize == PLACES
     }
 
     /// Whether a word is in the set.
     pub fn contains(&self, word: u32) -> bool
         ensures { result ≡ has_word word self.now }
     {
-        place(self.words.as_slice(), word).is_ok()
+        place(self.as_slice(), word).is_ok()
     }
 
     /// Puts a word in, and answers whether it was not there. The caller knows that there is a place for it, or that
@@ -78,10 +102,12 @@ impl VertexBlock {
         ensures words { self.new ≡ with_word word self.old }
         ensures changed { result ≡ not (has_word word self.old) }
     {
-        match place(self.words.as_slice(), word) {
+        match place(self.as_slice(), word) {
             Ok(_) => false,
             Err(at) => {
-                self.words.insert(at, word);
+                let mut list = list_of(self.as_slice());
+                list.insert(at, word);
+                *self = VertexBlock::of(list.as_slice());
                 true
             }
         }
@@ -92,9 +118,11 @@ impl VertexBlock {
         ensures words { self.new ≡ without_word word self.old }
         ensures changed { result ≡ has_word word self.old }
     {
-        match place(self.words.as_slice(), word) {
+        match place(self.as_slice(), word) {
             Ok(at) => {
-                self.words.remove(at);
+                let mut list = list_of(self.as_slice());
+                list.remove(at);
+                *self = VertexBlock::of(list.as_slice());
                 true
             }
             Err(_) => false,

@@ -25,7 +25,7 @@ fn twelve_words(rt: HostRuntime) -> Result<(), Fail> {
 fn a_copy_stays(rt: HostRuntime) -> Result<(), Fail> {
     let mut block = VertexBlock::new();
     assert!(rt; block.insert(4));
-    let before = block.copy();
+    let before = block;
     assert!(rt; block.remove(4));
     assert!(rt; !block.remove(4));
     assert_eq!(rt; block.as_slice(), [].as_slice());

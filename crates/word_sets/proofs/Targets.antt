@@ -12,7 +12,7 @@ use Rattle.word_sets.specs.Laws.{NeighboursAreASet, InsertionIsOneWordMore, Remo
 use Rattle.word_sets.proofs.Within.{IsWithin-append, IsWithin-filter, IsWithin-wider}
 use Rattle.word_sets.proofs.Members.{IsWithin-with, IsWithin-without, has-filter, has-with, has-without, same_words}
 
-IsWithin-numbers_below : (n : ℕ) → IsWithin 0 n (numbers_below n)
+pub IsWithin-numbers_below : (n : ℕ) → IsWithin 0 n (numbers_below n)
 IsWithin-numbers_below zero = omega arith
 IsWithin-numbers_below (suc n) =
     IsWithin-append 0 n (suc n) (numbers_below n) (n ∷ []) (IsWithin-numbers_below n) (omega arith, omega arith)

@@ -1,6 +1,7 @@
 use Rattle.std.proofs.Common.{◌≡◌, ◌<◌, ◌*◌, ◌-◌, ◌+◌, ℕ, [], min, length, replicate, sym, ap, subst, ◌∙◌, arith}
 use Rattle.std.specs.Arc.{arc_value}
 use Rattle.std.proofs.lemmas.List.{length_push}
+use Rattle.graph_model.specs.declared.home.Home.TheVariants.{Block}
 use Rattle.graph_model.specs.Graph.{empty_graph}
 use Rattle.migration.specs.Part.{Part}
 use Rattle.migration.specs.Table.{IsPartAt, parts_of, part_at}
@@ -8,7 +9,7 @@ use Rattle.migration.proofs.TableLemmas.{empty_part, empty_table, parts_push}
 use Rattle.migration.proofs.shards.empty_shards.Goals as goal
 
 abbrev part : ℕ → ℕ → Part
-part range size = record { range = range; rows = replicate size [] }
+part range size = record { range = range; rows = replicate size []; homes = replicate size Block }
 
 pub loop-range-preserved : goal.loop-range-preserved
 loop-range-preserved c =

@@ -1,106 +1,152 @@
-use Rattle.std.proofs.Common.{◌≡◌, ℕ, ◌<◌, ◌+◌, ◌%◌, ◌^◌, Bool, filter, [], length, get_or, refl, sym, ap, subst, subst₂, ◌∙◌, arith}
-use Rattle.std.specs.List.{AllByRecursion}
-use Rattle.std.proofs.lemmas.List.{get_or_read, length_push}
-use Rattle.graph_model.specs.Graph.{numbers_below}
-use Rattle.graph_model.specs.Edits.{source_of}
+use Rattle.std.proofs.Common.{◌≡◌, ℕ, ◌+◌, ◌<◌, ◌≤◌, ◌++◌, ◌∷◌, [], length, refl, sym, ap, subst, subst₂, ◌∙◌, arith}
+use Rattle.std.proofs.lemmas.List.{length_push}
+use Rattle.graph_model.specs.Homes.{home_after}
+use Rattle.word_sets.specs.Words.{IsSet}
 use Rattle.migration.specs.Groups.{Grouped, edits_of}
-use Rattle.migration.specs.Part.{Part, row_at, vertex_at, AreEditsOf, IsPartAfter, AreCounts}
-use Rattle.migration.specs.Merge.{AreEditsFrom, IsMerged}
-use Rattle.migration.proofs.PartLemmas.{own_edits, own_edits_from, in_groups, nothing_done, row_done, row_kept, row_in, few_more, rows_done, next_shard, IsDone}
+use Rattle.migration.specs.Part.{Part, row_at, home_at, AreEditsOf, IsPartAfter, AreCounts, AreHomesAfter}
+use Rattle.migration.specs.Lists.{rows_of, homes_of, part_of}
+use Rattle.migration.proofs.ListLemmas.{few_words}
+use Rattle.migration.proofs.HomeLemmas.{none_moved, one_moved, same_home, all_moved}
+use Rattle.migration.proofs.PartLemmas.{own_edits, nothing_done, row_kept, row_edited, merged_own, set_more, few_more, rows_done, next_shard, IsDone}
 use Rattle.migration.proofs.shard.Shard.apply.Goals as goal
-use Rattle.migration.proofs.shard.Shard.apply.Goals.{In_ok-push-2}
 
-pub of-requires : goal.of-requires
-of-requires c =
-    let part : Part = record { range = c.self.inside.range; rows = c.self.inside.rows.items } in
-    let few = c.self.invariant.few in
-    let ok = c.self.inside.rows.ok in
-    let len = c.len.ensures in
-    let long : length c.self.inside.rows.items ≡ c.len.result = omega (arith, ok, len) in
-    subst (λ n. AllByRecursion (λ e. source_of e % 256 < n) c.args.edits.now) long (in_groups part c.args.edits.now few (subst (λ p. AreEditsOf p c.args.edits.now) (sym c.self.view_is) c.requires))
-
-pub loop-place-init : goal.loop-place-init
-loop-place-init c =
-    let part : Part = record { range = c.self.inside.range; rows = c.self.inside.rows.items } in
+pub loop-vertex-init : goal.loop-vertex-init
+loop-vertex-init c =
+    let part : Part = part_of c.self.inside.range c.self.inside.lists in
     let own : AreEditsOf part c.args.edits.now = subst (λ p. AreEditsOf p c.args.edits.now) (sym c.self.view_is) c.requires in
+    let made = c.in_ok-lists.ensures in
     record {
-      count = ap length c.in_ok-rows.ensures.items;
-      done = λ g below is. subst (λ rows. IsDone c.args.edits.now part g rows record { added = 0; removed = 0 }) (sym c.in_ok-rows.ensures.items) (nothing_done c.args.edits.now part g own);
+      kept = made.kept;
+      count = ap length made.rows;
+      moved = none_moved part (rows_of c.in_ok-lists.lists) (homes_of c.in_ok-lists.lists) made.rows made.homes;
+      done = λ g below is. subst (λ rows. IsDone c.args.edits.now part g rows record { added = 0; removed = 0 }) (sym made.rows) (nothing_done c.args.edits.now part g own);
     }
 
-pub loop-place-preserved-then-is_empty : goal.loop-place-preserved-then-is_empty
-loop-place-preserved-then-is_empty c =
-    let part : Part = record { range = c.self.inside.range; rows = c.self.inside.rows.items } in
+pub loop-vertex-preserved-then-is_empty : goal.loop-vertex-preserved-then-is_empty
+loop-vertex-preserved-then-is_empty c =
+    let part : Part = part_of c.self.inside.range c.self.inside.lists in
     let es = c.args.edits.now in
-    let i = c.loop-place.place in
-    let few = c.self.invariant.few in
+    let i = c.loop-vertex.vertex in
+    let rows = rows_of c.loop-vertex.lists in
+    let shard = c.self.invariant.1 in
+    let few = shard.few in
+    let inside : i < length part.rows = (let count = c.count-count.ensures.rows in let test = c.loop-vertex-test.true in omega arith) in
     let none : own_edits part es i ≡ [] = ap (λ (g : Grouped). edits_of g i) (sym c.in_ok-groups.ensures) ∙ c.is_empty.ensures.0 c.if-is_empty.true in
-    let inside : i < length part.rows = subst (λ l. i < length l) c.deref-row-items.ensures.value c.loop-place-test.true in
-    let row : c.in_ok-share.field-0 ≡ row_at part i =
-    c.in_ok-share.ensures ∙ get_or_read part.rows i c.row-item.result inside (c.row-item.is ∙ ap (λ l. get_or l i c.row-item.result) c.deref-row-items.ensures.value) [] in
+    let pushed = c.in_ok-push_kept.ensures in
     record {
-      count = ap length c.in_ok-push.ensures.items ∙ length_push c.loop-place.rows.items c.in_ok-share.field-0 ∙ ap (λ n. n + 1) c.loop-place.invariant.count;
+      kept = pushed.kept;
+      count = ap length pushed.rows ∙ length_push rows (row_at part i) ∙ ap (λ n. n + 1) c.loop-vertex.invariant.count;
+      moved = one_moved part rows (rows_of c.push_kept.new.self) (homes_of c.loop-vertex.lists) (homes_of c.push_kept.new.self) (row_at part i) (home_at part i) i c.loop-vertex.invariant.moved c.loop-vertex.invariant.count pushed.rows pushed.homes (same_home part i shard inside);
       done = λ g below is.
-          subst (λ rows. IsDone es part g rows c.loop-place.counts) (sym c.in_ok-push.ensures.items)
-          (row_kept es part g c.loop-place.rows.items c.in_ok-share.field-0 c.loop-place.counts i c.loop-place.invariant.count inside few is (c.loop-place.invariant.done g below is) none row);
+          subst (λ l. IsDone es part g l c.loop-vertex.counts) (sym pushed.rows)
+          (row_kept es part g rows (row_at part i) c.loop-vertex.counts i c.loop-vertex.invariant.count inside few is (c.loop-vertex.invariant.done g below is) none refl);
     }
 
--- what the edits of the vertex at hand make of its list
-merged_at : (c : In_ok-push-2) → let part : Part = record { range = c.self.inside.range; rows = c.self.inside.rows.items } in (u n : ℕ) (q : ℕ → Bool) → AreEditsFrom u n (own_edits part c.args.edits.now c.loop-place.place) → row_at part c.loop-place.place ≡ filter q (numbers_below n) → IsMerged (own_edits part c.args.edits.now c.loop-place.place) u n q c.in_ok-next.next c.in_ok-next.more
-merged_at c =
-    let part : Part = record { range = c.self.inside.range; rows = c.self.inside.rows.items } in
+pub overflow_cast-len : goal.overflow_cast-len
+overflow_cast-len c =
+    let part : Part = part_of c.self.inside.range c.self.inside.lists in
     let es = c.args.edits.now in
-    let i = c.loop-place.place in
+    let i = c.loop-vertex.vertex in
+    let row = c.edited_list.new.merged.items in
+    let own : AreEditsOf part es = subst (λ p. AreEditsOf p es) (sym c.self.view_is) c.requires in
+    let inside : i < length part.rows = (let count = c.count-count.ensures.rows in let test = c.loop-vertex-test.true in omega arith) in
     let read : c.read.new.edits.items ≡ own_edits part es i = c.in_ok-read.ensures ∙ ap (λ (g : Grouped). edits_of g i) c.in_ok-groups.ensures in
-    let inside : i < length part.rows = subst (λ l. i < length l) c.deref-row-items.ensures.value c.loop-place-test.true in
-    let row : c.row-item.result ≡ row_at part i =
-    get_or_read part.rows i c.row-item.result inside (c.row-item.is ∙ ap (λ l. get_or l i c.row-item.result) c.deref-row-items.ensures.value) [] in
-    λ u n q own is.
-    subst (λ l. IsMerged l u n q c.in_ok-next.next c.in_ok-next.more) read (c.in_ok-next.ensures u n q (subst (AreEditsFrom u n) (sym read) own) (row ∙ is))
+    let set = set_more es part row c.in_ok-more.more i c.self.invariant.1 own inside (merged_own es c.read.new.edits.items part row c.in_ok-more.more i read c.in_ok-more.ensures) in
+    let ok = c.edited_list.new.merged.ok in
+    let len = c.len.ensures in
+    omega (arith, few_words row set)
 
-few : (c : In_ok-push-2) → (c.loop-place.counts.added + c.in_ok-next.more.added < 2 ^ 64) × (c.loop-place.counts.removed + c.in_ok-next.more.removed < 2 ^ 64)
-few c =
-    let part : Part = record { range = c.self.inside.range; rows = c.self.inside.rows.items } in
-    let own : AreEditsOf part c.args.edits.now = subst (λ p. AreEditsOf p c.args.edits.now) (sym c.self.view_is) c.requires in
-    let inside : c.loop-place.place < length part.rows = subst (λ l. c.loop-place.place < length l) c.deref-row-items.ensures.value c.loop-place-test.true in
-    few_more c.args.edits.now part c.loop-place.rows.items c.in_ok-next.next c.loop-place.counts c.in_ok-next.more c.loop-place.place c.self.invariant own c.loop-place.invariant.count inside c.loop-place.invariant.done (merged_at c)
+pub push-requires-clause-set : goal.push-requires-clause-set
+push-requires-clause-set c =
+    let part : Part = part_of c.self.inside.range c.self.inside.lists in
+    let es = c.args.edits.now in
+    let i = c.loop-vertex.vertex in
+    let row = c.edited_list.new.merged.items in
+    let own : AreEditsOf part es = subst (λ p. AreEditsOf p es) (sym c.self.view_is) c.requires in
+    let inside : i < length part.rows = (let count = c.count-count.ensures.rows in let test = c.loop-vertex-test.true in omega arith) in
+    let read : c.read.new.edits.items ≡ own_edits part es i = c.in_ok-read.ensures ∙ ap (λ (g : Grouped). edits_of g i) c.in_ok-groups.ensures in
+    subst IsSet (sym c.deref.ensures.value) (set_more es part row c.in_ok-more.more i c.self.invariant.1 own inside (merged_own es c.read.new.edits.items part row c.in_ok-more.more i read c.in_ok-more.ensures))
 
 pub plus-counts-requires-clause-added : goal.plus-counts-requires-clause-added
-plus-counts-requires-clause-added c = (few c).0
+plus-counts-requires-clause-added c =
+    let part : Part = part_of c.self.inside.range c.self.inside.lists in
+    let es = c.args.edits.now in
+    let i = c.loop-vertex.vertex in
+    let row = c.edited_list.new.merged.items in
+    let own : AreEditsOf part es = subst (λ p. AreEditsOf p es) (sym c.self.view_is) c.requires in
+    let inside : i < length part.rows = (let count = c.count-count.ensures.rows in let test = c.loop-vertex-test.true in omega arith) in
+    let read : c.read.new.edits.items ≡ own_edits part es i = c.in_ok-read.ensures ∙ ap (λ (g : Grouped). edits_of g i) c.in_ok-groups.ensures in
+    (few_more es part (rows_of c.loop-vertex.lists) row c.loop-vertex.counts c.in_ok-more.more i c.self.invariant.1 own c.loop-vertex.invariant.count inside c.loop-vertex.invariant.done (merged_own es c.read.new.edits.items part row c.in_ok-more.more i read c.in_ok-more.ensures)).0
 
 pub plus-counts-requires-clause-removed : goal.plus-counts-requires-clause-removed
-plus-counts-requires-clause-removed c = (few c).1
-
-pub loop-place-preserved : goal.loop-place-preserved
-loop-place-preserved c =
-    let part : Part = record { range = c.self.inside.range; rows = c.self.inside.rows.items } in
+plus-counts-requires-clause-removed c =
+    let part : Part = part_of c.self.inside.range c.self.inside.lists in
     let es = c.args.edits.now in
-    let i = c.loop-place.place in
-    let small = c.self.invariant.few in
+    let i = c.loop-vertex.vertex in
+    let row = c.edited_list.new.merged.items in
     let own : AreEditsOf part es = subst (λ p. AreEditsOf p es) (sym c.self.view_is) c.requires in
-    let inside : i < length part.rows = subst (λ l. i < length l) c.deref-row-items.ensures.value c.loop-place-test.true in
+    let inside : i < length part.rows = (let count = c.count-count.ensures.rows in let test = c.loop-vertex-test.true in omega arith) in
+    let read : c.read.new.edits.items ≡ own_edits part es i = c.in_ok-read.ensures ∙ ap (λ (g : Grouped). edits_of g i) c.in_ok-groups.ensures in
+    (few_more es part (rows_of c.loop-vertex.lists) row c.loop-vertex.counts c.in_ok-more.more i c.self.invariant.1 own c.loop-vertex.invariant.count inside c.loop-vertex.invariant.done (merged_own es c.read.new.edits.items part row c.in_ok-more.more i read c.in_ok-more.ensures)).1
+
+pub loop-vertex-preserved : goal.loop-vertex-preserved
+loop-vertex-preserved c =
+    let part : Part = part_of c.self.inside.range c.self.inside.lists in
+    let es = c.args.edits.now in
+    let i = c.loop-vertex.vertex in
+    let rows = rows_of c.loop-vertex.lists in
+    let row = c.edited_list.new.merged.items in
+    let shard = c.self.invariant.1 in
+    let few = shard.few in
+    let own : AreEditsOf part es = subst (λ p. AreEditsOf p es) (sym c.self.view_is) c.requires in
+    let inside : i < length part.rows = (let count = c.count-count.ensures.rows in let test = c.loop-vertex-test.true in omega arith) in
+    let read : c.read.new.edits.items ≡ own_edits part es i = c.in_ok-read.ensures ∙ ap (λ (g : Grouped). edits_of g i) c.in_ok-groups.ensures in
+    let pushed = c.in_ok-push.ensures in
+    let new_rows : rows_of c.push.new.self ≡ rows ++ row ∷ [] = pushed.rows ∙ ap (λ l. rows ++ l ∷ []) c.deref.ensures.value in
+    let long : c.len.result ≡ length row = (let ok = c.edited_list.new.merged.ok in let len = c.len.ensures in omega arith) in
+    let home : c.after-home.result ≡ home_after (home_at part i) (length row) = c.after-home.ensures ∙ ap (λ h. home_after h c.len.result) c.home.ensures ∙ ap (home_after (home_at part i)) long in
     record {
-      count = ap length c.in_ok-push-2.ensures.items ∙ length_push c.loop-place.rows.items c.in_ok-next.next ∙ ap (λ n. n + 1) c.loop-place.invariant.count;
+      kept = pushed.kept;
+      count = ap length new_rows ∙ length_push rows row ∙ ap (λ n. n + 1) c.loop-vertex.invariant.count;
+      moved = one_moved part rows (rows_of c.push.new.self) (homes_of c.loop-vertex.lists) (homes_of c.push.new.self) row c.after-home.result i c.loop-vertex.invariant.moved c.loop-vertex.invariant.count new_rows pushed.homes home;
       done = λ g below is.
-          subst₂ (λ rows counts. IsDone es part g rows counts) (sym c.in_ok-push-2.ensures.items) (sym c.plus-counts.ensures)
-          (row_done es part g c.loop-place.rows.items c.in_ok-next.next c.loop-place.counts c.in_ok-next.more i c.loop-place.invariant.count inside small is (c.loop-place.invariant.done g below is)
-          (merged_at c.before (vertex_at part i) g.vertex_count (g.has_edge (vertex_at part i)) (own_edits_from g.vertex_count part es i small own below) (row_in g part i (row_at part i) is inside refl)));
+          subst₂ (λ l counts. IsDone es part g l counts) (sym new_rows) (sym c.plus-counts.ensures)
+          (row_edited es part g rows row c.loop-vertex.counts c.in_ok-more.more i c.loop-vertex.invariant.count inside few own below is (c.loop-vertex.invariant.done g below is)
+          (merged_own es c.read.new.edits.items part row c.in_ok-more.more i read c.in_ok-more.ensures));
     }
 
 pub invariant_of-result : goal.invariant_of-result
 invariant_of-result c =
-    let part : Part = record { range = c.self.inside.range; rows = c.self.inside.rows.items } in
-    let own : AreEditsOf part c.args.edits.now = subst (λ p. AreEditsOf p c.args.edits.now) (sym c.self.view_is) c.requires in
-    next_shard c.args.edits.now part record { range = c.self.inside.range; rows = c.loop-place.rows.items } c.self.invariant own (rows_done c.args.edits.now part c.loop-place.rows.items c.deref-row-items.result.now c.loop-place.counts c.loop-place.place own c.deref-row-items.ensures.value c.loop-place.invariant.count c.loop-place.auto.place-end c.loop-place-test.false c.loop-place.invariant.done).0
+    let part : Part = part_of c.self.inside.range c.self.inside.lists in
+    let es = c.args.edits.now in
+    let rows = rows_of c.loop-vertex.lists in
+    let homes = homes_of c.loop-vertex.lists in
+    let shard = c.self.invariant.1 in
+    let own : AreEditsOf part es = subst (λ p. AreEditsOf p es) (sym c.self.view_is) c.requires in
+    let full : length rows ≡ length part.rows = (let count = c.count-count.ensures.rows in let made = c.loop-vertex.invariant.count in let test = c.loop-vertex-test.false in let end = c.loop-vertex.auto.vertex-end in omega arith) in
+    (c.loop-vertex.invariant.kept, next_shard es part (part_of c.self.inside.range c.loop-vertex.lists) shard own (rows_done es part rows homes c.loop-vertex.counts own full c.loop-vertex.invariant.done).0 (all_moved part part.range rows homes shard.homes full c.loop-vertex.invariant.moved).1)
 
 pub returns-clause-after : goal.returns-clause-after
 returns-clause-after c =
-    let part : Part = record { range = c.self.inside.range; rows = c.self.inside.rows.items } in
-    let own : AreEditsOf part c.args.edits.now = subst (λ p. AreEditsOf p c.args.edits.now) (sym c.self.view_is) c.requires in
-    subst (λ p. IsPartAfter c.args.edits.now p record { range = c.self.inside.range; rows = c.loop-place.rows.items }) c.self.view_is (rows_done c.args.edits.now part c.loop-place.rows.items c.deref-row-items.result.now c.loop-place.counts c.loop-place.place own c.deref-row-items.ensures.value c.loop-place.invariant.count c.loop-place.auto.place-end c.loop-place-test.false c.loop-place.invariant.done).0
+    let part : Part = part_of c.self.inside.range c.self.inside.lists in
+    let es = c.args.edits.now in
+    let rows = rows_of c.loop-vertex.lists in
+    let own : AreEditsOf part es = subst (λ p. AreEditsOf p es) (sym c.self.view_is) c.requires in
+    let full : length rows ≡ length part.rows = (let count = c.count-count.ensures.rows in let made = c.loop-vertex.invariant.count in let test = c.loop-vertex-test.false in let end = c.loop-vertex.auto.vertex-end in omega arith) in
+    subst (λ p. IsPartAfter es p (part_of c.self.inside.range c.loop-vertex.lists)) c.self.view_is (rows_done es part rows (homes_of c.loop-vertex.lists) c.loop-vertex.counts own full c.loop-vertex.invariant.done).0
 
 pub returns-clause-counts : goal.returns-clause-counts
 returns-clause-counts c =
-    let part : Part = record { range = c.self.inside.range; rows = c.self.inside.rows.items } in
-    let own : AreEditsOf part c.args.edits.now = subst (λ p. AreEditsOf p c.args.edits.now) (sym c.self.view_is) c.requires in
-    subst (λ p. AreCounts c.args.edits.now p c.loop-place.counts) c.self.view_is (rows_done c.args.edits.now part c.loop-place.rows.items c.deref-row-items.result.now c.loop-place.counts c.loop-place.place own c.deref-row-items.ensures.value c.loop-place.invariant.count c.loop-place.auto.place-end c.loop-place-test.false c.loop-place.invariant.done).1
+    let part : Part = part_of c.self.inside.range c.self.inside.lists in
+    let es = c.args.edits.now in
+    let rows = rows_of c.loop-vertex.lists in
+    let own : AreEditsOf part es = subst (λ p. AreEditsOf p es) (sym c.self.view_is) c.requires in
+    let full : length rows ≡ length part.rows = (let count = c.count-count.ensures.rows in let made = c.loop-vertex.invariant.count in let test = c.loop-vertex-test.false in let end = c.loop-vertex.auto.vertex-end in omega arith) in
+    subst (λ p. AreCounts es p c.loop-vertex.counts) c.self.view_is (rows_done es part rows (homes_of c.loop-vertex.lists) c.loop-vertex.counts own full c.loop-vertex.invariant.done).1
+
+pub returns-clause-homes : goal.returns-clause-homes
+returns-clause-homes c =
+    let part : Part = part_of c.self.inside.range c.self.inside.lists in
+    let rows = rows_of c.loop-vertex.lists in
+    let full : length rows ≡ length part.rows = (let count = c.count-count.ensures.rows in let made = c.loop-vertex.invariant.count in let test = c.loop-vertex-test.false in let end = c.loop-vertex.auto.vertex-end in omega arith) in
+    subst (λ p. AreHomesAfter p (part_of c.self.inside.range c.loop-vertex.lists)) c.self.view_is (all_moved part part.range rows (homes_of c.loop-vertex.lists) c.self.invariant.1.homes full c.loop-vertex.invariant.moved).0

@@ -1,18 +1,20 @@
-use Rattle.std.proofs.Common.{◌≡◌, ◌↔◌, ◌≤◌, ◌^◌, true, Contains, sym, subst, arith}
+use Rattle.std.proofs.Common.{◌≡◌, ◌↔◌, ◌≤◌, [], true, Contains, get_or, sym, ap, subst, subst₂, ◌∙◌, arith}
 use Rattle.std.proofs.lemmas.Bool.{false≢true}
-use Rattle.migration.specs.Part.{row_at}
-use Rattle.migration.proofs.SearchLemmas.{row_searched, no_far_target}
+use Rattle.word_sets.proofs.Members.{found_members}
+use Rattle.migration.specs.Part.{Part, IsShard, row_at}
+use Rattle.migration.specs.Lists.{rows_of}
+use Rattle.migration.proofs.SearchLemmas.{no_far_target}
 use Rattle.migration.proofs.shard.Shard.has_target.Goals as goal
 
-pub returns-in-Ok : goal.returns-in-Ok
-returns-in-Ok c =
-    let same : c.in-Ok.target ≡ c.args.target = omega (arith, c.in-Ok.ensures) in
-    let found = row_searched c.args.self.now c.args.vertex c.in-Ok.target c.row-targets.result.now c.binary_search.result c.row-targets.ensures.shard c.requires c.row-targets.ensures.value c.binary_search.ensures.position in
-    subst (λ t. (c.is_ok.result ≡ true) ↔ Contains (row_at c.args.self.now c.args.vertex) t) same (subst (λ b. (b ≡ true) ↔ Contains (row_at c.args.self.now c.args.vertex) c.in-Ok.target) (sym c.is_ok.ensures.value) found)
-
-pub returns-in-Err : goal.returns-in-Err
-returns-in-Err c =
-    let far : 2 ^ 32 ≤ c.args.target = omega (arith, c.in-Err.ensures) in (
+pub returns-then-target-from : goal.returns-then-target-from
+returns-then-target-from c =
+    let far : 1048576 ≤ c.args.target = (let from = c.from.ensures in let test = c.if-target-from.true in omega arith) in (
       λ t. absurd (false≢true t),
-      λ among. absurd (no_far_target c.args.self.now c.args.vertex c.args.target c.row-targets.ensures.shard c.requires far among),
+      λ among. absurd (no_far_target c.args.self.now c.args.vertex c.args.target (subst IsShard c.self.view_is c.self.invariant.1) c.requires far among),
     )
+
+pub returns : goal.returns
+returns c =
+    let row : get_or (rows_of c.self.inside.lists) c.from-2.result [] ≡ row_at c.args.self.now c.args.vertex =
+    ap (λ v. get_or (rows_of c.self.inside.lists) v []) c.from-2.ensures ∙ ap (λ (p : Part). row_at p c.args.vertex) c.self.view_is in
+    subst₂ (λ b l. (b ≡ true) ↔ Contains l c.args.target) (sym c.contains.ensures) row (found_members c.args.target (get_or (rows_of c.self.inside.lists) c.from-2.result []))

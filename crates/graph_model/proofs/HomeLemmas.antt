@@ -1,0 +1,29 @@
+-- The homes of a vertex along a log.
+use Rattle.std.proofs.Common.{◌≡◌, ℕ, List, [], ◌∷◌, ◌++◌, refl, rules}
+use Rattle.graph_model.specs.declared.home.Home.{Home}
+use Rattle.graph_model.specs.declared.home.Home.TheVariants.{Block, Gapped, Tree}
+use Rattle.graph_model.specs.declared.entry.Entry.{Entry}
+use Rattle.graph_model.specs.Graph.{Graph, degree, empty_graph}
+use Rattle.graph_model.specs.Edits.{after_batch}
+use Rattle.graph_model.specs.Past.{replay}
+use Rattle.graph_model.specs.Homes.{home_after, home_along}
+use Rattle.graph_model.specs.HomeLaws.{HomesHold, HomesStay, HomeOfLonger}
+
+home_along-push : (log : List Entry) (e : Entry) (g : Graph) (v : ℕ) (home : Home) → home_along (log ++ e ∷ []) g v home ≡ home_after (home_along log g v home) (degree (replay (log ++ e ∷ []) g) v)
+home_along-push [] e g v home = refl
+home_along-push (first ∷ log) e g v home =
+    home_along-push log e (after_batch first.batch g) v (home_after home (degree (after_batch first.batch g) v))
+
+pub home_of_longer : HomeOfLonger
+home_of_longer p e v = home_along-push p.log e (empty_graph p.vertex_count) v Block
+
+-- a home may keep what it gets
+pub homes_hold : HomesHold
+homes_hold Block d = search rules
+homes_hold Gapped d = search rules
+homes_hold Tree d = search rules
+
+pub homes_stay : HomesStay
+homes_stay Block d is = search rules
+homes_stay Gapped d is = search rules
+homes_stay Tree d is = search rules

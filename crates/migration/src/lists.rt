@@ -1,0 +1,318 @@
+//! The lists of a range's vertices, each in its home.
+ghost use Rattle.std.specs.Prelude.{◌≡◌, ◌<◌, ◌≤◌, [], length, replicate, slice_index_or, None, IfOk};
+ghost use Rattle.graph_model.specs.declared.limits.TheConstants.{RANGE_VERTICES};
+ghost use Rattle.graph_model.specs.declared.home.Home.TheVariants.{Block, Gapped, Tree};
+ghost use Rattle.graph_model.specs.Homes.{IsHomeOf};
+ghost use Rattle.word_sets.specs.Words.{IsSet, has_word};
+ghost use Rattle.migration.specs.declared.lists.Place.TheVariants.{InBlock, InArray, InTree};
+ghost use Rattle.migration.specs.Lists.{AreKept, IsThere, IsPushed, IsOpened, runs_of, list_at, rows_of, homes_of, home_of};
+ghost use Rattle.migration.specs.Lent.{IsLentAt};
+ghost use Rattle.word_sets.specs.declared.places.TheConstants.{WORD_LIMIT};
+
+use gapped_array::GappedArray;
+use graph_model::Home;
+use neighbour_btree::NeighbourTree;
+use std::alloc::{AllocError, Global};
+use vertex_block::VertexBlock;
+use word_sets::place;
+
+/// Where a vertex's list stands.
+#[derive(Clone, Copy)]
+pub(crate) enum Place {
+    /// Nowhere: its home is a block, and it is empty.
+    Nowhere,
+    /// In the block of this number.
+    InBlock(u8),
+    /// In the array, at this vertex.
+    InArray(u8),
+    /// In the tree of this number.
+    InTree(u8),
+}
+
+/// The lists of vertices, in their order. None is there twice.
+#[derive(Drop)]
+pub(crate) struct Lists {
+    /// Where each vertex's list stands.
+    pub places: Vec<Place>,
+    /// The blocks that are used.
+    pub blocks: Vec<VertexBlock>,
+    /// The array, once a vertex has its list there.
+    pub array: Option<GappedArray>,
+    /// The trees.
+    pub trees: Vec<NeighbourTree>,
+}
+
+// The words from a place on.
+fn rest_from(words: &[u32], place: u32) -> &[u32]
+    ensures { IsLentAt words.now place result.now }
+{
+    match words.get(place as usize..) {
+        None => &[],
+        Some(rest) => rest,
+    }
+}
+
+// Opens a vertex's list in the array, which is made where there is none.
+fn open_run(
+    alloc: Global,
+    array: &mut Option<GappedArray>,
+    vertex: u8,
+    words: &[u32],
+) -> Result<(), AllocError>
+    requires closed { slice_index_or (runs_of array.old) vertex None ≡ None }
+    requires set { IsSet words.now }
+    ensures { IfOk result (λ _. IsOpened array.old array.new vertex words.now) }
+{
+    match array {
+        Some(runs) => {
+            runs.open_with(vertex, words)?;
+            Ok(())
+        }
+        None => {
+            let mut runs = GappedArray::new(alloc)?;
+            runs.open_with(vertex, words)?;
+            *array = Some(runs);
+            Ok(())
+        }
+    }
+}
+
+impl Lists {
+    /// No list, with room for so many.
+    pub fn new(alloc: Global, vertices: usize) -> Result<Lists, AllocError>
+        ensures kept { IfOk result (λ lists. AreKept lists) }
+        ensures rows { IfOk result (λ lists. rows_of lists ≡ []) }
+        ensures homes { IfOk result (λ lists. homes_of lists ≡ []) }
+    {
+        Ok(Lists {
+            places: Vec::with_capacity(alloc, vertices)?,
+            blocks: Vec::new(alloc),
+            array: None,
+            trees: Vec::new(alloc),
+        })
+    }
+
+    /// Lists of so many vertices, all of them empty.
+    pub fn empty(alloc: Global, vertices: u16) -> Result<Lists, AllocError>
+        ensures kept { IfOk result (λ lists. AreKept lists) }
+        ensures rows { IfOk result (λ lists. rows_of lists ≡ replicate vertices []) }
+        ensures homes { IfOk result (λ lists. homes_of lists ≡ replicate vertices Block) }
+    {
+        let mut lists = Lists::new(alloc, usize::from(vertices))?;
+        for _ in 0..vertices {
+            lists.push_nowhere()?;
+        }
+        Ok(lists)
+    }
+
+    /// Where a vertex's list stands.
+    pub fn place(&self, vertex: usize) -> Place
+        requires kept { AreKept self.now }
+        requires inside { vertex < length (rows_of self.now) }
+        ensures list { slice_index_or (rows_of self.now) vertex [] ≡ list_at self.now result }
+        ensures home { slice_index_or (homes_of self.now) vertex Block ≡ home_of result }
+        ensures there { IsThere self.now result }
+    {
+        self.places[vertex]
+    }
+
+    // A block's words.
+    fn block(&self, number: u8) -> &[u32]
+        requires { number < length self.now.blocks.items }
+        ensures words { result.now ≡ list_at self.now (InBlock number) }
+        ensures set { IsSet result.now }
+    {
+        self.blocks[usize::from(number)].as_slice()
+    }
+
+    // A vertex's words in the array.
+    fn run(&self, vertex: u8) -> &[u32]
+        requires { IsThere self.now (InArray vertex) }
+        ensures words { result.now ≡ list_at self.now (InArray vertex) }
+        ensures set { IsSet result.now }
+    {
+        match &self.array {
+            None => unreachable!(),
+            Some(array) => array.words(vertex),
+        }
+    }
+
+    // A tree.
+    fn tree(&self, number: u8) -> &NeighbourTree
+        requires { number < length self.now.trees.items }
+        ensures { result.now ≡ list_at self.now (InTree number) }
+    {
+        &self.trees[usize::from(number)]
+    }
+
+    /// The home of a vertex's list.
+    pub fn home(&self, vertex: usize) -> Home
+        requires kept { AreKept self.now }
+        requires inside { vertex < length (rows_of self.now) }
+        ensures { result ≡ slice_index_or (homes_of self.now) vertex Block }
+    {
+        match self.place(vertex) {
+            Place::Nowhere => Home::Block,
+            Place::InBlock(_) => Home::Block,
+            Place::InArray(_) => Home::Gapped,
+            Place::InTree(_) => Home::Tree,
+        }
+    }
+
+    /// How many words a vertex's list has.
+    pub fn degree(&self, vertex: usize) -> u32
+        requires kept { AreKept self.now }
+        requires inside { vertex < length (rows_of self.now) }
+        ensures value { result ≡ length (slice_index_or (rows_of self.now) vertex []) }
+        ensures small { result ≤ WORD_LIMIT }
+    {
+        match self.place(vertex) {
+            Place::Nowhere => 0,
+            Place::InBlock(number) => self.block(number).len() as u32,
+            Place::InArray(vertex) => self.run(vertex).len() as u32,
+            Place::InTree(number) => self.tree(number).len(),
+        }
+    }
+
+    /// Whether a vertex's list has a word.
+    pub fn contains(&self, vertex: usize, word: u32) -> bool
+        requires kept { AreKept self.now }
+        requires inside { vertex < length (rows_of self.now) }
+        requires word { word < WORD_LIMIT }
+        ensures { result ≡ has_word word (slice_index_or (rows_of self.now) vertex []) }
+    {
+        match self.place(vertex) {
+            Place::Nowhere => false,
+            Place::InBlock(number) => place(self.block(number), word).is_ok(),
+            Place::InArray(vertex) => place(self.run(vertex), word).is_ok(),
+            Place::InTree(number) => self.tree(number).contains(word),
+        }
+    }
+
+    /// How many vertices have a list.
+    pub fn count(&self) -> usize
+        ensures rows { result ≡ length (rows_of self.now) }
+        ensures homes { result ≡ length (homes_of self.now) }
+    {
+        self.places.len()
+    }
+
+    /// Puts a vertex's words into a list in place of what it held.
+    pub fn read(&self, vertex: usize, words: &mut Vec<u32>) -> Result<(), AllocError>
+        requires kept { AreKept self.now }
+        requires inside { vertex < length (rows_of self.now) }
+        ensures { IfOk result (λ _. words.new.items ≡ slice_index_or (rows_of self.now) vertex []) }
+    {
+        words.clear();
+        let degree = self.degree(vertex) as usize;
+        while words.len() < degree {
+            words.extend_from_slice(self.lent_at(vertex, words.len() as u32))?;
+        }
+        Ok(())
+    }
+
+    /// A vertex's words from a place on, as many as lie side by side in its home.
+    pub fn lent_at(&self, vertex: usize, place: u32) -> &[u32]
+        requires kept { AreKept self.now }
+        requires inside { vertex < length (rows_of self.now) }
+        ensures { IsLentAt (slice_index_or (rows_of self.now) vertex []) place result.now }
+    {
+        match self.place(vertex) {
+            Place::Nowhere => &[],
+            Place::InBlock(number) => rest_from(self.block(number), place),
+            Place::InArray(vertex) => rest_from(self.run(vertex), place),
+            Place::InTree(number) => {
+                let tree = self.tree(number);
+                if place < tree.len() {
+                    tree.slice_at(place)
+                } else {
+                    &[]
+                }
+            }
+        }
+    }
+
+    // A list of no word in its block. It takes no block.
+    fn push_nowhere(&mut self) -> Result<(), AllocError>
+        requires kept { AreKept self.old }
+        ensures { IfOk result (λ _. IsPushed self.old self.new [] Block) }
+    {
+        self.places.push(Place::Nowhere)?;
+        Ok(())
+    }
+
+    // A list in a block.
+    fn push_block(&mut self, block: VertexBlock) -> Result<(), AllocError>
+        requires kept { AreKept self.old }
+        requires room { length (rows_of self.old) < RANGE_VERTICES }
+        ensures { IfOk result (λ _. IsPushed self.old self.new block Block) }
+    {
+        let number = self.blocks.len() as u8;
+        self.blocks.push(block)?;
+        self.places.push(Place::InBlock(number))?;
+        Ok(())
+    }
+
+    // A list in the array, which there is from then on.
+    fn push_run(&mut self, alloc: Global, words: &[u32]) -> Result<(), AllocError>
+        requires kept { AreKept self.old }
+        requires room { length (rows_of self.old) < RANGE_VERTICES }
+        requires set { IsSet words.now }
+        ensures { IfOk result (λ _. IsPushed self.old self.new words.now Gapped) }
+    {
+        let vertex = self.places.len() as u8;
+        open_run(alloc, &mut self.array, vertex, words)?;
+        self.places.push(Place::InArray(vertex))?;
+        Ok(())
+    }
+
+    // A list in a tree.
+    fn push_tree(&mut self, tree: NeighbourTree) -> Result<(), AllocError>
+        requires kept { AreKept self.old }
+        requires room { length (rows_of self.old) < RANGE_VERTICES }
+        ensures { IfOk result (λ _. IsPushed self.old self.new tree Tree) }
+    {
+        let number = self.trees.len() as u8;
+        self.trees.push(tree)?;
+        self.places.push(Place::InTree(number))?;
+        Ok(())
+    }
+
+    /// Puts a list behind the others, in this home.
+    pub fn push(&mut self, alloc: Global, home: Home, words: &[u32]) -> Result<(), AllocError>
+        requires kept { AreKept self.old }
+        requires room { length (rows_of self.old) < RANGE_VERTICES }
+        requires set { IsSet words.now }
+        requires fits { IsHomeOf home (length words.now) }
+        ensures { IfOk result (λ _. IsPushed self.old self.new words.now home) }
+    {
+        match home {
+            Home::Block => {
+                if words.is_empty() {
+                    return self.push_nowhere();
+                }
+                self.push_block(VertexBlock::of(words))
+            }
+            Home::Gapped => self.push_run(alloc, words),
+            Home::Tree => self.push_tree(NeighbourTree::of(alloc, words)?),
+        }
+    }
+
+    /// Puts a list of others behind these, in its home. A block and a run are copied as memory, a tree is
+    /// shared.
+    pub fn push_kept(&mut self, alloc: Global, old: &Lists, vertex: usize) -> Result<(), AllocError>
+        requires kept { AreKept self.old }
+        requires room { length (rows_of self.old) < RANGE_VERTICES }
+        requires others { AreKept old.now }
+        requires inside { vertex < length (rows_of old.now) }
+        ensures { IfOk result (λ _. IsPushed self.old self.new (slice_index_or (rows_of old.now) vertex [])
+            (slice_index_or (homes_of old.now) vertex Block)) }
+    {
+        match old.place(vertex) {
+            Place::Nowhere => self.push_nowhere(),
+            Place::InBlock(number) => self.push_block(old.blocks[usize::from(number)]),
+            Place::InArray(vertex) => self.push_run(alloc, old.run(vertex)),
+            Place::InTree(number) => self.push_tree(old.tree(number).share()?),
+        }
+    }
+}
