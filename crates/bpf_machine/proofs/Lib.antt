@@ -1,6 +1,5 @@
 pub mod MemoryFacts
 pub mod RunFacts
-pub mod VerifiedRuns
 pub mod StoreFacts
 pub mod StackFacts
 pub mod CallFacts

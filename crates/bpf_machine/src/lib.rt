@@ -16,9 +16,7 @@ mod stores;
 #[cfg(test)]
 mod tests;
 mod turn;
-mod verified;
 
 pub use bpf_model::{Outcome, TrapKind};
 pub use graph_model::GraphView;
 pub use run::run_checked;
-pub use verified::run_verified;

@@ -10,7 +10,7 @@ pub use bpf_model::{Reduction, Row};
 pub use fold::map_edges;
 pub use outcome::MapOutcome;
 pub use verifier::Verified;
-pub use versions::Version;
+pub use version::Version;
 
 #[cfg(test)]
 mod tests;

@@ -2,10 +2,11 @@ ghost use Rattle.std.specs.Prelude.{◌≡◌, ◌≤◌, IfOk, length};
 
 use super::*;
 use bpf_image::Image;
+use graph_model::{Batch, Edit, Entry};
+use history::Head;
 use std::alloc::{AllocError, Global};
 use std::test::Fail;
 use verifier::verify;
-use versions::{Batch, Edit, Pin, Store};
 
 fn batch_of(alloc: Global, edits: &[Edit]) -> Result<Batch, AllocError>
     ensures { IfOk result (λ batch. batch ≡ edits.now) }
@@ -14,14 +15,19 @@ fn batch_of(alloc: Global, edits: &[Edit]) -> Result<Batch, AllocError>
 }
 
 /// Four vertices, and the edges 0-1, 0-2 and 1-2.
-fn three_edges(alloc: Global) -> Result<Pin, Fail> {
-    let mut publisher = Store::new(alloc, 4)?;
+fn three_edges(alloc: Global) -> Result<Version, Fail> {
+    let (head, known) = Head::new();
+    let first = Version::opening(alloc, 4, known)?;
     let batch = batch_of(
         alloc,
         &[Edit::Insert(0, 1), Edit::Insert(0, 2), Edit::Insert(1, 2)],
     )?;
-    let _receipt = publisher.publish(0, batch)?;
-    Ok(publisher.pin()?)
+    let entry = Entry { feed: 0, batch };
+    let (draft, _) = first.draft(alloc, &entry)?;
+    let Some(known) = head.add(&first.known(), 0, &entry) else {
+        return Err(Fail::new("the history was longer"));
+    };
+    Ok(draft.complete(known))
 }
 
 /// Loads the word at this place of the record, and exits with it.
@@ -51,7 +57,7 @@ const fn row(vertex: u32, value: u64) -> Row {
 #[test]
 fn reductions(rt: HostRuntime) -> Result<(), Fail> {
     let alloc = rt.alloc();
-    let pin = three_edges(alloc)?;
+    let version = three_edges(alloc)?;
     let program = target(alloc)?;
     let wanted = [
         (Reduction::Sum, 5, [row(0, 3), row(1, 2)]),
@@ -59,14 +65,7 @@ fn reductions(rt: HostRuntime) -> Result<(), Fail> {
         (Reduction::Max, 2, [row(0, 2), row(1, 2)]),
     ];
     for (reduction, total, rows) in wanted {
-        let out = map_edges(
-            alloc,
-            pin.version(),
-            &program,
-            &[],
-            &[0, 1, 2, 3],
-            reduction,
-        )?;
+        let out = map_edges(alloc, &version, &program, &[], &[0, 1, 2, 3], reduction)?;
         assert_eq!(rt; out.edges, 3);
         assert_eq!(rt; out.total, total);
         assert_eq!(rt; out.rows.as_slice(), rows.as_slice());
@@ -78,10 +77,10 @@ fn reductions(rt: HostRuntime) -> Result<(), Fail> {
 #[test]
 fn records(rt: HostRuntime) -> Result<(), Fail> {
     let alloc = rt.alloc();
-    let pin = three_edges(alloc)?;
+    let version = three_edges(alloc)?;
     for (place, total) in [(0, 1), (4, 5), (8, 1), (12, 5)] {
         let program = loader(alloc, place)?;
-        let out = map_edges(alloc, pin.version(), &program, &[], &[0, 1], Reduction::Sum)?;
+        let out = map_edges(alloc, &version, &program, &[], &[0, 1], Reduction::Sum)?;
         assert_eq!(rt; out.total, total, "{place}");
     }
     Ok(())
@@ -91,26 +90,19 @@ fn records(rt: HostRuntime) -> Result<(), Fail> {
 fn nothing_to_map(rt: HostRuntime) -> Result<(), Fail> {
     let alloc = rt.alloc();
     let program = target(alloc)?;
-    let edgeless = Store::new(alloc, 4)?.pin()?;
-    let pin = three_edges(alloc)?;
+    let edgeless = Version::opening(alloc, 4, Head::new().1)?;
+    let version = three_edges(alloc)?;
     for (reduction, total) in [
         (Reduction::Min, u64::MAX),
         (Reduction::Max, 0),
         (Reduction::Sum, 0),
     ] {
-        let out = map_edges(
-            alloc,
-            edgeless.version(),
-            &program,
-            &[],
-            &[0, 1, 2, 3],
-            reduction,
-        )?;
+        let out = map_edges(alloc, &edgeless, &program, &[], &[0, 1, 2, 3], reduction)?;
         assert_eq!(rt; out.edges, 0);
         assert_eq!(rt; out.total, total);
         assert_eq!(rt; out.rows.len(), 0);
 
-        let out = map_edges(alloc, pin.version(), &program, &[], &[], reduction)?;
+        let out = map_edges(alloc, &version, &program, &[], &[], reduction)?;
         assert_eq!(rt; out.edges, 0);
         assert_eq!(rt; out.total, total);
         assert_eq!(rt; out.rows.len(), 0);

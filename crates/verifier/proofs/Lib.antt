@@ -13,3 +13,4 @@ pub mod Visits
 pub mod Joins
 pub mod Runs
 pub mod Verdicts
+pub mod Forward

@@ -8,3 +8,4 @@ pub mod HelperVerdicts
 pub mod Sound
 pub mod Laws
 pub mod Tables
+pub mod Actions

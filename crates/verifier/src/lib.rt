@@ -3,6 +3,7 @@
 //! stack frames a run of an accepted one takes.
 #![tactic(auto)]
 
+mod actions;
 mod flow;
 mod functions;
 pub mod laws;
@@ -17,6 +18,7 @@ mod walking;
 mod weights;
 
 pub use bpf_model::Cause;
+pub use bpf_operations::Action;
 pub use refusal::Refusal;
 pub use verified::{Verified, verify};
 pub use weights::MOST_COUNTED;
