@@ -4,11 +4,11 @@ ghost use Rattle.history.specs.Moment.{Begins};
 ghost use Rattle.board.specs.Reading.{and_waiting, after_show};
 
 use crate::rule::{Look, Writer};
-use crate::version::Version;
 use std::alloc::AllocError;
 use std::marker::Model;
 use std::mem;
 use std::sync::{Arc, Wait};
+use version::Version;
 
 /// The side of the board on which versions are shown. It has to be ended by `close`.
 pub struct Board {

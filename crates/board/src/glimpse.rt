@@ -1,4 +1,4 @@
-use crate::version::Version;
+use version::Version;
 
 /// What a pass of the board knows: a version's moment, or nothing. No value of it is made.
 pub struct Glimpse {

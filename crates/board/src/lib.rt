@@ -10,7 +10,6 @@ mod pool;
 mod reader;
 mod rule;
 mod shown;
-mod version;
 
 pub use self::board::Board;
 pub use errors::{NoPlace, PinError};

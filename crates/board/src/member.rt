@@ -1,4 +1,4 @@
-use crate::version::Version;
+use version::Version;
 
 /// What a pass of the pool knows: that it is the only one, or a moment of the store. No value of it is made.
 pub struct Member {

@@ -10,10 +10,10 @@ use crate::pool::{Back, Membership, Pool, Seed};
 use crate::reader::Reader;
 use crate::rule::{Inner, Look, Notes, Writer};
 use crate::shown::Shown;
-use crate::version::Version;
 use std::alloc::{AllocError, Global};
 use std::sync::{Arc, Wait};
 use store_model::READERS;
+use version::Version;
 
 /// A board that shows this version, and a reader. There can be 16 readers at once.
 pub fn open<R: Wait>(

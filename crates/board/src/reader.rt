@@ -6,10 +6,10 @@ ghost use Rattle.history.specs.Moment.{OneStore, Begins};
 use crate::errors::{NoPlace, PinError};
 use crate::pool::{Back, Lend, Membership, Pool, Twin};
 use crate::rule::{Inner, Look};
-use crate::version::Version;
 use history::{Known, compare};
 use std::marker::Model;
 use std::sync::Arc;
+use version::Version;
 
 /// A reader's side of the board. Contracts see it as the moment that it saw last.
 pub struct Reader {

@@ -1,10 +1,10 @@
 //! The rule of the board, as its calls name it.
 use crate::glimpse::Glimpse;
 use crate::shown::Shown;
-use crate::version::Version;
 use atomic_table::{Join, Split};
 use crossbeam_utils::rule::{Outcome, Protocol};
 use std::sync::Arc;
+use version::Version;
 
 /// Each moment that a pass knows begins the one that is shown.
 pub struct Grows;

@@ -1,7 +1,7 @@
-use crate::version::Version;
 use left_right::Absorb;
 use std::alloc::AllocError;
 use std::sync::Arc;
+use version::Version;
 
 /// The version that readers are shown.
 #[derive(Drop)]

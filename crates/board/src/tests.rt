@@ -2,6 +2,7 @@ ghost use Rattle.std.specs.Prelude.{◌≡◌, ◌+◌, ◌<◌, ◌≤◌, IfOk
 ghost use Rattle.std.specs.Arc.{arc_value};
 ghost use Rattle.graph_model.specs.Past.{number_of};
 ghost use Rattle.graph_model.specs.declared.limits.TheConstants.{MOST_BATCHES};
+ghost use Rattle.history.specs.Moment.{Begins};
 ghost use Rattle.board.specs.Reading.{showing};
 
 use crate::{Board, PinError, Reader, Version, open};
@@ -15,6 +16,25 @@ use store_model::READERS;
 
 // How many versions are shown while another thread reads.
 const SHOWN: u64 = 200;
+
+// The version after `last`, by an empty batch.
+fn version_after(alloc: Global, head: &Head, last: &Version) -> Result<Arc<Version>, AllocError>
+    requires history { head.now ≡ last.now.book }
+    requires room { number_of last.now.past < MOST_BATCHES }
+    ensures begins { IfOk result (λ next. Begins last.now (arc_value next)) }
+    ensures number { IfOk result (λ next. number_of (arc_value next).past ≡ number_of last.now.past + 1) }
+{
+    let entry = Entry {
+        feed: 0,
+        batch: Batch::empty(),
+    };
+    let (draft, _counts) = last.draft(alloc, &entry)?;
+    let Some(known) = head.add(&last.known(), last.number(), &entry) else {
+        return Err(AllocError);
+    };
+    let next = Arc::new(alloc, draft.complete(known))?;
+    Ok(next)
+}
 
 // Shows the version after `last`, by an empty batch.
 fn show_next<R: Wait>(
@@ -31,15 +51,7 @@ fn show_next<R: Wait>(
     ensures history { IfOk result (λ next. head.now ≡ (arc_value next).book) }
     ensures number { IfOk result (λ next. number_of (arc_value next).past ≡ number_of last.now.past + 1) }
 {
-    let entry = Entry {
-        feed: 0,
-        batch: Batch::empty(),
-    };
-    let number = last.number();
-    let Some(known) = head.add(&last.known(), number, &entry) else {
-        return Err(AllocError);
-    };
-    let next = Arc::new(alloc, last.next(number + 1, known, &entry))?;
+    let next = version_after(alloc, head, last)?;
     board
         .append(Arc::try_clone(&next)?)
         .map_err(|_| AllocError)?;
@@ -105,7 +117,7 @@ fn read_three<R: Wait>(
 fn what_is_shown_is_pinned(rt: HostRuntime) -> Result<(), Fail> {
     let alloc = rt.alloc();
     let (head, known) = Head::new();
-    let first = Arc::new(alloc, Version::opening(4, known))?;
+    let first = Arc::new(alloc, Version::opening(alloc, 4, known)?)?;
     let (mut board, mut reader) = open(alloc, &first, &rt)?;
     let numbers = read_three(&rt, alloc, &head, &mut board, &first, &mut reader);
     board.close(&rt);
@@ -137,7 +149,7 @@ fn count_readers(alloc: Global, reader: &mut Reader) -> Result<[usize; 2], Alloc
 fn a_reader_that_is_gone_leaves_its_place(rt: HostRuntime) -> Result<(), Fail> {
     let alloc = rt.alloc();
     let (_head, known) = Head::new();
-    let first = Arc::new(alloc, Version::opening(4, known))?;
+    let first = Arc::new(alloc, Version::opening(alloc, 4, known)?)?;
     let (board, mut reader) = open(alloc, &first, &rt)?;
     let counts = count_readers(alloc, &mut reader);
     board.close(&rt);
@@ -149,7 +161,7 @@ fn a_reader_that_is_gone_leaves_its_place(rt: HostRuntime) -> Result<(), Fail> {
 fn another_thread_reads(rt: HostRuntime) -> Result<(), Fail> {
     let alloc = rt.alloc();
     let (head, known) = Head::new();
-    let first = Arc::new(alloc, Version::opening(4, known))?;
+    let first = Arc::new(alloc, Version::opening(alloc, 4, known)?)?;
     let (mut board, reader) = open(alloc, &first, &rt)?;
     let child = thread::spawn(&rt, move || last_read(&rt, reader));
     let shown = show_many(&rt, alloc, &head, &mut board, first, SHOWN);

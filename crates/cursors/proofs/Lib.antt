@@ -1,2 +1,3 @@
+pub mod Ties
 pub mod LentLemmas
 pub mod WordLemmas

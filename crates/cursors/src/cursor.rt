@@ -1,6 +1,8 @@
-ghost use Rattle.std.specs.Prelude.{◌≡◌, ◌<◌, ◌≤◌, ◌++◌, [], length, drop, MatchOption};
+ghost use Rattle.std.specs.Prelude.{◌≡◌, ◌<◌, ◌≤◌, ◌++◌, ℕ, [], length, drop, Some, None, MatchOption};
 ghost use Rattle.graph_model.specs.declared.limits.TheConstants.{MOST_VERTICES};
 ghost use Rattle.graph_model.specs.Graph.{Graph, neighbours};
+ghost use Rattle.graph_model.specs.Past.{Past};
+ghost use Rattle.handle_model.specs.Calls.{IsLend};
 ghost use Rattle.migration.specs.Part.{row_at};
 ghost use Rattle.migration.specs.Table.{IsShardOf};
 
@@ -76,8 +78,21 @@ impl<'a> Cursor<'a> {
         }
     }
 
-    /// The next slice of what is left, which has a target at least. It is `None` at the end alone.
+    /// The next slice of what is left, which has a target at least. It is `None` at the end alone. Of a reader's run in
+    /// the core of a store, whatever its version and vertex, it is one lend.
     pub fn next_slice(&mut self) -> Option<&'a [u32]>
+        ensures lent { MatchOption result
+            ((self.old ≡ []) × (self.new ≡ []))
+            (λ slice. (0 < length slice.now) × (self.old ≡ slice.now ++ self.new)) }
+        ensures event { (past : Past) (vertex : ℕ) → MatchOption result
+            (IsLend past vertex self.old None self.new)
+            (λ slice. IsLend past vertex self.old (Some slice.now) self.new) }
+    {
+        self.lend()
+    }
+
+    // The next slice.
+    fn lend(&mut self) -> Option<&'a [u32]>
         ensures { MatchOption result
             ((self.old ≡ []) × (self.new ≡ []))
             (λ slice. (0 < length slice.now) × (self.old ≡ slice.now ++ self.new)) }

@@ -7,7 +7,7 @@ use std::process::ExitCode;
 fn main(rt: HostRuntime) -> ExitCode {
     let mut input = StdInput::new(rt.stdin());
     let mut output = StdOutput::new(rt.stdout());
-    let (status, line) = report(&serve(rt.alloc(), &mut input, &mut output));
+    let (status, line) = report(&serve(&mut input, &mut output, &rt, rt.alloc()));
     if !line.is_empty() {
         // Where standard error takes nothing either, the status alone is left to tell.
         let _ = eprintln!(rt; "{line}");

@@ -1,14 +1,19 @@
-//! Publishes twice, and tells whether a publication that was refused for want of memory left everything
-//! as it was. It is run with each of its allocations failing in turn.
+//! Two feeds submit a batch each, and both are published. It tells whether a step that was refused for want of memory
+//! published nothing and held its batch, and whether the next one published it. It is run with each of its allocations
+//! failing in turn.
 #![tactic(auto)]
 
-ghost use Rattle.std.specs.Prelude.{◌≡◌, ◌≤◌, length, IfOk};
-ghost use Rattle.graph_model.specs.Edits.{AreEditsBelow};
+ghost use Rattle.std.specs.Prelude.{◌≡◌, length, IfOk};
+ghost use Rattle.history.specs.Moment.{OneStore};
+ghost use Rattle.intake.specs.Ends.{IsFeedOf};
 
 use std::alloc::{AllocError, Global};
 use std::io;
 use std::io::Read;
-use versions::{Batch, Edit, Publisher, Store, Version};
+use std::sync::Wait;
+use versions::{
+    Batch, Edit, Feed, Finished, PublishError, Publisher, Reader, Receipt, Store, Version,
+};
 
 /// What came of it.
 #[derive(Clone, Copy, PartialEq, Eq)]
@@ -17,7 +22,7 @@ enum Told {
     NotBegun,
     /// Both batches were published, with the right counts.
     Published,
-    /// A batch was refused, and the last version and an old pin are as they were.
+    /// A step was refused, its batch was held, and the last version was as it was. The next step published the batch.
     Unchanged,
     /// Something is not as it should be.
     Changed,
@@ -58,51 +63,99 @@ fn lists(version: &Version, neighbours: &[u32]) -> bool {
     rest.is_empty()
 }
 
-/// Publishes the edits. Afterwards the last version is the new one, or after an error the old one.
-fn publish(publisher: &mut Publisher, batch: Batch, old: &[u32], new: &[u32]) -> Told
-    requires short { length batch ≤ 65536 }
-    requires below { AreEditsBelow publisher.old.vertex_count batch }
-    ensures { publisher.new.vertex_count ≡ publisher.old.vertex_count }
-{
-    let Ok(before) = publisher.pin() else {
-        return Told::NotBegun;
-    };
-    let number = publisher.number();
-    let published = publisher.publish(0, batch).is_ok();
-    let Ok(after) = publisher.pin() else {
-        return Told::NotBegun;
-    };
-    let kept = is_such(before.version(), number, old.len() as u64, old);
-    let right = if published {
-        is_such(
-            after.version(),
-            number.wrapping_add(1),
-            new.len() as u64,
-            new,
-        )
-    } else {
-        is_such(after.version(), number, old.len() as u64, old)
-    };
-    match (kept && right, published) {
-        (false, _) => Told::Changed,
-        (true, false) => Told::Unchanged,
-        (true, true) => Told::Published,
+/// What the first feed submits, and then the second.
+fn batches(alloc: Global) -> Result<(Batch, Batch), AllocError> {
+    let first = batch_of(alloc, &[Edit::Insert(1, 2), Edit::Insert(1, 0)])?;
+    let second = batch_of(alloc, &[Edit::Remove(1, 0), Edit::Insert(1, 1)])?;
+    Ok((first, second))
+}
+
+/// Whether a step published the next batch, which came by this feed.
+fn is_next(receipt: &Receipt, number: u64, feed: u8) -> bool {
+    receipt.number() == number && receipt.feed() == feed
+}
+
+/// What a reader pins: whether it has this number and number of edges, and vertex 1 these neighbours.
+fn pins_such(reader: &mut Reader, number: u64, neighbours: &[u32]) -> bool {
+    match reader.pin() {
+        Ok(pin) => is_such(pin.version(), number, neighbours.len() as u64, neighbours),
+        Err(_) => false,
     }
 }
 
-fn publish_twice(alloc: Global) -> Told {
-    let Ok(mut publisher) = Store::new(alloc, 3) else {
+/// Publishes the next batch, which came by this feed. Between steps the version before it, with these neighbours of
+/// vertex 1, is shown.
+fn publish<R: Wait>(
+    rt: &R,
+    publisher: &mut Publisher,
+    reader: &mut Reader,
+    feed: u8,
+    old: &[u32],
+) -> Told
+    ensures queue { publisher.new.queue ≡ publisher.old.queue }
+    ensures store { OneStore publisher.old.moment publisher.new.moment }
+{
+    let number = u64::from(feed);
+    match publisher.step(rt) {
+        Ok(Some(receipt)) if is_next(&receipt, number + 1, feed) => return Told::Published,
+        Err(PublishError::OutOfMemory) => {}
+        _ => return Told::Changed,
+    }
+    if publisher.holds() != Some(feed) || !pins_such(reader, number, old) {
+        return Told::Changed;
+    }
+    match publisher.step(rt) {
+        Ok(Some(receipt)) if is_next(&receipt, number + 1, feed) => Told::Unchanged,
+        _ => Told::Changed,
+    }
+}
+
+/// Publishes the batches that both feeds submitted.
+fn publish_both<R: Wait>(rt: &R, publisher: &mut Publisher, reader: &mut Reader) -> Told
+    ensures queue { publisher.new.queue ≡ publisher.old.queue }
+    ensures store { OneStore publisher.old.moment publisher.new.moment }
+{
+    let first = publish(rt, publisher, reader, 0, &[]);
+    let second = publish(rt, publisher, reader, 1, &[0, 2]);
+    if !pins_such(reader, 2, &[1, 2]) {
+        return Told::Changed;
+    }
+    match (first, second) {
+        (Told::Published, told) => told,
+        (told, Told::Published) => told,
+        _ => Told::Changed,
+    }
+}
+
+/// Whether nothing is left of the batches, and both are published.
+fn is_done(finished: &Finished) -> bool {
+    finished.held.is_none() && finished.left.is_empty() && finished.last.number() == 2
+}
+
+/// Submits two batches, and publishes them.
+fn publish_twice<R: Wait>(rt: &R, alloc: Global) -> Told {
+    let Ok((first_batch, second_batch)) = batches(alloc) else {
         return Told::NotBegun;
     };
-    let Ok(first) = batch_of(alloc, &[Edit::Insert(1, 2), Edit::Insert(1, 0)]) else {
+    let Ok(opened) = Store::new(3, rt, alloc) else {
         return Told::NotBegun;
     };
-    let Ok(second) = batch_of(alloc, &[Edit::Remove(1, 0), Edit::Insert(1, 1)]) else {
-        return Told::NotBegun;
+    let feeds = opened.1;
+    let mut publisher = opened.0;
+    let mut reader = opened.2;
+    let mut each = feeds.into_iter();
+    let (Some(mut first), Some(mut second)) = (each.next(), each.next()) else {
+        unreachable!()
     };
-    match publish(&mut publisher, first, &[], &[0, 2]) {
-        Told::Published => publish(&mut publisher, second, &[0, 2], &[1, 2]),
-        other => other,
+    let submitted = first.submit(first_batch, rt).is_ok()
+        && second.submit(second_batch, rt).is_ok();
+    let told = publish_both(rt, &mut publisher, &mut reader);
+    let feeds: [Feed; 2] = [first, second];
+    let finished = publisher.finish(feeds, rt);
+    if submitted && is_done(&finished) {
+        told
+    } else {
+        Told::Changed
     }
 }
 
@@ -118,6 +171,6 @@ fn main(rt: HostRuntime) -> io::Result<()> {
     let mut bytes = [0; 512];
     let count = rt.stdin().read(&mut bytes)?;
     spend(rt.alloc(), count);
-    let told = publish_twice(rt.alloc());
+    let told = publish_twice(&rt, rt.alloc());
     println!(rt; "{}", told.text())
 }

@@ -16,6 +16,7 @@ use script_model::LineFault;
 use script_words::BatchLine;
 use session::{Command, GivenEdit};
 use session_model::Fault;
+use std::sync::Wait;
 
 impl Script {
     /// Begins a batch of a feed.
@@ -46,8 +47,9 @@ impl Script {
     }
 
     /// Executes what a line inside a batch says.
-    fn execute_batch_line(
+    fn execute_batch_line<R: Wait>(
         &mut self,
+        rt: &R,
         text: &mut Vec<u8>,
         begun: BegunBatch,
         said: BatchLine,
@@ -71,14 +73,15 @@ impl Script {
                     feed,
                     edits,
                 } = begun;
-                self.perform(text, Command::PublishBatch { feed, edits })
+                self.perform(rt, text, Command::PublishBatch { feed, edits })
             }
         }
     }
 
     /// Executes a line inside a batch, where it says something.
-    pub(crate) fn execute_in_batch(
+    pub(crate) fn execute_in_batch<R: Wait>(
         &mut self,
+        rt: &R,
         text: &mut Vec<u8>,
         begun: BegunBatch,
         said: Option<BatchLine>,
@@ -91,7 +94,7 @@ impl Script {
     {
         match said {
             None => Err(LineError::Fault(LineFault::Words)),
-            Some(said) => self.execute_batch_line(text, begun, said),
+            Some(said) => self.execute_batch_line(rt, text, begun, said),
         }
     }
 }

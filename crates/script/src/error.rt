@@ -19,7 +19,7 @@ pub enum LineError {
     /// There is no memory for it.
     #[error("out of memory")]
     OutOfMemory,
-    /// A version cannot have one owner more.
+    /// A version cannot have one owner more, or the store did not answer as it should.
     #[error("a version cannot have one owner more")]
     Store,
 }
@@ -66,7 +66,7 @@ pub enum ScriptError {
     /// There is no memory for it.
     #[error("out of memory")]
     OutOfMemory,
-    /// A version cannot have one owner more.
+    /// A version cannot have one owner more, or the store did not answer as it should.
     #[error("a version cannot have one owner more")]
     Store,
 }

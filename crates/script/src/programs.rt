@@ -21,6 +21,7 @@ use script_words::is_end;
 use session::Command;
 use session_model::Fault;
 use std::str;
+use std::sync::Wait;
 
 impl BegunProgram {
     /// Adds a line, where there is room for it. A fault adds nothing.
@@ -72,8 +73,9 @@ impl Script {
     }
 
     /// Executes a line inside a program: the end, or one more line for the assembler.
-    pub(crate) fn execute_in_program(
+    pub(crate) fn execute_in_program<R: Wait>(
         &mut self,
+        rt: &R,
         text: &mut Vec<u8>,
         mut begun: BegunProgram,
         bytes: &[u8],
@@ -86,7 +88,7 @@ impl Script {
         ensures line { self.new.line ≡ self.old.line }
     {
         if is_end(bytes) {
-            return self.end_program(text, &begun);
+            return self.end_program(rt, text, &begun);
         }
         match begun.add(bytes) {
             Ok(()) => {
@@ -98,7 +100,12 @@ impl Script {
     }
 
     /// Assembles a program whose end has come, and loads its code.
-    fn end_program(&mut self, text: &mut Vec<u8>, begun: &BegunProgram) -> Result<(), LineError>
+    fn end_program<R: Wait>(
+        &mut self,
+        rt: &R,
+        text: &mut Vec<u8>,
+        begun: &BegunProgram,
+    ) -> Result<(), LineError>
         requires program { HasText begun.now }
         requires closed { self.old.block ≡ None }
         ensures executed { Executes (end_program (open_program begun.now) self.old) result text.old.items
@@ -107,6 +114,7 @@ impl Script {
     {
         match assemble(self.alloc, begun.text()) {
             Ok(code) => self.perform(
+                rt,
                 text,
                 Command::LoadProgram {
                     name: &begun.name,

@@ -17,6 +17,7 @@ use script_words::{batch_line, is_plain_line, statement_line};
 use session::Session;
 use std::alloc::Global;
 use std::marker::Model;
+use std::sync::Wait;
 
 /// How far a script is: its session, the block that is open, and the number of the next line. Whoever
 /// makes one has to close it.
@@ -62,10 +63,15 @@ impl Script {
 
     /// Executes the next line, its end left out. What it says, or its fault, goes to the end of the
     /// text.
-    pub fn execute(&mut self, text: &mut Vec<u8>, bytes: &[u8]) -> Result<Step, ScriptError>
+    pub fn execute<R: Wait>(
+        &mut self,
+        rt: &R,
+        text: &mut Vec<u8>,
+        bytes: &[u8],
+    ) -> Result<Step, ScriptError>
         ensures { Steps result bytes.now self.old self.new text.old.items text.new.items }
     {
-        match self.execute_line(text, bytes) {
+        match self.execute_line(rt, text, bytes) {
             Ok(()) => {
                 self.count_line()?;
                 Ok(Step::Executed)
@@ -103,14 +109,14 @@ impl Script {
     }
 
     /// Lets go of all that the script has made.
-    pub fn close(self) {
+    pub fn close<R: Wait>(self, rt: &R) {
         let Script {
             alloc: _,
             session,
             block: _,
             line: _,
         } = self;
-        session.close();
+        session.close(rt);
     }
 
     /// Moves on to the next line.
@@ -126,7 +132,12 @@ impl Script {
     }
 
     /// Executes a line whose bytes are allowed, inside a block or outside.
-    fn execute_plain(&mut self, text: &mut Vec<u8>, bytes: &[u8]) -> Result<(), LineError>
+    fn execute_plain<R: Wait>(
+        &mut self,
+        rt: &R,
+        text: &mut Vec<u8>,
+        bytes: &[u8],
+    ) -> Result<(), LineError>
         requires { list_all is_plain bytes.now ≡ true }
         ensures executed { Executes (block_execution self.old.block bytes.now self.old) result text.old.items
             text.new.items self.new }
@@ -135,16 +146,21 @@ impl Script {
         match self.block.take() {
             None => {
                 let said = statement_line(self.alloc, bytes)?;
-                self.execute_outside(text, said)
+                self.execute_outside(rt, text, said)
             }
-            Some(Block::Batch(begun)) => self.execute_in_batch(text, begun, batch_line(bytes)),
-            Some(Block::Program(begun)) => self.execute_in_program(text, begun, bytes),
+            Some(Block::Batch(begun)) => self.execute_in_batch(rt, text, begun, batch_line(bytes)),
+            Some(Block::Program(begun)) => self.execute_in_program(rt, text, begun, bytes),
         }
     }
 
     /// Executes the line of the present number.
     #[tactic(auto, unfolding(script_model::specs::Execution::execution))]
-    fn execute_line(&mut self, text: &mut Vec<u8>, bytes: &[u8]) -> Result<(), LineError>
+    fn execute_line<R: Wait>(
+        &mut self,
+        rt: &R,
+        text: &mut Vec<u8>,
+        bytes: &[u8],
+    ) -> Result<(), LineError>
         ensures executed { Executes (execution self.old bytes.now) result text.old.items text.new.items self.new }
         ensures line { self.new.line ≡ self.old.line }
     {
@@ -154,6 +170,6 @@ impl Script {
         if !is_plain_line(bytes) {
             return Err(LineError::Fault(LineFault::Words));
         }
-        self.execute_plain(text, bytes)
+        self.execute_plain(rt, text, bytes)
     }
 }

@@ -14,23 +14,30 @@ use crate::script::Script;
 use script_model::LineFault;
 use script_words::{Line, Statement};
 use session::Command;
+use std::sync::Wait;
 
 impl Script {
     /// Has the session perform a command, and writes its answer.
-    pub(crate) fn perform(&mut self, text: &mut Vec<u8>, command: Command) -> Result<(), LineError>
+    pub(crate) fn perform<R: Wait>(
+        &mut self,
+        rt: &R,
+        text: &mut Vec<u8>,
+        command: Command,
+    ) -> Result<(), LineError>
         requires { self.old.block ≡ None }
         ensures executed { Executes (execution_of (response
             (command_of command.entry) self.old.session) self.old) result text.old.items text.new.items self.new }
         ensures line { self.new.line ≡ self.old.line }
     {
-        let answer = self.session.perform(command)?;
+        let answer = self.session.perform(rt, command)?;
         put_answer(text, &answer)?;
         Ok(())
     }
 
     /// Executes a statement.
-    fn execute_statement(
+    fn execute_statement<R: Wait>(
         &mut self,
+        rt: &R,
         text: &mut Vec<u8>,
         statement: Statement,
     ) -> Result<(), LineError>
@@ -40,13 +47,18 @@ impl Script {
         ensures line { self.new.line ≡ self.old.line }
     {
         match statement {
-            Statement::Graph { vertices } => self.perform(text, Command::MakeGraph { vertices }),
+            Statement::Graph { vertices } => self.perform(
+                rt,
+                text,
+                Command::MakeGraph { vertices },
+            ),
             Statement::Batch { feed } => self.begin_batch(feed),
             Statement::Code {
                 name,
                 record_length,
                 code,
             } => self.perform(
+                rt,
                 text,
                 Command::LoadProgram {
                     name,
@@ -58,7 +70,7 @@ impl Script {
                 name,
                 record_length,
             } => self.begin_program(name, record_length),
-            Statement::Pin { name } => self.perform(text, Command::TakePin { name }),
+            Statement::Pin { name } => self.perform(rt, text, Command::TakePin { name }),
             Statement::Run {
                 program,
                 pin,
@@ -66,6 +78,7 @@ impl Script {
                 argument,
                 frontier,
             } => self.perform(
+                rt,
                 text,
                 Command::RunProgram {
                     program,
@@ -79,8 +92,9 @@ impl Script {
     }
 
     /// Executes what a line outside blocks says.
-    pub(crate) fn execute_outside(
+    pub(crate) fn execute_outside<R: Wait>(
         &mut self,
+        rt: &R,
         text: &mut Vec<u8>,
         said: Line,
     ) -> Result<(), LineError>
@@ -95,7 +109,7 @@ impl Script {
         match said {
             Line::Skipped => Ok(()),
             Line::Unknown => Err(LineError::Fault(LineFault::Words)),
-            Line::Statement(statement) => self.execute_statement(text, statement),
+            Line::Statement(statement) => self.execute_statement(rt, text, statement),
         }
     }
 }

@@ -5,6 +5,7 @@ ghost use Rattle.service.specs.Served.{IsOneLine, IsLine, TakesLine, TakesLines,
 
 use memchr::memchr;
 use script::{Ending, MOST_LINE_BYTES, Script, ScriptError, Step};
+use std::sync::Wait;
 
 /// What came of the first line of some bytes.
 #[derive(Clone, Copy, Debug, PartialEq, Eq)]
@@ -25,7 +26,8 @@ fn line_end(bytes: &[u8]) -> Option<usize>
 }
 
 /// Executes the first line of some bytes, if it is whole.
-fn execute_first(
+fn execute_first<R: Wait>(
+    rt: &R,
     script: &mut Script,
     text: &mut Vec<u8>,
     bytes: &[u8],
@@ -35,7 +37,7 @@ fn execute_first(
     let Some(end) = line_end(bytes) else {
         return Ok(FirstLine::Partial);
     };
-    match script.execute(text, &bytes[..end])? {
+    match script.execute(rt, text, &bytes[..end])? {
         Step::Executed => Ok(FirstLine::Executed(end + 1)),
         Step::Stopped => Ok(FirstLine::Stopped),
     }
@@ -51,7 +53,8 @@ pub enum Progress {
 }
 
 /// Executes the whole lines of some bytes.
-fn execute_lines(
+fn execute_lines<R: Wait>(
+    rt: &R,
     script: &mut Script,
     text: &mut Vec<u8>,
     bytes: &[u8],
@@ -60,7 +63,7 @@ fn execute_lines(
 {
     let mut from = 0;
     loop {
-        match execute_first(script, text, &bytes[from..])? {
+        match execute_first(rt, script, text, &bytes[from..])? {
             FirstLine::Partial => return Ok(Progress::Left(from)),
             FirstLine::Stopped => return Ok(Progress::Settled),
             FirstLine::Executed(count) => from += count,
@@ -69,7 +72,8 @@ fn execute_lines(
 }
 
 /// Executes the whole lines of what was read. A line that is too long is a fault before its end comes.
-pub fn execute_read(
+pub fn execute_read<R: Wait>(
+    rt: &R,
     script: &mut Script,
     text: &mut Vec<u8>,
     bytes: &[u8],
@@ -77,7 +81,7 @@ pub fn execute_read(
     ensures taken { TakesLines result bytes.now script.old script.new text.old.items text.new.items }
     ensures few { LeavesFew result bytes.now }
 {
-    let progress = execute_lines(script, text, bytes)?;
+    let progress = execute_lines(rt, script, text, bytes)?;
     if let Progress::Left(from) = progress
         && bytes.len() - from > MOST_LINE_BYTES
     {
@@ -88,14 +92,19 @@ pub fn execute_read(
 }
 
 /// Executes the last line of a script, if that lacks its end, and ends the script.
-pub fn finish(script: &mut Script, text: &mut Vec<u8>, rest: &[u8]) -> Result<Ending, ScriptError>
+pub fn finish<R: Wait>(
+    rt: &R,
+    script: &mut Script,
+    text: &mut Vec<u8>,
+    rest: &[u8],
+) -> Result<Ending, ScriptError>
     requires { IsOneLine rest.now }
     ensures { Finishes result rest.now script.old text.old.items text.new.items }
 {
     if rest.is_empty() {
         return script.finish(text);
     }
-    match script.execute(text, rest)? {
+    match script.execute(rt, text, rest)? {
         Step::Executed => script.finish(text),
         Step::Stopped => Ok(Ending::Fault),
     }

@@ -18,7 +18,7 @@ pub enum ServeError {
     /// There is no memory for it.
     #[error("out of memory")]
     OutOfMemory = 3,
-    /// A version cannot have one owner more.
+    /// A version cannot have one owner more, or the store did not answer as it should.
     #[error("a version cannot have one owner more")]
     Store = 5,
 }

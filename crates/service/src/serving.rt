@@ -12,6 +12,7 @@ use crate::writing::write_all;
 use script::{Ending, Script, ScriptError};
 use std::alloc::Global;
 use std::marker::Model;
+use std::sync::Wait;
 
 /// The most bytes that one read asks for.
 const BLOCK_BYTES: usize = 65_536;
@@ -34,10 +35,10 @@ impl Model for Serving {
 
 impl Serving {
     /// Executes the whole lines among what was read.
-    fn advance(&mut self, alloc: Global) -> Result<Option<Ending>, ScriptError>
+    fn advance<R: Wait>(&mut self, rt: &R, alloc: Global) -> Result<Option<Ending>, ScriptError>
         ensures { Advances result self.old self.new }
     {
-        match execute_read(&mut self.script, &mut self.text, &self.pending)? {
+        match execute_read(rt, &mut self.script, &mut self.text, &self.pending)? {
             Progress::Settled => Ok(Some(Ending::Fault)),
             Progress::Left(from) => {
                 self.pending = Vec::from_slice(alloc, &self.pending[from..])?;
@@ -47,8 +48,9 @@ impl Serving {
     }
 
     /// Reads some bytes and executes the lines that they end. At the end of the input it ends the script.
-    fn round<I: Input>(
+    fn round<I: Input, R: Wait>(
         &mut self,
+        rt: &R,
         alloc: Global,
         input: &mut I,
         block: &mut [u8],
@@ -64,17 +66,18 @@ impl Serving {
             return Err(ServeError::Read);
         };
         if count == 0 {
-            let ending = finish(&mut self.script, &mut self.text, &self.pending)?;
+            let ending = finish(rt, &mut self.script, &mut self.text, &self.pending)?;
             return Ok(Some(ending));
         }
         self.pending.extend_from_slice(&block[..count])?;
-        let ended = self.advance(alloc)?;
+        let ended = self.advance(rt, alloc)?;
         Ok(ended)
     }
 
     /// Reads some bytes, executes the lines that they end, and writes what they say.
-    fn turn<I: Input, O: Output>(
+    fn turn<I: Input, O: Output, R: Wait>(
         &mut self,
+        rt: &R,
         alloc: Global,
         input: &mut I,
         output: &mut O,
@@ -89,7 +92,7 @@ impl Serving {
         ensures reads { CountsReads result (I.failures input.old) (I.failures input.new) }
         ensures writes { CountsWrites result (O.failures output.old) (O.failures output.new) }
     {
-        let ended = self.round(alloc, input, block)?;
+        let ended = self.round(rt, alloc, input, block)?;
         if write_all(output, &self.text).is_err() {
             return Err(ServeError::Write);
         }
@@ -98,8 +101,9 @@ impl Serving {
     }
 
     /// Reads, executes and writes until the script ends.
-    fn until_ended<I: Input, O: Output>(
+    fn until_ended<I: Input, O: Output, R: Wait>(
         &mut self,
+        rt: &R,
         alloc: Global,
         input: &mut I,
         output: &mut O,
@@ -115,7 +119,7 @@ impl Serving {
         ensures writes { CountsWrites result (O.failures output.old) (O.failures output.new) }
     {
         for _ in 0..u64::MAX {
-            if let Some(ending) = self.turn(alloc, input, output, block)? {
+            if let Some(ending) = self.turn(rt, alloc, input, output, block)? {
                 return Ok(ending);
             }
         }
@@ -124,13 +128,13 @@ impl Serving {
     }
 
     /// Lets go of the script and of what it has made.
-    fn close(self) {
+    fn close<R: Wait>(self, rt: &R) {
         let Serving {
             script,
             pending: _,
             text: _,
         } = self;
-        script.close();
+        script.close(rt);
     }
 }
 
@@ -141,10 +145,11 @@ impl Serving {
 /// `Read` and `Write` come only where a read or a write failed, which is not tried again. Bytes are read
 /// and written in blocks; a line is executed once all of it was read, and one without end is a fault
 /// once it is too long.
-pub fn serve<I: Input, O: Output>(
-    alloc: Global,
+pub fn serve<I: Input, O: Output, R: Wait>(
     input: &mut I,
     output: &mut O,
+    rt: &R,
+    alloc: Global,
 ) -> Result<Ending, ServeError>
     ensures served { Serves result (I.remaining input.old) (I.remaining input.new)
         (O.contents output.old) (O.contents output.new) }
@@ -157,7 +162,7 @@ pub fn serve<I: Input, O: Output>(
         pending: Vec::new(alloc),
         text: Vec::new(alloc),
     };
-    let answer = serving.until_ended(alloc, input, output, &mut block);
-    serving.close();
+    let answer = serving.until_ended(rt, alloc, input, output, &mut block);
+    serving.close(rt);
     answer
 }

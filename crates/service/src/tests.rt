@@ -1,6 +1,7 @@
 use crate::tests::ends::{Parts, Written};
 use crate::{Ending, ServeError, serve};
 use std::alloc::{AllocError, Global};
+use std::sync::Wait;
 use std::test::Fail;
 
 mod calls;
@@ -16,10 +17,10 @@ mod standard;
 const TARGET: &str = "code t 16 61100400000000009500000000000000";
 
 /// What a script writes, and how it ends.
-fn served(alloc: Global, script: &[u8]) -> Result<(Vec<u8>, Ending), Fail> {
+fn served<R: Wait>(rt: &R, alloc: Global, script: &[u8]) -> Result<(Vec<u8>, Ending), Fail> {
     let mut input = Parts::of(script, usize::MAX, None);
     let mut output = Written::new(alloc, usize::MAX, None);
-    let ending = serve(alloc, &mut input, &mut output)?;
+    let ending = serve(&mut input, &mut output, rt, alloc)?;
     Ok((output.bytes, ending))
 }
 
@@ -49,7 +50,7 @@ fn runs(rt: HostRuntime) -> Result<(), Fail> {
     ] {
         let script = format!(in rt.alloc(); "{graph}{TARGET}\npin a\nrun t a {run}")?;
         let wanted = format!(in rt.alloc(); "{said}run t a {rows}")?;
-        let (text, ending) = served(rt.alloc(), script.as_bytes())?;
+        let (text, ending) = served(&rt, rt.alloc(), script.as_bytes())?;
         assert_eq!(rt; text.as_slice(), wanted.as_bytes(), "{run}");
         assert_eq!(rt; ending, Ending::Complete, "{run}");
     }
@@ -92,7 +93,7 @@ fn texts(rt: HostRuntime) -> Result<(), Fail> {
             "graph 2\nbatch A version 1 added 1 removed 0\nprogram s bound 2 frames 1\nprogram d bound 2 frames 1\npin a version 1 edges 1\nrun s a edges 1 total 7\nrow 1 7\nrun d a edges 1 total 1\nrow 1 1\n",
         ),
     ] {
-        let (text, ending) = served(rt.alloc(), script.as_bytes())?;
+        let (text, ending) = served(&rt, rt.alloc(), script.as_bytes())?;
         assert_eq!(rt; text.as_slice(), wanted.as_bytes(), "{script}");
         assert_eq!(rt; ending, Ending::Complete, "{script}");
     }
@@ -140,7 +141,7 @@ fn faults(rt: HostRuntime) -> Result<(), Fail> {
         ("graph 4\nbatch A\n", 10, 2),
         ("graph 4\r\n", 2, 1),
     ] {
-        let (text, ending) = served(rt.alloc(), script.as_bytes())?;
+        let (text, ending) = served(&rt, rt.alloc(), script.as_bytes())?;
         let last = format!(in rt.alloc(); "fault {number} line {line}\n")?;
         assert!(rt; text.ends_with(last.as_bytes()), "{script}");
         assert_eq!(rt; ending, Ending::Fault, "{script}");
@@ -158,7 +159,7 @@ fn texts_before_a_fault(rt: HostRuntime) -> Result<(), Fail> {
             "graph 4\nfault 4 line 4\n",
         ),
     ] {
-        let (text, ending) = served(rt.alloc(), script.as_bytes())?;
+        let (text, ending) = served(&rt, rt.alloc(), script.as_bytes())?;
         assert_eq!(rt; text.as_slice(), wanted.as_bytes(), "{script}");
         assert_eq!(rt; ending, Ending::Fault, "{script}");
     }
@@ -178,7 +179,7 @@ fn faults_of_a_run(rt: HostRuntime) -> Result<(), Fail> {
         ("run t a mean -", 2),
     ] {
         let script = format!(in rt.alloc(); "{example}\n{TARGET}\npin a\nrun t a sum -\n{run}")?;
-        let (text, ending) = served(rt.alloc(), script.as_bytes())?;
+        let (text, ending) = served(&rt, rt.alloc(), script.as_bytes())?;
         let last = format!(in rt.alloc(); "row 1 2\nfault {number} line 10\n")?;
         assert!(rt; text.ends_with(last.as_bytes()), "{run}");
         assert_eq!(rt; ending, Ending::Fault, "{run}");
@@ -189,25 +190,25 @@ fn faults_of_a_run(rt: HostRuntime) -> Result<(), Fail> {
 #[test]
 fn long_lines(rt: HostRuntime) -> Result<(), Fail> {
     let mut script = vec![in rt.alloc(); b' '; 70_000]?;
-    let (text, ending) = served(rt.alloc(), &script)?;
+    let (text, ending) = served(&rt, rt.alloc(), &script)?;
     assert_eq!(rt; text.as_slice(), b"".as_slice());
     assert_eq!(rt; ending, Ending::Complete);
     // One byte more, whether the line ends or not, and a million more.
     script.push(b' ')?;
-    let (text, _) = served(rt.alloc(), &script)?;
+    let (text, _) = served(&rt, rt.alloc(), &script)?;
     assert_eq!(rt; text.as_slice(), b"fault 1 line 1\n".as_slice());
     script.extend_from_slice(b"\ngraph 4\n")?;
-    let (text, _) = served(rt.alloc(), &script)?;
+    let (text, _) = served(&rt, rt.alloc(), &script)?;
     assert_eq!(rt; text.as_slice(), b"fault 1 line 1\n".as_slice());
     // A byte that no line may have says nothing of a line that is too long.
     let mut bad = vec![in rt.alloc(); 0x80; 70_000]?;
-    let (text, _) = served(rt.alloc(), &bad)?;
+    let (text, _) = served(&rt, rt.alloc(), &bad)?;
     assert_eq!(rt; text.as_slice(), b"fault 2 line 1\n".as_slice());
     bad.push(0x80)?;
-    let (text, _) = served(rt.alloc(), &bad)?;
+    let (text, _) = served(&rt, rt.alloc(), &bad)?;
     assert_eq!(rt; text.as_slice(), b"fault 1 line 1\n".as_slice());
     let endless = vec![in rt.alloc(); b'x'; 1_000_000]?;
-    let (text, ending) = served(rt.alloc(), &endless)?;
+    let (text, ending) = served(&rt, rt.alloc(), &endless)?;
     assert_eq!(rt; text.as_slice(), b"fault 1 line 1\n".as_slice());
     assert_eq!(rt; ending, Ending::Fault);
     Ok(())
@@ -244,7 +245,7 @@ fn too_many(rt: HostRuntime) -> Result<(), Fail> {
             script.extend_from_slice(each.as_bytes())?;
         }
         script.extend_from_slice(end.as_bytes())?;
-        let (text, ending) = served(rt.alloc(), &script)?;
+        let (text, ending) = served(&rt, rt.alloc(), &script)?;
         assert!(rt; text.ends_with(last.as_bytes()), "{last}");
         assert_eq!(rt; ending, Ending::Fault);
     }
@@ -270,7 +271,7 @@ fn too_many_names(rt: HostRuntime) -> Result<(), Fail> {
         for number in 0..257 {
             script = format!(in rt.alloc(); "{script}{command}{number}{behind}\n")?;
         }
-        let (text, _) = served(rt.alloc(), script.as_bytes())?;
+        let (text, _) = served(&rt, rt.alloc(), script.as_bytes())?;
         assert!(rt; text.ends_with(last.as_bytes()), "{command}");
     }
     Ok(())
@@ -288,7 +289,7 @@ fn parts_of_any_size(rt: HostRuntime) -> Result<(), Fail> {
     for (read, written) in [(1, 3), (1, 1), (7, 2), (100, 5)] {
         let mut input = Parts::of(SCRIPT.as_bytes(), read, None);
         let mut output = Written::new(rt.alloc(), written, None);
-        let ending = serve(rt.alloc(), &mut input, &mut output)?;
+        let ending = serve(&mut input, &mut output, &rt, rt.alloc())?;
         assert_eq!(rt; ending, Ending::Fault);
         assert_eq!(rt; output.bytes.as_slice(), SAID.as_bytes());
     }
@@ -315,7 +316,7 @@ fn failing_reads(rt: HostRuntime) -> Result<(), Fail> {
     for failing in 0..reads {
         let mut input = Parts::of(SCRIPT.as_bytes(), 1, Some(failing as u64));
         let mut output = Written::new(rt.alloc(), usize::MAX, None);
-        let answer = serve(rt.alloc(), &mut input, &mut output);
+        let answer = serve(&mut input, &mut output, &rt, rt.alloc());
         assert_eq!(rt; answer, Err(ServeError::Read), "{failing}");
         assert!(rt; SAID.as_bytes().starts_with(&output.bytes), "{failing}");
     }
@@ -327,7 +328,7 @@ fn failing_writes(rt: HostRuntime) -> Result<(), Fail> {
     for failing in 0..SAID.len() {
         let mut input = Parts::of(SCRIPT.as_bytes(), 20, None);
         let mut output = Written::new(rt.alloc(), 1, Some(failing as u64));
-        let answer = serve(rt.alloc(), &mut input, &mut output);
+        let answer = serve(&mut input, &mut output, &rt, rt.alloc());
         assert_eq!(rt; answer, Err(ServeError::Write), "{failing}");
         assert_eq!(rt; output.bytes.as_slice(), &SAID.as_bytes()[..failing]);
     }

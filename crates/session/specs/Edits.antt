@@ -1,5 +1,5 @@
 -- Edits that are added to those of a batch.
-use Rattle.std.specs.Prelude.{◌≡◌, ℕ, ◌<◌, List, [], ◌∷◌, ◌++◌, Option, Some, None, Result, Ok, Err}
+use Rattle.std.specs.Prelude.{◌≡◌, List, [], ◌∷◌, ◌++◌, Option, Some, None, Result, Ok, Err}
 use Rattle.graph_model.specs.declared.edit.Edit.{Edit}
 use Rattle.graph_model.specs.declared.edit.Edit.TheVariants as edits
 use Rattle.session_model.specs.declared.fault.Fault.{Fault}

@@ -1,6 +1,9 @@
 -- What a session keeps, and what commands and answers stand for.
-use Rattle.std.specs.Prelude.{List, map, Option}
+use Rattle.std.specs.Prelude.{List, map, Option, option_map}
+use Rattle.std.specs.Borrow.{Bor}
+use Rattle.std.specs.Option.{option_copied}
 use Rattle.graph_model.specs.Past.{Past}
+use Rattle.history.specs.Moment.{Moment}
 use Rattle.session_model.specs.Session.{KeptProgram, KeptPin, Session}
 use Rattle.session_model.specs.Commands.{Command, MakeGraph, PublishBatch, LoadProgram, TakePin, RunProgram, Answer, GraphMade, BatchPublished, ProgramAccepted, ProgramRefused, NoImage, PinTaken, EdgesMapped}
 use Rattle.session.specs.declared.kept.NamedProgram.{NamedProgram}
@@ -14,7 +17,11 @@ abbrev pub kept_program : NamedProgram → KeptProgram
 kept_program p = record { name = p.name.items; program = p.program }
 
 abbrev pub kept_pin : NamedPin → KeptPin
-kept_pin p = record { name = p.name.items; past = p.pin }
+kept_pin p = record { name = p.name.items; past = p.pin.past }
+
+-- what the version of a pin is the replay of, where there is a pin
+abbrev pub past_of : Option (Bor Moment) → Option Past
+past_of pin = option_map (λ (m : Moment). m.past) (option_copied pin)
 
 abbrev pub session_of : Option Past → List NamedProgram → List NamedPin → Session
 session_of past programs pins =

@@ -2,3 +2,4 @@ pub mod Kept
 pub mod Performs
 pub mod Edits
 pub mod Runs
+pub mod Handles

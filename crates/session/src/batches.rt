@@ -11,11 +11,12 @@ ghost use Rattle.session.specs.Performs.{Performs};
 
 use crate::answer::Answer;
 use crate::error::CommandError;
+use crate::handles::Handles;
 use crate::session::Session;
-use graph_model::{Batch, Edit, MOST_EDITS};
+use graph_model::{Batch, Edit, MOST_BATCHES, MOST_EDITS};
 use session_model::Fault;
 use std::alloc::Global;
-use versions::{PublishError, Publisher};
+use std::sync::Wait;
 
 /// An edit whose vertices are not tested: source and target.
 #[derive(Clone, Copy, Debug, PartialEq, Eq)]
@@ -34,10 +35,10 @@ impl Session {
             (edit_of edit) edits.old.items edits.new.items result }
         ensures few { HasFewVertices self.now }
     {
-        let Some(publisher) = &self.publisher else {
+        let Some(store) = &self.store else {
             return Err(CommandError::Fault(Fault::Order));
         };
-        let Some(edit) = edit_below(edit, publisher.vertex_count()) else {
+        let Some(edit) = edit_below(edit, store.vertex_count()) else {
             return Err(CommandError::Fault(Fault::Range));
         };
         if edits.len() >= MOST_EDITS {
@@ -48,48 +49,52 @@ impl Session {
     }
 
     /// Publishes a batch.
-    pub(crate) fn publish_batch<'a>(
+    pub(crate) fn publish_batch<'a, R: Wait>(
         &mut self,
+        rt: &R,
         feed: u8,
         edits: Vec<Edit>,
     ) -> Result<Answer<'a>, CommandError>
         ensures { Performs (publish_response feed edits.items self.old) result self.old self.new }
     {
         let alloc = self.alloc;
-        let Some(publisher) = &mut self.publisher else {
+        let Some(store) = &mut self.store else {
             return Err(CommandError::Fault(Fault::Order));
         };
-        publish(alloc, publisher, feed, edits)
+        publish(rt, alloc, store, feed, edits)
     }
 }
 
 /// Publishes a batch, where its edits are of the graph and few enough, and the log has room for it.
-fn publish<'a>(
+fn publish<'a, R: Wait>(
+    rt: &R,
     alloc: Global,
-    publisher: &mut Publisher,
+    store: &mut Handles,
     feed: u8,
     edits: Vec<Edit>,
 ) -> Result<Answer<'a>, CommandError>
     ensures { (s : SessionState) → Performs (publish_response feed edits.items
-        (record s { past = Some publisher.old })) result (record s { past = Some publisher.old })
-        (record s { past = Some publisher.new }) }
+        (record s { past = Some store.old })) result (record s { past = Some store.old })
+        (record s { past = Some store.new }) }
 {
-    if !are_below(&edits, publisher.vertex_count()) {
+    if !are_below(&edits, store.vertex_count()) {
         return Err(CommandError::Fault(Fault::Range));
     }
     if edits.len() > MOST_EDITS {
         return Err(CommandError::Fault(Fault::TooMany));
     }
+    if store.number() >= MOST_BATCHES {
+        return Err(CommandError::Fault(Fault::LogFull));
+    }
     let batch = Batch::new(alloc, edits)?;
-    match publisher.publish(feed, batch) {
+    match store.publish(rt, feed, batch) {
         Ok(receipt) => Ok(Answer::BatchPublished {
             feed,
             number: receipt.number(),
             added: receipt.added(),
             removed: receipt.removed(),
         }),
-        Err(PublishError::LogFull) => Err(CommandError::Fault(Fault::LogFull)),
-        Err(PublishError::OutOfMemory) => Err(CommandError::OutOfMemory),
+        Err(error) => Err(error),
     }
 }
 

@@ -6,9 +6,8 @@ ghost use Rattle.session.specs.declared.error.CommandError.TheVariants as errors
 use session_model::Fault;
 use std::alloc::{AllocError, AllocFailed};
 use thiserror::Error;
-use versions::PinError;
 
-/// Why a command was not performed. The session is as it was.
+/// Why a command was not performed. The session is as it was, but after `Store`.
 #[derive(Clone, Copy, Debug, PartialEq, Eq, Error)]
 pub enum CommandError {
     /// Something is wrong with the command.
@@ -17,8 +16,8 @@ pub enum CommandError {
     /// There is no memory for it.
     #[error("out of memory")]
     OutOfMemory,
-    /// A version cannot have one owner more.
-    #[error("a version cannot have one owner more")]
+    /// The store does not answer as it should.
+    #[error("the store does not answer as it should")]
     Store,
 }
 
@@ -43,13 +42,5 @@ impl<T: Drop> From<AllocFailed<T>> for CommandError {
 
     fn from(_e: AllocFailed<T>) -> CommandError {
         CommandError::OutOfMemory
-    }
-}
-
-impl From<PinError> for CommandError {
-    ghost from_gives = { λ _ e. e ≡ errors.Store };
-
-    fn from(_e: PinError) -> CommandError {
-        CommandError::Store
     }
 }

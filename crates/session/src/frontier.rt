@@ -8,14 +8,14 @@ ghost use Rattle.session_model.specs.Faults.{is_ascending};
 use std::alloc::{AllocError, Global};
 
 /// Whether each vertex is below a number of vertices.
-pub fn are_below(frontier: &[u64], vertices: u32) -> bool
+pub(crate) fn are_below(frontier: &[u64], vertices: u32) -> bool
     ensures { result ≡ list_all (λ v. nat_lt v vertices) frontier.now }
 {
     frontier.iter().all(|v| *v < u64::from(vertices))
 }
 
 /// Whether the vertices strictly ascend.
-pub fn is_strictly_ascending(frontier: &[u64]) -> bool
+pub(crate) fn is_strictly_ascending(frontier: &[u64]) -> bool
     ensures { result ≡ is_ascending frontier.now }
 {
     if frontier.is_empty() {
@@ -30,7 +30,7 @@ pub fn is_strictly_ascending(frontier: &[u64]) -> bool
 }
 
 /// All vertices of a graph, ascending.
-pub fn all_vertices(alloc: Global, vertices: u32) -> Result<Vec<u32>, AllocError>
+pub(crate) fn all_vertices(alloc: Global, vertices: u32) -> Result<Vec<u32>, AllocError>
     ensures { IfOk result (λ all. all.items ≡ numbers_below vertices) }
 {
     let mut all = Vec::with_capacity(alloc, vertices as usize)?;
@@ -41,7 +41,11 @@ pub fn all_vertices(alloc: Global, vertices: u32) -> Result<Vec<u32>, AllocError
 }
 
 /// The same vertices in 32 bits, which they fit.
-pub fn narrowed(alloc: Global, frontier: &[u64], vertices: u32) -> Result<Vec<u32>, AllocError>
+pub(crate) fn narrowed(
+    alloc: Global,
+    frontier: &[u64],
+    vertices: u32,
+) -> Result<Vec<u32>, AllocError>
     requires { list_all (λ v. nat_lt v vertices) frontier.now ≡ true }
     ensures { IfOk result (λ narrow. narrow.items ≡ frontier.now) }
 {

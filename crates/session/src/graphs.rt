@@ -8,10 +8,13 @@ ghost use Rattle.session.specs.Performs.{Performs};
 
 use crate::answer::Answer;
 use crate::error::CommandError;
+use crate::handles::Handles;
 use crate::session::Session;
 use session_model::Fault;
 use std::alloc::Global;
-use versions::{Publisher, Store, StoreError};
+use std::mem;
+use std::sync::Wait;
+use versions::StoreError;
 
 impl Session {
     /// How many vertices the graph has, where there is one.
@@ -19,38 +22,45 @@ impl Session {
         ensures value { result ≡ option_map (λ (past : Past). past.vertex_count) self.now.past }
         ensures few { HasFewVertices self.now }
     {
-        match &self.publisher {
+        match &self.store {
             None => None,
-            Some(publisher) => Some(publisher.vertex_count()),
+            Some(store) => Some(store.vertex_count()),
         }
     }
 
     /// Makes the graph of so many vertices.
-    pub(crate) fn make_graph<'a>(&mut self, vertices: u64) -> Result<Answer<'a>, CommandError>
+    pub(crate) fn make_graph<'a, R: Wait>(
+        &mut self,
+        rt: &R,
+        vertices: u64,
+    ) -> Result<Answer<'a>, CommandError>
         ensures { Performs (graph_response vertices self.old) result self.old self.new }
     {
-        if self.publisher.is_some() {
+        if self.store.is_some() {
             return Err(CommandError::Fault(Fault::Order));
         }
-        let Some(publisher) = publisher_of(self.alloc, vertices)? else {
+        let Some(store) = store_of(rt, self.alloc, vertices)? else {
             return Err(CommandError::Fault(Fault::Range));
         };
-        self.publisher = Some(publisher);
+        match mem::replace(&mut self.store, Some(store)) {
+            None => {}
+            Some(_) => unreachable!(),
+        }
         Ok(Answer::GraphMade { vertices })
     }
 }
 
-/// The publisher of a graph of so many vertices, where a graph may have so many.
-fn publisher_of(alloc: Global, vertices: u64) -> Result<Option<Publisher>, CommandError>
+/// The ends of a store of so many vertices, where a graph may have so many.
+fn store_of<R: Wait>(rt: &R, alloc: Global, vertices: u64) -> Result<Option<Handles>, CommandError>
     ensures made { IfOk result (λ made. MatchOption made (is_vertex_count vertices ≡ false)
-        (λ publisher. (is_vertex_count vertices ≡ true) × (publisher ≡ opening vertices))) }
+        (λ store. (is_vertex_count vertices ≡ true) × (store ≡ opening vertices))) }
     ensures error { IfErr result (λ e. e ≡ CommandError.OutOfMemory) }
 {
     let Ok(vertices) = u32::try_from(vertices) else {
         return Ok(None);
     };
-    match Store::new(alloc, vertices) {
-        Ok(publisher) => Ok(Some(publisher)),
+    match Handles::open(rt, alloc, vertices) {
+        Ok(store) => Ok(Some(store)),
         Err(StoreError::VertexCount) => Ok(None),
         Err(StoreError::OutOfMemory) => Err(CommandError::OutOfMemory),
     }

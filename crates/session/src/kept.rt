@@ -4,7 +4,7 @@ ghost use Rattle.std.specs.Prelude.{◌≡◌, map};
 ghost use Rattle.std.specs.Option.{option_copied};
 ghost use Rattle.bpf_asm.specs.Lexing.{same_bytes};
 ghost use Rattle.session_model.specs.Session.{program_named, pin_named};
-ghost use Rattle.session.specs.Kept.{kept_program, kept_pin};
+ghost use Rattle.session.specs.Kept.{kept_program, kept_pin, past_of};
 
 use verifier::Verified;
 use versions::Pin;
@@ -31,7 +31,7 @@ fn is_same(a: &[u8], b: &[u8]) -> bool
 }
 
 /// The program of this name.
-pub fn find_program<'a>(programs: &'a [NamedProgram], name: &[u8]) -> Option<&'a Verified>
+pub(crate) fn find_program<'a>(programs: &'a [NamedProgram], name: &[u8]) -> Option<&'a Verified>
     ensures { option_copied result ≡ program_named name.now (map kept_program programs.now) }
 {
     for kept in programs {
@@ -43,8 +43,8 @@ pub fn find_program<'a>(programs: &'a [NamedProgram], name: &[u8]) -> Option<&'a
 }
 
 /// The pin of this name.
-pub fn find_pin<'a>(pins: &'a [NamedPin], name: &[u8]) -> Option<&'a Pin>
-    ensures { option_copied result ≡ pin_named name.now (map kept_pin pins.now) }
+pub(crate) fn find_pin<'a>(pins: &'a [NamedPin], name: &[u8]) -> Option<&'a Pin>
+    ensures { past_of result ≡ pin_named name.now (map kept_pin pins.now) }
 {
     for kept in pins {
         if is_same(&kept.name, name) {

@@ -8,6 +8,7 @@ mod command;
 mod error;
 mod frontier;
 mod graphs;
+mod handles;
 mod kept;
 mod pins;
 mod programs;

@@ -14,20 +14,23 @@ impl Session {
     pub(crate) fn take_pin<'a>(&mut self, name: &'a [u8]) -> Result<Answer<'a>, CommandError>
         ensures { Performs (pin_response name.now self.old) result self.old self.new }
     {
-        let Some(publisher) = &self.publisher else {
+        if self.store.is_none() {
             return Err(CommandError::Fault(Fault::Order));
-        };
+        }
         if find_pin(&self.pins, name).is_some() {
             return Err(CommandError::Fault(Fault::Name));
         }
         if self.pins.len() >= MOST_KEPT {
             return Err(CommandError::Fault(Fault::TooMany));
         }
-        let pin = publisher.pin()?;
+        let name_kept = Vec::from_slice(self.alloc, name)?;
+        let Some(store) = &mut self.store else {
+            unreachable!()
+        };
+        let pin = store.pin()?;
         let version = pin.version();
         let number = version.number();
         let edges = version.edge_count();
-        let name_kept = Vec::from_slice(self.alloc, name)?;
         self.pins.push(NamedPin {
             name: name_kept,
             pin,

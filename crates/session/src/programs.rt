@@ -23,7 +23,7 @@ impl Session {
         ensures fault { result ≡ program_fault name.now record_length self.now }
         ensures length { IfNone result (IsRecordLength record_length) }
     {
-        if self.publisher.is_none() {
+        if self.store.is_none() {
             return Some(Fault::Order);
         }
         if record_length < u64::from(LEAST_RECORD_LENGTH)

@@ -7,6 +7,7 @@ ghost use Rattle.graph_model.specs.Past.{graph_of};
 ghost use Rattle.session_model.specs.Session.{Session as SessionState};
 ghost use Rattle.session_model.specs.Faults.{is_ascending, argument_fault};
 ghost use Rattle.session_model.specs.Responses.{run_response, found_response, map_answer, frontier_of};
+ghost use Rattle.session.specs.Kept.{past_of};
 ghost use Rattle.session.specs.Performs.{Performs};
 ghost use Rattle.session.specs.Runs.{Maps};
 
@@ -44,7 +45,7 @@ fn vertices_of(
     requires most { vertices ≤ 1048576 }
     requires below { list_all (λ v. nat_lt v vertices) frontier.now ≡ true }
     requires ascending { is_ascending frontier.now ≡ true }
-    ensures vertices { IfOk result (λ all. all.items ≡ frontier_of frontier.now (graph_of version.now)) }
+    ensures vertices { IfOk result (λ all. all.items ≡ frontier_of frontier.now (graph_of version.now.past)) }
     ensures few { IfOk result (λ all. length all.items ≤ 1048576) }
 {
     if frontier.is_empty() {
@@ -82,7 +83,7 @@ fn map_version<'a>(
     requires most { vertices ≤ 1048576 }
     requires below { list_all (λ v. nat_lt v vertices) run.now.frontier.now ≡ true }
     requires ascending { is_ascending run.now.frontier.now ≡ true }
-    ensures { let g = graph_of version.now in
+    ensures { let g = graph_of version.now.past in
         Maps (map_answer run.now.program.now run.now.pin.now program.now g run.now.reduction run.now.argument.now
         (frontier_of run.now.frontier.now g)) result }
 {
@@ -116,7 +117,7 @@ fn map_found<'a>(
     requires below { list_all (λ v. nat_lt v vertices) run.now.frontier.now ≡ true }
     ensures { (s : SessionState) → Performs (found_response run.now.program.now run.now.pin.now run.now.reduction
         run.now.argument.now run.now.frontier.now (option_copied program.entry)
-        (option_copied pin.entry) s) result s s }
+        (past_of pin.entry) s) result s s }
 {
     let (Some(program), Some(pin)) = (program, pin) else {
         return Err(CommandError::Fault(Fault::Name));
@@ -134,10 +135,10 @@ impl Session {
         ensures { Performs (run_response run.now.program.now run.now.pin.now run.now.reduction run.now.argument.now
             run.now.frontier.now self.now) result self.now self.now }
     {
-        let Some(publisher) = &self.publisher else {
+        let Some(store) = &self.store else {
             return Err(CommandError::Fault(Fault::Order));
         };
-        let vertices = publisher.vertex_count();
+        let vertices = store.vertex_count();
         if !are_below(run.frontier, vertices) {
             return Err(CommandError::Fault(Fault::Range));
         }

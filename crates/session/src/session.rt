@@ -9,16 +9,17 @@ ghost use Rattle.session.specs.Performs.{Performs};
 use crate::answer::Answer;
 use crate::command::Command;
 use crate::error::CommandError;
+use crate::handles::Handles;
 use crate::kept::{NamedPin, NamedProgram};
 use crate::runs::Run;
 use std::alloc::Global;
 use std::marker::Model;
-use versions::Publisher;
+use std::sync::Wait;
 
 /// What commands have made so far. Whoever makes one has to close it.
 pub struct Session {
     pub(crate) alloc: Global,
-    pub(crate) publisher: Option<Publisher>,
+    pub(crate) store: Option<Handles>,
     pub(crate) programs: Vec<NamedProgram>,
     pub(crate) pins: Vec<NamedPin>,
 }
@@ -29,7 +30,7 @@ impl Model for Session {
 
     ghost Value = { SessionState };
 
-    ghost view = { λ s. session_of s.publisher s.programs.items s.pins.items };
+    ghost view = { λ s. session_of s.store s.programs.items s.pins.items };
 }
 
 impl Session {
@@ -39,21 +40,25 @@ impl Session {
     {
         Session {
             alloc,
-            publisher: None,
+            store: None,
             programs: Vec::new(alloc),
             pins: Vec::new(alloc),
         }
     }
 
     /// Performs a command: the answer is what the definition `response` says, or the fault is. Besides it
-    /// answers `OutOfMemory` for want of memory, and `Store` where a version cannot have one owner more.
-    /// After an error the session is as it was.
-    pub fn perform<'a>(&mut self, command: Command<'a>) -> Result<Answer<'a>, CommandError>
+    /// answers `OutOfMemory` for want of memory, and `Store` where its store does not answer as it should. After
+    /// another error the session is as it was. After `Store` there is no use of it but `close`.
+    pub fn perform<'a, R: Wait>(
+        &mut self,
+        rt: &R,
+        command: Command<'a>,
+    ) -> Result<Answer<'a>, CommandError>
         ensures { Performs (response (command_of command.entry) self.old) result self.old self.new }
     {
         match command {
-            Command::MakeGraph { vertices } => self.make_graph(vertices),
-            Command::PublishBatch { feed, edits } => self.publish_batch(feed, edits),
+            Command::MakeGraph { vertices } => self.make_graph(rt, vertices),
+            Command::PublishBatch { feed, edits } => self.publish_batch(rt, feed, edits),
             Command::LoadProgram {
                 name,
                 record_length,
@@ -77,12 +82,15 @@ impl Session {
     }
 
     /// Ends the session: its graph, programs and pins are let go.
-    pub fn close(self) {
+    pub fn close<R: Wait>(self, rt: &R) {
         let Session {
             alloc: _,
-            publisher: _,
+            store,
             programs: _,
             pins: _,
         } = self;
+        if let Some(store) = store {
+            store.close(rt);
+        }
     }
 }

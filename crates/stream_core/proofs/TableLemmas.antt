@@ -19,7 +19,7 @@ use Rattle.store_model.specs.Core.{range_of, is_done}
 use Rattle.stream_core.specs.Tables.{own_edits, IsTableInWork}
 
 abbrev nothing : Part
-nothing = record { range = 0; rows = [] }
+nothing = record { range = 0; rows = []; homes = [] }
 
 -- ---- a table under edit
 

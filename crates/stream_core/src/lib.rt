@@ -14,4 +14,6 @@ pub use store_model::{Event, Reply};
 pub use world::World;
 
 #[cfg(test)]
+mod home_tests;
+#[cfg(test)]
 mod tests;

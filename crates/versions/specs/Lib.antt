@@ -1,3 +1,5 @@
-pub mod Log
-pub mod Version
-pub mod Receipt
+pub mod Receipts
+pub mod Held
+pub mod Storing
+pub mod Feeds
+pub mod Ties

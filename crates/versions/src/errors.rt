@@ -1,7 +1,7 @@
 ghost use Rattle.std.specs.Prelude.{◌≡◌};
-ghost use Rattle.versions.specs.declared.errors.PublishError.TheVariants as publishing;
 ghost use Rattle.versions.specs.declared.errors.StoreError.TheVariants as opening;
 
+use graph_model::Batch;
 use std::alloc::{AllocError, AllocFailed};
 use thiserror::Error;
 
@@ -11,7 +11,7 @@ pub enum StoreError {
     /// The number of vertices is not from 1 to 1,048,576.
     #[error("the number of vertices is not from 1 to 1048576")]
     VertexCount = 1,
-    /// There is no memory for the first version.
+    /// There is no memory for the first version, the queue or the readers.
     #[error("out of memory")]
     OutOfMemory = 2,
 }
@@ -32,37 +32,34 @@ impl<T: Drop> From<AllocFailed<T>> for StoreError {
     }
 }
 
-/// Why a batch was not published.
+/// What was wrong with a batch, or with the moment.
+#[derive(Clone, Copy, Debug, PartialEq, Eq, Error)]
+pub enum SubmitCause {
+    /// 64 batches wait in the queue.
+    #[error("64 batches wait in the queue")]
+    Full = 1,
+    /// An edit names a vertex that the graph does not have.
+    #[error("an edit names a vertex that the graph does not have")]
+    VertexRange = 2,
+    /// There are more than 65,536 edits.
+    #[error("there are more than 65536 edits")]
+    TooManyEdits = 3,
+}
+
+/// Why a batch was not submitted, and the batch.
+#[derive(Debug, Drop)]
+pub struct SubmitError {
+    pub cause: SubmitCause,
+    pub batch: Batch,
+}
+
+/// Why no batch was published.
 #[derive(Clone, Copy, Debug, PartialEq, Eq, Error)]
 pub enum PublishError {
-    /// There is no memory for the next version.
+    /// There is no memory for the next version. The batch is held, and the next step begins with it.
     #[error("out of memory")]
     OutOfMemory = 1,
     /// 4,096 batches were published, and there is room for no more.
     #[error("4096 batches were published, and there is room for no more")]
     LogFull = 2,
-}
-
-impl From<AllocError> for PublishError {
-    ghost from_gives = { λ _ e. e ≡ publishing.OutOfMemory };
-
-    fn from(_e: AllocError) -> PublishError {
-        PublishError::OutOfMemory
-    }
-}
-
-impl<T: Drop> From<AllocFailed<T>> for PublishError {
-    ghost from_gives = { λ _ e. e ≡ publishing.OutOfMemory };
-
-    fn from(_e: AllocFailed<T>) -> PublishError {
-        PublishError::OutOfMemory
-    }
-}
-
-/// Why no pin was given.
-#[derive(Clone, Copy, Debug, PartialEq, Eq, Error)]
-pub enum PinError {
-    /// The version cannot have one owner more.
-    #[error("the version cannot have one owner more")]
-    NoShare = 2,
 }

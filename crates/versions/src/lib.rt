@@ -1,23 +1,29 @@
-//! Versions of a graph: what each is the replay of, how one is published, and how one is held.
+//! A store over threads: two feeds submit batches, a publisher makes one version after another of them, and readers
+//! pin versions.
 #![tactic(auto)]
 
 mod errors;
-mod log;
+mod feed;
+mod finished;
+mod held;
 mod pin;
+mod press;
 mod publisher;
+mod reader;
 mod receipt;
 mod store;
-mod version;
-mod view;
 
-pub use cursors::Cursor;
-pub use errors::{PinError, PublishError, StoreError};
+pub use board::{NoPlace, PinError};
+pub use errors::{PublishError, StoreError, SubmitCause, SubmitError};
+pub use feed::Feed;
+pub use finished::Finished;
 pub use graph_model::{Batch, Edit, Entry, GraphView};
 pub use pin::Pin;
 pub use publisher::Publisher;
+pub use reader::Reader;
 pub use receipt::Receipt;
 pub use store::Store;
-pub use version::Version;
+pub use version::{Cursor, Version};
 
 #[cfg(test)]
 mod tests;

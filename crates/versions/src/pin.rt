@@ -1,10 +1,12 @@
 ghost use Rattle.std.specs.Prelude.{◌≡◌};
+ghost use Rattle.std.specs.Arc.{arc_value};
 
-use crate::version::Version;
 use std::marker::Model;
 use std::sync::Arc;
+use version::Version;
 
-/// A hold on one version, which stays as it is while later ones are published.
+/// A hold on one version, which stays as it is while later ones are published. Contracts see it as the version's
+/// moment.
 #[derive(Drop)]
 pub struct Pin {
     version: Arc<Version>,
@@ -12,16 +14,14 @@ pub struct Pin {
 
 impl Model for Pin {
     ghost use Rattle.std.specs.Arc.{arc_value};
-    ghost use Rattle.graph_model.specs.Past.{Past};
+    ghost use Rattle.history.specs.Moment.{Moment};
 
-    ghost Value = { Past };
+    ghost Value = { Moment };
 
     ghost view = { λ p. arc_value p.version };
 }
 
 impl Pin {
-    ghost use Rattle.std.specs.Arc.{arc_value};
-
     /// A hold on this version.
     pub(crate) fn on(version: Arc<Version>) -> Pin
         ensures { result ≡ arc_value version }

@@ -1,95 +1,141 @@
-ghost use Rattle.std.specs.Prelude.{◌≡◌, ◌≤◌, ◌↔◌, length, IfOk, OnErr, IsErrOf, IsOkUnless};
-ghost use Rattle.graph_model.specs.declared.limits.TheConstants.{MOST_EDITS, MOST_BATCHES};
-ghost use Rattle.graph_model.specs.Edits.{AreEditsBelow};
-ghost use Rattle.graph_model.specs.Past.{IsPast, number_of, longer};
-ghost use Rattle.versions.specs.Receipt.{entry};
-ghost use Rattle.versions.specs.Version.{IsVertexCount};
+ghost use Rattle.std.specs.Prelude.{◌≡◌, ◌≤◌, ◌↔◌, ◌++◌, length, option_map, IfOk, IfErr, IfSome, IfNone, IsErrOf};
+ghost use Rattle.std.specs.Arc.{arc_value};
+ghost use Rattle.graph_model.specs.declared.limits.TheConstants.{MOST_BATCHES};
+ghost use Rattle.graph_model.specs.Past.{number_of};
+ghost use Rattle.store_model.specs.declared.limits.TheConstants.{QUEUE_PLACES};
+ghost use Rattle.history.specs.Moment.{OneStore};
+ghost use Rattle.versions.specs.Held.{entry_in, entry_held, IsNoted};
+ghost use Rattle.versions.specs.Feeds.{AreFeedsOf, AreDelivered};
+ghost use Rattle.versions.specs.Ties.{PublishesAsEvents, TakesAsEvent};
+ghost use Rattle.versions.specs.Storing.{taken_of, IsPublished, IsIdle, IsKept};
 
-use crate::errors::{PinError, PublishError};
-use crate::pin::Pin;
+use crate::errors::PublishError;
+use crate::feed::Feed;
+use crate::finished::Finished;
+use crate::held::Held;
+use crate::press::Press;
 use crate::receipt::Receipt;
-use crate::version::Version;
-use graph_model::{Batch, Entry, MOST_BATCHES};
-use std::alloc::Global;
+use graph_model::MOST_BATCHES;
+use intake::Intake;
 use std::marker::Model;
-use std::sync::Arc;
+use std::sync::Wait;
 
-/// The one that makes the versions of a graph, each of the one before and a batch.
-#[derive(Drop)]
+/// The one that makes the versions of a graph, each of the one before and a batch that a feed submitted. It has to be
+/// ended by `finish`. Contracts see it as a `Storing`.
 pub struct Publisher {
-    alloc: Global,
-    current: Arc<Version>,
+    pub(crate) press: Press,
+    pub(crate) held: Option<Held>,
+    pub(crate) intake: Intake,
 }
 
 impl Model for Publisher {
-    ghost use Rattle.std.specs.Arc.{arc_value};
-    ghost use Rattle.graph_model.specs.Past.{Past};
+    ghost use Rattle.std.specs.Prelude.{◌≡◌, ◌++◌};
+    ghost use Rattle.versions.specs.Held.{entry_held, entries_held, IsHolding};
+    ghost use Rattle.versions.specs.Storing.{Storing};
 
-    ghost Value = { Past };
+    ghost Value = { Storing };
 
-    ghost view = { λ p. arc_value p.current };
+    ghost view = { λ p. record {
+      moment = p.press.moment;
+      held = entry_held p.held;
+      empties = p.intake.empties;
+      queue = p.intake.queue;
+    } };
+
+    ghost invariant = { λ p. (p.intake.taken ≡ p.press.moment.past.log ++ entries_held (entry_held p.held))
+        × (p.intake.vertex_count ≡ p.press.moment.past.vertex_count) × IsHolding p.press p.held };
 }
 
 impl Publisher {
-    ghost use Rattle.std.specs.Arc.{arc_value};
-
-    /// The publisher of the versions after this one.
-    pub(crate) fn after(alloc: Global, current: Arc<Version>) -> Publisher
-        ensures { result ≡ arc_value current }
+    /// Publishes one batch: the held one, and else the one that waits longest in the queue. `None`, and nothing is
+    /// published, where neither is there. `LogFull` comes exactly after 4,096 batches, and takes nothing. After
+    /// `OutOfMemory` nothing is published, and the batch is held.
+    pub fn step<R: Wait>(&mut self, rt: &R) -> Result<Option<Receipt>, PublishError>
+        ensures same_queue { self.new.queue ≡ self.old.queue }
+        ensures same_store { OneStore self.old.moment self.new.moment }
+        ensures published { IfOk result (λ done. IfSome done (λ receipt. IsPublished self.old receipt self.new)) }
+        ensures events { IfOk result (λ done. IfSome done (λ receipt. PublishesAsEvents self.old receipt.entry self.new)) }
+        ensures idle { IfOk result (λ done. IfNone done (IsIdle self.old self.new)) }
+        ensures kept { IfErr result (λ _. IsKept self.old self.new) }
+        ensures taking { IfErr result (λ _. TakesAsEvent self.old self.new) }
+        ensures full { IsErrOf result PublishError.LogFull ↔ (number_of self.old.moment.past ≡ MOST_BATCHES) }
+        ensures full_same { IsErrOf result PublishError.LogFull → self.new ≡ self.old }
     {
-        Publisher { alloc, current }
+        self.publish_next(rt)
     }
 
-    /// How many vertices each version has: from 1 to 1,048,576.
-    pub fn vertex_count(&self) -> u32
-        ensures value { result ≡ self.now.vertex_count }
-        ensures range { IsVertexCount result }
+    // Publishes the batch that comes next.
+    fn publish_next<R: Wait>(&mut self, rt: &R) -> Result<Option<Receipt>, PublishError>
+        ensures same_queue { self.new.queue ≡ self.old.queue }
+        ensures same_store { OneStore self.old.moment self.new.moment }
+        ensures published { IfOk result (λ done. IfSome done (λ receipt. IsPublished self.old receipt self.new)) }
+        ensures idle { IfOk result (λ done. IfNone done (IsIdle self.old self.new)) }
+        ensures kept { IfErr result (λ _. IsKept self.old self.new) }
+        ensures full { IsErrOf result PublishError.LogFull ↔ (number_of self.old.moment.past ≡ MOST_BATCHES) }
+        ensures full_same { IsErrOf result PublishError.LogFull → self.new ≡ self.old }
     {
-        self.current.vertex_count()
-    }
-
-    /// The number of the version that was published last, and 0 before the first.
-    pub fn number(&self) -> u64
-        ensures value { result ≡ number_of self.now }
-        ensures small { result ≤ MOST_BATCHES }
-        ensures past { IsPast self.now }
-    {
-        self.current.number()
-    }
-
-    /// Publishes the next version: the last one after this batch, which came by this feed (0 for A, 1 for B),
-    /// and whose edits are at most 65,536 and among the graph's vertices. After an error the last version is still the one before: `LogFull`,
-    /// which is tested first, after 4,096 batches, and `OutOfMemory` where there is no memory for the
-    /// next version.
-    pub fn publish(&mut self, feed: u8, batch: Batch) -> Result<Receipt, PublishError>
-        requires short { length batch ≤ MOST_EDITS }
-        requires below { AreEditsBelow self.old.vertex_count batch }
-        ensures receipt { IfOk result (λ receipt. receipt ≡ longer self.old (entry feed batch)) }
-        ensures published { IfOk result (λ receipt. self.new ≡ receipt) }
-        ensures err { OnErr result (self.new ≡ self.old) }
-        ensures full { IsErrOf result PublishError.LogFull ↔ (number_of self.old ≡ MOST_BATCHES) }
-    {
-        if self.current.number() >= MOST_BATCHES {
+        if self.press.number() >= MOST_BATCHES {
             return Err(PublishError::LogFull);
         }
-        let entry = Entry { feed, batch };
-        let published = entry.share()?;
-        let next = self.current.next(self.alloc, entry)?;
-        let version = Arc::new(self.alloc, next.version)?;
-        let shown = Arc::try_clone(&version)?;
-        self.current = shown;
-        Ok(Receipt::of(version, published, next.counts))
+        match self.held.take() {
+            Some(held) => note(self.press.go_on(held, rt), &mut self.held),
+            None => match self.intake.pop(rt) {
+                Some(entry) => note(self.press.go_on(Held::Taken(entry), rt), &mut self.held),
+                None => Ok(None),
+            },
+        }
     }
 
-    /// A hold on the version that was published last. It is refused, with `NoShare`, only where that
-    /// version cannot have one owner more.
-    pub fn pin(&self) -> Result<Pin, PinError>
-        ensures pinned { IfOk result (λ pin. pin ≡ self.now) }
-        ensures refused { IsOkUnless result PinError.NoShare }
+    /// The feed of the batch that was taken and is not published, where there is one.
+    pub fn holds(&self) -> Option<u8>
+        ensures { result ≡ option_map (λ entry. entry.feed) self.now.held }
     {
-        match Arc::try_clone(&self.current) {
-            Ok(version) => Ok(Pin::on(version)),
-            Err(_) => Err(PinError::NoShare),
+        match &self.held {
+            None => None,
+            Some(held) => Some(held.entry().feed),
+        }
+    }
+
+    /// Ends the store, once both feeds are handed in, A before B. It takes no memory. Readers are told from then on
+    /// that the store is closed.
+    pub fn finish<R: Wait>(self, feeds: [Feed; 2], rt: &R) -> Finished
+        requires { AreFeedsOf self feeds }
+        ensures last { arc_value result.last ≡ self.moment }
+        ensures held { result.held ≡ self.held }
+        ensures delivered { AreDelivered (taken_of self ++ result.left.items) feeds }
+        ensures few { length result.left.items ≤ QUEUE_PLACES }
+    {
+        let Publisher {
+            press,
+            held,
+            intake,
+        } = self;
+        let mut each = feeds.into_iter();
+        let (Some(first), Some(second)) = (each.next(), each.next()) else {
+            unreachable!()
+        };
+        let left = intake.finish(first.into_outlet(), second.into_outlet(), rt);
+        Finished {
+            last: press.close(rt),
+            held: held.map(Held::into_entry),
+            left,
+        }
+    }
+}
+
+// The receipt; or the batch is held again.
+fn note(
+    answer: Result<Receipt, Held>,
+    held: &mut Option<Held>,
+) -> Result<Option<Receipt>, PublishError>
+    requires { held.old ≡ None }
+    ensures { IsNoted answer result held.new }
+{
+    match answer {
+        Ok(receipt) => Ok(Some(receipt)),
+        Err(kept) => {
+            *held = Some(kept);
+            Err(PublishError::OutOfMemory)
         }
     }
 }

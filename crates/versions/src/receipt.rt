@@ -1,86 +1,85 @@
 ghost use Rattle.std.specs.Prelude.{◌≡◌, ◌≤◌};
+ghost use Rattle.std.specs.Arc.{arc_value};
 ghost use Rattle.graph_model.specs.declared.limits.TheConstants.{MOST_BATCHES};
-ghost use Rattle.graph_model.specs.declared.entry.Entry.{Entry};
-ghost use Rattle.graph_model.specs.Edits.{added, removed};
-ghost use Rattle.graph_model.specs.Past.{Past, graph_of, number_of, longer};
-ghost use Rattle.versions.specs.Receipt.{IsPublished, IsReceipt};
+ghost use Rattle.graph_model.specs.Past.{number_of};
+ghost use Rattle.versions.specs.Receipts.{IsPublication, publication_by};
 
-use crate::version::Version;
-use graph_model::{Batch, Entry};
-use migration::Counts;
+use crate::held::Change;
+use graph_model::Batch;
 use std::marker::Model;
 use std::sync::Arc;
+use version::Version;
 
-/// The proof of one publication: the version that it made, its batch, and what the batch did.
+/// The proof of one publication: the version that it made, its batch, and what the batch did. Contracts see it as
+/// the `Publication`.
 #[derive(Drop)]
 pub struct Receipt {
     version: Arc<Version>,
-    entry: Entry,
-    counts: Counts,
+    change: Change,
 }
 
 impl Model for Receipt {
     ghost use Rattle.std.specs.Arc.{arc_value};
-    ghost use Rattle.graph_model.specs.Past.{Past};
-    ghost use Rattle.versions.specs.Receipt.{IsReceipt};
+    ghost use Rattle.versions.specs.Receipts.{Publication, IsPublication, publication_by};
 
-    ghost Value = { Past };
+    ghost Value = { Publication };
 
-    ghost view = { λ r. arc_value r.version };
+    ghost view = { λ r. publication_by (arc_value r.version) r.change };
 
-    ghost invariant = { λ r. IsReceipt (arc_value r.version) r.entry r.counts };
+    ghost invariant = { λ r. IsPublication (publication_by (arc_value r.version) r.change) };
 }
 
 impl Receipt {
-    ghost use Rattle.std.specs.Arc.{arc_value};
-
-    /// The receipt of a version that this entry made.
-    pub(crate) fn of(version: Arc<Version>, entry: Entry, counts: Counts) -> Receipt
-        requires { IsReceipt (arc_value version) entry counts }
-        ensures { result ≡ arc_value version }
+    /// The receipt of a version that this batch made.
+    pub(crate) fn of(version: Arc<Version>, change: Change) -> Receipt
+        requires { IsPublication (publication_by (arc_value version) change) }
+        ensures { result ≡ publication_by (arc_value version) change }
     {
-        Receipt {
-            version,
-            entry,
-            counts,
-        }
+        Receipt { version, change }
+    }
+
+    /// The version that the batch made.
+    pub(crate) fn version(&self) -> &Version
+        ensures { result.now ≡ self.now.moment }
+    {
+        &self.version
     }
 
     /// The number of the version that the batch made: how many batches its log has, at most 4,096.
     pub fn number(&self) -> u64
-        ensures value { result ≡ number_of self.now }
+        ensures value { result ≡ number_of self.now.moment.past }
         ensures small { result ≤ MOST_BATCHES }
-        ensures published { IsPublished self.now }
+        ensures published { IsPublication self.now }
     {
-        let _entry = &self.entry;
+        let _change = &self.change;
         self.version.number()
     }
 
     /// The feed that the batch came by.
     pub fn feed(&self) -> u8
-        ensures { (before : Past) (e : Entry) → self.now ≡ longer before e → result ≡ e.feed }
+        ensures { result ≡ self.now.entry.feed }
     {
-        self.entry.feed
+        self.change.entry.feed
     }
 
     /// The batch.
     pub fn batch(&self) -> &Batch
-        ensures { (before : Past) (e : Entry) → self.now ≡ longer before e → result.now ≡ e.batch }
+        ensures { result.now ≡ self.now.entry.batch }
     {
-        &self.entry.batch
+        &self.change.entry.batch
     }
 
     /// How many edges there are since the batch that were not there before.
     pub fn added(&self) -> u64
-        ensures { (before : Past) (e : Entry) → self.now ≡ longer before e → result ≡ added e.batch (graph_of before) }
+        ensures { result ≡ self.now.added }
     {
-        self.counts.added
+        self.change.counts.added
     }
 
     /// How many edges there were before the batch that are not there since.
     pub fn removed(&self) -> u64
-        ensures { (before : Past) (e : Entry) → self.now ≡ longer before e → result ≡ removed e.batch (graph_of before) }
+        ensures { result ≡ self.now.removed }
     {
-        self.counts.removed
+        self.change.counts.removed
     }
 }

@@ -1,28 +1,55 @@
 ghost use Rattle.std.specs.Prelude.{◌≡◌, ◌<◌, ◌↔◌, ◌⊎◌, IfOk, IsErrOf};
 ghost use Rattle.graph_model.specs.declared.limits.TheConstants.{MOST_VERTICES};
-ghost use Rattle.graph_model.specs.Past.{opening};
+ghost use Rattle.versions.specs.Storing.{IsOpened};
 
 use crate::errors::StoreError;
+use crate::feed::Feed;
+use crate::press::Press;
 use crate::publisher::Publisher;
-use crate::version::Version;
+use crate::reader::Reader;
 use graph_model::MOST_VERTICES;
+use history::Head;
 use std::alloc::Global;
-use std::sync::Arc;
+use std::sync::{Arc, Wait};
+use version::Version;
 
-/// Where versions come from.
+/// Where publishers, feeds and readers come from.
 pub struct Store;
 
 impl Store {
-    /// The publisher of a graph's versions, with nothing published. It may have 1 to 1,048,576
-    /// vertices, and has no edge.
-    pub fn new(alloc: Global, vertex_count: u32) -> Result<Publisher, StoreError>
-        ensures opened { IfOk result (λ publisher. publisher ≡ opening vertex_count) }
+    /// A store of a graph without an edge, which may have 1 to 1,048,576 vertices: its publisher, the feeds A and B,
+    /// and a reader. It has all the memory that feeds and readers need.
+    pub fn new<R: Wait>(
+        vertex_count: u32,
+        rt: &R,
+        alloc: Global,
+    ) -> Result<(Publisher, [Feed; 2], Reader), StoreError>
+        ensures opened { IfOk result (λ store. IsOpened vertex_count store.0 store.1 store.2) }
         ensures refused { IsErrOf result StoreError.VertexCount ↔ ((vertex_count ≡ 0) ⊎ (MOST_VERTICES < vertex_count)) }
     {
         if vertex_count == 0 || vertex_count > MOST_VERTICES {
             return Err(StoreError::VertexCount);
         }
-        let version = Version::opening(alloc, vertex_count)?;
-        Ok(Publisher::after(alloc, Arc::new(alloc, version)?))
+        let ends = intake::open(alloc, vertex_count)?;
+        let feeds = [
+            Feed::over(vertex_count, ends.first),
+            Feed::over(vertex_count, ends.second),
+        ];
+        let (head, known) = Head::new();
+        let version = Version::opening(alloc, vertex_count, known)?;
+        let current = Arc::new(alloc, version)?;
+        let (board, side) = board::open(alloc, &current, rt)?;
+        let press = Press {
+            alloc,
+            head,
+            current,
+            board,
+        };
+        let publisher = Publisher {
+            press,
+            held: None,
+            intake: ends.intake,
+        };
+        Ok((publisher, feeds, Reader::at(side)))
     }
 }

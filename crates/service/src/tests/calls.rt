@@ -31,7 +31,7 @@ fn functions_that_call(rt: HostRuntime) -> Result<(), Fail> {
         ),
     ] {
         let script = format!(in rt.alloc(); "graph 4\nprogram p 16\n{lines}end\n")?;
-        let (text, ending) = served(rt.alloc(), script.as_bytes())?;
+        let (text, ending) = served(&rt, rt.alloc(), script.as_bytes())?;
         assert!(rt; text.ends_with(wanted.as_bytes()), "{lines}");
         assert_eq!(rt; ending, Ending::Complete);
     }
@@ -45,7 +45,7 @@ fn a_kept_register_comes_back(rt: HostRuntime) -> Result<(), Fail> {
     let script = format!(in rt.alloc();
         "graph 4\nbatch A\n+ 0 1\nend\n{program}pin a\nrun p a sum -\n"
     )?;
-    let (text, _) = served(rt.alloc(), script.as_bytes())?;
+    let (text, _) = served(&rt, rt.alloc(), script.as_bytes())?;
     assert!(rt; text.ends_with(b"run p a edges 1 total 5\nrow 0 5\n"));
     Ok(())
 }
@@ -59,7 +59,7 @@ fn frames_and_lengths(rt: HostRuntime) -> Result<(), Fail> {
     ] {
         let lines = levels(rt.alloc(), functions, calls)?;
         let script = format!(in rt.alloc(); "graph 4\nprogram p 16\n{lines}end\n")?;
-        let (text, _) = served(rt.alloc(), script.as_bytes())?;
+        let (text, _) = served(&rt, rt.alloc(), script.as_bytes())?;
         assert!(rt; text.ends_with(wanted.as_bytes()), "{functions} {calls}");
     }
     Ok(())
@@ -68,7 +68,7 @@ fn frames_and_lengths(rt: HostRuntime) -> Result<(), Fail> {
 #[test]
 fn calls_that_are_refused(rt: HostRuntime) -> Result<(), Fail> {
     let script = b"graph 4\ncode p 16 85100000ffffffff9500000000000000\n";
-    let (text, _) = served(rt.alloc(), script)?;
+    let (text, _) = served(&rt, rt.alloc(), script)?;
     assert!(rt; text.ends_with(b"refused p cause 4 pc 0\n"));
     Ok(())
 }
@@ -77,7 +77,7 @@ fn calls_that_are_refused(rt: HostRuntime) -> Result<(), Fail> {
 fn dead_levels_count_for_nothing(rt: HostRuntime) -> Result<(), Fail> {
     let lines = levels(rt.alloc(), 401, 2)?;
     let script = format!(in rt.alloc(); "graph 4\nprogram p 16\nmov r0, 3\nexit\n{lines}end\n")?;
-    let (text, _) = served(rt.alloc(), script.as_bytes())?;
+    let (text, _) = served(&rt, rt.alloc(), script.as_bytes())?;
     assert!(rt; text.ends_with(b"program p bound 2 frames 1\n"));
     Ok(())
 }

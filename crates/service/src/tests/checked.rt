@@ -2,6 +2,7 @@ use crate::Ending;
 use crate::tests::{served, with_line_ends};
 use std::alloc::Global;
 use std::process::Abort;
+use std::sync::Wait;
 use std::test::Fail;
 use vectors::{ACCEPTED, CONSTANTS, REFUSED};
 
@@ -14,7 +15,7 @@ const GRAPH_SAID: &str = "graph 6\nbatch A version 1 added 6 removed 0\npin a ve
 
 /// A script behind the graph writes this behind what the graph says.
 fn assert_said(
-    rt: &impl Abort,
+    rt: &(impl Abort + Wait),
     alloc: Global,
     script: &str,
     wanted: &str,
@@ -22,7 +23,7 @@ fn assert_said(
 ) -> Result<(), Fail> {
     let script = format!(in alloc; "{GRAPH}{script}")?;
     let wanted = format!(in alloc; "{GRAPH_SAID}{wanted}")?;
-    let (text, ending) = served(alloc, script.as_bytes())?;
+    let (text, ending) = served(rt, alloc, script.as_bytes())?;
     assert_eq!(rt; text.as_slice(), wanted.as_bytes(), "{row}");
     assert_eq!(rt; ending, Ending::Complete, "{row}");
     Ok(())
@@ -45,7 +46,7 @@ fn numbers_of_programs(rt: HostRuntime) -> Result<(), Fail> {
 }
 
 /// What a row of six parts says.
-fn assert_accepted(rt: &impl Abort, alloc: Global, row: &str) -> Result<(), Fail> {
+fn assert_accepted(rt: &(impl Abort + Wait), alloc: Global, row: &str) -> Result<(), Fail> {
     let (source, parts) = row.split_once('|').ok_or("no length")?;
     let (length, parts) = parts.split_once('|').ok_or("no bytes")?;
     let (code, parts) = parts.split_once('|').ok_or("no bound")?;
@@ -69,7 +70,7 @@ fn accepted_programs(rt: HostRuntime) -> Result<(), Fail> {
 }
 
 /// What a row of five parts says.
-fn assert_refused(rt: &impl Abort, alloc: Global, row: &str) -> Result<(), Fail> {
+fn assert_refused(rt: &(impl Abort + Wait), alloc: Global, row: &str) -> Result<(), Fail> {
     let (source, parts) = row.split_once('|').ok_or("no length")?;
     let (length, parts) = parts.split_once('|').ok_or("no bytes")?;
     let (code, parts) = parts.split_once('|').ok_or("no cause")?;
@@ -106,7 +107,7 @@ fn bounds_of_long_programs(rt: HostRuntime) -> Result<(), Fail> {
     let wanted = format!(in rt.alloc();
         "{GRAPH_SAID}program p bound 2003 frames 1\nrun p a edges 2 total 1000\nrow 0 0\nrow 1 1000\n"
     )?;
-    let (text, _) = served(rt.alloc(), &script)?;
+    let (text, _) = served(&rt, rt.alloc(), &script)?;
     assert_eq!(rt; text.as_slice(), wanted.as_bytes());
 
     // As many units as a program may have.
@@ -119,7 +120,7 @@ fn bounds_of_long_programs(rt: HostRuntime) -> Result<(), Fail> {
     let wanted = format!(in rt.alloc();
         "{GRAPH_SAID}program p bound 4096 frames 1\nrun p a edges 1 total 12282\nrow 5 12282\n"
     )?;
-    let (text, _) = served(rt.alloc(), &script)?;
+    let (text, _) = served(&rt, rt.alloc(), &script)?;
     assert_eq!(rt; text.as_slice(), wanted.as_bytes());
     Ok(())
 }

@@ -2,6 +2,7 @@ use crate::Ending;
 use crate::tests::{served, with_line_ends};
 use std::alloc::Global;
 use std::process::Abort;
+use std::sync::Wait;
 use std::test::Fail;
 use vectors::LINES;
 
@@ -15,7 +16,7 @@ const GRAPH_SAID: &str =
     "graph 70000\nbatch A version 1 added 10 removed 0\npin a version 1 edges 10\n";
 
 /// One line of the vectors: the script of its parts writes what the line says.
-fn assert_line(rt: &impl Abort, alloc: Global, line: &str) -> Result<(), Fail> {
+fn assert_line(rt: &(impl Abort + Wait), alloc: Global, line: &str) -> Result<(), Fail> {
     let (name, parts) = line.split_once('|').ok_or("no name")?;
     let (code, parts) = parts.split_once('|').ok_or("no code")?;
     let (said, parts) = parts.split_once('|').ok_or("no answer")?;
@@ -24,7 +25,7 @@ fn assert_line(rt: &impl Abort, alloc: Global, line: &str) -> Result<(), Fail> {
     let written = with_line_ends(alloc, written)?;
     let script = format!(in alloc; "{GRAPH}{code}\n{runs}")?;
     let wanted = format!(in alloc; "{GRAPH_SAID}{said}\n{written}")?;
-    let (text, ending) = served(alloc, script.as_bytes())?;
+    let (text, ending) = served(rt, alloc, script.as_bytes())?;
     assert_eq!(rt; text.as_slice(), wanted.as_bytes(), "{name}");
     assert_eq!(rt; ending, Ending::Complete, "{name}");
     Ok(())

@@ -7,7 +7,7 @@ use std::test::Fail;
 #[test]
 fn later_edits_decide(rt: HostRuntime) -> Result<(), Fail> {
     let script = b"graph 4\nbatch A\n+ 0 1\n- 0 1\n+ 0 1\n- 2 3\nend\nbatch B\nend\n";
-    let (text, ending) = served(rt.alloc(), script)?;
+    let (text, ending) = served(&rt, rt.alloc(), script)?;
     let wanted =
         b"graph 4\nbatch A version 1 added 1 removed 0\nbatch B version 2 added 0 removed 0\n";
     assert_eq!(rt; text.as_slice(), wanted.as_slice());
@@ -25,7 +25,7 @@ fn edits_that_alternate(rt: HostRuntime) -> Result<(), Fail> {
         }
         script.push_str(last)?;
         script.push_str("end\n")?;
-        let (text, _) = served(rt.alloc(), script.as_bytes())?;
+        let (text, _) = served(&rt, rt.alloc(), script.as_bytes())?;
         let wanted = format!(in rt.alloc();
             "graph 4\nbatch A version 1 added {added} removed 0\n"
         )?;
@@ -41,7 +41,7 @@ fn vertices_of_two_ranges(rt: HostRuntime) -> Result<(), Fail> {
     for frontier in ["", " 0 70 299"] {
         let script = format!(in rt.alloc(); "{edges}{TARGET}\npin a\nrun t a sum -{frontier}")?;
         let wanted = format!(in rt.alloc(); "run t a {rows}")?;
-        let (text, _) = served(rt.alloc(), script.as_bytes())?;
+        let (text, _) = served(&rt, rt.alloc(), script.as_bytes())?;
         assert!(rt; text.ends_with(wanted.as_bytes()), "{frontier}");
     }
     Ok(())
@@ -52,7 +52,7 @@ fn a_pin_keeps_what_is_removed(rt: HostRuntime) -> Result<(), Fail> {
     let script = format!(in rt.alloc();
         "graph 4\nbatch A\n+ 0 1\n+ 0 2\nend\n{TARGET}\npin a\nbatch B\n- 0 1\n- 0 3\nend\npin b\nrun t a sum -\nrun t b sum -\n"
     )?;
-    let (text, _) = served(rt.alloc(), script.as_bytes())?;
+    let (text, _) = served(&rt, rt.alloc(), script.as_bytes())?;
     let wanted =
         b"batch B version 2 added 0 removed 1\npin b version 2 edges 1\nrun t a edges 2 total 3\nrow 0 3\nrun t b edges 1 total 2\nrow 0 2\n";
     assert!(rt; text.ends_with(wanted.as_slice()));

@@ -41,7 +41,7 @@ fn answers(rt: HostRuntime) -> Result<(), Fail> {
         let wanted = format!(in rt.alloc();
             "program p bound {bound} frames 1\npin a version 1 edges 3\nrun p a edges 2 total {number}\nrow 0 {number}\n"
         )?;
-        let (text, ending) = served(rt.alloc(), script.as_bytes())?;
+        let (text, ending) = served(&rt, rt.alloc(), script.as_bytes())?;
         assert!(rt; text.ends_with(wanted.as_bytes()), "{lines}");
         assert_eq!(rt; ending, Ending::Complete);
     }
@@ -89,7 +89,7 @@ fn calls_that_are_refused(rt: HostRuntime) -> Result<(), Fail> {
     ] {
         let script = format!(in rt.alloc(); "graph 4\nprogram p 16\n{lines}end\n")?;
         let wanted = format!(in rt.alloc(); "graph 4\nrefused p cause {cause} pc {pc}\n")?;
-        let (text, _) = served(rt.alloc(), script.as_bytes())?;
+        let (text, _) = served(&rt, rt.alloc(), script.as_bytes())?;
         assert_eq!(rt; text.as_slice(), wanted.as_bytes(), "{lines}");
     }
     Ok(())
@@ -114,7 +114,7 @@ fn neighbours_are_gathered(rt: HostRuntime) -> Result<(), Fail> {
         let script = format!(in rt.alloc();
             "{graph}program p 16\n{GATHERED_BEFORE}{room}{GATHERED_BEHIND}end\n{run}"
         )?;
-        let (text, _) = served(rt.alloc(), script.as_bytes())?;
+        let (text, _) = served(&rt, rt.alloc(), script.as_bytes())?;
         assert!(rt; text.ends_with(wanted.as_bytes()), "{room}");
     }
     Ok(())
@@ -141,7 +141,7 @@ fn gathering_ends_spills(rt: HostRuntime) -> Result<(), Fail> {
         ),
     ] {
         let script = format!(in rt.alloc(); "graph 4\nprogram p 16\n{spill}{lines}end\n")?;
-        let (text, _) = served(rt.alloc(), script.as_bytes())?;
+        let (text, _) = served(&rt, rt.alloc(), script.as_bytes())?;
         assert!(rt; text.ends_with(wanted.as_bytes()), "{lines}");
     }
     Ok(())

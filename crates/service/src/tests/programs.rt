@@ -40,7 +40,7 @@ fn programs_in_text(rt: HostRuntime) -> Result<(), Fail> {
         for end in ["end", "end\n", " end \n"] {
             let script = format!(in rt.alloc(); "graph 1\nprogram p 16\n{lines}{end}")?;
             let whole = format!(in rt.alloc(); "graph 1\n{wanted}")?;
-            let (text, ending) = served(rt.alloc(), script.as_bytes())?;
+            let (text, ending) = served(&rt, rt.alloc(), script.as_bytes())?;
             assert_eq!(rt; text.as_slice(), whole.as_bytes(), "{lines}");
             assert_eq!(rt; ending, Ending::Complete, "{lines}");
         }
@@ -56,7 +56,7 @@ fn programs_that_are_kept(rt: HostRuntime) -> Result<(), Fail> {
     )?;
     let wanted =
         "graph 4\nbatch A version 1 added 3 removed 0\nimage t error 4\nrefused t cause 8 pc 0\nassembler t error 2 line 1\nprogram t bound 2 frames 1\npin a version 1 edges 3\nrun t a edges 3 total 5\nrow 0 3\nrow 1 2\nfault 5 line 23\n";
-    let (text, ending) = served(rt.alloc(), script.as_bytes())?;
+    let (text, ending) = served(&rt, rt.alloc(), script.as_bytes())?;
     assert_eq!(rt; text.as_slice(), wanted.as_bytes());
     assert_eq!(rt; ending, Ending::Fault);
     Ok(())
@@ -93,7 +93,7 @@ fn faults_of_programs(rt: HostRuntime) -> Result<(), Fail> {
         ("graph 4\nprogram p 16\nend x\nend end\n", 10, 2),
         ("graph 4\nprogram p 16\nend\nend", 2, 4),
     ] {
-        let (text, ending) = served(rt.alloc(), script.as_bytes())?;
+        let (text, ending) = served(&rt, rt.alloc(), script.as_bytes())?;
         let last = format!(in rt.alloc(); "fault {number} line {line}\n")?;
         assert!(rt; text.ends_with(last.as_bytes()), "{script}");
         assert_eq!(rt; ending, Ending::Fault, "{script}");
@@ -115,7 +115,7 @@ fn long_programs(rt: HostRuntime) -> Result<(), Fail> {
             script.extend_from_slice(each.as_bytes())?;
         }
         script.extend_from_slice(end.as_bytes())?;
-        let (text, _) = served(rt.alloc(), &script)?;
+        let (text, _) = served(&rt, rt.alloc(), &script)?;
         let wanted = format!(in rt.alloc(); "graph 1\n{last}")?;
         assert_eq!(rt; text.as_slice(), wanted.as_bytes());
     }
@@ -128,13 +128,13 @@ fn long_lines_of_programs(rt: HostRuntime) -> Result<(), Fail> {
     let comment = vec![in rt.alloc(); b'x'; 69_999]?;
     script.extend_from_slice(&comment)?;
     script.extend_from_slice(b"\nend")?;
-    let (text, _) = served(rt.alloc(), &script)?;
+    let (text, _) = served(&rt, rt.alloc(), &script)?;
     assert_eq!(rt; text.as_slice(), b"graph 1\nimage p error 4\n".as_slice());
     // One byte more.
     let mut script = Vec::from_slice(rt.alloc(), b"graph 1\nprogram p 16\n;;")?;
     script.extend_from_slice(&comment)?;
     script.extend_from_slice(b"\nend")?;
-    let (text, _) = served(rt.alloc(), &script)?;
+    let (text, _) = served(&rt, rt.alloc(), &script)?;
     assert_eq!(rt; text.as_slice(), b"graph 1\nfault 1 line 3\n".as_slice());
     Ok(())
 }

@@ -3,6 +3,7 @@ use crate::{Ending, ServeError, StdInput, StdOutput, serve};
 use std::alloc::Global;
 use std::io;
 use std::io::{ErrorKind, Read, Write};
+use std::sync::Wait;
 use std::test::Fail;
 
 /// A reader of which one read is interrupted.
@@ -52,7 +53,8 @@ impl Write for Balking {
 }
 
 /// What serving a script comes to, where one read or write fails; 0 is none.
-fn served(
+fn served<R: Wait>(
+    rt: &R,
     alloc: Global,
     read: u64,
     write: u64,
@@ -68,7 +70,7 @@ fn served(
         at: write,
         is_interrupted,
     });
-    serve(alloc, &mut input, &mut output)
+    serve(&mut input, &mut output, rt, alloc)
 }
 
 #[test]
@@ -76,7 +78,7 @@ fn failures_are_not_tried_again(rt: HostRuntime) -> Result<(), Fail> {
     // Three reads give the script, and the fourth its end.
     for read in 1..5 {
         assert_eq!(rt;
-            served(rt.alloc(), read, 0, false),
+            served(&rt, rt.alloc(), read, 0, false),
             Err(ServeError::Read),
             "{read}"
         );
@@ -84,10 +86,10 @@ fn failures_are_not_tried_again(rt: HostRuntime) -> Result<(), Fail> {
     // Lines of 8, 24 and 24 bytes are said, each in parts of 5.
     for write in 1..13 {
         for is_interrupted in [false, true] {
-            let answer = served(rt.alloc(), 0, write, is_interrupted);
+            let answer = served(&rt, rt.alloc(), 0, write, is_interrupted);
             assert_eq!(rt; answer, Err(ServeError::Write), "{write}");
         }
     }
-    assert_eq!(rt; served(rt.alloc(), 0, 0, false), Ok(Ending::Complete));
+    assert_eq!(rt; served(&rt, rt.alloc(), 0, 0, false), Ok(Ending::Complete));
     Ok(())
 }

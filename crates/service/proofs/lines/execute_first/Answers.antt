@@ -5,7 +5,7 @@ use Rattle.service.proofs.Following.{served_step, served_fault}
 use Rattle.service.proofs.lines.execute_first.Goals as goal
 
 pub returns-in-Executed : goal.returns-in-Executed
-returns-in-Executed c =
+returns-in-Executed g c =
     let found = c.in-Some.ensures in
     let done = (rw c.in-Executed.is at c.in_ok-execute.ensures) in (
       omega (arith, found.2),
@@ -15,7 +15,7 @@ returns-in-Executed c =
     )
 
 pub returns-in-Stopped : goal.returns-in-Stopped
-returns-in-Stopped c read before h =
+returns-in-Stopped g c read before h =
     let found = c.in-Some.ensures in
     let done = (rw c.in-Stopped.is at c.in_ok-execute.ensures) in
     (fault_text done.0 c.args.script.now.line, done.1, served_fault read before (take c.in-Some.end c.args.bytes.now) (drop (c.in-Some.end + 1) c.args.bytes.now) c.args.script.now done.0 (subst (λ (b : List ℕ). Served read before c.args.script.now b) found.1 h) found.0 done.2)

@@ -4,7 +4,7 @@ use Rattle.service.specs.Served.{Served, Settled}
 use Rattle.service.proofs.lines.execute_lines.Goals as goal
 
 pub returns-in-Stopped : goal.returns-in-Stopped
-returns-in-Stopped c read before h =
+returns-in-Stopped g c read before h =
     let so_far = c.loop-count.invariant.1 read before h in
     let told = (rw c.in-Stopped.is at c.in_ok-execute_first.ensures) in
     let rest : take (length c.args.bytes.now - c.loop-count.from) (drop c.loop-count.from c.args.bytes.now) ≡ drop c.loop-count.from c.args.bytes.now = take_all _ _ (omega (arith, length-drop c.loop-count.from c.args.bytes.now)) in

@@ -4,8 +4,8 @@ use Rattle.service.proofs.lines.execute_lines.Given as goal
 
 -- the lines so far are said
 abbrev pub invariant-loop-count : goal.invariant-loop-count
-invariant-loop-count l =
+invariant-loop-count g l =
     (l.from ≤ length l.bytes) × Serving l.fn.script l.script l.bytes (drop l.from l.bytes) l.fn.text.items l.text.items
 
 abbrev pub decreases-loop-count : goal.decreases-loop-count
-decreases-loop-count l = length l.bytes - l.from
+decreases-loop-count g l = length l.bytes - l.from

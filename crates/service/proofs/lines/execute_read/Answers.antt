@@ -7,7 +7,7 @@ use Rattle.service.proofs.Following.{served_long}
 use Rattle.service.proofs.lines.execute_read.Goals as goal
 
 pub returns-clause-taken : goal.returns-clause-taken
-returns-clause-taken c read before h =
+returns-clause-taken g c read before h =
     let goes = (rw c.in-Left.is at c.in_ok-progress.ensures) in
     let told = goes.2 read before h in
     let fault = fault_text faults.LongLine c.execute_lines.new.script.line in

@@ -15,11 +15,11 @@ closes (Ok e) left s t behind next text middle said says is one some first write
 closes (Err e) left s t behind next text middle said says is one some first writes ends = tt
 
 pub returns-in-Executed : goal.returns-in-Executed
-returns-in-Executed c =
+returns-in-Executed g c =
     let done = (rw c.in-Executed.is at c.in_ok-execute.ensures) in
     closes _ _ _ done.0 done.1 _ _ _ _ done.3 done.4 c.requires (some_left _ (sym c.if-is_empty.false ∙ c.is_empty.ensures)) done.2 c.finish-in-Executed.ensures.text c.finish-in-Executed.ensures.ending
 
 pub returns-in-Stopped : goal.returns-in-Stopped
-returns-in-Stopped c read before h =
+returns-in-Stopped g c read before h =
     let done = (rw c.in-Stopped.is at c.in_ok-execute.ensures) in
     ends_in_fault read before c.args.rest.now c.args.script.now done.0 c.args.text.now.items _ done.2 c.requires (some_left _ (sym c.if-is_empty.false ∙ c.is_empty.ensures)) done.1 h

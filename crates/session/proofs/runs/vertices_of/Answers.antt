@@ -9,8 +9,8 @@ use Rattle.session.proofs.runs.vertices_of.Goals as goal
 pub returns-then-is_empty-clause-vertices : goal.returns-then-is_empty-clause-vertices
 returns-then-is_empty-clause-vertices c =
     let none : length c.args.frontier.now ≡ 0 = grind arith in
-    let count : c.vertex_count.result ≡ (graph_of c.args.version.now).vertex_count = c.vertex_count.ensures.value ∙ sym (vertex_count-graph_of c.args.version.now) in
-    c.in_ok-all.ensures ∙ ap (λ (n : ℕ). numbers_below n) count ∙ sym (empty_frontier c.args.frontier.now (graph_of c.args.version.now) none)
+    let count : c.vertex_count.result ≡ (graph_of c.args.version.now.past).vertex_count = c.vertex_count.ensures.value ∙ sym (vertex_count-graph_of c.args.version.now.past) in
+    c.in_ok-all.ensures ∙ ap (λ (n : ℕ). numbers_below n) count ∙ sym (empty_frontier c.args.frontier.now (graph_of c.args.version.now.past) none)
 
 pub returns-then-is_empty-clause-few : goal.returns-then-is_empty-clause-few
 returns-then-is_empty-clause-few c =

@@ -10,4 +10,4 @@ past_slice before slice rest le =
 
 pub loop-slice-preserved : goal.loop-slice-preserved
 loop-slice-preserved c =
-    λ g table. past_slice c.loop-slice.before c.in-Some.slice.now c.next_slice.new.self c.if-before-slice.false ∙ ap (drop c.loop-slice.before) (sym c.in-Some.ensures.1) ∙ c.loop-slice.invariant g table
+    λ g table. past_slice c.loop-slice.before c.in-Some.slice.now c.next_slice.new.self c.if-before-slice.false ∙ ap (drop c.loop-slice.before) (sym c.in-Some.ensures.lent.1) ∙ c.loop-slice.invariant g table

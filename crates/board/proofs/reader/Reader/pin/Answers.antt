@@ -12,5 +12,5 @@ returns-clause-begins c =
     let mine : c.self.inside.number ≡ length c.args.self.now.past.log =
     c.self.invariant.0 ∙ ap (λ (m : Moment). length m.past.log) (c.self.view_is ∙ same) in
     let shown : c.number.result ≡ length (arc_value c.in_ok-version.version).past.log =
-    c.number.ensures ∙ ap (λ (m : Moment). length m.past.log) c.deref.ensures in
+    c.number.ensures.value ∙ ap (λ (m : Moment). length m.past.log) c.deref.ensures in
     fewer_begins _ _ c.learn.new.self this that (omega arith)

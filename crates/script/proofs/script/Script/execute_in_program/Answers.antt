@@ -11,7 +11,7 @@ use Rattle.script.proofs.ProgramLemmas.{program_line, failed}
 use Rattle.script.proofs.script.Script.execute_in_program.Goals as goal
 
 pub returns-in-Ok-clause-executed : goal.returns-in-Ok-clause-executed
-returns-in-Ok-clause-executed c =
+returns-in-Ok-clause-executed g c =
     let other : is_end (words c.args.bytes.now) ≡ false = sym c.is_end.ensures ∙ c.if-is_end.false in
     let old : Script = script_of c.self.inside.session c.self.inside.block c.self.inside.line in
     let next : Script = script_of c.self.inside.session (Some (blocks.Program c.add.new.self)) c.self.inside.line in
@@ -19,7 +19,7 @@ returns-in-Ok-clause-executed c =
     subst (λ (s : Script). Executes (inside_program c.args.bytes.now (open_program c.args.begun) s) (Ok c.in-Ok.field-0) c.args.text.now.items c.args.text.now.items next) c.self.view_is told
 
 pub returns-in-Err-clause-executed : goal.returns-in-Err-clause-executed
-returns-in-Err-clause-executed c =
+returns-in-Err-clause-executed g c =
     let other : is_end (words c.args.bytes.now) ≡ false = sym c.is_end.ensures ∙ c.if-is_end.false in
     let told = program_line c.args.bytes.now c.args.text.now.items (open_program c.args.begun) c.args.self.now _ (Err c.in-Err.error) other (c.in-Err.ensures.answer c.args.self.now) in
     failed _ _ _ _ _ _ told

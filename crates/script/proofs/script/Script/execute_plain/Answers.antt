@@ -13,7 +13,7 @@ use Rattle.script.proofs.Cuts.{outside-cut}
 use Rattle.script.proofs.script.Script.execute_plain.Goals as goal
 
 pub returns-in_ok-said-in-None-clause-executed : goal.returns-in_ok-said-in-None-clause-executed
-returns-in_ok-said-in-None-clause-executed c =
+returns-in_ok-said-in-None-clause-executed g c =
     let inner : None ≡ c.self.inside.block = c.in-None.ensures.value in
     let none : c.args.self.now.block ≡ None = ap (λ (s : Script). s.block) (sym c.self.view_is) ∙ ap (λ (b : Option BegunBlock). option_map block_of b) (sym inner) in
     let same : script_of c.self.inside.session c.take.new.self c.self.inside.line ≡ c.args.self.now = ap (λ (b : Option BegunBlock). script_of c.self.inside.session b c.self.inside.line) (c.take.ensures.after ∙ inner) ∙ c.self.view_is in
@@ -25,7 +25,7 @@ returns-in_ok-said-in-None-clause-executed c =
     subst (λ (x : Execution). Executes x c.execute_outside.result c.args.text.now.items c.execute_outside.new.text.items c.execute_outside.new.self) (cut ∙ whole ∙ here) told
 
 pub returns-in-Some-Batch-clause-executed : goal.returns-in-Some-Batch-clause-executed
-returns-in-Some-Batch-clause-executed c =
+returns-in-Some-Batch-clause-executed g c =
     let old : Script = script_of c.self.inside.session c.self.inside.block c.self.inside.line in
     let is_open : c.args.self.now.block ≡ Some (BatchBlock (open_batch c.in-Some-Batch.begun)) = ap (λ (s : Script). s.block) (sym c.self.view_is) ∙ ap (λ (b : Option BegunBlock). option_map block_of b) (sym c.in-Some-Batch.ensures.value) ∙ ap (λ (b : BegunBlock). Some (block_of b)) c.in-Some-Batch.field-0-is in
     let whole = in_batch c.args.bytes.now (open_batch c.in-Some-Batch.begun) old c.args.self.now (option_map block_of c.take.new.self) c.self.view_is is_open in
@@ -33,7 +33,7 @@ returns-in-Some-Batch-clause-executed c =
     (c.execute_in_batch.ensures.executed (words c.args.bytes.now) c.batch_line.ensures)
 
 pub returns-in-Some-Program-clause-executed : goal.returns-in-Some-Program-clause-executed
-returns-in-Some-Program-clause-executed c =
+returns-in-Some-Program-clause-executed g c =
     let old : Script = script_of c.self.inside.session c.self.inside.block c.self.inside.line in
     let is_open : c.args.self.now.block ≡ Some (ProgramBlock (open_program c.in-Some-Program.begun)) = ap (λ (s : Script). s.block) (sym c.self.view_is) ∙ ap (λ (b : Option BegunBlock). option_map block_of b) (sym c.in-Some-Program.ensures.value) ∙ ap (λ (b : BegunBlock). Some (block_of b)) c.in-Some-Program.field-0-is in
     let whole = in_program c.args.bytes.now (open_program c.in-Some-Program.begun) old c.args.self.now (option_map block_of c.take.new.self) c.self.view_is is_open in

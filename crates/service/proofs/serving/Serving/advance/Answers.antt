@@ -6,13 +6,13 @@ use Rattle.service.proofs.RoundLemmas.{settles, serves}
 use Rattle.service.proofs.serving.Serving.advance.Goals as goal
 
 pub returns-in-Settled : goal.returns-in-Settled
-returns-in-Settled c = (
+returns-in-Settled g c = (
   refl,
   settles c.deref.result.now c.self.inside.text.items _ c.self.inside.script c.args.self.now (c.deref.ensures.value ∙ ap (λ (s : Stand). s.pending) c.self.view_is) (ap (λ (s : Stand). s.text) c.self.view_is) (ap (λ (s : Stand). s.script) c.self.view_is) (rw c.in-Settled.is at c.in_ok-execute_read.ensures.taken),
 )
 
 pub returns-in_ok-self-inside-in-Left : goal.returns-in_ok-self-inside-in-Left
-returns-in_ok-self-inside-in-Left c =
+returns-in_ok-self-inside-in-Left g c =
     let taken = (rw c.in-Left.is at c.in_ok-execute_read.ensures.taken) in
     let few = (rw c.in-Left.is at c.in_ok-execute_read.ensures.few) in
     let again : c.deref-in-Left.result.now ≡ c.deref.result.now = c.deref-in-Left.ensures.value ∙ sym c.deref.ensures.value in

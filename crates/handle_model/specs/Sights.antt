@@ -1,0 +1,27 @@
+-- What each handle of a store sees of it.
+use Rattle.std.specs.Prelude.{◌≡◌, ℕ, List, [], ◌++◌, Option, Some, option_map}
+use Rattle.graph_model.specs.declared.entry.Entry.{Entry}
+use Rattle.graph_model.specs.Past.{Past}
+use Rattle.store_model.specs.Core.{Core, Holding, Run, run_of, words_of, entries, of_feed}
+
+-- a feed sees how many vertices there are, and all that came by it, in order
+pub record FeedSees (s : Core) (n feed : ℕ) (sent : List Entry) : Type 0 where
+  pub count : s.past.vertex_count ≡ n
+  pub all_sent : of_feed feed (entries s) ≡ sent
+
+-- a batch that was taken, and of which no range is done
+abbrev pub untouched : Entry → Holding
+untouched e = record { entry = e; done = [] }
+
+-- the publisher sees what is published, and the batch that it holds
+pub record PublisherSees (s : Core) (past : Past) (held : Option Entry) : Type 0 where
+  pub published : s.past ≡ past
+  pub holds : s.held ≡ option_map untouched held
+
+-- a cursor of a pin sees one reader's run: its version, its vertex, and what is left to be lent
+pub record CursorSees (s : Core) (reader : ℕ) (past : Past) (vertex : ℕ) (left : List ℕ) : Type 0 where
+  pub run : Run
+  pub has : run_of s reader ≡ Some run
+  pub pinned : run.past ≡ past
+  pub here : run.vertex ≡ vertex
+  pub words : run.lent ++ left ≡ words_of run

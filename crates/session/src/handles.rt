@@ -1,0 +1,153 @@
+//! All ends of one store, in one thread.
+
+ghost use Rattle.std.specs.Prelude.{◌≡◌, ◌<◌, ◌≤◌, ◌↔◌, ◌⊎◌, true, IfOk, IfErr, IsErrOf};
+ghost use Rattle.graph_model.specs.declared.limits.TheConstants.{MOST_BATCHES, MOST_VERTICES};
+ghost use Rattle.graph_model.specs.Past.{opening, number_of};
+ghost use Rattle.session_model.specs.Responses.{entry_of};
+ghost use Rattle.session.specs.Handles.{Publishes};
+
+use crate::error::CommandError;
+use graph_model::{Batch, Edit};
+use std::alloc::Global;
+use std::marker::Model;
+use std::sync::Wait;
+use versions::{Feed, Pin, PublishError, Publisher, Reader, Receipt, Store, StoreError};
+
+/// The ends of a store. Whoever opens one has to close it. Contracts see it as what the last version is the replay of.
+pub struct Handles {
+    vertex_count: u32,
+    // How many batches are published.
+    number: u64,
+    publisher: Publisher,
+    first: Feed,
+    second: Feed,
+    reader: Reader,
+}
+
+impl Model for Handles {
+    ghost use Rattle.graph_model.specs.Past.{Past};
+    ghost use Rattle.session.specs.Handles.{AreHandles};
+
+    ghost Value = { Past };
+
+    ghost view = { λ h. h.publisher.moment.past };
+
+    ghost invariant = { λ h. AreHandles h.vertex_count h.number h.publisher h.first h.second h.reader };
+}
+
+impl Handles {
+    /// Those of a new store of a graph with so many vertices.
+    pub(crate) fn open<R: Wait>(
+        rt: &R,
+        alloc: Global,
+        vertex_count: u32,
+    ) -> Result<Handles, StoreError>
+        ensures opened { IfOk result (λ handles. handles ≡ opening vertex_count) }
+        ensures refused { IsErrOf result StoreError.VertexCount ↔ ((vertex_count ≡ 0) ⊎ (MOST_VERTICES < vertex_count)) }
+    {
+        let opened = Store::new(vertex_count, rt, alloc)?;
+        let feeds = opened.1;
+        let publisher = opened.0;
+        let reader = opened.2;
+        let mut each = feeds.into_iter();
+        let (Some(first), Some(second)) = (each.next(), each.next()) else {
+            unreachable!()
+        };
+        Ok(Handles {
+            vertex_count,
+            number: 0,
+            publisher,
+            first,
+            second,
+            reader,
+        })
+    }
+
+    /// How many vertices the graph has.
+    pub(crate) fn vertex_count(&self) -> u32
+        ensures value { result ≡ self.now.vertex_count }
+        ensures few { result ≤ MOST_VERTICES }
+    {
+        self.vertex_count
+    }
+
+    /// How many batches are published.
+    pub(crate) fn number(&self) -> u64
+        ensures { result ≡ number_of self.now }
+    {
+        self.number
+    }
+
+    /// Submits a batch and publishes it. `Store` comes where the store refuses it or has none, and where it publishes
+    /// another one.
+    pub(crate) fn publish<R: Wait>(
+        &mut self,
+        rt: &R,
+        feed: u8,
+        batch: Batch,
+    ) -> Result<Receipt, CommandError>
+        ensures { Publishes self.old (entry_of feed batch) result self.new }
+    {
+        let Ok(copy) = batch.share() else {
+            return Err(CommandError::OutOfMemory);
+        };
+        let submitted = if feed == 0 {
+            self.first.submit(batch, rt)
+        } else {
+            self.second.submit(batch, rt)
+        };
+        if submitted.is_err() {
+            return Err(CommandError::Store);
+        }
+        match self.publisher.step(rt) {
+            Ok(Some(receipt)) => {
+                self.reader.learn(&receipt);
+                self.number = receipt.number();
+                if receipt.feed() == feed && are_same(receipt.batch().edits(), copy.edits()) {
+                    Ok(receipt)
+                } else {
+                    Err(CommandError::Store)
+                }
+            }
+            Err(PublishError::OutOfMemory) => Err(CommandError::OutOfMemory),
+            Ok(None) | Err(PublishError::LogFull) => Err(CommandError::Store),
+        }
+    }
+
+    /// A hold on the last version. `Store` comes where the reader gets none, or another one.
+    pub(crate) fn pin(&mut self) -> Result<Pin, CommandError>
+        ensures pinned { IfOk result (λ pin. pin.past ≡ self.old) }
+        ensures same { self.new ≡ self.old }
+        ensures error { IfErr result (λ e. e ≡ CommandError.Store) }
+    {
+        let Ok(pin) = self.reader.pin() else {
+            return Err(CommandError::Store);
+        };
+        if pin.version().number() == self.number {
+            Ok(pin)
+        } else {
+            Err(CommandError::Store)
+        }
+    }
+
+    /// Ends the store.
+    pub(crate) fn close<R: Wait>(self, rt: &R) {
+        let Handles {
+            vertex_count: _,
+            number: _,
+            publisher,
+            first,
+            second,
+            reader: _,
+        } = self;
+        let feeds = [first, second];
+        let _ = publisher.finish(feeds, rt);
+    }
+}
+
+/// Whether two batches have the same edits.
+fn are_same(a: &[Edit], b: &[Edit]) -> bool
+    ensures { result ≡ true → a.now ≡ b.now }
+{
+    a == b
+}

@@ -1,0 +1,94 @@
+-- A version's graph, the first version, and the next.
+use Rattle.std.proofs.Common.{◌≡◌, ℕ, ◌+◌, ◌-◌, ◌*◌, ◌<◌, ◌≤◌, Bool, true, false, List, Contains, sym, ap, subst, refl, le_trans, mul-le-mul, arith}
+use Rattle.graph_model.specs.declared.edit.Edit.{Edit}
+use Rattle.graph_model.specs.declared.entry.Entry.{Entry}
+use Rattle.graph_model.specs.Graph.{neighbours, edge_count, empty_graph}
+use Rattle.graph_model.specs.Edits.{after_batch, added, removed, AreEditsBelow}
+use Rattle.graph_model.specs.Past.{Past, graph_of, number_of, opening, longer}
+use Rattle.graph_model.specs.Views.{is_edge}
+use Rattle.graph_model.proofs.ViewLemmas.{neighbour-is_edge, is_edge-neighbour}
+use Rattle.graph_model.proofs.Batches.{change_of_size, edge_count-empty_graph, edge_count-le, new_edges-le}
+use Rattle.graph_model.proofs.Pasts.{graph_of-longer, vertex_count-graph_of, number_of-longer, IsPast-longer}
+use Rattle.migration.specs.declared.counts.Counts.{Counts}
+use Rattle.migration.specs.Part.{Part}
+use Rattle.migration.specs.Table.{IsTable, IsEditable, AreAfter}
+use Rattle.version.specs.Version.{IsVersion, IsVertexCount}
+
+-- edits below a version's vertices are below its graph's
+below_graph : (p : Past) (es : List Edit) → AreEditsBelow p.vertex_count es → AreEditsBelow (graph_of p).vertex_count es
+below_graph p es below = subst (λ n. AreEditsBelow n es) (sym (vertex_count-graph_of p)) below
+
+few_vertices : (p : Past) (parts : List Part) (edges : ℕ) → IsVersion p parts edges → (graph_of p).vertex_count ≤ 1048576
+few_vertices p parts edges v = subst (λ n. n ≤ 1048576) (sym (vertex_count-graph_of p)) v.most
+
+-- a version's parts can be edited
+pub editable : (p : Past) (parts : List Part) (edges : ℕ) (es : List Edit) → IsVersion p parts edges → AreEditsBelow p.vertex_count es → IsEditable parts es
+editable p parts edges es v below = record {
+  graph = graph_of p;
+  small = few_vertices p parts edges v;
+  table = v.table;
+  below = below_graph p es below;
+}
+
+pub first_version : (n : ℕ) (parts : List Part) → IsVertexCount n → IsTable (empty_graph n) parts → IsVersion (opening n) parts 0
+first_version n parts h table = record {
+  table = table;
+  edges_are = sym (edge_count-empty_graph n);
+  some = h.0;
+  most = h.1;
+  past = tt;
+  short = omega arith;
+}
+
+-- a version's edges are few
+pub few_edges : (p : Past) (parts : List Part) (edges : ℕ) → IsVersion p parts edges → edges ≤ 1048576 * 1048576
+few_edges p parts edges v =
+    let n = few_vertices p parts edges v in
+    subst (λ k. k ≤ 1048576 * 1048576) (sym v.edges_are) (le_trans (edge_count-le (graph_of p)) (mul-le-mul n n))
+
+-- what a batch did to a version
+pub record Did (p : Past) (e : Entry) (edges : ℕ) (counts : Counts) : Type 0 where
+  pub gained : counts.added ≡ added e.batch (graph_of p)
+  pub lost : counts.removed ≡ removed e.batch (graph_of p)
+  pub change : edge_count (graph_of (longer p e)) + counts.removed ≡ edges + counts.added
+  pub few : counts.added ≤ 1048576 * 1048576
+
+pub did : (p : Past) (parts next : List Part) (edges : ℕ) (e : Entry) (counts : Counts) → IsVersion p parts edges → AreEditsBelow p.vertex_count e.batch → AreAfter e.batch parts next counts → Did p e edges counts
+did p parts next edges e counts v below after =
+    let low = below_graph p e.batch below in
+    let gained = after.gained (graph_of p) low v.table in
+    let lost = after.lost (graph_of p) low v.table in
+    let size = change_of_size e.batch (graph_of p) in
+    let longer_is = ap edge_count (graph_of-longer p e) in
+    let edges_are = v.edges_are in
+    let n = few_vertices p parts edges v in
+    record {
+      gained = gained;
+      lost = lost;
+      change = omega (arith, gained, lost, size, longer_is, edges_are);
+      few = subst (λ k. k ≤ 1048576 * 1048576) (sym gained) (le_trans (new_edges-le (graph_of p) (after_batch e.batch (graph_of p))) (mul-le-mul n n));
+    }
+
+-- the next version
+pub next_version : (p : Past) (parts next : List Part) (edges : ℕ) (e : Entry) (counts : Counts) → IsVersion p parts edges → AreEditsBelow p.vertex_count e.batch → number_of p < 4096 → AreAfter e.batch parts next counts → IsVersion (longer p e) next (edges + counts.added - counts.removed)
+next_version p parts next edges e counts v below short after =
+    let done = did p parts next edges e counts v below after in
+    let change = done.change in
+    record {
+      table = subst (λ g. IsTable g next) (sym (graph_of-longer p e)) (after.table (graph_of p) (below_graph p e.batch below) v.table);
+      edges_are = omega (arith, change);
+      some = v.some;
+      most = v.most;
+      past = IsPast-longer p e v.past below;
+      short = omega (arith, number_of-longer p e);
+    }
+
+same_bool : (a b : Bool) → (a ≡ true → b ≡ true) → (b ≡ true → a ≡ true) → a ≡ b
+same_bool true b to from = sym (to refl)
+same_bool false true to from = from refl
+same_bool false false to from = refl
+
+-- a pair is an edge of a version where its target is among its source's neighbours
+pub edge_listed : (p : Past) (u v : ℕ) (b : Bool) → (b ≡ true → Contains (neighbours (graph_of p) u) v) → (Contains (neighbours (graph_of p) u) v → b ≡ true) → b ≡ is_edge (graph_of p) u v
+edge_listed p u v b to from =
+    same_bool b (is_edge (graph_of p) u v) (λ t. is_edge-neighbour (graph_of p) u v (to t)) (λ e. from (neighbour-is_edge (graph_of p) u v e))

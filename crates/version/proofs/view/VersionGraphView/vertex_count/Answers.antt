@@ -1,0 +1,6 @@
+use Rattle.std.proofs.Common.{sym, ◌∙◌}
+use Rattle.graph_model.proofs.Pasts.{vertex_count-graph_of}
+use Rattle.version.proofs.view.VersionGraphView.vertex_count.Goals as goal
+
+pub returns : goal.returns
+returns c = c.vertex_count.ensures.value ∙ sym (vertex_count-graph_of c.args.self.now.past)

@@ -1,0 +1,132 @@
+ghost use Rattle.std.specs.Prelude.{◌≡◌, ◌<◌, [], ◌∷◌, ◌++◌, length, Some, IfOk};
+ghost use Rattle.std.specs.List.{flat_map};
+ghost use Rattle.graph_model.specs.declared.limits.TheConstants.{MOST_BATCHES};
+ghost use Rattle.graph_model.specs.Shared.{shared_items};
+ghost use Rattle.version.specs.Log.{entries_in};
+
+use graph_model::Entry;
+use std::alloc::{AllocError, Global};
+use std::marker::Model;
+use std::sync::Arc;
+
+// How many entries a full chunk has.
+const CHUNK: usize = 32;
+
+/// The entries of a version, in order. Logs share the chunks that they have in common, and the list of
+/// them: a longer log copies less than one chunk, and the list where a chunk becomes full.
+#[derive(Drop)]
+pub struct Log {
+    // None is the empty list, which can be made without memory.
+    full: Option<Arc<Vec<Arc<Vec<Entry>>>>>,
+    // What comes after the full chunks.
+    last: Vec<Entry>,
+    len: u64,
+}
+
+impl Model for Log {
+    ghost use Rattle.std.specs.Prelude.{◌≡◌, List, length};
+    ghost use Rattle.graph_model.specs.declared.entry.Entry.{Entry};
+    ghost use Rattle.graph_model.specs.Shared.{shared_items};
+    ghost use Rattle.version.specs.Log.{entries_of};
+
+    ghost Value = { List Entry };
+
+    ghost view = { λ l. entries_of (shared_items l.full) l.last.items };
+
+    ghost invariant = { λ l. l.len ≡ length (entries_of (shared_items l.full) l.last.items) };
+}
+
+impl Log {
+    /// The log of no entries. It takes no memory.
+    pub fn empty(alloc: Global) -> Log
+        ensures { result ≡ [] }
+    {
+        Log {
+            full: None,
+            last: Vec::new(alloc),
+            len: 0,
+        }
+    }
+
+    /// How many entries it has.
+    pub fn len(&self) -> u64
+        ensures { result ≡ length self.now }
+    {
+        self.len
+    }
+
+    /// The log with one entry more. This one stays.
+    pub fn with(&self, alloc: Global, entry: Entry) -> Result<Log, AllocError>
+        requires { length self.now < MOST_BATCHES }
+        ensures { IfOk result (λ log. log ≡ self.now ++ entry ∷ []) }
+    {
+        let mut last = shared_entries(alloc, &self.last)?;
+        last.push(entry)?;
+        let len = self.len + 1;
+        if last.len() < CHUNK {
+            let full = shared_list(&self.full)?;
+            return Ok(Log { full, last, len });
+        }
+        let full = with_chunk(alloc, &self.full, Arc::new(alloc, last)?)?;
+        Ok(Log {
+            full: Some(full),
+            last: Vec::new(alloc),
+            len,
+        })
+    }
+}
+
+// Another owner of a list of chunks.
+fn shared_list(
+    list: &Option<Arc<Vec<Arc<Vec<Entry>>>>>,
+) -> Result<Option<Arc<Vec<Arc<Vec<Entry>>>>>, AllocError>
+    ensures { IfOk result (λ copy. shared_items copy ≡ shared_items list.now) }
+{
+    match list {
+        None => Ok(None),
+        Some(chunks) => Ok(Some(Arc::try_clone(chunks)?)),
+    }
+}
+
+// A list with one chunk more.
+fn with_chunk(
+    alloc: Global,
+    list: &Option<Arc<Vec<Arc<Vec<Entry>>>>>,
+    chunk: Arc<Vec<Entry>>,
+) -> Result<Arc<Vec<Arc<Vec<Entry>>>>, AllocError>
+    ensures { IfOk result (λ longer. flat_map entries_in (shared_items (Some longer))
+        ≡ flat_map entries_in (shared_items list.now) ++ entries_in chunk) }
+{
+    let before: &[Arc<Vec<Entry>>] = match list {
+        None => &[],
+        Some(chunks) => chunks.as_slice(),
+    };
+    let mut chunks = shared_chunks(alloc, before)?;
+    chunks.push(chunk)?;
+    Ok(Arc::new(alloc, chunks)?)
+}
+
+// Other owners of these chunks, in a list with room for one more.
+fn shared_chunks(
+    alloc: Global,
+    chunks: &[Arc<Vec<Entry>>],
+) -> Result<Vec<Arc<Vec<Entry>>>, AllocError>
+    ensures { IfOk result (λ copy. flat_map entries_in copy.items ≡ flat_map entries_in chunks.now) }
+{
+    let mut copy = Vec::with_capacity(alloc, chunks.len().saturating_add(1))?;
+    for chunk in chunks {
+        copy.push(Arc::try_clone(chunk)?)?;
+    }
+    Ok(copy)
+}
+
+// Entries of the same batches, in a list with room for one more.
+fn shared_entries(alloc: Global, entries: &[Entry]) -> Result<Vec<Entry>, AllocError>
+    ensures { IfOk result (λ copy. copy.items ≡ entries.now) }
+{
+    let mut copy = Vec::with_capacity(alloc, entries.len().saturating_add(1))?;
+    for entry in entries {
+        copy.push(entry.share()?)?;
+    }
+    Ok(copy)
+}

@@ -1,0 +1,147 @@
+ghost use Rattle.std.specs.Prelude.{◌≡◌, ◌/◌, ◌%◌, ◌<◌, ◌≤◌, length, slice_get, IfOk};
+ghost use Rattle.graph_model.specs.declared.limits.TheConstants.{MOST_BATCHES, MOST_VERTICES};
+ghost use Rattle.graph_model.specs.Graph.{neighbours, edge_count, degree};
+ghost use Rattle.graph_model.specs.Edits.{AreEditsBelow, added, removed};
+ghost use Rattle.graph_model.specs.Views.{is_edge, neighbour_words, neighbours_among, word_bytes};
+ghost use Rattle.graph_model.specs.Past.{IsPast, graph_of, number_of, longer};
+ghost use Rattle.history.specs.Moment.{opening_moment, beginning_of, no_batch};
+
+use crate::draft::Draft;
+use crate::log::Log;
+use cursors::Cursor;
+use graph_model::Entry;
+use history::Known;
+use migration::{Counts, Table};
+use std::alloc::{AllocError, Global};
+use std::marker::Model;
+
+/// One state of a graph: what the log of its batches makes of the graph without an edge. It never
+/// changes after it was made. It knows that its store's history begins with these batches.
+#[derive(Drop)]
+pub struct Version {
+    pub(crate) vertex_count: u32,
+    pub(crate) log: Log,
+    pub(crate) shards: Table,
+    pub(crate) edge_count: u64,
+    pub(crate) known: Known,
+}
+
+impl Model for Version {
+    ghost use Rattle.std.specs.Prelude.{◌≡◌};
+    ghost use Rattle.history.specs.Moment.{Moment, moment_of};
+    ghost use Rattle.version.specs.Version.{IsVersion};
+
+    ghost Value = { Moment };
+
+    ghost view = { λ v. moment_of v.vertex_count v.known };
+
+    ghost invariant = { λ v. IsVersion (moment_of v.vertex_count v.known).past v.shards v.edge_count × (v.log ≡ v.known.log) };
+}
+
+impl Version {
+    ghost use Rattle.version.specs.Version.{IsVertexCount};
+
+    /// The version with nothing published.
+    pub fn opening(alloc: Global, vertex_count: u32, known: Known) -> Result<Version, AllocError>
+        requires count { IsVertexCount vertex_count }
+        requires known { known ≡ no_batch known.book }
+        ensures { IfOk result (λ version. version ≡ opening_moment vertex_count known.book) }
+    {
+        Ok(Version {
+            vertex_count,
+            log: Log::empty(alloc),
+            shards: Table::empty(alloc, vertex_count)?,
+            edge_count: 0,
+            known,
+        })
+    }
+
+    /// How many batches were published before it and with it.
+    pub fn number(&self) -> u64
+        ensures value { result ≡ number_of self.now.past }
+        ensures small { result ≤ MOST_BATCHES }
+        ensures past { IsPast self.now.past }
+    {
+        self.log.len()
+    }
+
+    /// That its store's history begins with its batches.
+    pub fn known(&self) -> Known
+        ensures { result ≡ beginning_of self.now }
+    {
+        self.known.again()
+    }
+
+    /// How many vertices it has: from 1 to 1,048,576.
+    pub fn vertex_count(&self) -> u32
+        ensures value { result ≡ self.now.past.vertex_count }
+        ensures range { IsVertexCount result }
+    {
+        self.vertex_count
+    }
+
+    /// How many edges it has.
+    pub fn edge_count(&self) -> u64
+        ensures { result ≡ edge_count (graph_of self.now.past) }
+    {
+        self.edge_count
+    }
+
+    /// The neighbours of a vertex, ascending, to be lent in slices. A vertex outside has none.
+    pub fn cursor(&self, vertex: u32) -> Cursor<'_>
+        ensures { result ≡ neighbours (graph_of self.now.past) vertex }
+    {
+        Cursor::over(self.shards.shard_of(u64::from(vertex)), vertex)
+    }
+
+    /// How many neighbours a vertex has. A vertex outside has none.
+    pub fn degree(&self, vertex: u64) -> u32
+        ensures value { result ≡ degree (graph_of self.now.past) vertex }
+        ensures small { result ≤ MOST_VERTICES }
+    {
+        cursors::degree(self.shards.shard_of(vertex), vertex)
+    }
+
+    /// Whether there is an edge from a vertex to another.
+    pub fn has_edge(&self, source: u64, target: u64) -> bool
+        ensures { result ≡ is_edge (graph_of self.now.past) source target }
+    {
+        cursors::has_edge(self.shards.shard_of(source), source, target)
+    }
+
+    /// The neighbour at a place of a vertex's neighbours, from 0; there is none past their end.
+    pub fn neighbour(&self, vertex: u64, place: u64) -> Option<u32>
+        ensures { result ≡ slice_get (neighbours (graph_of self.now.past) vertex) place }
+    {
+        cursors::neighbour(self.shards.shard_of(vertex), vertex, place)
+    }
+
+    /// Fills a slice with the neighbours of a vertex from a place on, each as four bytes, the lowest first,
+    /// and with bytes 255 where there are no more. It tells how many there were.
+    pub fn gather(&self, vertex: u64, first: u64, out: &mut [u8]) -> u32
+        requires { length out.old % 4 ≡ 0 }
+        ensures words { out.new ≡ word_bytes (neighbour_words (graph_of self.now.past) vertex first (length out.old / 4)) }
+        ensures count { result ≡ neighbours_among (graph_of self.now.past) vertex first (length out.old / 4) }
+    {
+        cursors::gather(self.shards.shard_of(vertex), vertex, first, out)
+    }
+
+    /// The version after one more batch, as far as it can be made before the store's history has it, and what
+    /// the batch does. This version stays.
+    pub fn draft(&self, alloc: Global, entry: &Entry) -> Result<(Draft, Counts), AllocError>
+        requires room { number_of self.now.past < MOST_BATCHES }
+        requires below { AreEditsBelow self.now.past.vertex_count entry.now.batch }
+        ensures draft { IfOk result (λ next. next.0 ≡ longer self.now.past entry.now) }
+        ensures gained { IfOk result (λ next. next.1.added ≡ added entry.now.batch (graph_of self.now.past)) }
+        ensures lost { IfOk result (λ next. next.1.removed ≡ removed entry.now.batch (graph_of self.now.past)) }
+    {
+        let (shards, counts) = self.shards.after(alloc, entry.batch.edits())?;
+        let draft = Draft {
+            vertex_count: self.vertex_count,
+            log: self.log.with(alloc, entry.share()?)?,
+            shards,
+            edge_count: self.edge_count + counts.added - counts.removed,
+        };
+        Ok((draft, counts))
+    }
+}

@@ -1,0 +1,38 @@
+-- What becomes of a batch that a feed hands in, and which feeds end a store.
+use Rattle.std.specs.Prelude.{◌≡◌, ◌<◌, ◌≤◌, ◌+◌, List, [], ◌∷◌, length}
+use Rattle.graph_model.specs.declared.edit.Edit.{Edit}
+use Rattle.graph_model.specs.declared.entry.Entry.{Entry}
+use Rattle.graph_model.specs.declared.limits.TheConstants.{MOST_EDITS}
+use Rattle.graph_model.specs.Edits.{AreEditsBelow}
+use Rattle.store_model.specs.Core.{of_feed}
+use Rattle.intake.specs.Ends.{Feeding, after_refusal, WasFull, IsFeedOf}
+use Rattle.versions.specs.declared.errors.SubmitCause.{SubmitCause}
+use Rattle.versions.specs.declared.errors.SubmitCause.TheVariants.{Full, VertexRange, TooManyEdits}
+use Rattle.versions.specs.Storing.{Storing}
+
+-- there are not too many edits
+abbrev pub AreFew : List Edit → Type 0
+AreFew batch = length batch ≤ MOST_EDITS
+
+-- a batch is refused: for too many edits; else for an edit that names no vertex; else where the queue held as many as
+-- it may. Only the last is counted, and else the feed is as it was
+abbrev pub IsRefused : Feeding → List Edit → SubmitCause → Feeding → Type 0
+IsRefused s batch TooManyEdits t = (MOST_EDITS < length batch) × (t ≡ s)
+IsRefused s batch VertexRange t = AreFew batch × (AreEditsBelow s.vertex_count batch → ⊥) × (t ≡ s)
+IsRefused s batch Full t = AreFew batch × AreEditsBelow s.vertex_count batch × WasFull s × (t ≡ after_refusal s)
+
+-- of each of the two feeds, these are the batches that it put, in its order; and there is nothing else
+abbrev pub AreDelivered : List Entry → List Feeding → Type 0
+AreDelivered all (first ∷ second ∷ []) =
+    (of_feed 0 all ≡ first.sent) × (of_feed 1 all ≡ second.sent) × (length all ≡ length first.sent + length second.sent)
+AreDelivered all [] = ⊥
+AreDelivered all (first ∷ []) = ⊥
+AreDelivered all (first ∷ second ∷ third ∷ rest) = ⊥
+
+-- the two feeds of a publisher's store, A and then B
+abbrev pub AreFeedsOf : Storing → List Feeding → Type 0
+AreFeedsOf s (first ∷ second ∷ []) =
+    IsFeedOf s.moment.past.vertex_count s.queue 0 first × IsFeedOf s.moment.past.vertex_count s.queue 1 second
+AreFeedsOf s [] = ⊥
+AreFeedsOf s (first ∷ []) = ⊥
+AreFeedsOf s (first ∷ second ∷ third ∷ rest) = ⊥

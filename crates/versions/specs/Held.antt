@@ -1,0 +1,81 @@
+-- A batch that was taken, and how far its publication has come.
+use Rattle.std.specs.Prelude.{◌≡◌, ◌<◌, List, [], ◌∷◌, Option, Some, None, Result, Ok, Err}
+use Rattle.std.specs.Arc.{arc_value}
+use Rattle.graph_model.specs.declared.entry.Entry.{Entry}
+use Rattle.graph_model.specs.declared.limits.TheConstants.{MOST_BATCHES}
+use Rattle.graph_model.specs.Edits.{AreEditsBelow, added, removed}
+use Rattle.graph_model.specs.Past.{graph_of, number_of}
+use Rattle.store_model.specs.declared.limits.TheConstants.{FEEDS}
+use Rattle.history.specs.Moment.{Moment, after_entry}
+use Rattle.versions.specs.Receipts.{Publication, publication}
+use Rattle.versions.specs.declared.errors.PublishError.{PublishError}
+use Rattle.versions.specs.declared.errors.PublishError.TheVariants.{OutOfMemory}
+use Rattle.versions.specs.declared.held.Change.{Change}
+use Rattle.versions.specs.declared.held.Held.{Held}
+use Rattle.versions.specs.declared.held.Held.TheVariants.{Taken, Added, Made, Ready}
+
+-- the last version, and the one that waits to be shown
+pub record Pressing : Type 0 where
+  pub moment : Moment
+  pub waiting : Option Moment
+
+-- nothing waits
+abbrev pub at_rest : Moment → Pressing
+at_rest m = record { moment = m; waiting = None }
+
+-- the version waits
+abbrev pub and_waiting : Moment → Moment → Pressing
+and_waiting m next = record { moment = m; waiting = Some next }
+
+abbrev pub entry_in : Held → Entry
+entry_in (Taken e) = e
+entry_in (Added c v) = c.entry
+entry_in (Made c v) = c.entry
+entry_in (Ready c v w) = c.entry
+
+abbrev pub entry_held : Option Held → Option Entry
+entry_held None = None
+entry_held (Some h) = Some (entry_in h)
+
+-- the held batch as a list
+abbrev pub entries_held : Option Entry → List Entry
+entries_held None = []
+entries_held (Some e) = e ∷ []
+
+-- it may come after this version
+pub record IsNext (m : Moment) (e : Entry) : Type 0 where
+  pub room : number_of m.past < MOST_BATCHES
+  pub feed : e.feed < FEEDS
+  pub below : AreEditsBelow m.past.vertex_count e.batch
+
+-- the batch and what it does to this version
+pub record IsChange (m : Moment) (c : Change) : Type 0 where
+  pub next : IsNext m c.entry
+  pub gained : c.counts.added ≡ added c.entry.batch (graph_of m.past)
+  pub lost : c.counts.removed ≡ removed c.entry.batch (graph_of m.past)
+
+-- a held batch may come after the last version; each version that was made for it is the next one, and it waits
+-- to be shown once it was handed in
+abbrev pub IsHeld : Pressing → Held → Type 0
+IsHeld p (Taken e) = IsNext p.moment e × (p ≡ at_rest p.moment)
+IsHeld p (Added c v) = IsChange p.moment c × (v ≡ after_entry p.moment c.entry) × (p ≡ at_rest p.moment)
+IsHeld p (Made c v) = IsChange p.moment c × (arc_value v ≡ after_entry p.moment c.entry) × (p ≡ at_rest p.moment)
+IsHeld p (Ready c v w) =
+    IsChange p.moment c × (arc_value v ≡ after_entry p.moment c.entry) × (arc_value w ≡ after_entry p.moment c.entry)
+    × (p ≡ and_waiting p.moment (after_entry p.moment c.entry))
+
+-- nothing is held and nothing waits, or a batch is held
+abbrev pub IsHolding : Pressing → Option Held → Type 0
+IsHolding p None = p ≡ at_rest p.moment
+IsHolding p (Some h) = IsHeld p h
+
+-- what comes of going on with a held batch: its publication, and nothing waits; or it is held, and the last version is
+-- the same
+abbrev pub IsGoneOn : Pressing → Entry → Result Publication Held → Pressing → Type 0
+IsGoneOn old e (Ok p) new = (p ≡ publication old.moment e) × (new ≡ at_rest p.moment)
+IsGoneOn old e (Err h) new = (new.moment ≡ old.moment) × (entry_in h ≡ e) × IsHeld new h
+
+-- a publication is told, and nothing is held; or the batch is held again, for want of memory
+abbrev pub IsNoted : Result Publication Held → Result (Option Publication) PublishError → Option Held → Type 0
+IsNoted (Ok p) told held = (told ≡ Ok (Some p)) × (held ≡ None)
+IsNoted (Err h) told held = (told ≡ Err OutOfMemory) × (held ≡ Some h)

@@ -1,0 +1,108 @@
+ghost use Rattle.std.specs.Prelude.{◌≡◌, ◌<◌, ◌↔◌, true, IfOk, IfErr};
+ghost use Rattle.graph_model.specs.Edits.{AreEditsBelow};
+ghost use Rattle.store_model.specs.declared.limits.TheConstants.{FEEDS};
+ghost use Rattle.intake.specs.Ends.{after_put, IsFeedOf};
+ghost use Rattle.versions.specs.Feeds.{AreFew, IsRefused};
+ghost use Rattle.versions.specs.Ties.{SubmitsAsEvent};
+
+use crate::errors::{SubmitCause, SubmitError};
+use graph_model::{Batch, Edit, MOST_EDITS};
+use intake::Outlet;
+use std::marker::Model;
+use std::sync::Wait;
+
+/// One of the two sources of batches. Contracts see it as a `Feeding`.
+#[derive(Drop)]
+pub struct Feed {
+    vertex_count: u32,
+    outlet: Outlet,
+}
+
+impl Model for Feed {
+    ghost use Rattle.std.specs.Prelude.{◌≡◌};
+    ghost use Rattle.intake.specs.Ends.{Feeding};
+
+    ghost Value = { Feeding };
+
+    ghost view = { λ f. f.outlet };
+
+    ghost invariant = { λ f. f.vertex_count ≡ f.outlet.vertex_count };
+}
+
+impl Feed {
+    /// The feed that puts its batches there.
+    pub(crate) fn over(vertex_count: u32, outlet: Outlet) -> Feed
+        requires { vertex_count ≡ outlet.vertex_count }
+        ensures { result ≡ outlet }
+    {
+        Feed {
+            vertex_count,
+            outlet,
+        }
+    }
+
+    /// Where it puts its batches.
+    pub(crate) fn into_outlet(self) -> Outlet
+        ensures { result ≡ self }
+    {
+        let Feed {
+            vertex_count: _,
+            outlet,
+        } = self;
+        outlet
+    }
+
+    /// Submits a batch, to be published in its turn. After an error the batch comes back: `TooManyEdits`, which is
+    /// tested first, above 65,536 edits; then `VertexRange` where an edit names no vertex; then `Full` where the
+    /// queue held 64 batches.
+    pub fn submit<R: Wait>(&mut self, batch: Batch, rt: &R) -> Result<(), SubmitError>
+        ensures same_feed { IsFeedOf self.old.vertex_count self.old.queue self.old.feed self.new }
+        ensures submitted { IfOk result (λ _. self.new ≡ after_put self.old batch) }
+        ensures feed { IfOk result (λ _. self.old.feed < FEEDS) }
+        ensures few { IfOk result (λ _. AreFew batch) }
+        ensures below { IfOk result (λ _. AreEditsBelow self.old.vertex_count batch) }
+        ensures event { IfOk result (λ _. SubmitsAsEvent self.old batch self.new) }
+        ensures back { IfErr result (λ refused. refused.batch ≡ batch) }
+        ensures refused { IfErr result (λ refused. IsRefused self.old batch refused.cause self.new) }
+    {
+        self.offer(batch, rt)
+    }
+
+    // Tests a batch, and puts it into the queue.
+    fn offer<R: Wait>(&mut self, batch: Batch, rt: &R) -> Result<(), SubmitError>
+        ensures same_feed { IsFeedOf self.old.vertex_count self.old.queue self.old.feed self.new }
+        ensures submitted { IfOk result (λ _. self.new ≡ after_put self.old batch) }
+        ensures feed { IfOk result (λ _. self.old.feed < FEEDS) }
+        ensures few { IfOk result (λ _. AreFew batch) }
+        ensures below { IfOk result (λ _. AreEditsBelow self.old.vertex_count batch) }
+        ensures back { IfErr result (λ refused. refused.batch ≡ batch) }
+        ensures refused { IfErr result (λ refused. IsRefused self.old batch refused.cause self.new) }
+    {
+        if batch.edits().len() > MOST_EDITS {
+            return Err(SubmitError {
+                cause: SubmitCause::TooManyEdits,
+                batch,
+            });
+        }
+        if !are_below(batch.edits(), self.vertex_count) {
+            return Err(SubmitError {
+                cause: SubmitCause::VertexRange,
+                batch,
+            });
+        }
+        match self.outlet.put(batch, rt) {
+            Ok(()) => Ok(()),
+            Err(batch) => Err(SubmitError {
+                cause: SubmitCause::Full,
+                batch,
+            }),
+        }
+    }
+}
+
+/// Whether the ends of all edits are below a number of vertices.
+fn are_below(edits: &[Edit], vertices: u32) -> bool
+    ensures { (result ≡ true) ↔ AreEditsBelow vertices edits.now }
+{
+    edits.iter().all(|edit| edit.source() < vertices && edit.target() < vertices)
+}

@@ -1,0 +1,53 @@
+//! A batch that was taken, and how far its publication has come.
+ghost use Rattle.std.specs.Prelude.{◌≡◌};
+ghost use Rattle.versions.specs.Held.{entry_in};
+
+use graph_model::Entry;
+use std::sync::Arc;
+use version::{Counts, Version};
+
+/// A batch, and what it does to the edges.
+#[derive(Drop)]
+pub struct Change {
+    pub entry: Entry,
+    pub counts: Counts,
+}
+
+/// A batch that was taken and is not published yet. What was done for it is not done again.
+#[derive(Drop)]
+pub enum Held {
+    /// It was taken.
+    Taken(Entry),
+    /// The history has it, and there is its version.
+    Added(Change, Version),
+    /// That version can be shared.
+    Made(Change, Arc<Version>),
+    /// It was handed in to be shown. The other owners are for the publisher and for the receipt.
+    Ready(Change, Arc<Version>, Arc<Version>),
+}
+
+impl Held {
+    /// The batch, and the feed that it came by.
+    pub fn entry(&self) -> &Entry
+        ensures { result.now ≡ entry_in self.now }
+    {
+        match self {
+            Held::Taken(entry) => entry,
+            Held::Added(change, _) => &change.entry,
+            Held::Made(change, _) => &change.entry,
+            Held::Ready(change, _, _) => &change.entry,
+        }
+    }
+
+    /// The batch, and the feed that it came by. What was done for it is let go.
+    pub fn into_entry(self) -> Entry
+        ensures { result ≡ entry_in self }
+    {
+        match self {
+            Held::Taken(entry) => entry,
+            Held::Added(change, _) => change.entry,
+            Held::Made(change, _) => change.entry,
+            Held::Ready(change, _, _) => change.entry,
+        }
+    }
+}

@@ -1,0 +1,154 @@
+//! How a taken batch becomes the version that readers are shown.
+ghost use Rattle.std.specs.Prelude.{◌≡◌, ◌≤◌};
+ghost use Rattle.std.specs.Arc.{arc_value};
+ghost use Rattle.graph_model.specs.declared.limits.TheConstants.{MOST_BATCHES};
+ghost use Rattle.graph_model.specs.Past.{number_of};
+ghost use Rattle.history.specs.Moment.{after_entry};
+ghost use Rattle.versions.specs.Held.{at_rest, and_waiting, entry_in, IsNext, IsChange, IsHeld, IsGoneOn};
+
+use crate::held::{Change, Held};
+use crate::receipt::Receipt;
+use board::Board;
+use graph_model::Entry;
+use history::Head;
+use std::alloc::Global;
+use std::marker::Model;
+use std::sync::{Arc, Wait};
+use version::Version;
+
+/// Where versions are made and shown. It has to be ended by `close`.
+pub struct Press {
+    pub(crate) alloc: Global,
+    pub(crate) head: Head,
+    pub(crate) current: Arc<Version>,
+    pub(crate) board: Board,
+}
+
+impl Model for Press {
+    ghost use Rattle.std.specs.Prelude.{◌≡◌};
+    ghost use Rattle.std.specs.Arc.{arc_value};
+    ghost use Rattle.versions.specs.Held.{Pressing};
+
+    ghost Value = { Pressing };
+
+    ghost view = { λ p. record { moment = arc_value p.current; waiting = p.board.waiting } };
+
+    ghost invariant = { λ p. (p.head ≡ (arc_value p.current).book) × (p.board.shown ≡ arc_value p.current) };
+}
+
+impl Press {
+    /// How many batches were published.
+    pub fn number(&self) -> u64
+        ensures value { result ≡ number_of self.now.moment.past }
+        ensures small { result ≤ MOST_BATCHES }
+    {
+        self.current.number()
+    }
+
+    /// Goes on with a held batch, from where it stopped.
+    pub fn go_on<R: Wait>(&mut self, held: Held, rt: &R) -> Result<Receipt, Held>
+        requires { IsHeld self.old held }
+        ensures { IsGoneOn self.old (entry_in held) result self.new }
+    {
+        match held {
+            Held::Taken(entry) => self.add(entry, rt),
+            Held::Added(change, version) => self.share(change, version, rt),
+            Held::Made(change, version) => self.hand_in(change, version, rt),
+            Held::Ready(change, version, copy) => self.show(change, version, copy, rt),
+        }
+    }
+
+    // Makes the next version, and adds the batch to the history.
+    fn add<R: Wait>(&mut self, entry: Entry, rt: &R) -> Result<Receipt, Held>
+        requires next { IsNext self.old.moment entry }
+        requires rest { self.old ≡ at_rest self.old.moment }
+        ensures { IsGoneOn self.old entry result self.new }
+    {
+        let Ok((draft, counts)) = self.current.draft(self.alloc, &entry) else {
+            return Err(Held::Taken(entry));
+        };
+        // The history is never longer than what its only publisher knows.
+        let Some(known) = self
+            .head
+            .add(&self.current.known(), self.current.number(), &entry)
+        else {
+            return Err(Held::Taken(entry));
+        };
+        let version = draft.complete(known);
+        self.share(Change { entry, counts }, version, rt)
+    }
+
+    // Gives the version an owner that can be shared.
+    fn share<R: Wait>(&mut self, change: Change, version: Version, rt: &R) -> Result<Receipt, Held>
+        requires change { IsChange self.old.moment change }
+        requires version { version ≡ after_entry self.old.moment change.entry }
+        requires rest { self.old ≡ at_rest self.old.moment }
+        ensures { IsGoneOn self.old change.entry result self.new }
+    {
+        match Arc::new(self.alloc, version) {
+            Ok(version) => self.hand_in(change, version, rt),
+            Err(full) => Err(Held::Added(change, full.value)),
+        }
+    }
+
+    // Hands the version in to be shown.
+    fn hand_in<R: Wait>(
+        &mut self,
+        change: Change,
+        version: Arc<Version>,
+        rt: &R,
+    ) -> Result<Receipt, Held>
+        requires change { IsChange self.old.moment change }
+        requires version { arc_value version ≡ after_entry self.old.moment change.entry }
+        requires rest { self.old ≡ at_rest self.old.moment }
+        ensures { IsGoneOn self.old change.entry result self.new }
+    {
+        let Ok(copy) = Arc::try_clone(&version) else {
+            return Err(Held::Made(change, version));
+        };
+        let Ok(shown) = Arc::try_clone(&version) else {
+            return Err(Held::Made(change, version));
+        };
+        match self.board.append(shown) {
+            Ok(()) => self.show(change, version, copy, rt),
+            Err(_) => Err(Held::Made(change, version)),
+        }
+    }
+
+    // Shows it.
+    fn show<R: Wait>(
+        &mut self,
+        change: Change,
+        version: Arc<Version>,
+        copy: Arc<Version>,
+        rt: &R,
+    ) -> Result<Receipt, Held>
+        requires change { IsChange self.old.moment change }
+        requires version { arc_value version ≡ after_entry self.old.moment change.entry }
+        requires copy { arc_value copy ≡ after_entry self.old.moment change.entry }
+        requires waits { self.old ≡ and_waiting self.old.moment (after_entry self.old.moment change.entry) }
+        ensures { IsGoneOn self.old change.entry result self.new }
+    {
+        match self.board.show(rt) {
+            Ok(()) => {
+                self.current = version;
+                Ok(Receipt::of(copy, change))
+            }
+            Err(_) => Err(Held::Ready(change, version, copy)),
+        }
+    }
+
+    /// Ends it: the last version. Readers are told from then on that the store is closed.
+    pub fn close<R: Wait>(self, rt: &R) -> Arc<Version>
+        ensures { arc_value result ≡ self.moment }
+    {
+        let Press {
+            alloc: _,
+            head: _,
+            current,
+            board,
+        } = self;
+        board.close(rt);
+        current
+    }
+}
