@@ -1,0 +1,1 @@
+"""What the companions beside edgebpf are made of."""

@@ -1,0 +1,84 @@
+"""Calls clang, and what comes with it."""
+import re
+import shutil
+import subprocess
+
+from edgebpf_tools.refusal import Refusal, needs_package
+
+VERSIONS = [""] + [f"-{number}" for number in range(25, 13, -1)]
+# The first processor that clang knows is taken: later ones have more of RFC 9669's instructions.
+PROCESSORS = ["v4", "v3"]
+FLAGS = ["-O2", "-g", "-target", "bpf", "-ffreestanding", "-fno-strict-aliasing", "-fno-stack-protector", "-Wall", "-c"]
+
+
+def newest(tool):
+    """The newest command of this name, with its version's ending, as `clang-19`; None where there is none."""
+    for ending in VERSIONS[1:] + VERSIONS[:1]:
+        if shutil.which(tool + ending):
+            return tool + ending
+    return None
+
+
+def compile_to_bpf(source, target, folders):
+    """Compiles a file of C to an object file. What clang says of the source goes to standard error."""
+    clang = newest("clang")
+    if clang is None:
+        raise needs_package("clang, which compiles C,", "clang-19 llvm-19")
+    said = ""
+    for processor in PROCESSORS:
+        command = [clang, *FLAGS, f"-mcpu={processor}", *[f"-I{folder}" for folder in folders], source, "-o", target]
+        run = subprocess.run(command, capture_output=True, text=True)
+        said = run.stderr
+        if run.returncode == 0:
+            return said
+        if "unknown target CPU" not in said:
+            break
+    raise Refusal(f"clang refused {source}:\n{said.rstrip()}")
+
+
+def lines_of(object_file):
+    """The file and line of each instruction, by section and offset, as far as llvm-objdump is there and knows."""
+    objdump = newest("llvm-objdump")
+    if objdump is None:
+        return {}
+    run = subprocess.run([objdump, "-d", "-l", object_file], capture_output=True, text=True)
+    lines, section, line = {}, None, None
+    for text in run.stdout.splitlines():
+        if found := re.match(r"Disassembly of section (\S+):", text):
+            section, line = found[1], None
+        elif found := re.match(r"; (\S.*:\d+)$", text):
+            line = found[1]
+        elif (found := re.match(r"\s+([0-9a-f]+):\s", text)) and line:
+            # BPF instructions are counted in units.
+            lines[section, 8 * int(found[1])] = line
+    return lines
+
+
+def type_of_result(object_file, function):
+    """How the type of a function's result is called, and its bytes; None where that is not known."""
+    dwarfdump = newest("llvm-dwarfdump")
+    if dwarfdump is None:
+        return None
+    run = subprocess.run([dwarfdump, object_file], capture_output=True, text=True)
+    entries, entry = {}, {}
+    for text in run.stdout.splitlines():
+        if found := re.match(r"(0x[0-9a-f]+):\s+(DW_TAG_\w+)", text):
+            entry = entries[found[1]] = {"tag": found[2]}
+        elif found := re.match(r"\s+DW_AT_(name|type|byte_size)\s+\(\"?([^ \")]+[^\")]*)", text):
+            entry[found[1]] = found[2].strip()
+    for entry in entries.values():
+        if entry["tag"] == "DW_TAG_subprogram" and entry.get("name") == function:
+            return _plain_type(entries, entry)
+    return None
+
+
+def _plain_type(entries, function):
+    """What a function's result is once each name for a type is taken away."""
+    if "type" not in function:
+        return "void", 0
+    kind = entries.get(function["type"].split()[0], {})
+    while "byte_size" not in kind and "type" in kind:
+        kind = entries.get(kind["type"].split()[0], {})
+    if "byte_size" not in kind:
+        return None
+    return kind.get("name", "a type without a name"), int(kind["byte_size"], 16)

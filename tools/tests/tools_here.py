@@ -1,0 +1,26 @@
+"""Where the companions are, and what of their packages is missing."""
+import importlib.util
+import pathlib
+import subprocess
+import sys
+
+TOOLS = pathlib.Path(__file__).resolve().parent.parent
+PYTHON = "/usr/bin/python3"
+sys.path.insert(0, str(TOOLS))
+
+from edgebpf_tools.clang import newest  # noqa: E402
+
+
+def missing():
+    """The packages that edgebpf-c needs and that are not there."""
+    found = [tool for tool in ("clang", "llvm-objdump", "llvm-dwarfdump") if newest(tool) is None]
+    found += [package for package in ("elftools", "numpy") if importlib.util.find_spec(package) is None]
+    return ", ".join(found)
+
+
+MISSING = missing()
+
+
+def run_tool(name, *words, text=None):
+    """Runs a companion as a person would."""
+    return subprocess.run([PYTHON, TOOLS / name, *words], input=text, capture_output=True, text=True)
