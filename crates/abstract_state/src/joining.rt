@@ -5,12 +5,15 @@ ghost use Rattle.abstract_state.specs.States.{elementwise, join_of_states};
 use crate::state::AbstractState;
 use abstract_values::{AbstractValue, join};
 
-/// Joins each value with the other's.
+/// Joins each value with the other's. One that is unset stays so, as most slots are.
 fn join_values(values: &mut [AbstractValue], others: &[AbstractValue])
     requires { length values.old ≡ length others.now }
     ensures { values.new ≡ elementwise join_of values.old others.now }
 {
     for i in 0..values.len() {
+        if matches!(values[i], AbstractValue::Unset) {
+            continue;
+        }
         values[i] = join(values[i], others[i]);
     }
 }

@@ -1,5 +1,8 @@
 ghost use Rattle.std.specs.Prelude.{◌≡◌, ◌+◌, length};
 
+/// How many bytes of a record are the edge's own: its four numbers. The argument stands behind them.
+pub const EDGE_BYTES: usize = 16;
+
 /// An edge as a program sees it.
 #[derive(Clone, Copy)]
 pub struct Edge {
@@ -16,13 +19,16 @@ impl Edge {
 
     /// Writes the record of the edge: its four numbers in little-endian order, and the argument.
     pub fn write_record(&self, bytes: &mut [u8], argument: &[u8])
-        requires { length argument.now + 16 ≡ length bytes.old }
+        requires { length argument.now + EDGE_BYTES ≡ length bytes.old }
         ensures { bytes.new ≡ record_bytes self.now argument.now }
     {
         bytes[..4].copy_from_slice(&self.source.to_le_bytes());
         bytes[4..8].copy_from_slice(&self.target.to_le_bytes());
         bytes[8..12].copy_from_slice(&self.place.to_le_bytes());
         bytes[12..16].copy_from_slice(&self.degree.to_le_bytes());
-        bytes[16..].copy_from_slice(argument);
+        // An empty argument costs no call.
+        if !argument.is_empty() {
+            bytes[EDGE_BYTES..].copy_from_slice(argument);
+        }
     }
 }

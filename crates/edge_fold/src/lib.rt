@@ -7,6 +7,7 @@ mod fold;
 mod outcome;
 
 pub use bpf_model::{Reduction, Row};
+pub use edge::EDGE_BYTES;
 pub use fold::map_edges;
 pub use outcome::MapOutcome;
 pub use verifier::Verified;

@@ -1,28 +1,47 @@
-ghost use Rattle.std.specs.Prelude.{◌≡◌, ◌+◌, ◌*◌, ◌<◌, option_map, IfOk, IfSome};
+ghost use Rattle.std.specs.Prelude.{◌≡◌, ◌+◌, ◌*◌, ◌<◌, ◌≤◌, Some, None, option_map, IfOk};
 ghost use Rattle.script_model.specs.Lexing.{hex as hex_of, hex_byte as hex_byte_of, hex_digit as hex_digit_of, hex_pairs as hex_pairs_of, is_dash as is_dash_word};
 
 use std::alloc::{AllocError, Global};
 
-/// The value of a hexadecimal digit.
-fn hex_digit(byte: u8) -> Option<u8>
-    ensures exact { result ≡ hex_digit_of byte }
-    ensures small { IfSome result (λ digit. digit < 16) }
+/// The value of each byte as a hexadecimal digit, or 255.
+const DIGITS: [u8; 256] = [
+    255, 255, 255, 255, 255, 255, 255, 255, 255, 255, 255, 255, 255, 255, 255, 255, 255, 255, 255,
+    255, 255, 255, 255, 255, 255, 255, 255, 255, 255, 255, 255, 255, 255, 255, 255, 255, 255, 255,
+    255, 255, 255, 255, 255, 255, 255, 255, 255, 255, 0, 1, 2, 3, 4, 5, 6, 7, 8, 9, 255, 255, 255,
+    255, 255, 255, 255, 10, 11, 12, 13, 14, 15, 255, 255, 255, 255, 255, 255, 255, 255, 255, 255,
+    255, 255, 255, 255, 255, 255, 255, 255, 255, 255, 255, 255, 255, 255, 255, 255, 10, 11, 12, 13,
+    14, 15, 255, 255, 255, 255, 255, 255, 255, 255, 255, 255, 255, 255, 255, 255, 255, 255, 255,
+    255, 255, 255, 255, 255, 255, 255, 255, 255, 255, 255, 255, 255, 255, 255, 255, 255, 255, 255,
+    255, 255, 255, 255, 255, 255, 255, 255, 255, 255, 255, 255, 255, 255, 255, 255, 255, 255, 255,
+    255, 255, 255, 255, 255, 255, 255, 255, 255, 255, 255, 255, 255, 255, 255, 255, 255, 255, 255,
+    255, 255, 255, 255, 255, 255, 255, 255, 255, 255, 255, 255, 255, 255, 255, 255, 255, 255, 255,
+    255, 255, 255, 255, 255, 255, 255, 255, 255, 255, 255, 255, 255, 255, 255, 255, 255, 255, 255,
+    255, 255, 255, 255, 255, 255, 255, 255, 255, 255, 255, 255, 255, 255, 255, 255, 255, 255, 255,
+    255, 255, 255, 255, 255, 255, 255, 255, 255, 255, 255, 255, 255, 255, 255, 255, 255, 255, 255,
+    255, 255, 255,
+];
+
+/// The value of a hexadecimal digit. Of a byte that is none it is more than 15.
+#[inline(always)]
+fn digit_value(byte: u8) -> u8
+    ensures digit { result < 16 → hex_digit_of byte ≡ Some result }
+    ensures other { 16 ≤ result → hex_digit_of byte ≡ None }
 {
-    match byte {
-        b'0'..=b'9' => Some(byte - b'0'),
-        b'a'..=b'f' => Some(byte - b'a' + 10),
-        b'A'..=b'F' => Some(byte - b'A' + 10),
-        _ => None,
-    }
+    DIGITS[byte as usize]
 }
 
 /// The byte that two hexadecimal digits spell.
+#[inline(always)]
 fn hex_byte(high: u8, low: u8) -> Option<u8>
     ensures { result ≡ hex_byte_of (hex_digit_of high) (hex_digit_of low) }
 {
-    let high = hex_digit(high)?;
-    let low = hex_digit(low)?;
-    Some(16 * high + low)
+    let high = digit_value(high);
+    let low = digit_value(low);
+    if high < 16 && low < 16 {
+        Some(16 * high + low)
+    } else {
+        None
+    }
 }
 
 /// The bytes that pairs of hexadecimal digits spell.
