@@ -9,3 +9,4 @@ pub mod TableLemmas
 pub mod BlockLemmas
 pub mod ListLemmas
 pub mod HomeLemmas
+pub mod HousedLemmas

@@ -1,16 +1,17 @@
 -- The parts of a table in blocks, and those of some ranges under edit.
-use Rattle.std.specs.Prelude.{◌≡◌, ℕ, ◌+◌, ◌*◌, ◌<◌, ◌≤◌, min, Bool, not, ◌&&◌, List, length, map, slice_index_or}
-use Rattle.std.specs.List.{flat_map}
+use Rattle.std.specs.Prelude.{◌≡◌, ℕ, ◌+◌, ◌*◌, ◌<◌, ◌≤◌, min, Bool, not, ◌&&◌, List, [], ◌∷◌, length, map, replicate, slice_index_or}
+use Rattle.std.specs.List.{AllByRecursion, flat_map}
 use Rattle.std.specs.declared.sync.Arc.{Arc}
 use Rattle.std.specs.declared.alloc.Global.{Global}
 use Rattle.std.specs.Arc.{arc_value}
 use Rattle.graph_model.specs.declared.limits.TheConstants.{MOST_VERTICES, RANGE_VERTICES}
 use Rattle.graph_model.specs.declared.edit.Edit.{Edit}
+use Rattle.graph_model.specs.declared.home.Home.TheVariants.{Block}
 use Rattle.graph_model.specs.Graph.{Graph, count_pairs}
 use Rattle.graph_model.specs.Edits.{after_batch, AreEditsBelow}
 use Rattle.migration.specs.declared.counts.Counts.{Counts}
 use Rattle.migration.specs.declared.block.TheConstants.{BLOCK_SHARDS}
-use Rattle.migration.specs.Part.{Part}
+use Rattle.migration.specs.Part.{Part, AreHomes, AreHomesAfter}
 use Rattle.migration.specs.Table.{IsPartAt, part_at}
 
 -- the parts that blocks show, one block after another
@@ -57,3 +58,23 @@ pub record AreEdited (es : List Edit) (g : Graph) (first : ℕ) (parts : List Pa
   pub each : (k : ℕ) → k < length parts → IsPartAt (after_batch es g) (first + k) (part_at parts k)
   pub gained : counts.added + count_in g first (is_new es g) ≡ count_in g (first + length parts) (is_new es g)
   pub lost : counts.removed + count_in g first (is_gone es g) ≡ count_in g (first + length parts) (is_gone es g)
+
+-- each list of each part is in its block
+abbrev pub AreInBlocks : List Part → Type 0
+AreInBlocks parts = AllByRecursion (λ p. p.homes ≡ replicate (length p.rows) Block) parts
+
+-- each list of each part is in a home that may keep it
+abbrev pub AreHoused : List Part → Type 0
+AreHoused parts = AllByRecursion AreHomes parts
+
+-- a part after edits has as many lists, each at home where it was or where it had to move
+pub record IsRehoused (p q : Part) : Type 0 where
+  pub count : length q.rows ≡ length p.rows
+  pub homes : AreHomesAfter p q
+
+-- and each of many parts
+abbrev pub AreRehoused : List Part → List Part → Type 0
+AreRehoused [] [] = Unit {0}
+AreRehoused [] (q ∷ qs) = ⊥
+AreRehoused (p ∷ ps) [] = ⊥
+AreRehoused (p ∷ ps) (q ∷ qs) = IsRehoused p q × AreRehoused ps qs

@@ -1,15 +1,17 @@
 -- A graph in parts: one for each range of its vertices, in order.
-use Rattle.std.specs.Prelude.{◌≡◌, ◌↔◌, ℕ, ◌*◌, ◌-◌, ◌/◌, ◌<◌, ◌≤◌, min, List, [], length, map, slice_index_or, Option, Some, None}
+use Rattle.std.specs.Prelude.{◌≡◌, ◌↔◌, ℕ, ◌*◌, ◌-◌, ◌/◌, ◌%◌, ◌<◌, ◌≤◌, min, List, [], length, map, slice_index_or, Option, Some, None}
 use Rattle.std.specs.Borrow.{Bor}
 use Rattle.std.specs.declared.sync.Arc.{Arc}
 use Rattle.std.specs.declared.alloc.Global.{Global}
 use Rattle.std.specs.Arc.{arc_value}
 use Rattle.graph_model.specs.declared.limits.TheConstants.{MOST_VERTICES, RANGE_VERTICES}
 use Rattle.graph_model.specs.declared.edit.Edit.{Edit}
+use Rattle.graph_model.specs.declared.home.Home.{Home}
 use Rattle.graph_model.specs.Graph.{Graph}
+use Rattle.graph_model.specs.Homes.{home_after}
 use Rattle.graph_model.specs.Edits.{after_batch, added, removed, AreEditsBelow}
 use Rattle.migration.specs.declared.counts.Counts.{Counts}
-use Rattle.migration.specs.Part.{Part, IsPart}
+use Rattle.migration.specs.Part.{Part, IsPart, row_at, home_at}
 
 -- the parts that shards with owners show
 abbrev pub parts_of : List (Arc Part Global) → List Part
@@ -46,3 +48,14 @@ pub record AreAfter (es : List Edit) (parts next : List Part) (counts : Counts) 
   pub table : (g : Graph) → AreEditsBelow g.vertex_count es → IsTable g parts → IsTable (after_batch es g) next
   pub gained : (g : Graph) → AreEditsBelow g.vertex_count es → IsTable g parts → counts.added ≡ added es g
   pub lost : (g : Graph) → AreEditsBelow g.vertex_count es → IsTable g parts → counts.removed ≡ removed es g
+
+-- a vertex's list, and its home; a vertex without a shard has an empty list, in its block
+abbrev pub row_in : List Part → ℕ → List ℕ
+row_in parts v = row_at (part_at parts (v / RANGE_VERTICES)) (v % RANGE_VERTICES)
+
+abbrev pub home_in : List Part → ℕ → Home
+home_in parts v = home_at (part_at parts (v / RANGE_VERTICES)) (v % RANGE_VERTICES)
+
+-- each list is at home where it was before edits, or where it had to move
+abbrev pub AreMoved : List Part → List Part → Type 0
+AreMoved parts next = (v : ℕ) → home_in next v ≡ home_after (home_in parts v) (length (row_in next v))

@@ -2,7 +2,7 @@ ghost use Rattle.std.specs.Prelude.{◌≡◌, ◌+◌, ◌^◌, ◌<◌, ◌≤
 ghost use Rattle.graph_model.specs.Graph.{Graph};
 ghost use Rattle.graph_model.specs.Edits.{AreEditsBelow};
 ghost use Rattle.migration.specs.declared.groups.Grouping.TheVariants.{ByRange};
-ghost use Rattle.migration.specs.Blocks.{ArePartsFrom, AreEditable, AreEdited};
+ghost use Rattle.migration.specs.Blocks.{ArePartsFrom, AreEditable, AreEdited, AreHoused, AreRehoused};
 ghost use Rattle.migration.specs.Table.{parts_of};
 
 use crate::counts::Counts;
@@ -64,6 +64,7 @@ impl Block {
         ensures edited { IfOk result (λ next. (g : Graph) → AreEditsBelow g.vertex_count groups.now.edits
             → ArePartsFrom g first self.now → AreEdited groups.now.edits g first next.0 next.1) }
         ensures same { IfOk result (λ next. length next.0 ≡ length self.now) }
+        ensures homes { IfOk result (λ next. AreHoused self.now → AreRehoused self.now next.0) }
     {
         let mut shards = Vec::with_capacity(alloc, self.shards.len())?;
         let mut counts = Counts::NONE;

@@ -2,6 +2,7 @@
 ghost use Rattle.std.specs.Prelude.{◌≡◌, ◌≤◌, IfOk};
 ghost use Rattle.graph_model.specs.declared.limits.TheConstants.{MOST_VERTICES};
 ghost use Rattle.graph_model.specs.Graph.{Graph, empty_graph};
+ghost use Rattle.migration.specs.Blocks.{AreInBlocks};
 ghost use Rattle.migration.specs.Table.{IsTable, IsShardOf, parts_of};
 
 use crate::shard::Shard;
@@ -9,11 +10,12 @@ use graph_model::RANGE_VERTICES;
 use std::alloc::{AllocError, Global};
 use std::sync::Arc;
 
-/// The shards of a graph of so many vertices without an edge, one for each range.
+/// The shards of a graph of so many vertices without an edge, one for each range. Each list is in its block.
 pub fn empty_shards(alloc: Global, vertex_count: u32) -> Result<Vec<Arc<Shard>>, AllocError>
     requires some { 1 ≤ vertex_count }
     requires most { vertex_count ≤ MOST_VERTICES }
-    ensures { IfOk result (λ shards. IsTable (empty_graph vertex_count) (parts_of shards.items)) }
+    ensures table { IfOk result (λ shards. IsTable (empty_graph vertex_count) (parts_of shards.items)) }
+    ensures homes { IfOk result (λ shards. AreInBlocks (parts_of shards.items)) }
 {
     let count = (vertex_count - 1) / RANGE_VERTICES + 1;
     let mut shards = Vec::with_capacity(alloc, count as usize)?;

@@ -1,16 +1,17 @@
 //! The shards of a graph, in blocks that tables share.
-ghost use Rattle.std.specs.Prelude.{◌≡◌, ◌≤◌, IfOk};
+ghost use Rattle.std.specs.Prelude.{◌≡◌, ◌<◌, ◌≤◌, ℕ, length, IfOk, MatchOption};
+ghost use Rattle.graph_model.specs.declared.home.Home.TheVariants.{Block as InBlock};
 ghost use Rattle.graph_model.specs.declared.limits.TheConstants.{MOST_VERTICES};
 ghost use Rattle.graph_model.specs.Graph.{Graph, empty_graph};
 ghost use Rattle.migration.specs.Blocks.{parts_in, sizes_of, AreFull};
-ghost use Rattle.migration.specs.Table.{IsTable, IsShardOf, IsEditable, AreAfter, parts_of};
+ghost use Rattle.migration.specs.Table.{IsTable, IsShardOf, IsEditable, AreAfter, AreMoved, part_at, parts_of, home_in};
 
 use crate::block::{BLOCK_SHARDS, Block};
 use crate::counts::Counts;
 use crate::groups::{Grouping, Groups};
 use crate::shard::Shard;
 use crate::shards::{empty_shards, share_shards};
-use graph_model::{Edit, RANGE_VERTICES};
+use graph_model::{Edit, Home, RANGE_VERTICES};
 use std::alloc::{AllocError, Global};
 use std::marker::Model;
 use std::sync::Arc;
@@ -27,13 +28,15 @@ pub struct Table {
 impl Model for Table {
     ghost use Rattle.std.specs.Prelude.{◌≡◌, List, length};
     ghost use Rattle.migration.specs.Part.{Part};
-    ghost use Rattle.migration.specs.Blocks.{parts_in, sizes_of, AreFull};
+    ghost use Rattle.migration.specs.Blocks.{parts_in, sizes_of, AreFull, AreHoused};
 
     ghost Value = { List Part };
 
     ghost view = { λ t. parts_in t.blocks.items };
 
-    ghost invariant = { λ t. AreFull (sizes_of t.blocks.items) × (t.count ≡ length (parts_in t.blocks.items)) };
+    ghost invariant = { λ t. AreFull (sizes_of t.blocks.items)
+        × (t.count ≡ length (parts_in t.blocks.items))
+        × AreHoused (parts_in t.blocks.items) };
 }
 
 /// Blocks of these shards.
@@ -52,11 +55,12 @@ fn blocks_of(alloc: Global, shards: &[Arc<Shard>]) -> Result<Vec<Arc<Block>>, Al
 }
 
 impl Table {
-    /// The table of a graph of so many vertices without an edge.
+    /// The table of a graph of so many vertices without an edge, each at home in its block.
     pub fn empty(alloc: Global, vertex_count: u32) -> Result<Table, AllocError>
         requires some { 1 ≤ vertex_count }
         requires most { vertex_count ≤ MOST_VERTICES }
-        ensures { IfOk result (λ table. IsTable (empty_graph vertex_count) table) }
+        ensures table { IfOk result (λ table. IsTable (empty_graph vertex_count) table) }
+        ensures homes { IfOk result (λ table. (v : ℕ) → home_in table v ≡ InBlock) }
     {
         let shards = empty_shards(alloc, vertex_count)?;
         let blocks = blocks_of(alloc, &shards)?;
@@ -64,21 +68,45 @@ impl Table {
         Ok(Table { blocks, count })
     }
 
+    // The shard of a range, if there is one.
+    fn shard_at(&self, range: usize) -> Option<&Shard>
+        ensures { MatchOption result (length self.now ≤ range)
+            (λ shard. (range < length self.now) × (shard.now ≡ part_at self.now range)) }
+    {
+        let block: &Block = self.blocks.get(range / BLOCK_SHARDS)?;
+        let shard: &Shard = block.shards().get(range % BLOCK_SHARDS)?;
+        Some(shard)
+    }
+
     /// The shard in which a vertex's list stands. A vertex past the last range has none.
     pub fn shard_of(&self, vertex: u64) -> Option<&Shard>
         ensures { (g : Graph) → IsTable g self.now → IsShardOf g vertex result }
     {
-        let range = (vertex / u64::from(RANGE_VERTICES)) as usize;
-        let block: &Block = self.blocks.get(range / BLOCK_SHARDS)?;
-        let shard: &Shard = block.shards().get(range % BLOCK_SHARDS)?;
+        let shard = self.shard_at((vertex / u64::from(RANGE_VERTICES)) as usize)?;
         Some(shard)
+    }
+
+    /// The home of a vertex's list. A vertex outside has an empty one, in its block.
+    pub fn home(&self, vertex: u64) -> Home
+        ensures { result ≡ home_in self.now vertex }
+    {
+        let Some(shard) = self.shard_at((vertex / u64::from(RANGE_VERTICES)) as usize) else {
+            return Home::Block;
+        };
+        let place = (vertex % u64::from(RANGE_VERTICES)) as u16;
+        if place < shard.vertex_count() {
+            shard.home(place as u8)
+        } else {
+            Home::Block
+        }
     }
 
     /// The table after a batch, and what the batch did. This one stays. It takes a step for each block,
     /// and copies the blocks in which something is edited; each edited shard is made once.
     pub fn after(&self, alloc: Global, edits: &[Edit]) -> Result<(Table, Counts), AllocError>
         requires { IsEditable self.now edits.now }
-        ensures { IfOk result (λ next. AreAfter edits.now self.now next.0 next.1) }
+        ensures after { IfOk result (λ next. AreAfter edits.now self.now next.0 next.1) }
+        ensures homes { IfOk result (λ next. AreMoved self.now next.0) }
     {
         let groups = Groups::of(alloc, Grouping::ByRange, self.count, edits)?;
         let mut blocks = Vec::with_capacity(alloc, self.blocks.len())?;

@@ -1,17 +1,24 @@
 -- A version's graph, the first version, and the next.
-use Rattle.std.proofs.Common.{◌≡◌, ℕ, ◌+◌, ◌-◌, ◌*◌, ◌<◌, ◌≤◌, Bool, true, false, List, Contains, sym, ap, subst, refl, le_trans, mul-le-mul, arith}
+use Rattle.std.proofs.Common.{◌≡◌, ℕ, ◌+◌, ◌-◌, ◌*◌, ◌/◌, ◌%◌, ◌<◌, ◌≤◌, Bool, true, false, List, [], length, Contains, sym, ap, subst, refl, ◌∙◌, inl, inr, le_trans, mul-le-mul, arith}
+use Rattle.std.proofs.lemmas.Bool.{cases_lt}
+use Rattle.std.proofs.lemmas.List.{get_or_past}
+use Rattle.graph_model.specs.declared.home.Home.{Home}
+use Rattle.graph_model.specs.declared.home.Home.TheVariants.{Block}
 use Rattle.graph_model.specs.declared.edit.Edit.{Edit}
 use Rattle.graph_model.specs.declared.entry.Entry.{Entry}
-use Rattle.graph_model.specs.Graph.{neighbours, edge_count, empty_graph}
+use Rattle.graph_model.specs.Graph.{Graph, neighbours, edge_count, empty_graph}
 use Rattle.graph_model.specs.Edits.{after_batch, added, removed, AreEditsBelow}
 use Rattle.graph_model.specs.Past.{Past, graph_of, number_of, opening, longer}
+use Rattle.graph_model.specs.Homes.{home_after, home_of}
 use Rattle.graph_model.specs.Views.{is_edge}
+use Rattle.graph_model.proofs.HomeLemmas.{home_of_longer}
+use Rattle.graph_model.proofs.Neighbours.{neighbours-outside}
 use Rattle.graph_model.proofs.ViewLemmas.{neighbour-is_edge, is_edge-neighbour}
 use Rattle.graph_model.proofs.Batches.{change_of_size, edge_count-empty_graph, edge_count-le, new_edges-le}
 use Rattle.graph_model.proofs.Pasts.{graph_of-longer, vertex_count-graph_of, number_of-longer, IsPast-longer}
 use Rattle.migration.specs.declared.counts.Counts.{Counts}
-use Rattle.migration.specs.Part.{Part}
-use Rattle.migration.specs.Table.{IsTable, IsEditable, AreAfter}
+use Rattle.migration.specs.Part.{Part, row_at, vertex_at}
+use Rattle.migration.specs.Table.{IsTable, IsEditable, AreAfter, AreMoved, part_at, row_in, home_in}
 use Rattle.version.specs.Version.{IsVersion, IsVertexCount}
 
 -- edits below a version's vertices are below its graph's
@@ -30,9 +37,10 @@ editable p parts edges es v below = record {
   below = below_graph p es below;
 }
 
-pub first_version : (n : ℕ) (parts : List Part) → IsVertexCount n → IsTable (empty_graph n) parts → IsVersion (opening n) parts 0
-first_version n parts h table = record {
+pub first_version : (n : ℕ) (parts : List Part) → IsVertexCount n → IsTable (empty_graph n) parts → ((v : ℕ) → home_in parts v ≡ Block) → IsVersion (opening n) parts 0
+first_version n parts h table homes = record {
   table = table;
+  homes = homes;
   edges_are = sym (edge_count-empty_graph n);
   some = h.0;
   most = h.1;
@@ -69,13 +77,42 @@ did p parts next edges e counts v below after =
       few = subst (λ k. k ≤ 1048576 * 1048576) (sym gained) (le_trans (new_edges-le (graph_of p) (after_batch e.batch (graph_of p))) (mul-le-mul n n));
     }
 
+-- a vertex's list in a table is its list in the graph
+list_is : (g : Graph) (parts : List Part) → IsTable g parts → (v : ℕ) → row_in parts v ≡ neighbours g v
+list_is g parts table v = elim (cases_lt v g.vertex_count) [
+  | inl inside ↦ (
+      let here : v / 256 < length parts = (table.ranges (v / 256)).1 (omega arith) in
+      let part = table.each (v / 256) here in
+      let number = part.number in
+      let low : v % 256 < length (part_at parts (v / 256)).rows = omega (arith, part.size) in
+      let whole : vertex_at (part_at parts (v / 256)) (v % 256) ≡ v = omega (arith, number) in
+      part.part.each (v % 256) low ∙ ap (neighbours g) whole)
+  | inr outside ↦ none outside ∙ sym (neighbours-outside g v outside)
+]
+  where
+    none : g.vertex_count ≤ v → row_in parts v ≡ []
+    none outside = elim (cases_lt (v / 256) (length parts)) [
+      | inl here ↦ get_or_past (part_at parts (v / 256)).rows (v % 256) [] (omega (arith, (table.each (v / 256) here).size))
+      | inr past ↦ ap (λ (p : Part). row_at p (v % 256)) (get_or_past parts (v / 256) (record { range = 0; rows = []; homes = [] }) past)
+    ]
+
+-- the homes after one batch more
+next_home : (p : Past) (parts next : List Part) (e : Entry) → ((v : ℕ) → home_in parts v ≡ home_of p v) → IsTable (graph_of (longer p e)) next → AreMoved parts next → (v : ℕ) → home_in next v ≡ home_of (longer p e) v
+next_home p parts next e homes table moved v =
+    moved v
+    ∙ ap (λ (home : Home). home_after home (length (row_in next v))) (homes v)
+    ∙ ap (λ row. home_after (home_of p v) (length {A = ℕ} row)) (list_is (graph_of (longer p e)) next table v)
+    ∙ sym (home_of_longer p e v)
+
 -- the next version
-pub next_version : (p : Past) (parts next : List Part) (edges : ℕ) (e : Entry) (counts : Counts) → IsVersion p parts edges → AreEditsBelow p.vertex_count e.batch → number_of p < 4096 → AreAfter e.batch parts next counts → IsVersion (longer p e) next (edges + counts.added - counts.removed)
-next_version p parts next edges e counts v below short after =
+pub next_version : (p : Past) (parts next : List Part) (edges : ℕ) (e : Entry) (counts : Counts) → IsVersion p parts edges → AreEditsBelow p.vertex_count e.batch → number_of p < 4096 → AreAfter e.batch parts next counts → AreMoved parts next → IsVersion (longer p e) next (edges + counts.added - counts.removed)
+next_version p parts next edges e counts v below short after moved =
     let done = did p parts next edges e counts v below after in
     let change = done.change in
+    let table : IsTable (graph_of (longer p e)) next = subst (λ g. IsTable g next) (sym (graph_of-longer p e)) (after.table (graph_of p) (below_graph p e.batch below) v.table) in
     record {
-      table = subst (λ g. IsTable g next) (sym (graph_of-longer p e)) (after.table (graph_of p) (below_graph p e.batch below) v.table);
+      table = table;
+      homes = next_home p parts next e v.homes table moved;
       edges_are = omega (arith, change);
       some = v.some;
       most = v.most;

@@ -4,8 +4,9 @@ use Rattle.graph_model.specs.declared.limits.TheConstants.{MOST_VERTICES, MOST_B
 use Rattle.graph_model.specs.declared.entry.Entry.{Entry}
 use Rattle.graph_model.specs.Graph.{edge_count}
 use Rattle.graph_model.specs.Past.{Past, IsPast, graph_of, number_of}
+use Rattle.graph_model.specs.Homes.{home_of}
 use Rattle.migration.specs.Part.{Part}
-use Rattle.migration.specs.Table.{IsTable}
+use Rattle.migration.specs.Table.{IsTable, home_in}
 
 abbrev pub past_of : ℕ → List Entry → Past
 past_of n log = record { vertex_count = n; log = log }
@@ -14,9 +15,11 @@ past_of n log = record { vertex_count = n; log = log }
 abbrev pub IsVertexCount : ℕ → Type 0
 IsVertexCount n = (1 ≤ n) × (n ≤ MOST_VERTICES)
 
--- a version of a past: its parts and its number of edges are those of the graph that the log makes
+-- a version of a past: its parts and its number of edges are those of the graph that the log makes, and its homes those
+-- to which the log's batches led
 pub record IsVersion (p : Past) (parts : List Part) (edges : ℕ) : Type 0 where
   pub table : IsTable (graph_of p) parts
+  pub homes : (v : ℕ) → home_in parts v ≡ home_of p v
   pub edges_are : edges ≡ edge_count (graph_of p)
   pub some : 1 ≤ p.vertex_count
   pub most : p.vertex_count ≤ MOST_VERTICES

@@ -2,6 +2,7 @@ ghost use Rattle.std.specs.Prelude.{◌≡◌, ◌/◌, ◌%◌, ◌<◌, ◌≤
 ghost use Rattle.graph_model.specs.declared.limits.TheConstants.{MOST_BATCHES, MOST_VERTICES};
 ghost use Rattle.graph_model.specs.Graph.{neighbours, edge_count, degree};
 ghost use Rattle.graph_model.specs.Edits.{AreEditsBelow, added, removed};
+ghost use Rattle.graph_model.specs.Homes.{home_of};
 ghost use Rattle.graph_model.specs.Views.{is_edge, neighbour_words, neighbours_among, word_bytes};
 ghost use Rattle.graph_model.specs.Past.{IsPast, graph_of, number_of, longer};
 ghost use Rattle.history.specs.Moment.{opening_moment, beginning_of, no_batch};
@@ -9,7 +10,7 @@ ghost use Rattle.history.specs.Moment.{opening_moment, beginning_of, no_batch};
 use crate::draft::Draft;
 use crate::log::Log;
 use cursors::Cursor;
-use graph_model::Entry;
+use graph_model::{Entry, Home};
 use history::Known;
 use migration::{Counts, Table};
 use std::alloc::{AllocError, Global};
@@ -100,6 +101,13 @@ impl Version {
         ensures small { result ≤ MOST_VERTICES }
     {
         cursors::degree(self.shards.shard_of(vertex), vertex)
+    }
+
+    /// Where a vertex's neighbours are kept. A vertex outside has none, and they are in its block.
+    pub fn home(&self, vertex: u64) -> Home
+        ensures { result ≡ home_of self.now.past vertex }
+    {
+        self.shards.home(vertex)
     }
 
     /// Whether there is an edge from a vertex to another.

@@ -1,4 +1,4 @@
-use Rattle.std.proofs.Common.{◌<◌, length, refl, subst, sym, arith}
+use Rattle.std.proofs.Common.{refl, subst, sym, arith}
 use Rattle.std.specs.Option.{IsNone}
 use Rattle.migration.proofs.ListLemmas.{no_run, opened_first}
 use Rattle.migration.proofs.lists.open_run.Goals as goal

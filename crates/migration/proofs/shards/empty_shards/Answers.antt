@@ -1,11 +1,13 @@
 use Rattle.std.proofs.Common.{◌≡◌, ◌<◌, ◌*◌, ◌-◌, ◌+◌, ℕ, [], min, length, replicate, sym, ap, subst, ◌∙◌, arith}
 use Rattle.std.specs.Arc.{arc_value}
-use Rattle.std.proofs.lemmas.List.{length_push}
+use Rattle.std.proofs.lemmas.List.{length_push, length-replicate}
 use Rattle.graph_model.specs.declared.home.Home.TheVariants.{Block}
 use Rattle.graph_model.specs.Graph.{empty_graph}
 use Rattle.migration.specs.Part.{Part}
+use Rattle.migration.specs.Blocks.{AreInBlocks}
 use Rattle.migration.specs.Table.{IsPartAt, parts_of, part_at}
 use Rattle.migration.proofs.TableLemmas.{empty_part, empty_table, parts_push}
+use Rattle.migration.proofs.HousedLemmas.{in_blocks_more}
 use Rattle.migration.proofs.shards.empty_shards.Goals as goal
 
 abbrev part : ℕ → ℕ → Part
@@ -25,10 +27,14 @@ loop-range-preserved c =
       each = λ r h.
           subst (λ l. IsPartAt (empty_graph n) r (part_at l r)) (sym pushed)
           (empty_part n range (parts_of c.loop-range.shards.items) (arc_value c.in_ok-new.field-0) some c.loop-range.invariant.count c.loop-range.invariant.each made r (subst (λ l. r < length l) pushed h));
+      homes = (
+          let own : (arc_value c.in_ok-new.field-0).homes ≡ replicate (length (arc_value c.in_ok-new.field-0).rows) Block =
+          subst (λ (p : Part). p.homes ≡ replicate (length p.rows) Block) (sym made) (ap (λ k. replicate k Block) (sym (length-replicate (min 256 (n - 256 * range)) []))) in
+          subst AreInBlocks (sym pushed) (in_blocks_more (parts_of c.loop-range.shards.items) (arc_value c.in_ok-new.field-0) c.loop-range.invariant.homes own));
     }
 
-pub returns : goal.returns
-returns c =
+pub returns-clause-table : goal.returns-clause-table
+returns-clause-table c =
     let n = c.args.vertex_count in
     let test = c.loop-range-test.false in
     let ended = c.loop-range.auto.range-end in

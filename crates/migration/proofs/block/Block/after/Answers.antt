@@ -1,16 +1,17 @@
-use Rattle.std.proofs.Common.{◌≡◌, ℕ, ◌<◌, ◌+◌, ◌^◌, List, [], ◌++◌, ◌∷◌, length, sym, ap, subst, subst₂, ◌∙◌, arith}
+use Rattle.std.proofs.Common.{◌≡◌, ℕ, ◌<◌, ◌≤◌, ◌+◌, ◌^◌, List, [], ◌++◌, ◌∷◌, length, take, sym, ap, subst, subst₂, ◌∙◌, arith}
 use Rattle.std.specs.declared.sync.Arc.{Arc}
 use Rattle.std.specs.declared.alloc.Global.{Global}
 use Rattle.std.specs.Arc.{arc_value}
-use Rattle.std.proofs.lemmas.List.{length-map, length_push}
+use Rattle.std.proofs.lemmas.List.{length-map, length_push, take_all}
 use Rattle.migration.specs.declared.groups.Grouping.TheVariants.{ByRange}
 use Rattle.migration.specs.Groups.{Grouped, edits_of}
-use Rattle.migration.specs.Part.{Part, AreEditsOf, IsPartAfter, AreCounts}
+use Rattle.migration.specs.Part.{Part, AreEditsOf, IsPartAfter, AreCounts, AreHomesAfter}
 use Rattle.migration.specs.Table.{parts_of, part_at}
-use Rattle.migration.specs.Blocks.{AreEdited}
+use Rattle.migration.specs.Blocks.{AreEdited, IsRehoused, AreRehoused}
 use Rattle.migration.proofs.RangeLemmas.{range_edits, range_own}
 use Rattle.migration.proofs.EditedLemmas.{none, none_edited, more_edited, range_edited, range_kept, few_edited, few_counted, few_together, same_counts}
 use Rattle.migration.proofs.TableLemmas.{parts_push, shown_part}
+use Rattle.migration.proofs.HousedLemmas.{housed_at, part_stays, rehoused_next}
 use Rattle.migration.proofs.block.Block.after.Goals as goal
 use Rattle.migration.proofs.block.Block.after.Goals.{In_ok-push-2}
 
@@ -26,6 +27,7 @@ pub loop-place-init : goal.loop-place-init
 loop-place-init c = record {
   count = ap (λ l. length (parts_of l)) c.in_ok-shards.ensures.items;
   done = λ g below parts. subst (λ l. AreEdited c.args.groups.now.edits g c.args.first (parts_of l) none) (sym c.in_ok-shards.ensures.items) (none_edited c.args.groups.now.edits g c.args.first);
+  homes = λ housed. subst (λ l. AreRehoused [] (parts_of l)) (sym c.in_ok-shards.ensures.items) tt;
 }
 
 pub overflow_add-first : goal.overflow_add-first
@@ -63,6 +65,10 @@ loop-place-preserved-then-is_empty c =
           (same_counts groups.edits g c.args.first (before ++ arc_value c.in_ok-try_clone.field-0 ∷ []) c.loop-place.counts
           (more_edited groups.edits g c.args.first before (arc_value c.in_ok-try_clone.field-0 ∷ []) c.loop-place.counts none (c.loop-place.invariant.done g below parts)
           (subst₂ (λ r q. AreEdited groups.edits g r (q ∷ []) none) (ap (λ n. c.args.first + n) (sym c.loop-place.invariant.count)) same kept))));
+      homes = λ housed.
+          subst (AreRehoused (take (c.loop-place.place + 1) c.args.self.now)) (sym pushed)
+          (rehoused_next c.args.self.now before c.loop-place.place (arc_value c.in_ok-try_clone.field-0) at (c.loop-place.invariant.homes housed)
+          (subst (IsRehoused (part_at c.args.self.now c.loop-place.place)) same (part_stays (part_at c.args.self.now c.loop-place.place) (housed_at c.args.self.now c.loop-place.place housed at))));
     }
 
 pub apply-requires : goal.apply-requires
@@ -78,7 +84,7 @@ apply-requires c =
     subst₂ AreEditsOf part own (range_own editable.graph (part_at c.args.self.now c.loop-place.place) groups.count groups.edits range editable.small (editable.own.each c.loop-place.place at) editable.below)
 
 -- what was done to the shard at hand
-applied : (c : In_ok-push-2) → IsPartAfter (range_edits c.args.groups.now.count c.args.groups.now.edits (c.args.first + c.loop-place.place)) (part_at c.args.self.now c.loop-place.place) c.in_ok-edited.edited × AreCounts (range_edits c.args.groups.now.count c.args.groups.now.edits (c.args.first + c.loop-place.place)) (part_at c.args.self.now c.loop-place.place) c.in_ok-edited.more
+applied : (c : In_ok-push-2) → IsPartAfter (range_edits c.args.groups.now.count c.args.groups.now.edits (c.args.first + c.loop-place.place)) (part_at c.args.self.now c.loop-place.place) c.in_ok-edited.edited × AreCounts (range_edits c.args.groups.now.count c.args.groups.now.edits (c.args.first + c.loop-place.place)) (part_at c.args.self.now c.loop-place.place) c.in_ok-edited.more × AreHomesAfter (part_at c.args.self.now c.loop-place.place) c.in_ok-edited.edited
 applied c =
     let groups = c.args.groups.now in
     let range = c.args.first + c.loop-place.place in
@@ -86,7 +92,7 @@ applied c =
     let own : c.deref-in-loop-place.result.now ≡ range_edits groups.count groups.edits range = c.deref-in-loop-place.ensures.value ∙ c.in_ok-read.ensures ∙ edits_in groups c.requires.ranges range in
     let part : c.deref.result.now ≡ part_at c.args.self.now c.loop-place.place =
     c.deref.ensures ∙ ap arc_value c.shard-item.is ∙ shown_part c.deref-shard-items.result.now c.loop-place.place c.shard-item.result c.loop-place-test.true ∙ ap (λ l. part_at l c.loop-place.place) shown in
-    (subst₂ (λ es p. IsPartAfter es p c.in_ok-edited.edited) own part c.in_ok-edited.ensures.after, subst₂ (λ es p. AreCounts es p c.in_ok-edited.more) own part c.in_ok-edited.ensures.counts)
+    (subst₂ (λ es p. IsPartAfter es p c.in_ok-edited.edited) own part c.in_ok-edited.ensures.after, subst₂ (λ es p. AreCounts es p c.in_ok-edited.more) own part c.in_ok-edited.ensures.counts, subst (λ p. AreHomesAfter p c.in_ok-edited.edited) part c.in_ok-edited.ensures.homes)
 
 few : (c : In_ok-push-2) → (c.loop-place.counts.added + c.in_ok-edited.more.added < 2 ^ 64) × (c.loop-place.counts.removed + c.in_ok-edited.more.removed < 2 ^ 64)
 few c =
@@ -120,6 +126,10 @@ loop-place-preserved c =
           subst₂ (λ l counts. AreEdited groups.edits g c.args.first l counts) (sym pushed) (sym c.plus-counts.ensures)
           (more_edited groups.edits g c.args.first before (c.in_ok-edited.edited ∷ []) c.loop-place.counts c.in_ok-edited.more (c.loop-place.invariant.done g below parts)
           (subst (λ r. AreEdited groups.edits g r (c.in_ok-edited.edited ∷ []) c.in_ok-edited.more) (ap (λ n. c.args.first + n) (sym c.loop-place.invariant.count)) one)));
+      homes = λ housed.
+          subst (AreRehoused (take (c.loop-place.place + 1) c.args.self.now)) (sym pushed)
+          (rehoused_next c.args.self.now before c.loop-place.place c.in_ok-edited.edited at (c.loop-place.invariant.homes housed)
+          (record { count = (applied c.before).0.count; homes = (applied c.before).2 }));
     }
 
 pub returns-clause-edited : goal.returns-clause-edited
@@ -133,3 +143,11 @@ returns-clause-same c =
     let past = c.loop-place-test.false in
     let count = c.loop-place.invariant.count in
     omega (arith, long, count, ended, past)
+
+pub returns-clause-homes : goal.returns-clause-homes
+returns-clause-homes c =
+    λ housed.
+    let shown = ap parts_of c.deref-shard-items.ensures.value ∙ c.self.view_is in
+    let long : length c.deref-shard-items.result.now ≡ length c.args.self.now = sym (length-map c.deref-shard-items.result.now arc_value) ∙ ap length shown in
+    let past : length c.args.self.now ≤ c.loop-place.place = (let test = c.loop-place-test.false in omega (arith, long, test)) in
+    subst (λ l. AreRehoused l (parts_of c.loop-place.shards.items)) (take_all c.loop-place.place c.args.self.now past) (c.loop-place.invariant.homes housed)

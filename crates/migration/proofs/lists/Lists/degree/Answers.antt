@@ -1,4 +1,4 @@
-use Rattle.std.proofs.Common.{length, arith}
+use Rattle.std.proofs.Common.{arith}
 use Rattle.migration.proofs.ListLemmas.{few_words}
 use Rattle.migration.proofs.lists.Lists.degree.Goals as goal
 

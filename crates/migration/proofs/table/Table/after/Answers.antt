@@ -1,19 +1,20 @@
-use Rattle.std.proofs.Common.{◌≡◌, ℕ, ◌+◌, ◌*◌, ◌/◌, ◌^◌, ◌<◌, ◌≤◌, List, [], ◌++◌, length, get_or, sym, ap, subst, subst₂, ◌∙◌, arith}
+use Rattle.std.proofs.Common.{◌≡◌, ℕ, ◌+◌, ◌*◌, ◌/◌, ◌^◌, ◌<◌, ◌≤◌, List, [], ◌++◌, length, get_or, take, sym, ap, subst, subst₂, ◌∙◌, arith}
 use Rattle.std.specs.List.{AllByRecursion}
 use Rattle.std.specs.declared.sync.Arc.{Arc}
 use Rattle.std.specs.declared.alloc.Global.{Global}
 use Rattle.std.specs.Arc.{arc_value}
-use Rattle.std.proofs.lemmas.List.{length-map}
+use Rattle.std.proofs.lemmas.List.{length-map, take_all}
 use Rattle.graph_model.specs.Graph.{Graph}
 use Rattle.graph_model.specs.Edits.{source_of, AreEditsBelow}
 use Rattle.migration.specs.Groups.{Grouped, edits_of}
 use Rattle.migration.specs.Part.{Part}
-use Rattle.migration.specs.Table.{IsTable, parts_of}
-use Rattle.migration.specs.Blocks.{ArePartsFrom, AreEdited, AreFull, parts_in, sizes_of}
+use Rattle.migration.specs.Table.{IsTable, AreMoved, parts_of}
+use Rattle.migration.specs.Blocks.{ArePartsFrom, AreEdited, AreFull, AreHoused, AreRehoused, parts_in, sizes_of}
 use Rattle.migration.proofs.RangeLemmas.{range_edits, in_ranges}
 use Rattle.migration.proofs.EditedLemmas.{none, more_edited, same_counts, block_kept, few_edited, few_together, all_edited}
 use Rattle.migration.proofs.TableLemmas.{few_parts}
 use Rattle.migration.proofs.BlockLemmas.{blocks_push, sizes_next, parts_made, all_made, same_length, block_parts, block_inside}
+use Rattle.migration.proofs.HousedLemmas.{block_housed, parts_stay, rehoused_block, housed_after, all_rehoused}
 use Rattle.migration.proofs.table.Table.after.Goals as goal
 use Rattle.migration.proofs.table.Table.after.Goals.{In_ok-push-2}
 
@@ -88,6 +89,10 @@ loop-number-preserved-then-are_empty c =
           (same_counts es g 0 (parts_in new ++ arc_value c.in_ok-try_clone.field-0) c.loop-number.counts
           (more_edited es g 0 (parts_in new) (arc_value c.in_ok-try_clone.field-0) c.loop-number.counts none (c.loop-number.invariant.done g below table)
           (subst (λ r. AreEdited es g r (arc_value c.in_ok-try_clone.field-0) none) (sym (parts_made new old number full h c.loop-number.invariant.sizes)) kept))));
+      homes =
+          subst (λ l. AreRehoused (parts_in (take (number + 1) old)) (parts_in l)) (sym c.in_ok-push.ensures.items)
+          (rehoused_block old new number c.in_ok-try_clone.field-0 block h c.loop-number.invariant.homes
+          (subst (AreRehoused (arc_value (get_or old number block))) (sym same) (parts_stay (arc_value (get_or old number block)) (block_housed old number block c.self.invariant.2 h))));
     }
 
 pub after-requires-clause-within : goal.after-requires-clause-within
@@ -157,6 +162,12 @@ loop-number-preserved c =
           subst₂ (λ l counts. AreEdited es g 0 l counts) (sym (ap parts_in c.in_ok-push-2.ensures.items ∙ blocks_push new c.in_ok-new.field-0 ∙ ap (λ l. parts_in new ++ l) made)) (sym c.plus-counts.ensures)
           (more_edited es g 0 (parts_in new) c.in_ok-edited.edited c.loop-number.counts c.in_ok-edited.more (c.loop-number.invariant.done g below table)
           (subst (λ r. AreEdited es g r c.in_ok-edited.edited c.in_ok-edited.more) (sym (parts_made new old number c.self.invariant.0 h c.loop-number.invariant.sizes)) (edited c.before g below table)));
+      homes = (
+          let own : c.deref-in-loop-number.result.now ≡ arc_value (get_or old number block) = c.deref-in-loop-number.ensures ∙ ap arc_value is in
+          let housed : AreHoused c.deref-in-loop-number.result.now = subst AreHoused (sym own) (block_housed old number block c.self.invariant.2 h) in
+          subst (λ l. AreRehoused (parts_in (take (number + 1) old)) (parts_in l)) (sym c.in_ok-push-2.ensures.items)
+          (rehoused_block old new number c.in_ok-new.field-0 block h c.loop-number.invariant.homes
+          (subst₂ AreRehoused own (sym made) (c.in_ok-edited.ensures.homes housed))));
     }
 
 pub invariant_of-result : goal.invariant_of-result
@@ -165,12 +176,21 @@ invariant_of-result c =
     let new = c.loop-number.blocks.items in
     let past : length old ≤ c.loop-number.number = (let test = c.loop-number-test.false in let items = ap length c.deref-block-items.ensures.value in omega arith) in
     let same = all_made new old c.loop-number.number past c.loop-number.invariant.sizes in
-    (subst AreFull (sym same) c.self.invariant.0, c.self.invariant.1 ∙ sym (same_length new old same))
+    let homes : AreRehoused (parts_in old) (parts_in new) = subst (λ (l : Blocks). AreRehoused (parts_in l) (parts_in new)) (take_all c.loop-number.number old past) c.loop-number.invariant.homes in
+    (subst AreFull (sym same) c.self.invariant.0, c.self.invariant.1 ∙ sym (same_length new old same), housed_after (parts_in old) (parts_in new) c.self.invariant.2 homes)
 
-pub returns : goal.returns
-returns c =
+pub returns-clause-after : goal.returns-clause-after
+returns-clause-after c =
     let old = c.self.inside.blocks.items in
     let new = c.loop-number.blocks.items in
     let past : length old ≤ c.loop-number.number = (let test = c.loop-number-test.false in let items = ap length c.deref-block-items.ensures.value in omega arith) in
     let same = all_made new old c.loop-number.number past c.loop-number.invariant.sizes in
     all_edited c.args.edits.now c.args.self.now (parts_in new) c.loop-number.counts (same_length new old same ∙ ap length c.self.view_is) (λ g below table. c.loop-number.invariant.done g below (subst (IsTable g) (sym c.self.view_is) table))
+
+pub returns-clause-homes : goal.returns-clause-homes
+returns-clause-homes c =
+    let old = c.self.inside.blocks.items in
+    let new = c.loop-number.blocks.items in
+    let past : length old ≤ c.loop-number.number = (let test = c.loop-number-test.false in let items = ap length c.deref-block-items.ensures.value in omega arith) in
+    let homes : AreRehoused (parts_in old) (parts_in new) = subst (λ (l : Blocks). AreRehoused (parts_in l) (parts_in new)) (take_all c.loop-number.number old past) c.loop-number.invariant.homes in
+    subst (λ (l : List Part). AreMoved l (parts_in new)) c.self.view_is (all_rehoused (parts_in old) (parts_in new) c.self.invariant.2 homes)

@@ -24,7 +24,7 @@ after-requires c =
     subst (IsEditable c.self.inside.shards) (sym c.edits.ensures) (editable past c.self.inside.shards c.self.inside.edge_count c.args.entry.now.batch c.self.invariant.0 below)
 
 after : (c : In_ok-with) → AreAfter c.args.entry.now.batch c.self.inside.shards c.in_ok-shards.shards c.in_ok-shards.counts
-after c = subst (λ (es : List Edit). AreAfter es c.self.inside.shards c.in_ok-shards.shards c.in_ok-shards.counts) c.edits.ensures c.in_ok-shards.ensures
+after c = subst (λ (es : List Edit). AreAfter es c.self.inside.shards c.in_ok-shards.shards c.in_ok-shards.counts) c.edits.ensures c.in_ok-shards.ensures.after
 
 -- what the batch did
 done : (c : In_ok-with) → Did (here c) c.args.entry.now c.self.inside.edge_count c.in_ok-shards.counts
@@ -45,7 +45,7 @@ invariant_of-draft c =
     let log : c.in_ok-with.field-0 ≡ c.self.inside.known.log ++ c.args.entry.now ∷ [] =
     c.in_ok-with.ensures ∙ ap (λ (e : Entry). c.self.inside.log ++ e ∷ []) c.in_ok-share.ensures ∙ ap (λ (l : List Entry). l ++ c.args.entry.now ∷ []) c.self.invariant.1 in
     subst (λ (log : List Entry). IsVersion (past_of c.self.inside.vertex_count log) c.in_ok-shards.shards (c.self.inside.edge_count + c.in_ok-shards.counts.added - c.in_ok-shards.counts.removed)) (sym log)
-    (next_version (here c) c.self.inside.shards c.in_ok-shards.shards c.self.inside.edge_count c.args.entry.now c.in_ok-shards.counts c.self.invariant.0 (below c) room (after c))
+    (next_version (here c) c.self.inside.shards c.in_ok-shards.shards c.self.inside.edge_count c.args.entry.now c.in_ok-shards.counts c.self.invariant.0 (below c) room (after c) c.in_ok-shards.ensures.homes)
 
 pub returns-clause-gained : goal.returns-clause-gained
 returns-clause-gained c = (done c).gained ∙ ap (λ (m : Moment). added c.args.entry.now.batch (graph_of m.past)) c.self.view_is
