@@ -47,6 +47,8 @@ def is_command(command, words):
         return words in (["A"], ["B"])
     if command == "pin":
         return len(words) == 1 and are_names(words)
+    if command == "home":
+        return len(words) == 1 and are_numbers(words)
     if command == "program":
         return len(words) == 2 and are_names(words[:1]) and are_numbers(words[1:])
     if command == "code":
@@ -56,9 +58,17 @@ def is_command(command, words):
     return are_names(words[:2]) and words[2] in REDUCTIONS and hexadecimal(words[3]) is not None and are_numbers(words[4:])
 
 
+def home_after(home, degree):
+    """The home of a list with so many targets, by its home before."""
+    block = 12 if home == "block" else 8
+    array = 768 if home == "tree" else 1024
+    return "block" if degree <= block else "gapped" if degree <= array else "tree"
+
+
 class Session:
     def __init__(self):
         self.vertices = None
+        self.homes = {}
         self.batches = 0
         self.edges = frozenset()
         self.programs, self.pins = {}, {}
@@ -75,12 +85,17 @@ class Session:
             counts = f"added {len(later - self.edges)} removed {len(self.edges - later)}"
             self.said.append(f"batch {self.block['feed']} version {self.batches} {counts}")
             self.edges, self.block = later, None
+            for vertex in {source for source, _ in last}:
+                self.homes[vertex] = home_after(self.homes.get(vertex, "block"), self.degree(vertex))
             return
         test(len(words) != 3 or words[0] not in ("+", "-") or not are_numbers(words[1:]), WORDS)
         edge = (int(words[1]), int(words[2]))
         test(max(edge) >= self.vertices, RANGE)
         test(len(self.block["edits"]) >= 65536, TOO_MANY)
         self.block["edits"].append((edge, words[0] == "+"))
+
+    def degree(self, vertex):
+        return sum(source == vertex for source, _ in self.edges)
 
     def offer(self, name, length, code):
         """Has code judged as a program."""
@@ -153,6 +168,10 @@ class Session:
             test(len(self.pins) >= 256, TOO_MANY)
             self.pins[words[0]] = self.edges
             self.said.append(f"pin {words[0]} version {self.batches} edges {len(self.edges)}")
+        elif command == "home":
+            vertex = int(words[0])
+            test(vertex >= self.vertices, RANGE)
+            self.said.append(f"home {vertex} {self.homes.get(vertex, 'block')} degree {self.degree(vertex)}")
         else:
             self.run(*words)
 

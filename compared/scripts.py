@@ -19,7 +19,7 @@ GOOD_ARGUMENTS = {
 ODD_ARGUMENTS = ["2147483648", "-2147483649", "18446744073709551616", "[r1+32768]", "[r10-32769]", "???", "[r1 + 4]", "0x", ""]
 ODD_ARGUMENTS += ["+1", "-0x1", "0X1", "[r11]", "[r1+]", "[r1+0x4]", "a" * 32, "a" * 33, "r1 r2", "-", "r1:", "1x", "r01", "[r1--4]"]
 ODD_LINES = ["r1:", "r11:", "x :", "x: exit", ":", "a" * 33 + ":", "end x", "jmp x", "foo r1", "foo r1,", "12 r1", "mov! r0, 1", "#"]
-ODD_COMMANDS = ["list t a -", "home 0", "batch C", "end", "graph 4", "foo", "batch", "pin", "pin a b", "code a 16", "run a", "pin a.b"]
+ODD_COMMANDS = ["list t a -", "home", "home x", "home 99", "batch C", "end", "graph 4", "foo", "batch", "pin", "pin a b", "code a 16", "run a", "pin a.b"]
 ODD_COMMANDS += ["\x7f", "a\r", "pin " + "x" * 33, "program p 15", "program p 257", "code p 16 0", "code p 16 -", "code p 16 95", "run n1 n2 avg -"]
 ODD_EDITS = ["- 0", "-0 0", "", "# c", "+ 0", "+ 0 0 0", "end x", "+ 0 99999999999999999999", "+ 00 000", "+ -1 0"]
 MUTATIONS = b" \n\t#+-09afxzAZ[];:,.\r\x00\xff"
@@ -217,7 +217,7 @@ class Writer:
         return f"n{self.count}" if self.often(0.995) else "n1"
 
     def command(self, vertices):
-        kind = self.choice("tttccccppprrrrrbbb")
+        kind = self.choice("tttccccppprrrrrbbbh")
         if self.often(0.005):
             return [self.choice(ODD_COMMANDS)]
         name, length = self.name(), self.choice([16, 16, 17, 20, 32, 256])
@@ -237,8 +237,19 @@ class Writer:
             return [f"pin {name}"]
         if kind == "r" and self.programs and self.pins:
             return [self.run(vertices)]
+        if kind == "h":
+            return [f"home {self.random.randrange(vertices)}"]
+        if vertices > 12 and self.often(0.6):
+            return [*self.burst(vertices), "home 1"]
         edits = [f"{self.choice('+++-')} {self.random.randrange(vertices)} {self.random.randrange(vertices)}" for _ in range(self.random.randrange(6))]
         return [f"batch {self.choice('AAB')}", *edits, *([self.choice(ODD_EDITS)] if self.often(0.01) else []), "end"]
+
+    def burst(self, vertices):
+        """A batch of many edges of one vertex, for lists that move from home to home."""
+        first = self.random.randrange(vertices)
+        last = self.random.randrange(first, vertices)
+        sign = self.choice("++-")
+        return ["batch A", *[f"{sign} 1 {target}" for target in range(first, last + 1)], "end"]
 
     def run(self, vertices):
         program = self.choice(sorted(self.programs))
@@ -252,7 +263,7 @@ class Writer:
         return " ".join(words)
 
     def script(self):
-        vertices = self.choice([1, 2, 4, 5, 9])
+        vertices = self.choice([1, 2, 4, 5, 9, 20])
         lines = [f"graph {vertices}"] if self.often(0.99) else [self.choice(["graph 0", "graph 1048577", "pin a"])]
         for _ in range(self.random.randrange(40)):
             lines += self.command(vertices)

@@ -9,9 +9,9 @@ use Rattle.graph_model.specs.Past.{Past}
 use Rattle.graph_model.specs.declared.edit.Edit.{Edit}
 use Rattle.graph_model.specs.declared.edit.Edit.TheVariants.{Insert, Remove}
 use Rattle.session_model.specs.Session.{Session}
-use Rattle.session_model.specs.Commands.{Command, MakeGraph, PublishBatch, LoadProgram, TakePin, RunProgram}
+use Rattle.session_model.specs.Commands.{Command, MakeGraph, PublishBatch, LoadProgram, TakePin, RunProgram, TellHome}
 use Rattle.session_model.specs.Faults.{is_edit_of, edit_fault, is_vertex_count, is_record_length, AreFewVertices, HasFewVertices}
-use Rattle.session_model.specs.Responses.{response, graph_response, load_response, run_response}
+use Rattle.session_model.specs.Responses.{response, graph_response, load_response, run_response, home_response}
 use Rattle.script_model.specs.State.{OpenBatch, Script}
 use Rattle.script_model.specs.Parsing.{Statement, Asks, BeginBatch, BeginProgram, statement, BatchLine, OneEdit, EndBatch, batch_line}
 use Rattle.script_model.specs.Execution.{Execution, one_edit, inside_batch, begin_program, statement_execution, execution_of, is_comment, with_words, outside}
@@ -96,6 +96,17 @@ load-cut name code n s =
       | inr small ↦ rw (cut_same n (omega arith)) refl
     ]
 
+home_at : (v : ℕ) (s : Session) (past : Option Past) → s.past ≡ past → AreFewVertices past → home_response (cut v) s ≡ home_response v s
+home_at v s None past-is small = rw past-is refl
+home_at v s (Some p) past-is small =
+    elim (cases_lt v p.vertex_count) [
+      | inl inside ↦ rw (cut_below v p.vertex_count small inside) refl
+      | inr outside ↦
+          let second : ltb v p.vertex_count ≡ false = le-ltb _ _ outside in
+          let first : ltb (cut v) p.vertex_count ≡ false = ltb-cut v p.vertex_count small ∙ second in
+          rw (past-is, first, second) refl
+    ]
+
 response-cut : (c : Command) (s : Session) → HasFewVertices s → response (cut_command c) s ≡ response c s
 response-cut (MakeGraph n) s few = graph-cut n s
 response-cut (PublishBatch feed edits) s few = refl
@@ -103,6 +114,7 @@ response-cut (LoadProgram name p) s few = load-cut name p.code p.record_length s
 response-cut (TakePin name) s few = refl
 response-cut (RunProgram program pin reduction argument frontier) s few =
     run_at program pin reduction argument frontier s s.past refl few
+response-cut (TellHome v) s few = home_at v s s.past refl few
 
 begin_program-cut : (name : List ℕ) (n : ℕ) (s : Script) → begin_program name (cut n) s ≡ begin_program name n s
 begin_program-cut name n s =

@@ -5,7 +5,7 @@ ghost use Rattle.script_model.specs.Texts.{answer_text};
 ghost use Rattle.session.specs.Kept.{answer_of};
 
 use crate::texts::{
-    put_batch, put_graph, put_image, put_pin, put_program, put_refused, put_rows, put_run,
+    put_batch, put_graph, put_home, put_image, put_pin, put_program, put_refused, put_rows, put_run,
 };
 use session::Answer;
 use std::alloc::AllocError;
@@ -44,5 +44,10 @@ pub fn put_answer(text: &mut Vec<u8>, answer: &Answer) -> Result<(), AllocError>
             put_run(text, program, pin, *edges, *total)?;
             put_rows(text, rows)
         }
+        Answer::HomeTold {
+            vertex,
+            home,
+            degree,
+        } => put_home(text, *vertex, *home, u64::from(*degree)),
     }
 }

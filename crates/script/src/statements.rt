@@ -88,6 +88,7 @@ impl Script {
                     frontier: &frontier,
                 },
             ),
+            Statement::Home { vertex } => self.perform(rt, text, Command::TellHome { vertex }),
         }
     }
 

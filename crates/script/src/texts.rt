@@ -14,12 +14,15 @@ ghost use Rattle.script_model.specs.Texts.{
   pin_text,
   run_text,
   row_text,
+  home_word,
+  home_text,
   feed_text,
   fault_text,
 };
 
 use bpf_asm::AssembleError;
 use bpf_model::Row;
+use graph_model::Home;
 use itoa::Buffer;
 use script_model::LineFault;
 use std::alloc::AllocError;
@@ -190,6 +193,27 @@ pub fn put_rows(text: &mut Vec<u8>, rows: &[Row]) -> Result<(), AllocError>
         put_row(text, *row)?;
     }
     Ok(())
+}
+
+/// The word for a home.
+fn home_name(home: Home) -> &'static [u8]
+    ensures { result.now ≡ home_word home }
+{
+    match home {
+        Home::Block => b"block",
+        Home::Gapped => b"gapped",
+        Home::Tree => b"tree",
+    }
+}
+
+/// The line of a vertex's home.
+pub fn put_home(text: &mut Vec<u8>, vertex: u64, home: Home, degree: u64) -> Result<(), AllocError>
+    ensures { OnOk result (text.new.items ≡ text.old.items ++ home_text vertex home degree) }
+{
+    put_field(text, b"home ", vertex)?;
+    put_name(text, b" ", home_name(home))?;
+    put_field(text, b" degree ", degree)?;
+    put(text, b"\n")
 }
 
 /// The line of a fault, the last of a script.

@@ -9,9 +9,11 @@ use Rattle.bpf_asm.specs.declared.errors.TextCause.{TextCause}
 use Rattle.bpf_asm.specs.declared.errors.TextCause.TheVariants.{Syntax, UnknownName, DoubleLabel, UnknownLabel, NumberRange, TooLong, OutOfMemory}
 use Rattle.bpf_asm.specs.declared.errors.AssembleError.{AssembleError}
 use Rattle.bpf_model.specs.declared.row.Row.{Row}
+use Rattle.graph_model.specs.declared.home.Home.{Home}
+use Rattle.graph_model.specs.declared.home.Home.TheVariants.{Block, Gapped, Tree}
 use Rattle.session_model.specs.declared.fault.Fault.{Fault}
 use Rattle.session_model.specs.declared.fault.Fault.TheVariants as faults
-use Rattle.session_model.specs.Commands.{Answer, GraphMade, BatchPublished, ProgramAccepted, ProgramRefused, NoImage, PinTaken, EdgesMapped}
+use Rattle.session_model.specs.Commands.{Answer, GraphMade, BatchPublished, ProgramAccepted, ProgramRefused, NoImage, PinTaken, EdgesMapped, HomeTold}
 use Rattle.script_model.specs.declared.line_fault.LineFault.{LineFault}
 use Rattle.script_model.specs.declared.line_fault.LineFault.TheVariants as line_faults
 
@@ -100,6 +102,15 @@ run_text program pin edges total =
 abbrev pub row_text : Row → List ℕ
 row_text row = codes "row " ++ decimal row.vertex ++ codes " " ++ decimal row.value ++ newline
 
+abbrev pub home_word : Home → List ℕ
+home_word Block = codes "block"
+home_word Gapped = codes "gapped"
+home_word Tree = codes "tree"
+
+abbrev pub home_text : ℕ → Home → ℕ → List ℕ
+home_text v home degree =
+    codes "home " ++ decimal v ++ codes " " ++ home_word home ++ codes " degree " ++ decimal degree ++ newline
+
 -- what is written for an answer
 abbrev pub answer_text : Answer → List ℕ
 answer_text (GraphMade vertices) = graph_text vertices
@@ -109,6 +120,7 @@ answer_text (ProgramRefused name refusal) = refused_text name refusal
 answer_text (NoImage name) = image_text name
 answer_text (PinTaken name number edges) = pin_text name number edges
 answer_text (EdgesMapped program pin edges total rows) = run_text program pin edges total ++ flat_map row_text rows
+answer_text (HomeTold v home degree) = home_text v home degree
 
 abbrev pub fault_text : LineFault → ℕ → List ℕ
 fault_text fault line = codes "fault " ++ decimal (line_fault_number fault) ++ codes " line " ++ decimal line ++ newline

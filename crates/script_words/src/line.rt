@@ -47,6 +47,10 @@ pub enum Statement<'a> {
         argument: Vec<u8>,
         frontier: Vec<u64>,
     },
+    /// Where the last version keeps a vertex's neighbours.
+    Home {
+        vertex: u64,
+    },
 }
 
 /// What a line outside blocks says.

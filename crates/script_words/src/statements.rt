@@ -2,7 +2,7 @@
 
 ghost use Rattle.std.specs.Prelude.{◌≡◌, List, [], ◌∷◌, Option, Some, None, option_map, IfOk, MatchOption};
 ghost use Rattle.script_model.specs.Lexing.{words};
-ghost use Rattle.script_model.specs.Parsing.{BeginBatch, graph_statement, batch_statement, code_statement, program_statement, pin_statement, run_statement, reduction_of as reduction_word, statement as statement_of};
+ghost use Rattle.script_model.specs.Parsing.{BeginBatch, graph_statement, batch_statement, code_statement, program_statement, pin_statement, run_statement, home_statement, reduction_of as reduction_word, statement as statement_of};
 ghost use Rattle.script_model.specs.Execution.{is_comment as is_comment_word};
 ghost use Rattle.script_words.specs.Said.{said_statement, cut_statement, saying, said_line, cut_saying};
 ghost use Rattle.script_words.specs.Reading.{loaded, run_of};
@@ -185,6 +185,16 @@ fn run(alloc: Global, operands: &[u8]) -> Result<Option<Statement<'_>>, AllocErr
     }))
 }
 
+fn home(operands: &[u8]) -> Option<Statement<'_>>
+    ensures { option_map said_statement result ≡ option_map cut_statement (home_statement (words operands.now)) }
+{
+    let (vertex, rest) = next_number(operands)?;
+    if !has_no_word(rest) {
+        return None;
+    }
+    Some(Statement::Home { vertex })
+}
+
 /// The statement that a line's first word names, with the words behind it.
 fn statement<'a>(
     alloc: Global,
@@ -211,6 +221,9 @@ fn statement<'a>(
     }
     if is_word(word, "program") {
         return Ok(program(operands));
+    }
+    if is_word(word, "home") {
+        return Ok(home(operands));
     }
     Ok(None)
 }

@@ -10,6 +10,7 @@ mod compiled;
 mod edits;
 mod ends;
 mod helpers;
+mod homes;
 mod programs;
 mod standard;
 
@@ -108,9 +109,14 @@ fn faults(rt: HostRuntime) -> Result<(), Fail> {
         ("graph 4\nbatch A\n- 0", 2, 3),
         ("graph 4\nbatch B\n- 0 4", 4, 3),
         ("graph 4\nend", 2, 2),
-        // Commands that are not there yet are unknown before the graph is missed.
+        // A command that is not there yet is unknown before the graph is missed.
         ("list t a -", 2, 1),
-        ("home 0", 2, 1),
+        ("home", 2, 1),
+        ("home 0 0", 2, 1),
+        ("home x", 2, 1),
+        ("home 0", 3, 1),
+        ("graph 4\nhome 4", 4, 2),
+        ("graph 4\nhome 99999999999999999999", 4, 2),
         ("batch B", 3, 1),
         ("batch C", 2, 1),
         ("pin a", 3, 1),

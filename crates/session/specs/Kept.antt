@@ -5,7 +5,7 @@ use Rattle.std.specs.Option.{option_copied}
 use Rattle.graph_model.specs.Past.{Past}
 use Rattle.history.specs.Moment.{Moment}
 use Rattle.session_model.specs.Session.{KeptProgram, KeptPin, Session}
-use Rattle.session_model.specs.Commands.{Command, MakeGraph, PublishBatch, LoadProgram, TakePin, RunProgram, Answer, GraphMade, BatchPublished, ProgramAccepted, ProgramRefused, NoImage, PinTaken, EdgesMapped}
+use Rattle.session_model.specs.Commands.{Command, MakeGraph, PublishBatch, LoadProgram, TakePin, RunProgram, TellHome, Answer, GraphMade, BatchPublished, ProgramAccepted, ProgramRefused, NoImage, PinTaken, EdgesMapped, HomeTold}
 use Rattle.session.specs.declared.kept.NamedProgram.{NamedProgram}
 use Rattle.session.specs.declared.kept.NamedPin.{NamedPin}
 use Rattle.session.specs.declared.command.Command.{Command as GivenCommand}
@@ -35,6 +35,7 @@ command_of (commands.LoadProgram name record_length code) =
 command_of (commands.TakePin name) = TakePin name.now
 command_of (commands.RunProgram program pin reduction argument frontier) =
     RunProgram program.now pin.now reduction argument.now frontier.now
+command_of (commands.TellHome vertex) = TellHome vertex
 
 abbrev pub answer_of : GivenAnswer → Answer
 answer_of (answers.GraphMade vertices) = GraphMade vertices
@@ -44,3 +45,4 @@ answer_of (answers.ProgramRefused name refusal) = ProgramRefused name.now refusa
 answer_of (answers.NoImage name) = NoImage name.now
 answer_of (answers.PinTaken name number edges) = PinTaken name.now number edges
 answer_of (answers.EdgesMapped program pin edges total rows) = EdgesMapped program.now pin.now edges total rows.items
+answer_of (answers.HomeTold vertex home degree) = HomeTold vertex home degree

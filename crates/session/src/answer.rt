@@ -1,6 +1,7 @@
 //! What a session can answer.
 
 use bpf_model::Row;
+use graph_model::Home;
 use verifier::Refusal;
 
 /// The answer to a command, with the names that the command gave.
@@ -47,5 +48,11 @@ pub enum Answer<'a> {
         edges: u64,
         total: u64,
         rows: Vec<Row>,
+    },
+    /// Where the last version keeps a vertex's neighbours, and how many they are.
+    HomeTold {
+        vertex: u64,
+        home: Home,
+        degree: u32,
     },
 }

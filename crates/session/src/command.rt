@@ -34,4 +34,8 @@ pub enum Command<'a> {
         argument: &'a [u8],
         frontier: &'a [u64],
     },
+    /// Where the last version keeps a vertex's neighbours.
+    TellHome {
+        vertex: u64,
+    },
 }

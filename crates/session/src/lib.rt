@@ -9,6 +9,7 @@ mod error;
 mod frontier;
 mod graphs;
 mod handles;
+mod homes;
 mod kept;
 mod pins;
 mod programs;

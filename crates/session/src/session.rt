@@ -78,6 +78,7 @@ impl Session {
                 argument,
                 frontier,
             }),
+            Command::TellHome { vertex } => self.tell_home(vertex),
         }
     }
 

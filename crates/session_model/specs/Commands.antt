@@ -4,6 +4,7 @@ use Rattle.bpf_image.specs.Program.{Program}
 use Rattle.bpf_model.specs.declared.reduction.Reduction.{Reduction}
 use Rattle.bpf_model.specs.declared.row.Row.{Row}
 use Rattle.graph_model.specs.declared.edit.Edit.{Edit}
+use Rattle.graph_model.specs.declared.home.Home.{Home}
 use Rattle.verifier.specs.declared.refusal.Refusal.{Refusal}
 
 pub data Command : Type 0 where
@@ -17,6 +18,8 @@ pub data Command : Type 0 where
   TakePin : (name : List ℕ) → Command
   -- a program mapped over the edges of a pin; an empty frontier stands for all vertices
   RunProgram : (program pin : List ℕ) (reduction : Reduction) (argument frontier : List ℕ) → Command
+  -- where the last version keeps a vertex's neighbours
+  TellHome : (vertex : ℕ) → Command
 
 pub data Answer : Type 0 where
   GraphMade : (vertices : ℕ) → Answer
@@ -27,3 +30,4 @@ pub data Answer : Type 0 where
   NoImage : (name : List ℕ) → Answer
   PinTaken : (name : List ℕ) (number edges : ℕ) → Answer
   EdgesMapped : (program pin : List ℕ) (edges total : ℕ) → List Row → Answer
+  HomeTold : (vertex : ℕ) → Home → (degree : ℕ) → Answer

@@ -66,6 +66,10 @@ is_ascending (v ∷ w ∷ vs) = nat_lt v w && is_ascending (w ∷ vs)
 abbrev pub vertices_fault : List ℕ → Past → Option Fault
 vertices_fault frontier past = first_fault ((not (list_all (λ v. nat_lt v past.vertex_count) frontier), faults.Range) ∷ [])
 
+-- a vertex of the graph that a version shows
+abbrev pub home_fault : ℕ → Past → Option Fault
+home_fault v past = first_fault ((not (nat_lt v past.vertex_count), faults.Range) ∷ [])
+
 -- an argument for a record of this length, and the order of a frontier
 abbrev pub argument_fault : List ℕ → ℕ → List ℕ → Option Fault
 argument_fault argument record_length frontier =

@@ -2,9 +2,10 @@
 use Rattle.std.specs.Prelude.{ℕ, ◌+◌, ◌*◌, ◌==◌, ◌&&◌, nat_le, Bool, if◌then◌else◌, List, [], ◌∷◌, ◌++◌, length, Option, Some, None}
 use Rattle.graph_model.specs.declared.edit.Edit.{Edit}
 use Rattle.graph_model.specs.declared.entry.Entry.{Entry}
-use Rattle.graph_model.specs.Graph.{Graph, numbers_below, edge_count}
+use Rattle.graph_model.specs.Graph.{Graph, numbers_below, edge_count, degree}
 use Rattle.graph_model.specs.Edits.{added, removed}
 use Rattle.graph_model.specs.Past.{Past, opening, longer, graph_of, number_of}
+use Rattle.graph_model.specs.Homes.{home_of}
 use Rattle.bpf_image.specs.Program.{Program, units}
 use Rattle.bpf_model.specs.declared.reduction.Reduction.{Reduction}
 use Rattle.bpf_model.specs.EdgeMap.{all_numbers, rows_of, reduction_of_numbers}
@@ -13,8 +14,8 @@ use Rattle.verifier.specs.Verdict.{Verdict, Accepted, Refused, verdict}
 use Rattle.session_model.specs.declared.fault.Fault.{Fault}
 use Rattle.session_model.specs.declared.fault.Fault.TheVariants as faults
 use Rattle.session_model.specs.Session.{Session, program_named, pin_named}
-use Rattle.session_model.specs.Commands.{Command, MakeGraph, PublishBatch, LoadProgram, TakePin, RunProgram, Answer, GraphMade, BatchPublished, ProgramAccepted, ProgramRefused, NoImage, PinTaken, EdgesMapped}
-use Rattle.session_model.specs.Faults.{graph_fault, batch_fault, program_fault, pin_fault, vertices_fault, argument_fault}
+use Rattle.session_model.specs.Commands.{Command, MakeGraph, PublishBatch, LoadProgram, TakePin, RunProgram, TellHome, Answer, GraphMade, BatchPublished, ProgramAccepted, ProgramRefused, NoImage, PinTaken, EdgesMapped, HomeTold}
+use Rattle.session_model.specs.Faults.{graph_fault, batch_fault, program_fault, pin_fault, vertices_fault, home_fault, argument_fault}
 
 -- an answer with the session after it, or a fault
 pub data Response : Type 0 where
@@ -99,6 +100,14 @@ run_response program pin reduction argument frontier s =
     unless_fault (vertices_fault frontier last)
     (found_response program pin reduction argument frontier (program_named program s.programs) (pin_named pin s.pins) s))
 
+-- where a vertex's neighbours are kept in a version, and how many they are
+abbrev pub home_answer : ℕ → Past → Answer
+home_answer v past = HomeTold v (home_of past v) (degree (graph_of past) v)
+
+abbrev pub home_response : ℕ → Session → Response
+home_response v s =
+    needing s.past faults.Order (λ past. unless_fault (home_fault v past) (Answers (home_answer v past) s))
+
 abbrev pub response : Command → Session → Response
 response (MakeGraph n) s = graph_response n s
 response (PublishBatch feed edits) s = publish_response feed edits s
@@ -106,3 +115,4 @@ response (LoadProgram name p) s = load_response name p s
 response (TakePin name) s = pin_response name s
 response (RunProgram program pin reduction argument frontier) s =
     run_response program pin reduction argument frontier s
+response (TellHome v) s = home_response v s

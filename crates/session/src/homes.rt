@@ -1,0 +1,30 @@
+//! Where a session's graph keeps neighbours.
+
+ghost use Rattle.session_model.specs.Responses.{home_response};
+ghost use Rattle.session.specs.Performs.{Performs};
+
+use crate::answer::Answer;
+use crate::error::CommandError;
+use crate::session::Session;
+use session_model::Fault;
+
+impl Session {
+    /// Tells where the last version keeps a vertex's neighbours, and how many they are.
+    pub(crate) fn tell_home<'a>(&mut self, vertex: u64) -> Result<Answer<'a>, CommandError>
+        ensures { Performs (home_response vertex self.old) result self.old self.new }
+    {
+        let Some(store) = &mut self.store else {
+            return Err(CommandError::Fault(Fault::Order));
+        };
+        if vertex >= u64::from(store.vertex_count()) {
+            return Err(CommandError::Fault(Fault::Range));
+        }
+        let pin = store.pin()?;
+        let version = pin.version();
+        Ok(Answer::HomeTold {
+            vertex,
+            home: version.home(vertex),
+            degree: version.degree(vertex),
+        })
+    }
+}
