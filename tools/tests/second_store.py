@@ -1,12 +1,19 @@
 #!/usr/bin/python3
-"""Serves a script by the second implementation of the language, where a test needs a store and none is built."""
+"""Serves a script by the second implementation of the language, where a test needs a store and none is built. It answers
+line by line."""
 import pathlib
 import sys
 
 sys.path.insert(0, str(pathlib.Path(__file__).resolve().parent.parent.parent / "compared"))
 
-from script import serve  # noqa: E402
+from script import Fault, Session  # noqa: E402
 
-text, status = serve(sys.stdin.buffer.read())
-sys.stdout.write(text)
-sys.exit(status)
+session = Session()
+try:
+    for number, line in enumerate(sys.stdin.buffer, 1):
+        session.line(line.rstrip(b"\n"), number)
+        print("".join(f"{said}\n" for said in session.said), end="", flush=True)
+        session.said.clear()
+except Fault as fault:
+    print(f"fault {fault} line {number}")
+    sys.exit(1)

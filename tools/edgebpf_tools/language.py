@@ -1,0 +1,171 @@
+"""The lines of a script, looked at before they are sent: what would be a fault is told in words, and ends nothing."""
+import re
+from dataclasses import dataclass, field
+
+MOST_VERTICES, MOST_EDITS, MOST_BATCHES, MOST_NAMES = 1_048_576, 65_536, 4_096, 256
+MOST_BYTES, MOST_PROGRAM_LINES = 70_000, 65_536
+NAME = re.compile(r"[A-Za-z0-9_-]{1,32}")
+HEX = re.compile(r"-|([0-9a-fA-F]{2})+")
+FORMS = {
+    "graph": "graph N: makes the graph of N vertices, 1 to 1,048,576",
+    "batch": "batch A, or batch B: begins a batch; + U V and - U V are its edits, end publishes it",
+    "code": "code NAME LENGTH HEX: verifies a program with records of LENGTH bytes, 16 to 256, and keeps it",
+    "program": "program NAME LENGTH: begins a program in assembler text; end verifies it",
+    "pin": "pin NAME: names the last version",
+    "run": "run PROGRAM PIN min|max|sum HEX [U ..]: runs a program over the edges of all vertices, or of some, ascending",
+    "home": "home V: where the last version keeps the targets of a vertex",
+}
+
+
+class Complaint(Exception):
+    """What is wrong with a line, and at which of its words, if it is one."""
+
+    def __init__(self, text, place=None):
+        super().__init__(text)
+        self.place = place
+
+    def shown(self, line):
+        """The line with the word marked, and what is wrong with it."""
+        spans = [match.span() for match in re.finditer(r"[^ \t]+", line)]
+        if self.place is None or self.place >= len(spans):
+            return str(self)
+        first, end = spans[self.place]
+        return f"{line}\n{' ' * first}{'^' * (end - first)} {self}"
+
+
+def number(words, place, what, least, most):
+    """The number that a word is, within its limits."""
+    if not (words[place].isascii() and words[place].isdecimal()):
+        raise Complaint(f"{what} is a number in decimal digits", place)
+    if not least <= int(words[place]) <= most:
+        raise Complaint(f"{what} is {least} to {most}", place)
+    return int(words[place])
+
+
+def name(words, place):
+    if not NAME.fullmatch(words[place]):
+        raise Complaint("a name is 1 to 32 of A-Z a-z 0-9 _ -", place)
+    return words[place]
+
+
+def digits(words, place):
+    if not HEX.fullmatch(words[place]):
+        raise Complaint("bytes are pairs of hexadecimal digits, or - for none", place)
+    return 0 if words[place] == "-" else len(words[place]) // 2
+
+
+@dataclass
+class Language:
+    """What was sent so far, as far as it decides what may be sent next."""
+
+    vertices: int = None
+    batches: int = 0
+    programs: dict = field(default_factory=dict)
+    pins: set = field(default_factory=set)
+    block: list = None
+
+    def check(self, line):
+        """Complains of a line that would be a fault."""
+        if len(line) > MOST_BYTES:
+            raise Complaint(f"a line has at most {MOST_BYTES} bytes")
+        if any(not (" " <= letter <= "~" or letter == "\t") for letter in line):
+            raise Complaint("a line has only printable ASCII and tabs")
+        words = line.split()
+        if self.block is not None:
+            self._check_in_block(words)
+        elif words and not words[0].startswith("#"):
+            self._check_command(words)
+
+    def _check_in_block(self, words):
+        is_batch, is_end = self.block[0].split()[0] == "batch", words == ["end"]
+        if is_end:
+            if is_batch and self.batches >= MOST_BATCHES:
+                raise Complaint(f"the log is full: {MOST_BATCHES} batches are published")
+        elif len(self.block) > (MOST_EDITS if is_batch else MOST_PROGRAM_LINES):
+            raise Complaint("the block is full; end it")
+        elif is_batch:
+            if len(words) != 3 or words[0] not in ("+", "-"):
+                raise Complaint("a line of a batch is + U V, - U V or end", 0)
+            for place in (1, 2):
+                number(words, place, "a vertex", 0, self.vertices - 1)
+
+    def _check_command(self, words):
+        command = words[0]
+        if command not in FORMS:
+            raise Complaint("no command has this name; .help lists them", 0)
+        counts = {"graph": 2, "batch": 2, "code": 4, "program": 3, "pin": 2, "home": 2}
+        if len(words) != counts.get(command, len(words)) or (command == "run" and len(words) < 5):
+            raise Complaint(FORMS[command], 0)
+        if (command == "graph") != (self.vertices is None):
+            raise Complaint("there is a graph already" if command == "graph" else "make a graph first: graph N", 0)
+        getattr(self, f"_check_{command}")(words)
+
+    def _check_graph(self, words):
+        number(words, 1, "the number of vertices", 1, MOST_VERTICES)
+
+    def _check_batch(self, words):
+        if words[1] not in ("A", "B"):
+            raise Complaint("a feed is A or B", 1)
+
+    def _check_program(self, words):
+        name(words, 1)
+        if len(words) == 4:
+            digits(words, 3)
+        number(words, 2, "the length of a record", 16, 256)
+        if words[1] in self.programs:
+            raise Complaint("a program has this name", 1)
+        if len(self.programs) >= MOST_NAMES:
+            raise Complaint(f"{MOST_NAMES} programs are kept", 1)
+
+    _check_code = _check_program
+
+    def _check_pin(self, words):
+        name(words, 1)
+        if words[1] in self.pins:
+            raise Complaint("a pin has this name", 1)
+        if len(self.pins) >= MOST_NAMES:
+            raise Complaint(f"there are {MOST_NAMES} pins", 1)
+
+    def _check_home(self, words):
+        number(words, 1, "a vertex", 0, self.vertices - 1)
+
+    def _check_run(self, words):
+        if words[3] not in ("min", "max", "sum"):
+            raise Complaint("numbers are reduced by min, max or sum", 3)
+        length = digits(words, 4)
+        frontier = [number(words, place, "a vertex", 0, self.vertices - 1) for place in range(5, len(words))]
+        if words[1] not in self.programs:
+            raise Complaint("no program has this name", 1)
+        if words[2] not in self.pins:
+            raise Complaint("no pin has this name", 2)
+        if length != self.programs[words[1]] - 16:
+            raise Complaint(f"this program's argument has {self.programs[words[1]] - 16} bytes", 4)
+        for place, (one, next_one) in enumerate(zip(frontier, frontier[1:])):
+            if one >= next_one:
+                raise Complaint("vertices ascend", place + 6)
+
+    def take(self, line):
+        """Takes note of a line that was looked at. Answers the lines that are to be sent now, once a block has ended."""
+        words = line.split()
+        if self.block is not None:
+            self.block.append(line)
+            if words != ["end"]:
+                return []
+            lines, self.block = self.block, None
+            return lines
+        if words[:1] in (["batch"], ["program"]):
+            self.block = [line]
+            return []
+        return [line] if words and not words[0].startswith("#") else []
+
+    def heard(self, lines, reply):
+        """Takes note of what was answered to lines that were sent."""
+        words, said = lines[0].split(), reply.split()
+        if words[0] == "graph":
+            self.vertices = int(words[1])
+        elif words[0] == "batch":
+            self.batches += 1
+        elif words[0] == "pin":
+            self.pins.add(words[1])
+        elif words[0] in ("code", "program") and said[0] == "program":
+            self.programs[words[1]] = int(words[2])
