@@ -1,0 +1,11 @@
+//! A verified program run both ways: by the machine that tests all that it does, and by its actions.
+#![tactic(auto)]
+
+mod both;
+#[cfg(test)]
+mod tests;
+
+pub use both::run_both;
+pub use bpf_model::Outcome;
+pub use graph_model::GraphView;
+pub use verifier::Verified;
