@@ -95,7 +95,10 @@ class EdgebpfShell(unittest.TestCase):
         self.assertTrue(run.stdout.endswith("frames 1\nrun target a edges 3 total 5\nrow 0 3\nrow 1 2\n"), run.stdout)
 
     def test_prompt(self):
-        leader, follower = pty.openpty()
+        try:
+            leader, follower = pty.openpty()
+        except OSError as error:
+            self.skipTest(f"there are no terminals here: {error}")
         shell = subprocess.Popen([PYTHON, TOOLS / "edgebpf-shell"], stdin=follower, stdout=subprocess.PIPE, stderr=follower, text=True)
         os.write(leader, b"graph 4\nbatch A\n.quit\n")
         said, _ = shell.communicate(timeout=30)
