@@ -1,17 +1,36 @@
-ghost use Rattle.std.specs.Prelude.{◌≡◌, ◌&&◌, length};
+ghost use Rattle.std.specs.Prelude.{◌≡◌, ◌&&◌, IsTrue, length};
 ghost use Rattle.abstract_values.specs.Values.{join_of};
 ghost use Rattle.abstract_state.specs.States.{elementwise, join_of_states};
 
 use crate::state::AbstractState;
 use abstract_values::{AbstractValue, join};
 
-/// Joins each value with the other's. One that is unset stays so, as most slots are.
+/// Whether it is seen at once that a join with the other changes nothing, as with most: neither an unset value nor
+/// a number whose range has the other's.
+#[inline(always)]
+fn stays(value: AbstractValue, other: AbstractValue) -> bool
+    ensures { IsTrue result → join_of value other ≡ value }
+{
+    match (value, other) {
+        (AbstractValue::Unset, _) => true,
+        (
+            AbstractValue::Number { lo, hi },
+            AbstractValue::Number {
+                lo: least,
+                hi: greatest,
+            },
+        ) => lo <= least && greatest <= hi,
+        _ => false,
+    }
+}
+
+/// Joins each value with the other's.
 fn join_values(values: &mut [AbstractValue], others: &[AbstractValue])
     requires { length values.old ≡ length others.now }
     ensures { values.new ≡ elementwise join_of values.old others.now }
 {
     for i in 0..values.len() {
-        if matches!(values[i], AbstractValue::Unset) {
+        if stays(values[i], others[i]) {
             continue;
         }
         values[i] = join(values[i], others[i]);

@@ -28,7 +28,8 @@ use script_model::LineFault;
 use std::alloc::AllocError;
 use verifier::Refusal;
 
-/// Writes bytes at the end of a text.
+/// Writes bytes at the end of a text. It is inlined, so that a label costs no call.
+#[inline(always)]
 fn put(text: &mut Vec<u8>, bytes: &[u8]) -> Result<(), AllocError>
     ensures { OnOk result (text.new.items ≡ text.old.items ++ bytes.now) }
 {
@@ -45,6 +46,7 @@ fn put_number(text: &mut Vec<u8>, number: u64) -> Result<(), AllocError>
 }
 
 /// Writes a label and then a number.
+#[inline(always)]
 fn put_field(text: &mut Vec<u8>, label: &[u8], number: u64) -> Result<(), AllocError>
     ensures { OnOk result (text.new.items ≡ text.old.items ++ (label.now ++ decimal number)) }
 {

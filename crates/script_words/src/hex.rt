@@ -48,16 +48,15 @@ fn hex_byte(high: u8, low: u8) -> Option<u8>
 fn hex_pairs(alloc: Global, digits: &[u8]) -> Result<Option<Vec<u8>>, AllocError>
     ensures { IfOk result (λ found. option_map (λ v. v.items) found ≡ hex_pairs_of digits.now) }
 {
-    let mut bytes = Vec::with_capacity(alloc, digits.len() / 2)?;
-    let mut left = digits;
-    while left.len() >= 2 {
-        let Some(byte) = hex_byte(left[0], left[1]) else {
+    let count = digits.len() / 2;
+    let mut bytes = vec![in alloc; 0u8; count]?;
+    for place in 0..count {
+        let Some(byte) = hex_byte(digits[2 * place], digits[2 * place + 1]) else {
             return Ok(None);
         };
-        bytes.push(byte)?;
-        left = &left[2..];
+        bytes[place] = byte;
     }
-    if !left.is_empty() {
+    if digits.len() % 2 != 0 {
         return Ok(None);
     }
     Ok(Some(bytes))

@@ -1,12 +1,13 @@
-use Rattle.std.proofs.Common.{◌-◌, [], ◌∷◌, ◌++◌, length, take, drop, sym, ◌∙◌, ap}
-use Rattle.std.proofs.lemmas.List.{take_rest}
-use Rattle.script_model.specs.Lexing.{hex_pairs}
-use Rattle.script_words.proofs.HexLemmas.{after, pairs_more}
+use Rattle.std.proofs.Common.{rules, arith, length, take, sym, ◌∙◌, length-set}
+use Rattle.script_words.proofs.HexLemmas.{placed_more, none_at_end}
 use Rattle.script_words.proofs.hex.hex_pairs.Goals as goal
 
-pub loop-left-preserved : goal.loop-left-preserved
-loop-left-preserved c =
-    ap (λ bytes. after bytes (hex_pairs (take (length c.loop-left.left.now - 2) (drop 2 c.loop-left.left.now)))) c.in_ok-push.ensures.items
-    ∙ ap (λ rest. after (c.loop-left.bytes.items ++ c.in-Some.byte ∷ []) (hex_pairs rest)) (take_rest c.loop-left.left.now 2)
-    ∙ sym (pairs_more c.loop-left.bytes.items c.in-Some.byte c.loop-left.left.now c.loop-left-test.true c.in-Some.ensures)
-    ∙ c.loop-left.invariant
+pub loop-place-preserved : goal.loop-place-preserved
+loop-place-preserved c = record {
+  long = length-set c.loop-place.bytes.items c.loop-place.place c.in-Some.byte ∙ c.loop-place.invariant.long;
+  spelled = placed_more c.loop-place.bytes.items c.args.digits.now c.loop-place.place c.in-Some.byte (omega (arith, c.loop-place.invariant.long)) (omega arith) c.loop-place.invariant.spelled c.in-Some.ensures;
+}
+
+pub returns-then-digits-ne0 : goal.returns-then-digits-ne0
+returns-then-digits-ne0 c =
+    none_at_end (take c.loop-place.place c.loop-place.bytes.items) c.args.digits.now c.loop-place.place (search rules) c.loop-place.invariant.spelled

@@ -1,10 +1,10 @@
-use Rattle.std.proofs.Common.{◌≡◌, length}
+use Rattle.std.proofs.Common.{◌≡◌, ◌*◌, ◌/◌, length, take, drop}
 use Rattle.script_model.specs.Lexing.{hex_pairs}
 use Rattle.script_words.proofs.HexLemmas.{after}
 use Rattle.script_words.proofs.hex.hex_pairs.Given as goal
 
-abbrev pub invariant-loop-left : goal.invariant-loop-left
-invariant-loop-left l = after l.bytes.items (hex_pairs l.left) ≡ hex_pairs l.digits
-
-abbrev pub decreases-loop-left : goal.decreases-loop-left
-decreases-loop-left l = length l.left
+abbrev pub invariant-loop-place : goal.invariant-loop-place
+invariant-loop-place l = record {
+  long : length l.bytes.items ≡ length l.digits / 2;
+  spelled : after (take l.place l.bytes.items) (hex_pairs (drop (2 * l.place) l.digits)) ≡ hex_pairs l.digits;
+}
