@@ -36,7 +36,7 @@ fn block_and_array(rt: HostRuntime) -> Result<(), Fail> {
     script.push_str("home 19\nhome 20\n")?;
     let (text, ending) = served(&rt, alloc, script.as_bytes())?;
     let wanted =
-        b"graph 20\nhome 0 block degree 0\nbatch A version 1 added 12 removed 0\nhome 0 block degree 12\nbatch A version 2 added 1 removed 0\nhome 0 gapped degree 13\nbatch A version 3 added 0 removed 4\nhome 0 gapped degree 9\nbatch A version 4 added 0 removed 1\nhome 0 block degree 8\nhome 19 block degree 0\nfault 4 line 31\n";
+        b"graph 20\nhome 0 block degree 0\nbatch A version 1 added 12 removed 0\nhome 0 block degree 12\nbatch A version 2 added 1 removed 0\nhome 0 gapped degree 13\nbatch A version 3 added 0 removed 4\nhome 0 gapped degree 9\nbatch A version 4 added 0 removed 1\nhome 0 block degree 8\nhome 19 block degree 0\nfault 4 line 34\n";
     assert_eq!(rt; text.as_slice(), wanted.as_slice());
     assert_eq!(rt; ending, Ending::Fault);
     Ok(())
