@@ -10,3 +10,5 @@ pub mod BlockLemmas
 pub mod ListLemmas
 pub mod HomeLemmas
 pub mod HousedLemmas
+pub mod FilledLemmas
+pub mod MadeLemmas

@@ -5,3 +5,5 @@ pub mod Blocks
 pub mod Lent
 pub mod Merge
 pub mod Lists
+pub mod Made
+pub mod Edited

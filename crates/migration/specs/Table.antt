@@ -36,6 +36,12 @@ abbrev pub IsShardOf : Graph → ℕ → Option (Bor Part) → Type 0
 IsShardOf g v None = g.vertex_count ≤ RANGE_VERTICES * (v / RANGE_VERTICES)
 IsShardOf g v (Some shard) = IsPartAt g (v / RANGE_VERTICES) shard.now
 
+-- a graph is these parts
+pub record IsOfGraph (parts : List Part) : Type 0 where
+  pub graph : Graph
+  pub small : graph.vertex_count ≤ MOST_VERTICES
+  pub table : IsTable graph parts
+
 -- a graph is these parts, and the edits are among its vertices
 pub record IsEditable (parts : List Part) (es : List Edit) : Type 0 where
   pub graph : Graph

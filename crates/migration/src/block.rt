@@ -1,11 +1,15 @@
 ghost use Rattle.std.specs.Prelude.{◌≡◌, ◌+◌, ◌^◌, ◌<◌, ◌≤◌, length, IfOk};
+ghost use Rattle.graph_model.specs.declared.limits.TheConstants.{MOST_RANGES};
 ghost use Rattle.graph_model.specs.Graph.{Graph};
 ghost use Rattle.graph_model.specs.Edits.{AreEditsBelow};
 ghost use Rattle.migration.specs.declared.groups.Grouping.TheVariants.{ByRange};
 ghost use Rattle.migration.specs.Blocks.{ArePartsFrom, AreEditable, AreEdited, AreHoused, AreRehoused};
+ghost use Rattle.migration.specs.Groups.{filled_below};
+ghost use Rattle.migration.specs.Made.{AreMade};
 ghost use Rattle.migration.specs.Table.{parts_of};
 
 use crate::counts::Counts;
+use crate::edited_shard::EditedShard;
 use crate::groups::Groups;
 use crate::shard::Shard;
 use graph_model::Edit;
@@ -79,5 +83,44 @@ impl Block {
             counts = counts.plus(more);
         }
         Ok((Block { shards }, counts))
+    }
+
+    /// The block with edited shards put in, where its first shard is of this range, and what the edits did to its
+    /// shards. A shard that no edit is of is shared. `next` counts the edited shards that were put in.
+    pub fn with(
+        &self,
+        alloc: Global,
+        first: usize,
+        groups: &Groups<'_>,
+        made: &[&EditedShard],
+        next: &mut usize,
+    ) -> Result<(Block, Counts), AllocError>
+        requires ranges { groups.now.grouping ≡ ByRange }
+        requires within { first + length self.now ≤ groups.now.count }
+        requires fits { groups.now.count < 2 ^ 64 }
+        requires editable { AreEditable first self.now groups.now.edits }
+        requires next { next.old ≡ length (filled_below groups.now first) }
+        requires made { AreMade groups.now first self.now made.now }
+        requires few { length made.now ≤ MOST_RANGES }
+        ensures edited { IfOk result (λ new. (g : Graph) → AreEditsBelow g.vertex_count groups.now.edits
+            → ArePartsFrom g first self.now → AreEdited groups.now.edits g first new.0 new.1) }
+        ensures same { IfOk result (λ new. length new.0 ≡ length self.now) }
+        ensures homes { IfOk result (λ new. AreHoused self.now → AreRehoused self.now new.0) }
+        ensures next { IfOk result (λ _. next.new ≡ length (filled_below groups.now (first + length self.now))) }
+    {
+        let mut shards = Vec::with_capacity(alloc, self.shards.len())?;
+        let mut counts = Counts::NONE;
+        for (place, shard) in self.shards.iter().enumerate() {
+            if groups.is_empty(first + place) {
+                shards.push(Arc::try_clone(shard)?)?;
+                continue;
+            }
+            let edited: &EditedShard = made[*next];
+            shards.push(Arc::try_clone(&edited.shard)?)?;
+            counts = counts.plus(edited.counts);
+            *next += 1;
+        }
+        let block = Block { shards };
+        Ok((block, counts))
     }
 }

@@ -5,6 +5,7 @@
 mod block;
 mod counts;
 mod edited;
+mod edited_shard;
 mod groups;
 mod lists;
 mod merge;
@@ -13,6 +14,7 @@ mod shards;
 mod table;
 
 pub use counts::Counts;
+pub use edited_shard::EditedShard;
 pub use groups::{Grouping, Groups};
 pub use shard::Shard;
 pub use shards::{empty_shards, shard_of, share_shards};

@@ -79,6 +79,14 @@ impl Shard {
         Ok((Shard { range, lists }, counts))
     }
 
+    /// Its range's number: its first vertex's, divided by 256.
+    pub fn range(&self) -> u32
+        ensures value { result ≡ self.now.range }
+        ensures small { result < MOST_RANGES }
+    {
+        self.range
+    }
+
     /// How many vertices it has: from 1 to 256.
     pub fn vertex_count(&self) -> u16
         ensures value { result ≡ length self.now.rows }

@@ -1,13 +1,16 @@
 //! The shards of a graph, in blocks that tables share.
 ghost use Rattle.std.specs.Prelude.{◌≡◌, ◌<◌, ◌≤◌, ℕ, length, IfOk, MatchOption};
 ghost use Rattle.graph_model.specs.declared.home.Home.TheVariants.{Block as InBlock};
-ghost use Rattle.graph_model.specs.declared.limits.TheConstants.{MOST_VERTICES};
+ghost use Rattle.graph_model.specs.declared.limits.TheConstants.{MOST_VERTICES, MOST_RANGES};
 ghost use Rattle.graph_model.specs.Graph.{Graph, empty_graph};
 ghost use Rattle.migration.specs.Blocks.{parts_in, sizes_of, AreFull};
-ghost use Rattle.migration.specs.Table.{IsTable, IsShardOf, IsEditable, AreAfter, AreMoved, part_at, parts_of, home_in};
+ghost use Rattle.migration.specs.Part.{AreEditsOf};
+ghost use Rattle.migration.specs.Made.{IsBatch, IsMade, AreMade};
+ghost use Rattle.migration.specs.Table.{IsTable, IsOfGraph, IsShardOf, IsEditable, AreAfter, AreMoved, part_at, parts_of, home_in};
 
 use crate::block::{BLOCK_SHARDS, Block};
 use crate::counts::Counts;
+use crate::edited_shard::EditedShard;
 use crate::groups::{Grouping, Groups};
 use crate::shard::Shard;
 use crate::shards::{empty_shards, share_shards};
@@ -119,6 +122,77 @@ impl Table {
                 continue;
             }
             let (edited, more) = block.after(alloc, first, &groups, &mut own)?;
+            blocks.push(Arc::new(alloc, edited)?)?;
+            counts = counts.plus(more);
+        }
+        let count = self.count;
+        Ok((Table { blocks, count }, counts))
+    }
+
+    /// How many shards it has.
+    pub fn count(&self) -> usize
+        ensures { result ≡ length self.now }
+    {
+        self.count
+    }
+
+    /// How many vertices the graph has.
+    pub fn vertex_count(&self) -> u32
+        requires { IsOfGraph self.now }
+        ensures { (g : Graph) → IsTable g self.now → result ≡ g.vertex_count }
+    {
+        let Some(last) = self.count.checked_sub(1) else {
+            return 0;
+        };
+        let Some(shard) = self.shard_at(last) else {
+            unreachable!()
+        };
+        RANGE_VERTICES * last as u32 + u32::from(shard.vertex_count())
+    }
+
+    /// The shard of a range after edits of its vertices, to vertices that a graph may have. The table stays.
+    pub fn edit(
+        &self,
+        alloc: Global,
+        range: usize,
+        edits: &[Edit],
+    ) -> Result<EditedShard, AllocError>
+        requires range { range < length self.now }
+        requires edits { AreEditsOf (part_at self.now range) edits.now }
+        ensures { IfOk result (λ made. IsMade (part_at self.now range) edits.now made) }
+    {
+        let Some(shard) = self.shard_at(range) else {
+            unreachable!()
+        };
+        let made = EditedShard::of(alloc, shard, edits)?;
+        Ok(made)
+    }
+
+    /// The table after a batch, with each shard that is edited put in at its range, and what the batch did. This
+    /// one stays. It takes a step for each block, and copies the blocks in which something is edited.
+    pub fn with(
+        &self,
+        alloc: Global,
+        groups: &Groups<'_>,
+        made: &[&EditedShard],
+    ) -> Result<(Table, Counts), AllocError>
+        requires batch { IsBatch groups.now self.now }
+        requires made { AreMade groups.now 0 self.now made.now }
+        requires few { length made.now ≤ MOST_RANGES }
+        ensures after { IfOk result (λ new. AreAfter groups.now.edits self.now new.0 new.1) }
+        ensures homes { IfOk result (λ new. AreMoved self.now new.0) }
+    {
+        let mut blocks = Vec::with_capacity(alloc, self.blocks.len())?;
+        let mut counts = Counts::NONE;
+        let mut next = 0;
+        for (number, block) in self.blocks.iter().enumerate() {
+            let first = BLOCK_SHARDS * number;
+            let behind = first + block.shards().len();
+            if groups.are_empty(first, behind) {
+                blocks.push(Arc::try_clone(block)?)?;
+                continue;
+            }
+            let (edited, more) = block.with(alloc, first, groups, made, &mut next)?;
             blocks.push(Arc::new(alloc, edited)?)?;
             counts = counts.plus(more);
         }

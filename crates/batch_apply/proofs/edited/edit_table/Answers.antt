@@ -1,0 +1,30 @@
+use Rattle.std.proofs.Common.{◌/◌, ◌<◌, sym, ap, subst, ◌∙◌, All, arith}
+use Rattle.std.specs.List.{AllByRecursion}
+use Rattle.graph_model.specs.Edits.{source_of}
+use Rattle.migration.specs.Groups.{Grouped}
+use Rattle.migration.specs.Table.{IsEditable}
+use Rattle.migration.specs.Made.{IsBatch}
+use Rattle.migration.proofs.RangeLemmas.{in_ranges}
+use Rattle.migration.proofs.TableLemmas.{few_parts}
+use Rattle.batch_apply.specs.Dealt.{IsReady}
+use Rattle.batch_apply.proofs.Dealing.{all_ready}
+use Rattle.batch_apply.proofs.edited.edit_table.Goals as goal
+
+pub of-requires : goal.of-requires
+of-requires g c =
+    subst (λ n. AllByRecursion (λ e. source_of e / 256 < n) c.args.edits.now) (sym c.count.ensures) (in_ranges c.requires.graph c.args.table.now c.args.edits.now c.requires.table c.requires.below)
+
+pub split_groups-requires : goal.split_groups-requires
+split_groups-requires g c = omega (arith, ap (λ (g : Grouped). g.count) c.in_ok-groups.ensures, c.count.ensures, few_parts c.requires.graph c.args.table.now c.requires.table c.requires.small)
+
+pub made_by-requires-clause-ready : goal.made_by-requires-clause-ready
+made_by-requires-clause-ready g c κs within =
+    let parts = c.args.table.now in
+    let groups = c.in_ok-groups.groups in
+    let is = c.in_ok-groups.ensures in
+    let batch : IsBatch groups parts = record {
+      by_range = ap (λ (g : Grouped). g.grouping) is;
+      count = ap (λ (g : Grouped). g.count) is ∙ c.count.ensures;
+      editable = subst (IsEditable parts) (sym (ap (λ (g : Grouped). g.edits) is)) c.requires;
+    } in
+    subst (All (IsReady parts)) (sym c.deref.ensures.value) (all_ready groups parts c.in_ok-pieces.pieces.items batch c.in_ok-pieces.ensures.split)

@@ -1,0 +1,3 @@
+pub mod Dealt
+pub mod Refused
+pub mod Applied

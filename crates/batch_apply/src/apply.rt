@@ -1,0 +1,49 @@
+//! A batch on a table of shards.
+ghost use Rattle.std.specs.Prelude.{◌≡◌, ◌↔◌, true};
+ghost use Rattle.graph_model.specs.Edits.{AreEditsBelow};
+ghost use Rattle.migration.specs.Table.{IsOfGraph};
+ghost use Rattle.batch_apply.specs.Applied.{IsApplied};
+
+use crate::edited::edit_table;
+use crate::errors::ApplyError;
+use gates::{Gate, Workers};
+use graph_model::{Batch, Edit, MOST_EDITS};
+use migration::{Counts, Table};
+use std::alloc::Global;
+use std::sync::Wait;
+use std::thread::Threads;
+
+/// Whether the ends of all edits are below a number of vertices.
+fn are_below(edits: &[Edit], vertices: u32) -> bool
+    ensures { (result ≡ true) ↔ AreEditsBelow vertices edits.now }
+{
+    edits.iter().all(|edit| edit.source() < vertices && edit.target() < vertices)
+}
+
+/// The table of a graph after a batch, and what the batch did to the graph. The table stays. `TooManyEdits` exactly
+/// above 65,536 edits; else `VertexRange` exactly where an edit names a vertex that the graph does not have; then
+/// `OutOfMemory` where there is no memory, and `WorkerRefused` where a thread could not be started. The answer does not
+/// depend on the workers, the gate or the order in which threads run. The edited ranges, ascending, are dealt in turn,
+/// the j-th, from 0, to worker j modulo their number. A range's number is a piece of the gate's. With one worker no
+/// thread is started.
+pub fn apply_batch<Ga: Gate, R: Threads + Wait>(
+    rt: &R,
+    alloc: Global,
+    table: &Table,
+    batch: &Batch,
+    workers: Workers,
+    gate: &Ga,
+) -> Result<(Table, Counts), ApplyError>
+    requires { IsOfGraph table.now }
+    ensures { IsApplied table.now batch.now result }
+{
+    let edits = batch.edits();
+    if edits.len() > MOST_EDITS {
+        return Err(ApplyError::TooManyEdits);
+    }
+    if !are_below(edits, table.vertex_count()) {
+        return Err(ApplyError::VertexRange);
+    }
+    let next = edit_table(rt, alloc, table, edits, workers, gate)?;
+    Ok(next)
+}

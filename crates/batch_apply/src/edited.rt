@@ -1,0 +1,100 @@
+//! A table of shards after a batch.
+ghost use Rattle.std.specs.Prelude.{◌≡◌, ◌<◌, ◌≤◌, All, length, IfOk};
+ghost use Rattle.graph_model.specs.declared.limits.TheConstants.{MOST_RANGES};
+ghost use Rattle.gates.specs.declared.limits.TheConstants.{MOST_WORKERS};
+ghost use Rattle.migration.specs.Made.{IsBatch};
+ghost use Rattle.migration.specs.Table.{IsEditable, AreAfter, AreMoved};
+ghost use Rattle.batch_apply.specs.Dealt.{IsReady, IsSplit, AreDealt};
+
+use crate::hands::{spread, work_alone};
+use crate::split::split_groups;
+use gates::{Gate, Refusal, Workers};
+use graph_model::Edit;
+use migration::{Counts, EditedShard, Grouping, Groups, Table};
+use std::alloc::{AllocError, Global};
+use std::sync::Wait;
+use std::thread;
+use std::thread::Threads;
+
+/// The edited shards of all workers. With one worker no thread is started.
+fn made_by<Ga: Gate, R: Threads + Wait>(
+    rt: &R,
+    alloc: Global,
+    table: &Table,
+    pieces: &[(u32, Vec<Edit>)],
+    gate: &Ga,
+    hands: usize,
+) -> Result<Vec<Vec<EditedShard>>, Refusal>
+    requires ready { All (IsReady table.now) pieces.now }
+    requires few { length pieces.now ≤ MOST_RANGES }
+    requires some { 0 < hands }
+    requires hands { hands ≤ MOST_WORKERS }
+    ensures dealt { IfOk result (λ lists. AreDealt table.now pieces.now hands lists.items) }
+    ensures all { IfOk result (λ lists. length lists.items ≡ hands) }
+{
+    if hands == 1 {
+        let lists = work_alone(alloc, table, pieces, gate, hands)?;
+        return Ok(lists);
+    }
+    thread::scope(
+        thread::scope_env(),
+        rt,
+        move |scope| -> Result<Vec<Vec<EditedShard>>, Refusal>
+            requires { All (IsReady table.now) pieces.now × (length pieces.now ≤ MOST_RANGES)
+                × (0 < hands) × (hands ≤ MOST_WORKERS) }
+            ensures { IfOk result (λ lists.
+                AreDealt table.entry.now pieces.entry.now hands lists.items
+                × (length lists.items ≡ hands)) }
+        { spread(rt, alloc, scope, table, pieces, gate, hands, hands) },
+    )
+}
+
+/// The table with what workers made put in.
+fn put_in(
+    alloc: Global,
+    table: &Table,
+    groups: &Groups<'_>,
+    pieces: &[(u32, Vec<Edit>)],
+    lists: &[Vec<EditedShard>],
+) -> Result<(Table, Counts), AllocError>
+    requires batch { IsBatch groups.now table.now }
+    requires split { IsSplit groups.now pieces.now }
+    requires few { length pieces.now ≤ MOST_RANGES }
+    requires some { 0 < length lists.now }
+    requires hands { length lists.now ≤ MOST_WORKERS }
+    requires dealt { AreDealt table.now pieces.now (length lists.now) lists.now }
+    ensures after { IfOk result (λ next. AreAfter groups.now.edits table.now next.0 next.1) }
+    ensures homes { IfOk result (λ next. AreMoved table.now next.0) }
+{
+    let hands = lists.len();
+    let mut made = Vec::with_capacity(alloc, pieces.len())?;
+    for place in 0..pieces.len() {
+        let own = &lists[place % hands];
+        made.push(&own[place / hands])?;
+    }
+    table.with(alloc, groups, &made)
+}
+
+/// The table after a batch, and what the batch did: the batch's own answer, whatever the number of workers, the
+/// gate and the order in which they come. The old table stays. The edited ranges, ascending, are dealt in turn: the
+/// j-th, from 0, to worker j modulo their number. A range's number is a piece of the gate's. `OutOfMemory` where there
+/// is no memory, `WorkerRefused` where a thread could not be started; with one worker none is.
+pub fn edit_table<Ga: Gate, R: Threads + Wait>(
+    rt: &R,
+    alloc: Global,
+    table: &Table,
+    edits: &[Edit],
+    workers: Workers,
+    gate: &Ga,
+) -> Result<(Table, Counts), Refusal>
+    requires { IsEditable table.now edits.now }
+    ensures after { IfOk result (λ next. AreAfter edits.now table.now next.0 next.1) }
+    ensures homes { IfOk result (λ next. AreMoved table.now next.0) }
+{
+    let groups = Groups::of(alloc, Grouping::ByRange, table.count(), edits)?;
+    let pieces = split_groups(alloc, &groups)?;
+    let hands = usize::from(workers.count()).min(pieces.len()).max(1);
+    let lists = made_by(rt, alloc, table, &pieces, gate, hands)?;
+    let next = put_in(alloc, table, &groups, &pieces, &lists)?;
+    Ok(next)
+}

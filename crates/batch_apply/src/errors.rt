@@ -1,0 +1,51 @@
+ghost use Rattle.std.specs.Prelude.{◌≡◌};
+ghost use Rattle.batch_apply.specs.declared.errors.ApplyError.TheVariants as apply;
+ghost use Rattle.batch_apply.specs.Refused.{refused_as};
+
+use gates::Refusal;
+use std::alloc::{AllocError, AllocFailed};
+use thiserror::Error;
+
+/// Why a batch was not applied, or not split.
+#[derive(Clone, Copy, Debug, PartialEq, Eq, Error)]
+pub enum ApplyError {
+    /// An edit names a vertex that the graph does not have.
+    #[error("an edit names a vertex that the graph does not have")]
+    VertexRange = 1,
+    /// There are more than 65,536 edits.
+    #[error("there are more than 65536 edits")]
+    TooManyEdits = 2,
+    /// There is no memory for the edited shards or the table.
+    #[error("out of memory")]
+    OutOfMemory = 3,
+    /// A thread could not be started.
+    #[error("a worker could not be started")]
+    WorkerRefused = 4,
+}
+
+impl From<Refusal> for ApplyError {
+    ghost from_gives = { λ refusal e. e ≡ refused_as refusal };
+
+    fn from(refusal: Refusal) -> ApplyError {
+        match refusal {
+            Refusal::OutOfMemory => ApplyError::OutOfMemory,
+            Refusal::WorkerRefused => ApplyError::WorkerRefused,
+        }
+    }
+}
+
+impl From<AllocError> for ApplyError {
+    ghost from_gives = { λ _ e. e ≡ apply.OutOfMemory };
+
+    fn from(_e: AllocError) -> ApplyError {
+        ApplyError::OutOfMemory
+    }
+}
+
+impl<T: Drop> From<AllocFailed<T>> for ApplyError {
+    ghost from_gives = { λ _ e. e ≡ apply.OutOfMemory };
+
+    fn from(_e: AllocFailed<T>) -> ApplyError {
+        ApplyError::OutOfMemory
+    }
+}

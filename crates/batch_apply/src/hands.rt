@@ -1,0 +1,121 @@
+//! Workers, to whom the edited ranges are dealt in turn.
+ghost use Rattle.std.specs.Prelude.{◌≡◌, ◌<◌, ◌≤◌, All, length, IfOk};
+ghost use Rattle.graph_model.specs.declared.limits.TheConstants.{MOST_RANGES};
+ghost use Rattle.gates.specs.declared.limits.TheConstants.{MOST_WORKERS};
+ghost use Rattle.batch_apply.specs.Dealt.{IsReady, IsDealt, AreDealt};
+
+use gates::{Gate, Refusal};
+use graph_model::Edit;
+use migration::{EditedShard, Table};
+use std::alloc::{AllocError, Global};
+use std::thread::{Promise, Scope, Threads};
+
+/// What a worker will have made.
+#[derive(Clone, Copy)]
+pub(crate) struct Share<'a> {
+    table: &'a Table,
+    pieces: &'a [(u32, Vec<Edit>)],
+    first: usize,
+    step: usize,
+}
+
+impl<'a> Promise<Result<Vec<EditedShard>, AllocError>> for Share<'a> {
+    ghost kept_by = { λ share r. IfOk r (λ made.
+        IsDealt share.table.now share.pieces.now share.first share.step made.items) };
+}
+
+/// One worker's edited shards: of the piece at its first place, and of each so many places further on. A piece's
+/// range is its number at the gate.
+pub(crate) fn work<Ga: Gate>(
+    alloc: Global,
+    table: &Table,
+    pieces: &[(u32, Vec<Edit>)],
+    gate: &Ga,
+    first: usize,
+    step: usize,
+) -> Result<Vec<EditedShard>, AllocError>
+    requires ready { All (IsReady table.now) pieces.now }
+    requires few { length pieces.now ≤ MOST_RANGES }
+    requires first { first < step }
+    requires step { step ≤ MOST_WORKERS }
+    ensures { IfOk result (λ made. IsDealt table.now pieces.now first step made.items) }
+{
+    let mut made = Vec::new(alloc);
+    let mut next = first;
+    'pieces: while next < pieces.len() {
+        let (range, edits) = &pieces[next];
+        gate.enter(*range);
+        let edited = table.edit(alloc, *range as usize, edits);
+        gate.leave(*range);
+        made.push(edited?)?;
+        next += step;
+    }
+    Ok(made)
+}
+
+/// The edited shards of the first worker alone, who has the caller's thread.
+pub(crate) fn work_alone<Ga: Gate>(
+    alloc: Global,
+    table: &Table,
+    pieces: &[(u32, Vec<Edit>)],
+    gate: &Ga,
+    step: usize,
+) -> Result<Vec<Vec<EditedShard>>, AllocError>
+    requires ready { All (IsReady table.now) pieces.now }
+    requires few { length pieces.now ≤ MOST_RANGES }
+    requires some { 0 < step }
+    requires step { step ≤ MOST_WORKERS }
+    ensures dealt { IfOk result (λ lists. AreDealt table.now pieces.now step lists.items) }
+    ensures one { IfOk result (λ lists. length lists.items ≡ 1) }
+{
+    let mut lists = Vec::new(alloc);
+    lists.push(work(alloc, table, pieces, gate, 0, step)?)?;
+    Ok(lists)
+}
+
+/// The edited shards of the workers below a number, each in a thread of its own but for the first. All threads that
+/// were started have ended.
+pub(crate) fn spread<'s, E, Ga: Gate, R: Threads>(
+    rt: &R,
+    alloc: Global,
+    scope: &Scope<'s, E>,
+    table: &'s Table,
+    pieces: &'s [(u32, Vec<Edit>)],
+    gate: &'s Ga,
+    bound: usize,
+    step: usize,
+) -> Result<Vec<Vec<EditedShard>>, Refusal>
+    requires ready { All (IsReady table.now) pieces.now }
+    requires few { length pieces.now ≤ MOST_RANGES }
+    requires some { 0 < bound }
+    requires bound { bound ≤ step }
+    requires step { step ≤ MOST_WORKERS }
+    ensures dealt { IfOk result (λ lists. AreDealt table.now pieces.now step lists.items) }
+    ensures all { IfOk result (λ lists. length lists.items ≡ bound) }
+{
+    if bound == 1 {
+        let lists = work_alone(alloc, table, pieces, gate, step)?;
+        return Ok(lists);
+    }
+    let first = bound - 1;
+    let share = Share {
+        table,
+        pieces,
+        first,
+        step,
+    };
+    let worker = move || -> Result<Vec<EditedShard>, AllocError>
+        requires { All (IsReady table.now) pieces.now × (length pieces.now ≤ MOST_RANGES)
+            × (first < step) × (step ≤ MOST_WORKERS) }
+        ensures { IfOk result (λ made.
+            IsDealt table.entry.now pieces.entry.now first step made.items) }
+    { work(alloc, table, pieces, gate, first, step) };
+    let Ok(thread) = scope.spawn_with(share, worker) else {
+        return Err(Refusal::WorkerRefused);
+    };
+    let here = spread(rt, alloc, scope, table, pieces, gate, first, step);
+    let there = thread.join(rt);
+    let mut lists = here?;
+    lists.push(there?)?;
+    Ok(lists)
+}

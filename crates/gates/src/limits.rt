@@ -1,0 +1,2 @@
+/// The most workers that there may be.
+pub const MOST_WORKERS: u8 = 16;

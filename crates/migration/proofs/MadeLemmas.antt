@@ -1,0 +1,55 @@
+-- Edited shards, put in one after another.
+use Rattle.std.proofs.Common.{◌≡◌, ℕ, ◌+◌, ◌*◌, ◌<◌, List, [], length, get_or, true, sym, ap, subst, subst₂, ◌∙◌, arith}
+use Rattle.std.specs.Borrow.{Bor}
+use Rattle.std.specs.declared.sync.Arc.{Arc}
+use Rattle.std.specs.declared.alloc.Global.{Global}
+use Rattle.std.proofs.lemmas.List.{length-map, get_or-map}
+use Rattle.std.specs.Arc.{arc_value}
+use Rattle.migration.specs.declared.groups.Grouping.TheVariants.{ByRange}
+use Rattle.migration.specs.declared.edited_shard.EditedShard.{EditedShard}
+use Rattle.migration.specs.Groups.{Grouped, edits_of, is_filled, filled_below}
+use Rattle.migration.specs.Part.{Part, IsPartAfter, AreCounts, AreHomesAfter}
+use Rattle.migration.specs.Table.{part_at}
+use Rattle.migration.specs.Made.{IsMade, AreMade}
+use Rattle.migration.proofs.RangeLemmas.{range_edits}
+use Rattle.migration.specs.Blocks.{AreFull, parts_in, sizes_of}
+use Rattle.migration.proofs.BlockLemmas.{part_in_block, part_inside}
+use Rattle.migration.proofs.FilledLemmas.{filled_is}
+
+abbrev Blocks : Type 0
+Blocks = List (Arc (List Part) Global)
+
+-- the edits of a group are those of a range
+pub edits_in : (groups : Grouped) → groups.grouping ≡ ByRange → (range : ℕ) → edits_of groups range ≡ range_edits groups.count groups.edits range
+edits_in groups by_range range = ap (λ k. edits_of record { grouping = k; count = groups.count; edits = groups.edits } range) by_range
+
+-- the next one is of the next shard that is edited
+pub next_made : (groups : Grouped) (shards : List Part) (made : List (Bor EditedShard)) (first place next : ℕ) → AreMade groups first shards made → place < length shards → (edits_of groups (first + place) ≡ [] → ⊥) → next ≡ length (filled_below groups (first + place))
+    → (next < length made) × ((d : Bor EditedShard) → IsMade (part_at shards place) (edits_of groups (first + place)) (get_or made next d).now)
+next_made groups shards made first place next all h some is =
+    subst (λ n. (n < length made) × ((d : Bor EditedShard) → IsMade (part_at shards place) (edits_of groups (first + place)) (get_or made n d).now)) (sym is) (all place h (filled_is groups (first + place) some))
+
+-- what was done to it
+pub done_to : (groups : Grouped) (range : ℕ) (p : Part) (e : EditedShard) → groups.grouping ≡ ByRange → IsMade p (edits_of groups range) e
+    → IsPartAfter (range_edits groups.count groups.edits range) p (arc_value e.shard) × AreCounts (range_edits groups.count groups.edits range) p e.counts × AreHomesAfter p (arc_value e.shard)
+done_to groups range p e by_range made =
+    let own = edits_in groups by_range range in (
+      subst (λ es. IsPartAfter es p (arc_value e.shard)) own made.after,
+      subst (λ es. AreCounts es p e.counts) own made.counted,
+      made.homes,
+    )
+
+-- the shards of a block, among all
+pub block_made : (groups : Grouped) (made : List (Bor EditedShard)) (blocks : Blocks) (n : ℕ) (d : Arc (List Part) Global) (shards : List Part) → AreFull (sizes_of blocks) → n < length blocks → shards ≡ arc_value (get_or blocks n d) → AreMade groups 0 (parts_in blocks) made → AreMade groups (32 * n) shards made
+block_made groups made blocks n d shards full h is all =
+    λ k within some.
+    let at : k < length (arc_value (get_or blocks n d)) = subst (λ l. k < length l) is within in
+    let place : 0 + (32 * n + k) ≡ 32 * n + k = omega arith in
+    let fact = all (32 * n + k) (part_inside blocks n k d full h at) (subst (λ r. is_filled groups r ≡ true) (sym place) some) in
+    subst₂ (λ p r. (length (filled_below groups r) < length made) × ((e : Bor EditedShard) → IsMade p (edits_of groups r) (get_or made (length (filled_below groups r)) e).now)) (part_in_block blocks n k d full h at ∙ ap (λ l. part_at l k) (sym is)) place fact
+
+-- a block before the last has all its shards
+pub full_block : (blocks : Blocks) (i : ℕ) (d : Arc (List Part) Global) → AreFull (sizes_of blocks) → i + 1 < length blocks → length (arc_value (get_or blocks i d)) ≡ 32
+full_block blocks i d full more =
+    sym (get_or-map (λ block. length (arc_value block)) blocks i d 0 (omega arith))
+    ∙ full.full i (omega (arith, length-map blocks (λ block. length (arc_value block))))

@@ -1,0 +1,15 @@
+use Rattle.std.proofs.Common.{◌≡◌, ◌*◌, ◌<◌, length, take}
+use Rattle.graph_model.specs.Graph.{Graph}
+use Rattle.graph_model.specs.Edits.{AreEditsBelow}
+use Rattle.migration.specs.Groups.{filled_below}
+use Rattle.migration.specs.Table.{IsTable}
+use Rattle.migration.specs.Blocks.{parts_in, sizes_of, AreEdited, AreRehoused}
+use Rattle.migration.proofs.table.Table.with.Given as goal
+
+abbrev pub invariant-loop-number : goal.invariant-loop-number
+invariant-loop-number l = record {
+  sizes : sizes_of l.blocks.items ≡ take l.number (sizes_of l.self-inside.blocks.items);
+  done : (g : Graph) → AreEditsBelow g.vertex_count l.groups.edits → IsTable g (parts_in l.self-inside.blocks.items) → AreEdited l.groups.edits g 0 (parts_in l.blocks.items) l.counts;
+  next : l.number < length l.self-inside.blocks.items → l.next ≡ length (filled_below l.groups (32 * l.number));
+  homes : AreRehoused (parts_in (take l.number l.self-inside.blocks.items)) (parts_in l.blocks.items);
+}

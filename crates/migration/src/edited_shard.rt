@@ -1,0 +1,38 @@
+//! A range of a graph after edits, as a worker makes it.
+ghost use Rattle.std.specs.Prelude.{◌≡◌, IfOk};
+ghost use Rattle.std.specs.Arc.{arc_value};
+ghost use Rattle.migration.specs.Edited.{IsMadeOf, IsEdited};
+ghost use Rattle.migration.specs.Part.{AreEditsOf};
+
+use crate::counts::Counts;
+use crate::shard::Shard;
+use graph_model::Edit;
+use std::alloc::{AllocError, Global};
+use std::sync::Arc;
+
+/// A shard to which edits were applied, and what they did. Its type keeps that it is an earlier shard after edits.
+#[derive(Drop)]
+pub struct EditedShard {
+    pub(crate) shard: Arc<Shard>,
+    pub(crate) counts: Counts,
+    ghost edited: { ∥ IsEdited (arc_value shard) counts ∥₁ },
+}
+
+impl EditedShard {
+    /// A shard after a list of edits of its vertices, to vertices that a graph may have. The shard stays.
+    pub fn of(alloc: Global, shard: &Shard, edits: &[Edit]) -> Result<EditedShard, AllocError>
+        requires { AreEditsOf shard.now edits.now }
+        ensures { IfOk result (λ made. IsMadeOf shard.now edits.now (arc_value made.shard) made.counts) }
+    {
+        let (next, counts) = shard.apply(alloc, edits)?;
+        let shard = Arc::new(alloc, next)?;
+        Ok(EditedShard { shard, counts })
+    }
+
+    /// The number of its range.
+    pub fn range(&self) -> u32
+        ensures { result ≡ (arc_value self.now.shard).range }
+    {
+        self.shard.range()
+    }
+}
