@@ -1,3 +1,4 @@
+//! The publisher's side: what is shown next.
 ghost use Rattle.std.specs.Prelude.{◌≡◌, None, IfOk, IfErr, MatchResult};
 ghost use Rattle.std.specs.Arc.{arc_value};
 ghost use Rattle.history.specs.Moment.{Begins};

@@ -1,3 +1,4 @@
+//! What a pass over what is shown knows, as the rule of showing has it.
 use version::Version;
 
 /// What a pass of the board knows: a version's moment, or nothing. No value of it is made.

@@ -1,3 +1,4 @@
+//! How a board begins, with its first reader.
 ghost use Rattle.std.specs.Prelude.{◌≡◌, true, IfOk};
 ghost use Rattle.std.specs.Arc.{arc_value};
 ghost use Rattle.left_right.specs.Sides.{view as glimpse_of};

@@ -1,3 +1,4 @@
+//! What is shown: a version and the history's word for it.
 use left_right::Absorb;
 use std::alloc::AllocError;
 use std::sync::Arc;

@@ -1,3 +1,4 @@
+//! Pins of what is shown, in one thread and in two, and places of readers that are gone.
 ghost use Rattle.std.specs.Prelude.{◌≡◌, ◌+◌, ◌<◌, ◌≤◌, IfOk};
 ghost use Rattle.std.specs.Arc.{arc_value};
 ghost use Rattle.graph_model.specs.Past.{number_of};

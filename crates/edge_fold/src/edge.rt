@@ -1,3 +1,4 @@
+//! An edge, and its record's first bytes.
 ghost use Rattle.std.specs.Prelude.{◌≡◌, ◌+◌, length};
 
 /// How many bytes of a record are the edge's own: its four numbers. The argument stands behind them.

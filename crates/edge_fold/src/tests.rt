@@ -1,3 +1,4 @@
+//! Maps over small graphs, by hand.
 ghost use Rattle.std.specs.Prelude.{◌≡◌, ◌≤◌, IfOk, length};
 
 use super::*;

@@ -1,3 +1,4 @@
+//! The line that ends a block.
 ghost use Rattle.std.specs.Prelude.{◌≡◌};
 ghost use Rattle.script_model.specs.Lexing.{words};
 ghost use Rattle.script_model.specs.Parsing.{is_end as is_end_of};

@@ -1,3 +1,4 @@
+//! Bytes in hexadecimal digits.
 ghost use Rattle.std.specs.Prelude.{◌≡◌, ◌+◌, ◌*◌, ◌<◌, ◌≤◌, Some, None, option_map, IfOk};
 ghost use Rattle.script_model.specs.Lexing.{hex as hex_of, hex_byte as hex_byte_of, hex_digit as hex_digit_of, hex_pairs as hex_pairs_of, is_dash as is_dash_word};
 

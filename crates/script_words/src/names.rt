@@ -1,3 +1,4 @@
+//! Names of programs and pins.
 ghost use Rattle.std.specs.Prelude.{◌≡◌};
 ghost use Rattle.std.specs.List.{list_all};
 ghost use Rattle.script_model.specs.Lexing.{is_name as is_name_word, is_name_byte as is_name_byte_of};

@@ -1,3 +1,4 @@
+//! Lines and what they say, by hand.
 use super::*;
 use bpf_model::Reduction;
 use std::test::Fail;

@@ -1,3 +1,4 @@
+//! Whole scripts, and what is written for them.
 use crate::tests::ends::{Parts, Written};
 use crate::{Ending, ServeError, serve};
 use std::alloc::{AllocError, Global};

@@ -1,3 +1,4 @@
+//! One event after another.
 ghost use Rattle.std.specs.Prelude.{◌≡◌, ◌≤◌, IfOk, OnErr};
 ghost use Rattle.graph_model.specs.declared.limits.TheConstants.{MOST_VERTICES};
 ghost use Rattle.graph_model.specs.Past.{graph_of};

@@ -1,3 +1,4 @@
+//! The batch in work.
 ghost use Rattle.std.specs.Prelude.{◌≡◌, [], ◌∷◌, ◌++◌, OnOk, OnErr};
 
 use crate::table::Table;

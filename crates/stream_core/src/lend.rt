@@ -1,3 +1,4 @@
+//! Which words are lent next.
 ghost use Rattle.std.specs.Prelude.{◌≡◌, ◌<◌, [], length, drop, MatchOption};
 ghost use Rattle.graph_model.specs.Graph.{Graph, neighbours};
 ghost use Rattle.migration.specs.Table.{IsTable, parts_of};

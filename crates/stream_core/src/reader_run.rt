@@ -1,3 +1,4 @@
+//! What a reader does at the moment.
 ghost use Rattle.std.specs.Prelude.{◌≡◌, IfOk, OnErr};
 ghost use Rattle.graph_model.specs.Past.{Past};
 

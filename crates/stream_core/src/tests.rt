@@ -1,3 +1,4 @@
+//! Rows of events and replies, by hand.
 use super::{Event, Reply, World, run, shards, step};
 use graph_model::{Batch, Edit};
 use migration::shard_of;

@@ -1,3 +1,4 @@
+//! A version that is made and not yet published.
 ghost use Rattle.std.specs.Prelude.{◌≡◌};
 ghost use Rattle.history.specs.Moment.{moment_of};
 

@@ -1,3 +1,4 @@
+//! The log of a version.
 ghost use Rattle.std.specs.Prelude.{◌≡◌, ◌<◌, [], ◌∷◌, ◌++◌, length, Some, IfOk};
 ghost use Rattle.std.specs.List.{flat_map};
 ghost use Rattle.graph_model.specs.declared.limits.TheConstants.{MOST_BATCHES};

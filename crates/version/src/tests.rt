@@ -1,3 +1,4 @@
+//! A version and the next one.
 use crate::Version;
 use graph_model::{Batch, Edit, Entry};
 use history::Head;

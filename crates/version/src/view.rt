@@ -1,3 +1,4 @@
+//! A version as what a program may ask.
 use crate::version::Version;
 use graph_model::GraphView;
 

@@ -1,3 +1,4 @@
+//! Why a store, a batch or a step is refused.
 ghost use Rattle.std.specs.Prelude.{◌≡◌};
 ghost use Rattle.versions.specs.declared.errors.StoreError.TheVariants as opening;
 

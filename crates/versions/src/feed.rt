@@ -1,3 +1,4 @@
+//! The end at which batches are submitted.
 ghost use Rattle.std.specs.Prelude.{◌≡◌, ◌<◌, ◌↔◌, true, IfOk, IfErr};
 ghost use Rattle.graph_model.specs.Edits.{AreEditsBelow};
 ghost use Rattle.store_model.specs.declared.limits.TheConstants.{FEEDS};

@@ -1,3 +1,4 @@
+//! What is left of a store that has ended.
 use graph_model::Entry;
 use std::sync::Arc;
 use version::Version;

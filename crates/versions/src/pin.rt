@@ -1,3 +1,4 @@
+//! A hold on a version.
 ghost use Rattle.std.specs.Prelude.{◌≡◌};
 ghost use Rattle.std.specs.Arc.{arc_value};
 

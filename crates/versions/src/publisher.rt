@@ -1,3 +1,4 @@
+//! The end at which versions are made.
 ghost use Rattle.std.specs.Prelude.{◌≡◌, ◌≤◌, ◌↔◌, ◌++◌, length, option_map, IfOk, IfErr, IfSome, IfNone, IsErrOf};
 ghost use Rattle.std.specs.Arc.{arc_value};
 ghost use Rattle.graph_model.specs.declared.limits.TheConstants.{MOST_BATCHES};

@@ -1,3 +1,4 @@
+//! The ends at which versions are pinned.
 ghost use Rattle.std.specs.Prelude.{◌≡◌, ◌⊎◌, IfOk, IfErr};
 ghost use Rattle.history.specs.Moment.{OneStore, Begins};
 ghost use Rattle.versions.specs.Ties.{PinsAsEvent};

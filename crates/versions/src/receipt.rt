@@ -1,3 +1,4 @@
+//! What a publication proves.
 ghost use Rattle.std.specs.Prelude.{◌≡◌, ◌≤◌};
 ghost use Rattle.std.specs.Arc.{arc_value};
 ghost use Rattle.graph_model.specs.declared.limits.TheConstants.{MOST_BATCHES};

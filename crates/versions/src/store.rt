@@ -1,3 +1,4 @@
+//! How a store begins, with all its ends.
 ghost use Rattle.std.specs.Prelude.{◌≡◌, ◌<◌, ◌↔◌, ◌⊎◌, IfOk, IsErrOf};
 ghost use Rattle.graph_model.specs.declared.limits.TheConstants.{MOST_VERTICES};
 ghost use Rattle.versions.specs.Storing.{IsOpened};

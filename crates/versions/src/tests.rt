@@ -1,3 +1,4 @@
+//! Stores in one thread: rows by hand, and the limits.
 ghost use Rattle.std.specs.Prelude.{◌≡◌, IfOk};
 
 use self::shop::Shop;

@@ -1,3 +1,4 @@
+//! Programs of others, accepted or refused, and their bounds.
 use crate::Ending;
 use crate::tests::{served, with_line_ends};
 use std::alloc::Global;

@@ -1,3 +1,4 @@
+//! Programs that clang compiled, and the same numbers from native code.
 use crate::Ending;
 use crate::tests::{served, with_line_ends};
 use std::alloc::Global;

@@ -1,3 +1,4 @@
+//! Inputs that give few bytes or fail, and outputs that take few or fail.
 ghost use Rattle.std.specs.Prelude.{None};
 
 use crate::{Failure, Input, Output};

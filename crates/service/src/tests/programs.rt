@@ -1,3 +1,4 @@
+//! Programs in text, and each fault of one.
 use crate::Ending;
 use crate::tests::served;
 use std::test::Fail;
