@@ -1,3 +1,4 @@
+//! What is known where two ways meet, of all registers and the stack.
 ghost use Rattle.std.specs.Prelude.{◌≡◌, ◌&&◌, IsTrue, length};
 ghost use Rattle.abstract_values.specs.Values.{join_of};
 ghost use Rattle.abstract_state.specs.States.{elementwise, join_of_states};

@@ -1,3 +1,4 @@
+//! What is known of all registers and of a frame's stack.
 ghost use Rattle.std.specs.Prelude.{◌≡◌};
 
 use abstract_values::AbstractValue;

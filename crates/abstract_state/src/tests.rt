@@ -1,3 +1,4 @@
+//! States that join, and loads and stores that spill and fill.
 use super::{AbstractState, join_into, load, load_signed, store};
 use abstract_values::AbstractValue;
 use bpf_isa::{Register, SignedSize, Size};

@@ -1,3 +1,4 @@
+//! What is known where two ways meet, of one register.
 ghost use Rattle.std.specs.Prelude.{◌≡◌};
 ghost use Rattle.abstract_values.specs.Values.{join_of};
 

@@ -1,3 +1,4 @@
+//! Ranges of results and branches, worked out apart from the program.
 use super::{AbstractValue, Sides, alu, join, move_signed, narrow, negate, swap};
 use bpf_isa::{ByteOrder, Comparison, Extension, Operation, SwapBits, Width};
 use bpf_model::Cause;

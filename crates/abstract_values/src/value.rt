@@ -1,3 +1,4 @@
+//! What is known of a register.
 /// What is known of a register, in every run that comes to a place.
 #[derive(Clone, Copy, Debug, PartialEq, Eq)]
 pub enum AbstractValue {

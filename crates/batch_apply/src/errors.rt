@@ -1,3 +1,4 @@
+//! Why a batch was not applied.
 ghost use Rattle.std.specs.Prelude.{◌≡◌};
 ghost use Rattle.batch_apply.specs.declared.errors.ApplyError.TheVariants as apply;
 ghost use Rattle.batch_apply.specs.Refused.{refused_as};

@@ -1,3 +1,4 @@
+//! Batches by several workers, and what each gate sees.
 use crate::{ApplyError, apply_batch};
 use gates::{Gate, OpenGate, Workers};
 use graph_model::{Batch, Edit};

@@ -1,3 +1,4 @@
+//! The programs of the examples and those compiled from C, run both ways.
 ghost use Rattle.std.specs.Prelude.{◌≡◌, ◌≤◌, IfOk, length as count_of};
 
 use super::*;

@@ -1,3 +1,4 @@
+//! What the operations make of numbers.
 ghost use Rattle.std.specs.Prelude.{◌≡◌, ◌%◌, ◌^◌};
 ghost use Rattle.bpf_model.specs.Arithmetic.{alu_number, negate_number, move_signed_number, swap_number};
 

@@ -1,3 +1,4 @@
+//! When a branch's comparison holds.
 ghost use Rattle.std.specs.Prelude.{◌≡◌};
 ghost use Rattle.bpf_model.specs.Arithmetic.{holds};
 

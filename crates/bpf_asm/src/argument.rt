@@ -1,3 +1,4 @@
+//! What may stand behind a word.
 ghost use Rattle.std.specs.Prelude.{◌≡◌, ◌∷◌, List, [], ℕ, Option, Some, None, option_map, MatchOption};
 ghost use Rattle.std.specs.List.{position_or_len};
 ghost use Rattle.bpf_asm.specs.Lexing.{

@@ -1,3 +1,4 @@
+//! From text to code.
 ghost use Rattle.std.specs.Prelude.{◌≡◌, Ok, MatchResult};
 ghost use Rattle.bpf_asm.specs.Assembly.{assembly, Faults};
 

@@ -1,3 +1,4 @@
+//! The code of a text's lines, with labels as distances.
 ghost use Rattle.std.specs.Prelude.{◌≡◌, ◌<◌, ◌≤◌, ◌^◌, ◌+◌, ◌++◌, ℕ, List, map, Ok, Err, IfOk, MatchResult};
 ghost use Rattle.std.specs.Str.{bytes_eq};
 ghost use Rattle.std.specs.HashMap as hash;

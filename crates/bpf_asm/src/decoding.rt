@@ -1,3 +1,4 @@
+//! The instructions of some code, and the units where they start.
 ghost use Rattle.std.specs.Prelude.{◌≡◌, ◌==◌, ◌<◌, ◌≤◌, ℕ, false, ◌||◌, slice_index_or, length, Ok, IfOk, MatchResult};
 ghost use Rattle.bpf_asm.specs.Listing.{instructions, is_start, Refuses};
 

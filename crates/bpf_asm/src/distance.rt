@@ -1,3 +1,4 @@
+//! How far it is between units.
 ghost use Rattle.std.specs.Prelude.{◌≡◌, ◌^◌, IfSome};
 ghost use Rattle.bpf_isa.specs.Encoding.{units_of};
 ghost use Rattle.bpf_asm.specs.Assembly.{distance, jump_to as jump_to_of};

@@ -1,3 +1,4 @@
+//! What may be wrong with a text, or with code that is to become one.
 ghost use Rattle.std.specs.Prelude.{◌≡◌};
 ghost use Rattle.bpf_asm.specs.declared.errors.TextCause.TheVariants as causes;
 ghost use Rattle.bpf_asm.specs.declared.errors.DisassembleError.TheVariants as disassembling;

@@ -1,3 +1,4 @@
+//! What a line of a text says.
 use bpf_isa::{Comparison, Instruction, Operand, Register, Width};
 
 /// A statement that goes to a label.

@@ -1,3 +1,4 @@
+//! Labels and the units at which they stand.
 ghost use Rattle.std.specs.Prelude.{◌≡◌, ◌≤◌, ◌+◌, nat_lt, Ok, Err, ◌++◌, ◌∷◌, ℕ, List, [], Option, Some, ⊤, if◌then◌else◌, OnOk, IfOk, MatchResult};
 ghost use Rattle.std.specs.Str.{bytes_eq};
 ghost use Rattle.std.specs.HashMap as hash;

@@ -1,3 +1,4 @@
+//! One line of a text.
 ghost use Rattle.std.specs.Prelude.{◌≡◌};
 ghost use Rattle.bpf_asm.specs.Lexing.{said_part as said_part_of};
 ghost use Rattle.bpf_asm.specs.Said.{said_arguments, said_line};

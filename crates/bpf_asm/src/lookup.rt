@@ -1,3 +1,4 @@
+//! From a word's text to the word.
 ghost use Rattle.std.specs.Prelude.{◌≡◌};
 ghost use Rattle.bpf_asm.specs.Lexing.{same_bytes};
 ghost use Rattle.bpf_asm.specs.Words.{accesses, changes, comparisons, flows, is_short, lookup, operations, stem, width_of, word as word_of_text};

@@ -1,3 +1,4 @@
+//! Numbers in decimal and hexadecimal digits, with their sign.
 ghost use Rattle.std.specs.Prelude.{◌≡◌, ◌<◌, ◌≤◌, ◌^◌, ◌+◌, ◌*◌, ◌&&◌, not, nat_lt, length, if◌then◌else◌, Option, Some, None, option_map};
 ghost use Rattle.std.specs.List.{list_all};
 ghost use Rattle.bpf_asm.specs.Lexing.{

@@ -1,3 +1,4 @@
+//! The part of a text before a separator.
 ghost use Rattle.std.specs.Prelude.{◌≡◌, ◌∷◌, ◌<◌, length, IfSome};
 ghost use Rattle.bpf_asm.specs.Lexing.{parts};
 ghost use Rattle.bpf_asm.specs.Said.{parts_behind};

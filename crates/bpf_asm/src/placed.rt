@@ -1,3 +1,4 @@
+//! Instructions with the unit at which they start.
 ghost use Rattle.std.specs.Prelude.{◌≡◌};
 ghost use Rattle.bpf_asm.specs.Writing.{target_of, distance_of};
 

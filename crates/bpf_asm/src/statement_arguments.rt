@@ -1,3 +1,4 @@
+//! The arguments behind a word.
 ghost use Rattle.std.specs.Prelude.{◌≡◌, ◌<◌, length, Some, None, option_map, is_some, IfSome, MatchOption};
 ghost use Rattle.bpf_asm.specs.Lexing.{all_arguments, arguments as arguments_of, parts, with_argument};
 ghost use Rattle.bpf_asm.specs.Said.{parts_behind, said_argument, said_arguments};

@@ -1,3 +1,4 @@
+//! The units to which instructions go.
 ghost use Rattle.std.specs.Prelude.{◌≡◌, ℕ, false, None, slice_index_or, MatchResult};
 ghost use Rattle.bpf_asm.specs.Listing.{first_out, is_start, is_target, unless_out, Refuses};
 

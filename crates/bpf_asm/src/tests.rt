@@ -1,3 +1,4 @@
+//! Texts and their code from outside vectors, and each fault.
 mod vectors;
 
 use super::*;

@@ -1,3 +1,4 @@
+//! The words that begin a statement.
 use bpf_isa::{ByteOrder, Comparison, Extension, Operation, SignedSize, Size, SwapBits, Width};
 
 /// The word of a statement, which says what its arguments have to be.

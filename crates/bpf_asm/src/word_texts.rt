@@ -1,3 +1,4 @@
+//! From a word to its text.
 ghost use Rattle.std.specs.Prelude.{◌≡◌};
 ghost use Rattle.bpf_asm.specs.Writing.{
   comparison_word,

@@ -1,3 +1,4 @@
+//! How the bytes of an image are laid out.
 ghost use Rattle.std.specs.Prelude.{◌≡◌};
 ghost use Rattle.bpf_image.specs.Reading.{header_of};
 

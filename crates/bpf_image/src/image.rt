@@ -1,3 +1,4 @@
+//! A program's code with its record length.
 ghost use Rattle.std.specs.Prelude.{◌≡◌, ◌≢◌, ◌≤◌, ◌↔◌, length, IfOk, IfErr, IsErrAnd, IsErrOf, IsOk};
 ghost use Rattle.bpf_image.specs.Program.{Program, IsRecordLength, IsCodeLength, IsImage};
 ghost use Rattle.bpf_image.specs.Format.{image_bytes, IsFault};

@@ -1,3 +1,4 @@
+//! Why there is no image.
 ghost use Rattle.std.specs.Prelude.{◌≡◌};
 ghost use Rattle.bpf_image.specs.declared.image_error.ImageError.TheVariants.{OutOfMemory};
 

@@ -1,3 +1,4 @@
+//! Images that are read, and each fault.
 use super::*;
 use std::alloc::Global;
 use std::test::Fail;

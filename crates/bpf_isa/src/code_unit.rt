@@ -1,3 +1,4 @@
+//! A unit of code as its fields.
 ghost use Rattle.std.specs.Prelude.{◌≡◌, ◌+◌, ◌*◌, ◌≤◌, ◌++◌, length, drop};
 ghost use Rattle.bpf_isa.specs.Encoding.{unit_bytes};
 ghost use Rattle.bpf_isa.specs.DecodeErrors.{fields_at};

@@ -1,3 +1,4 @@
+//! From units to an instruction.
 ghost use Rattle.std.specs.Prelude.{◌≡◌, ℕ, ◌+◌, ◌*◌, ◌≤◌, ◌↔◌, length, IfOk};
 ghost use Rattle.bpf_isa.specs.Encoding.{IsCodeAt};
 ghost use Rattle.bpf_isa.specs.DecodeErrors.{operation_choosing, IsDecodeError};

@@ -1,3 +1,4 @@
+//! Why no instruction stands at a place.
 use thiserror::Error;
 
 /// Why no instruction stands at a place of the code. Where several apply, the first one is given.

@@ -1,3 +1,4 @@
+//! From an instruction to its units.
 ghost use Rattle.std.specs.Prelude.{◌≡◌, ◌≤◌, ◌*◌, ◌-◌, ◌++◌, length, drop, replicate};
 ghost use Rattle.std.specs.Int.{cast_unsigned, w16, w32};
 ghost use Rattle.bpf_isa.specs.Encoding.{

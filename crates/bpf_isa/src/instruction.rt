@@ -1,3 +1,4 @@
+//! The instructions, with their operations, comparisons and sizes.
 ghost use Rattle.std.specs.Prelude.{◌≡◌, ◌≤◌};
 ghost use Rattle.bpf_isa.specs.Encoding.{extension_width, units_of};
 ghost use Rattle.bpf_isa.specs.Sizes.{plain_size, size_bytes};

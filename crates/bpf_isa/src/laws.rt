@@ -1,3 +1,4 @@
+//! What follows of decoding, for proofs above.
 ghost use Rattle.std.specs.Prelude.{◌≡◌, ℕ, ◌+◌, ◌*◌, ◌≤◌, length};
 ghost use Rattle.bpf_isa.specs.Encoding.{InstructionFits, IsCodeAt, units_of};
 ghost use Rattle.bpf_isa.specs.Reading.{decoding};

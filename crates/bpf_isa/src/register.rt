@@ -1,3 +1,4 @@
+//! The registers and their numbers.
 ghost use Rattle.std.specs.Prelude.{◌≡◌, ◌<◌, ◌↔◌, IsNone, IfSome};
 ghost use Rattle.bpf_isa.specs.Encoding.{number_of};
 ghost use Rattle.bpf_isa.specs.Reading.{register_at};

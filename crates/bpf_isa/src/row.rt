@@ -1,3 +1,4 @@
+//! A row of the table of instructions.
 use crate::instruction::{
     ByteOrder, Comparison, Extension, Operation, SignedSize, Size, SwapBits, Width,
 };

@@ -1,3 +1,4 @@
+//! The table of instructions, from codes to rows and back.
 ghost use Rattle.std.specs.Prelude.{◌≡◌, option_map};
 ghost use Rattle.bpf_isa.specs.declared.row.Row.TheVariants.{Store, StoreRegister};
 ghost use Rattle.bpf_isa.specs.Reading.{

@@ -1,3 +1,4 @@
+//! Instructions and their bytes from outside vectors, and each fault.
 mod vectors;
 
 use super::*;

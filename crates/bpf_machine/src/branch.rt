@@ -1,3 +1,4 @@
+//! Jumps and branches.
 ghost use Rattle.std.specs.Prelude.{◌≡◌, ℕ, ◌≤ℤ◌, pos, List};
 ghost use Rattle.bpf_isa.specs.declared.instruction.Instruction.TheVariants.{Jump, Branch};
 ghost use Rattle.graph_model.specs.Graph.{Graph};

@@ -1,3 +1,4 @@
+//! What one instruction does.
 ghost use Rattle.std.specs.Prelude.{◌≡◌, ◌≤◌, ◌≤ℤ◌, pos, length};
 ghost use Rattle.bpf_model.specs.Step.{effect};
 ghost use Rattle.bpf_machine.specs.Seen.{state_of, answer, Keeps};

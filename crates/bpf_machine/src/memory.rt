@@ -1,3 +1,4 @@
+//! Which region an address lies in.
 ghost use Rattle.std.specs.Prelude.{◌≡◌, ◌+◌, ◌^◌, ◌<◌, ◌≤◌, nat_le, ◌&&◌, true, length};
 ghost use Rattle.bpf_model.specs.State.{may_access, in_frames, live_frames, number_at};
 ghost use Rattle.bpf_machine.specs.Seen.{state_of};

@@ -1,3 +1,4 @@
+//! A run from its start to its end.
 ghost use Rattle.std.specs.Prelude.{◌≡◌, ◌≤ℤ◌, ◌<◌, ℕ, pos, length, IfSome, IsNone};
 ghost use Rattle.graph_model.specs.Graph.{Graph};
 ghost use Rattle.bpf_image.specs.Program.{Program, units};

@@ -1,3 +1,4 @@
+//! Bytes that are set in the record and in frames.
 ghost use Rattle.std.specs.Prelude.{◌≡◌, ◌+◌, ◌≤◌, ◌<◌, ◌≤ℤ◌, ◌||◌, true, false, pos, length};
 ghost use Rattle.bpf_model.specs.State.{Partial, with_value, with_values, record_base, in_record, in_frames, most_frames};
 ghost use Rattle.bpf_model.specs.Step.{store};

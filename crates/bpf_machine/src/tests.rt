@@ -1,3 +1,4 @@
+//! Runs whose ends were worked out apart from the program.
 mod arithmetic;
 mod branches;
 mod calls;

@@ -1,3 +1,4 @@
+//! What came of one instruction.
 use bpf_model::TrapKind;
 
 /// What came of one instruction.

@@ -1,3 +1,4 @@
+//! Which rule a program breaks.
 use thiserror::Error;
 
 /// Which of the verifier's rules a program breaks. The numbers are part of the script language.

@@ -1,3 +1,4 @@
+//! What a program may ask of its graph.
 ghost use Rattle.std.specs.Prelude.{◌≡◌};
 ghost use Rattle.bpf_model.specs.Helpers.{helper_of};
 

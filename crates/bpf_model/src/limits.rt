@@ -1,3 +1,4 @@
+//! Limits of runs and programs.
 /// How many bytes the stack frame of a function has.
 pub const FRAME_BYTES: usize = 512;
 

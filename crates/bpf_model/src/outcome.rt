@@ -1,3 +1,4 @@
+//! How a run ended.
 use crate::trap::TrapKind;
 
 /// How a run of a program ended.

@@ -1,3 +1,4 @@
+//! How numbers of edges become one number.
 /// How the numbers of a vertex's edges become one number.
 #[derive(Clone, Copy, Debug, PartialEq, Eq)]
 pub enum Reduction {

@@ -1,3 +1,4 @@
+//! Why a run stopped.
 /// Why a run stopped without an exit number. Where several apply, the first one is given.
 #[derive(Clone, Copy, Debug, PartialEq, Eq)]
 pub enum TrapKind {

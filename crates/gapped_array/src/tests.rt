@@ -1,3 +1,4 @@
+//! Lists that grow, shrink, close and are copied.
 use super::GappedArray;
 use std::test::Fail;
 

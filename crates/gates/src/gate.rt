@@ -1,3 +1,4 @@
+//! What stands around each piece of work.
 /// Stands around each piece of work. A piece is what one worker does without asking for more; who lets
 /// workers run says what its pieces are, and each has a number. Two workers may be inside at once.
 pub trait Gate: Sync {

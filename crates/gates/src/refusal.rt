@@ -1,3 +1,4 @@
+//! Why workers gave no answer.
 ghost use Rattle.std.specs.Prelude.{◌≡◌};
 ghost use Rattle.gates.specs.declared.refusal.Refusal.TheVariants as refusal;
 

@@ -1,3 +1,4 @@
+//! How many workers there may be, and a gate by a type parameter.
 use crate::{Gate, OpenGate, Workers};
 use std::test::Fail;
 

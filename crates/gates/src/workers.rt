@@ -1,3 +1,4 @@
+//! How many threads work.
 ghost use Rattle.std.specs.Prelude.{◌≡◌, ◌<◌, ◌≤◌, ◌⊎◌, IfSome, IfNone};
 ghost use Rattle.gates.specs.declared.limits.TheConstants.{MOST_WORKERS};
 

@@ -1,3 +1,4 @@
+//! Lists of edits.
 ghost use Rattle.std.specs.Prelude.{◌≡◌, [], IfOk};
 
 use crate::edit::Edit;

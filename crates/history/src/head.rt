@@ -1,3 +1,4 @@
+//! The end of a history, where batches are added.
 ghost use Rattle.std.specs.Prelude.{◌≡◌, ◌<◌, IfSome};
 ghost use Rattle.graph_model.specs.declared.limits.TheConstants.{MOST_BATCHES};
 ghost use Rattle.history.specs.Moment.{no_batch, and_then, count_of};

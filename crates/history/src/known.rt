@@ -1,3 +1,4 @@
+//! What is known of a history, for good.
 ghost use Rattle.std.specs.Prelude.{◌≡◌, ◌≤◌};
 ghost use mathlib.Core.List.{IsPrefix};
 ghost use Rattle.history.specs.Moment.{count_of};

@@ -1,3 +1,4 @@
+//! A history that grows, and what was known of it.
 use crate::{Head, compare};
 use graph_model::{Batch, Entry};
 use std::test::Fail;

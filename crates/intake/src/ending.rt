@@ -1,3 +1,4 @@
+//! The end of a queue.
 ghost use Rattle.std.specs.Prelude.{◌≡◌, ◌+◌, ◌≤◌, ◌++◌, [], length, vec_capacity};
 ghost use Rattle.crossbeam_queue.specs.Passes.{view as hand_of, IsPassOf};
 ghost use Rattle.store_model.specs.declared.limits.TheConstants.{FEEDS, QUEUE_PLACES};

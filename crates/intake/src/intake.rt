@@ -1,3 +1,4 @@
+//! The end of the queue at which batches are taken.
 ghost use Rattle.std.specs.Prelude.{◌≡◌, ◌<◌, IfSome, IfNone};
 ghost use Rattle.graph_model.specs.Edits.{AreEditsBelow};
 ghost use Rattle.store_model.specs.declared.limits.TheConstants.{FEEDS};

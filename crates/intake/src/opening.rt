@@ -1,3 +1,4 @@
+//! A queue is made.
 ghost use Rattle.std.specs.Prelude.{◌≡◌, IfOk};
 ghost use Rattle.intake.specs.Ends.{new_taking, new_feed};
 

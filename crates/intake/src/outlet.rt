@@ -1,3 +1,4 @@
+//! The end of the queue at which a feed puts its batches.
 ghost use Rattle.std.specs.Prelude.{◌≡◌, ◌<◌, IfOk, IfErr};
 ghost use Rattle.store_model.specs.declared.limits.TheConstants.{FEEDS};
 ghost use Rattle.graph_model.specs.Edits.{AreEditsBelow};

@@ -1,3 +1,4 @@
+//! What the queue holds.
 use graph_model::Entry;
 
 /// What the queue holds: an entry, or at first the number of vertices that the entries' edits are about.

@@ -1,3 +1,4 @@
+//! Two feeds in threads of their own, and a full queue.
 ghost use Rattle.std.specs.Prelude.{◌≡◌, ◌<◌, IfOk};
 ghost use Rattle.graph_model.specs.Edits.{AreEditsBelow};
 ghost use Rattle.intake.specs.declared.tests.TheConstants.{VERTICES};

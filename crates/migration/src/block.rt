@@ -1,3 +1,4 @@
+//! Shards of neighbouring ranges, behind one owner.
 ghost use Rattle.std.specs.Prelude.{◌≡◌, ◌+◌, ◌^◌, ◌<◌, ◌≤◌, length, IfOk};
 ghost use Rattle.graph_model.specs.declared.limits.TheConstants.{MOST_RANGES};
 ghost use Rattle.graph_model.specs.Graph.{Graph};

@@ -1,3 +1,4 @@
+//! What edits did.
 ghost use Rattle.std.specs.Prelude.{◌≡◌, ◌+◌, ◌^◌, ◌<◌};
 
 /// What edits did to the edges.

@@ -1,3 +1,4 @@
+//! A range's vertices with their lists, in one version.
 ghost use Rattle.std.specs.Prelude.{◌≡◌, ◌↔◌, ◌<◌, ◌≤◌, [], length, replicate, Contains, IsTrue, IfOk};
 ghost use Rattle.graph_model.specs.declared.home.Home.TheVariants.{Block};
 ghost use Rattle.graph_model.specs.declared.limits.TheConstants.{MOST_VERTICES, MOST_RANGES, RANGE_VERTICES};

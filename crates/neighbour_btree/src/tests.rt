@@ -1,3 +1,4 @@
+//! Trees that grow, shrink, are shared and are made at once.
 ghost use Rattle.std.specs.Prelude.{◌<◌};
 
 use super::NeighbourTree;

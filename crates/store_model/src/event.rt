@@ -1,3 +1,4 @@
+//! What can happen to the store.
 ghost use Rattle.std.specs.Prelude.{◌≡◌, IfOk};
 
 use graph_model::Batch;

@@ -1,3 +1,4 @@
+//! What the abstract pass solves, for readers of the definitions.
 ghost use Rattle.verifier.specs.Laws.{AssignedSolves, OneSolution};
 ghost use Rattle.verifier.specs.VerdictRows.{WorkedVerdicts};
 ghost use Rattle.verifier.specs.HelperVerdicts.{WorkedHelperVerdicts};

@@ -1,3 +1,4 @@
+//! Programs that are accepted with their bounds, and each cause of refusal.
 mod calls;
 
 use super::*;

@@ -1,3 +1,4 @@
+//! The rules, over one instruction.
 ghost use Rattle.std.specs.Prelude.{◌≡◌, ℕ};
 ghost use Rattle.verifier_rules.specs.Rules.{transfer};
 ghost use Rattle.verifier_rules.specs.Answers.{answer_ways};

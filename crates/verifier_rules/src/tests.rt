@@ -1,3 +1,4 @@
+//! Single instructions, and what is known behind them.
 use super::{Onward, step_over, take_side};
 use abstract_state::{AbstractState, load};
 use abstract_values::{AbstractValue, Sides};

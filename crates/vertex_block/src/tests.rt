@@ -1,3 +1,4 @@
+//! A block that fills and empties.
 use super::{PLACES, VertexBlock};
 use std::test::Fail;
 

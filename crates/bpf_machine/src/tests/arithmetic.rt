@@ -1,3 +1,4 @@
+//! Every operation, in both widths.
 use super::*;
 
 /// Runs a program that puts two numbers into R0 and R1, does this unit, and exits.

@@ -1,3 +1,4 @@
+//! Every comparison, in both widths.
 use super::*;
 
 // Whether a branch of this opcode goes on at its distance, on these numbers in R0 and R1.

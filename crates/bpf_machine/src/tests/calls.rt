@@ -1,3 +1,4 @@
+//! Functions, their frames, and calls that trap.
 use super::{EXIT, run_on_record, trap};
 use crate::{Outcome, TrapKind};
 use std::test::Fail;

@@ -1,3 +1,4 @@
+//! What the graph answers a program, and helper calls that trap.
 use super::{EXIT, RECORD, run_on_record, trap};
 use crate::{Outcome, TrapKind};
 use std::test::Fail;

@@ -1,3 +1,4 @@
+//! Stores of each size, and accesses that trap.
 use super::*;
 
 #[test]

@@ -1,3 +1,4 @@
+//! Programs of several functions.
 use super::{EXIT, Extent, MOVE_SEVEN, extent};
 use crate::Cause;
 use std::alloc::Global;
