@@ -35,3 +35,7 @@ abbrev pub IsBlock : Option BegunBlock → Type 0
 IsBlock None = Unit {0}
 IsBlock (Some (blocks.Batch b)) = Unit {0}
 IsBlock (Some (blocks.Program p)) = HasText p
+
+-- a batch is open
+abbrev pub HasBatch : Script → Type 0
+HasBatch s = (begun : OpenBatch) × (s.block ≡ Some (BatchBlock begun))

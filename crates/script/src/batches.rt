@@ -1,12 +1,13 @@
 //! Batches, line by line.
 
-ghost use Rattle.std.specs.Prelude.{◌≡◌, None, Some, [], OnOk, option_map, List, ℕ};
-ghost use Rattle.script_model.specs.Parsing.{batch_line};
-ghost use Rattle.script_model.specs.Execution.{begin_batch, one_edit, inside_batch};
+ghost use Rattle.std.specs.Prelude.{◌≡◌, Some, [], option_map, List, ℕ};
+ghost use Rattle.script_model.specs.Parsing.{batch_line, EndBatch};
+ghost use Rattle.script_model.specs.State.{Script as ScriptState, OpenBatch, BatchBlock};
+ghost use Rattle.script_model.specs.Execution.{begin_batch, batch_step, one_edit, inside_batch, inside};
 ghost use Rattle.session_model.specs.Faults.{HasFewVertices};
 ghost use Rattle.session.specs.Edits.{edit_of};
 ghost use Rattle.script_words.specs.Said.{said_batch_line, cut_batch_line};
-ghost use Rattle.script.specs.Kept.{open_batch};
+ghost use Rattle.script.specs.Kept.{open_batch, HasBatch};
 ghost use Rattle.script.specs.Executes.{Executes};
 
 use crate::block::{BegunBatch, Block};
@@ -14,9 +15,22 @@ use crate::error::LineError;
 use crate::script::Script;
 use script_model::LineFault;
 use script_words::BatchLine;
-use session::{Command, GivenEdit};
+use session::{Command, GivenEdit, Session};
 use session_model::Fault;
 use std::sync::Wait;
+
+impl BegunBatch {
+    /// Adds an edit to a session's batch. A fault adds nothing.
+    fn add(&mut self, session: &Session, edit: GivenEdit) -> Result<(), LineError>
+        ensures answer { (s : ScriptState) → s.session ≡ session.now
+            → Executes (one_edit (edit_of edit) (open_batch self.old) s) result [] []
+            (inside s (BatchBlock (open_batch self.new))) }
+        ensures few { HasFewVertices session.now }
+    {
+        session.add_edit(&mut self.edits, edit)?;
+        Ok(())
+    }
+}
 
 impl Script {
     /// Begins a batch of a feed.
@@ -35,46 +49,38 @@ impl Script {
         Ok(())
     }
 
-    /// Adds an edit to a batch that is open, and keeps it open.
-    fn add_edit(&mut self, mut begun: BegunBatch, edit: GivenEdit) -> Result<(), LineError>
-        ensures executed { Executes (one_edit (edit_of edit) (open_batch begun) self.old) result [] [] self.new }
+    /// Adds an edit to the batch that is open. It is changed where it stands.
+    fn add_edit(&mut self, edit: GivenEdit) -> Result<(), LineError>
+        requires { HasBatch self.old }
+        ensures executed { (begun : OpenBatch) → self.old.block ≡ Some (BatchBlock begun)
+            → Executes (one_edit (edit_of edit) begun self.old) result [] [] self.new }
         ensures line { self.new.line ≡ self.old.line }
         ensures few { HasFewVertices self.old.session }
     {
-        self.session.add_edit(&mut begun.edits, edit)?;
-        self.block = Some(Block::Batch(begun));
-        Ok(())
+        match &mut self.block {
+            Some(Block::Batch(begun)) => begun.add(&self.session, edit),
+            _ => unreachable!(),
+        }
     }
 
-    /// Executes what a line inside a batch says.
-    fn execute_batch_line<R: Wait>(
-        &mut self,
-        rt: &R,
-        text: &mut Vec<u8>,
-        begun: BegunBatch,
-        said: BatchLine,
-    ) -> Result<(), LineError>
-        requires { self.old.block ≡ None }
-        ensures executed { (words : List (List ℕ)) → Some (said_batch_line said)
-            ≡ option_map cut_batch_line (batch_line words)
-            → Executes (inside_batch words (open_batch begun) self.old) result text.old.items text.new.items self.new }
+    /// Publishes the batch that is open, whose end has come.
+    fn end_batch<R: Wait>(&mut self, rt: &R, text: &mut Vec<u8>) -> Result<(), LineError>
+        requires { HasBatch self.old }
+        ensures executed { (begun : OpenBatch) → self.old.block ≡ Some (BatchBlock begun)
+            → Executes (batch_step EndBatch begun self.old) result text.old.items text.new.items self.new }
         ensures line { self.new.line ≡ self.old.line }
     {
-        match said {
-            BatchLine::Insert { source, target } => {
-                self.add_edit(begun, GivenEdit::Insert(source, target))
-            }
-            BatchLine::Remove { source, target } => {
-                self.add_edit(begun, GivenEdit::Remove(source, target))
-            }
-            BatchLine::End => {
-                let BegunBatch {
-                    line: _,
-                    feed,
-                    edits,
-                } = begun;
-                self.perform(rt, text, Command::PublishBatch { feed, edits })
-            }
+        match self.block.take() {
+            Some(
+                Block::Batch(
+                    BegunBatch {
+                        line: _,
+                        feed,
+                        edits,
+                    },
+                ),
+            ) => self.perform(rt, text, Command::PublishBatch { feed, edits }),
+            _ => unreachable!(),
         }
     }
 
@@ -83,18 +89,23 @@ impl Script {
         &mut self,
         rt: &R,
         text: &mut Vec<u8>,
-        begun: BegunBatch,
         said: Option<BatchLine>,
     ) -> Result<(), LineError>
-        requires { self.old.block ≡ None }
-        ensures executed { (words : List (List ℕ)) → option_map said_batch_line said
-            ≡ option_map cut_batch_line (batch_line words)
-            → Executes (inside_batch words (open_batch begun) self.old) result text.old.items text.new.items self.new }
+        requires { HasBatch self.old }
+        ensures executed { (words : List (List ℕ)) (begun : OpenBatch) → self.old.block ≡ Some (BatchBlock begun)
+            → option_map said_batch_line said ≡ option_map cut_batch_line (batch_line words)
+            → Executes (inside_batch words begun self.old) result text.old.items text.new.items self.new }
         ensures line { self.new.line ≡ self.old.line }
     {
         match said {
             None => Err(LineError::Fault(LineFault::Words)),
-            Some(said) => self.execute_batch_line(rt, text, begun, said),
+            Some(BatchLine::Insert { source, target }) => {
+                self.add_edit(GivenEdit::Insert(source, target))
+            }
+            Some(BatchLine::Remove { source, target }) => {
+                self.add_edit(GivenEdit::Remove(source, target))
+            }
+            Some(BatchLine::End) => self.end_batch(rt, text),
         }
     }
 }

@@ -1,6 +1,6 @@
 //! The state of a script, and its lines one by one.
 
-ghost use Rattle.std.specs.Prelude.{◌≡◌, ◌++◌, OnOk, IfOk, true};
+ghost use Rattle.std.specs.Prelude.{◌≡◌, ◌++◌, OnOk, IfOk, true, false};
 ghost use Rattle.std.specs.List.{list_all};
 ghost use Rattle.script_model.specs.Lexing.{is_plain};
 ghost use Rattle.script_model.specs.State.{new_script};
@@ -8,6 +8,7 @@ ghost use Rattle.script_model.specs.Execution.{execution, block_execution};
 ghost use Rattle.script_model.specs.Script.{end_outcome, next_line};
 ghost use Rattle.script_model.specs.Texts.{fault_text};
 ghost use Rattle.script.specs.Executes.{Executes, Steps};
+ghost use Rattle.script.specs.Kept.{HasBatch};
 
 use crate::block::Block;
 use crate::error::{LineError, ScriptError};
@@ -131,7 +132,43 @@ impl Script {
         Ok(())
     }
 
-    /// Executes a line whose bytes are allowed, inside a block or outside.
+    /// Whether a batch is open.
+    fn has_batch(&self) -> bool
+        ensures yes { result ≡ true → HasBatch self.now }
+        ensures no { result ≡ false → ¬ HasBatch self.now }
+    {
+        match &self.block {
+            Some(Block::Batch(_)) => true,
+            Some(Block::Program(_)) => false,
+            None => false,
+        }
+    }
+
+    /// Executes a line whose bytes are allowed, inside a program or outside blocks.
+    fn execute_outside_batch<R: Wait>(
+        &mut self,
+        rt: &R,
+        text: &mut Vec<u8>,
+        bytes: &[u8],
+    ) -> Result<(), LineError>
+        requires plain { list_all is_plain bytes.now ≡ true }
+        requires no_batch { ¬ HasBatch self.old }
+        ensures executed { Executes (block_execution self.old.block bytes.now self.old) result text.old.items
+            text.new.items self.new }
+        ensures line { self.new.line ≡ self.old.line }
+    {
+        match self.block.take() {
+            None => {
+                let said = statement_line(self.alloc, bytes)?;
+                self.execute_outside(rt, text, said)
+            }
+            Some(Block::Program(begun)) => self.execute_in_program(rt, text, begun, bytes),
+            Some(Block::Batch(_)) => unreachable!(),
+        }
+    }
+
+    /// Executes a line whose bytes are allowed, inside a block or outside. An open batch stays where it is, as it
+    /// may have many lines.
     fn execute_plain<R: Wait>(
         &mut self,
         rt: &R,
@@ -143,14 +180,10 @@ impl Script {
             text.new.items self.new }
         ensures line { self.new.line ≡ self.old.line }
     {
-        match self.block.take() {
-            None => {
-                let said = statement_line(self.alloc, bytes)?;
-                self.execute_outside(rt, text, said)
-            }
-            Some(Block::Batch(begun)) => self.execute_in_batch(rt, text, begun, batch_line(bytes)),
-            Some(Block::Program(begun)) => self.execute_in_program(rt, text, begun, bytes),
+        if self.has_batch() {
+            return self.execute_in_batch(rt, text, batch_line(bytes));
         }
+        self.execute_outside_batch(rt, text, bytes)
     }
 
     /// Executes the line of the present number.

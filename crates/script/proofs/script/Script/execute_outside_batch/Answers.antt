@@ -8,9 +8,9 @@ use Rattle.script_words.specs.Said.{Saying, saying, cut_saying, said_line}
 use Rattle.script.specs.declared.block.Block.{Block as BegunBlock}
 use Rattle.script.specs.Executes.{Executes, line_of}
 use Rattle.script.specs.Kept.{block_of, open_batch, open_program, script_of}
-use Rattle.script.proofs.Blocks.{in_batch, in_program}
+use Rattle.script.proofs.Blocks.{in_program}
 use Rattle.script.proofs.Cuts.{outside-cut}
-use Rattle.script.proofs.script.Script.execute_plain.Goals as goal
+use Rattle.script.proofs.script.Script.execute_outside_batch.Goals as goal
 
 pub returns-in_ok-said-in-None-clause-executed : goal.returns-in_ok-said-in-None-clause-executed
 returns-in_ok-said-in-None-clause-executed g c =
@@ -24,14 +24,6 @@ returns-in_ok-said-in-None-clause-executed g c =
     let here : outside (words c.args.bytes.now) c.args.self.now ≡ block_execution c.args.self.now.block c.args.bytes.now c.args.self.now = ap (λ (b : Option Block). block_execution b c.args.bytes.now c.args.self.now) (sym none) in
     subst (λ (x : Execution). Executes x c.execute_outside.result c.args.text.now.items c.execute_outside.new.text.items c.execute_outside.new.self) (cut ∙ whole ∙ here) told
 
-pub returns-in-Some-Batch-clause-executed : goal.returns-in-Some-Batch-clause-executed
-returns-in-Some-Batch-clause-executed g c =
-    let old : Script = script_of c.self.inside.session c.self.inside.block c.self.inside.line in
-    let is_open : c.args.self.now.block ≡ Some (BatchBlock (open_batch c.in-Some-Batch.begun)) = ap (λ (s : Script). s.block) (sym c.self.view_is) ∙ ap (λ (b : Option BegunBlock). option_map block_of b) (sym c.in-Some-Batch.ensures.value) ∙ ap (λ (b : BegunBlock). Some (block_of b)) c.in-Some-Batch.field-0-is in
-    let whole = in_batch c.args.bytes.now (open_batch c.in-Some-Batch.begun) old c.args.self.now (option_map block_of c.take.new.self) c.self.view_is is_open in
-    subst (λ (x : Execution). Executes x c.execute_in_batch.result c.args.text.now.items c.execute_in_batch.new.text.items c.execute_in_batch.new.self) whole
-    (c.execute_in_batch.ensures.executed (words c.args.bytes.now) c.batch_line.ensures)
-
 pub returns-in-Some-Program-clause-executed : goal.returns-in-Some-Program-clause-executed
 returns-in-Some-Program-clause-executed g c =
     let old : Script = script_of c.self.inside.session c.self.inside.block c.self.inside.line in
@@ -39,3 +31,8 @@ returns-in-Some-Program-clause-executed g c =
     let whole = in_program c.args.bytes.now (open_program c.in-Some-Program.begun) old c.args.self.now (option_map block_of c.take.new.self) c.self.view_is is_open in
     subst (λ (x : Execution). Executes x c.execute_in_program.result c.args.text.now.items c.execute_in_program.new.text.items c.execute_in_program.new.self) whole
     c.execute_in_program.ensures.executed
+
+pub unreachable-requires : goal.unreachable-requires
+unreachable-requires g c =
+    let is_open : c.args.self.now.block ≡ Some (BatchBlock (open_batch c.in-Some-Batch.field-0-0)) = ap (λ (s : Script). s.block) (sym c.self.view_is) ∙ ap (λ (b : Option BegunBlock). option_map block_of b) (sym c.in-Some-Batch.ensures.value) ∙ ap (λ (b : BegunBlock). Some (block_of b)) c.in-Some-Batch.field-0-is in
+    c.requires.no_batch (open_batch c.in-Some-Batch.field-0-0, is_open)
