@@ -1,9 +1,9 @@
 -- What changes where one vertex's run changes.
-use Rattle.std.proofs.Common.{◌≡◌, ◌≢◌, ℕ, true, false, zero, suc, ◌+◌, ◌-◌, ◌*◌, ◌/◌, ◌<◌, ◌≤◌, inl, inr, List, [], ◌∷◌, ◌++◌, length, take, drop, replicate, insert, remove, get_or, set, Option, Some, None, Ok, Err, IsNone, unwrap_or, refl, sym, ap, ap₂, subst, ◌∙◌, arith, length-set, length-append, length-drop, append_assoc}
-use Rattle.std.proofs.lemmas.Bool.{cases_eq, true≢false}
-use Rattle.std.proofs.lemmas.List.{length-map, length-replicate, length-take-le, take_all, take_at, drop_at, get_or-set_same, get_or-set_other, set-get_or, set-set, get_or-map, get_or_default, ext_get_or}
+use Rattle.std.proofs.Common.{◌≡◌, ◌≢◌, ℕ, true, false, zero, suc, ◌+◌, ◌-◌, ◌*◌, ◌/◌, ◌<◌, ◌≤◌, inl, inr, List, [], ◌∷◌, ◌++◌, length, take, drop, replicate, insert, remove, get_or, set, Option, Some, None, Ok, Err, IsNone, is_some, unwrap_or, refl, sym, ap, ap₂, subst, ◌∙◌, arith, length-set, length-append, length-drop, append_assoc}
+use Rattle.std.proofs.lemmas.Bool.{cases_lt, cases_eq, true≢false}
+use Rattle.std.proofs.lemmas.List.{length-map, length-replicate, length-take-le, take_all, take_at, drop_at, get_or-set_same, get_or-set_other, set-get_or, set-set, get_or-map, get_or_default, ext_get_or, get_or_past, get_or_append_left, length_push, map_push}
 use Rattle.std.proofs.lemmas.List.Edits.{length-insert, length-remove}
-use Rattle.std.proofs.lemmas.List.Sums.{sum_by-set}
+use Rattle.std.proofs.lemmas.List.Sums.{sum_by-set, sum_by_push}
 use Rattle.word_sets.specs.declared.places.TheConstants.{WORD_LIMIT}
 use Rattle.word_sets.specs.Words.{IsSet, IsPlace, has_word, with_word, without_word}
 use Rattle.word_sets.proofs.Changes.{with_present, without_absent}
@@ -12,7 +12,7 @@ use Rattle.gapped_array.specs.declared.run.Run.{Run}
 use Rattle.gapped_array.specs.declared.run.TheConstants.{SEGMENT}
 use Rattle.gapped_array.specs.Cells.{piece}
 use Rattle.gapped_array.specs.Runs.{words_in, list_in, lists_in, segments_of, live, Fits, AreApart, IsLayout, IsArray, HasRoom}
-use Rattle.gapped_array.specs.Table.{list_at}
+use Rattle.gapped_array.specs.Table.{IsOpen, list_at}
 use Rattle.gapped_array.proofs.Pieces.{length-piece, piece-append, piece_at, piece_front, piece_before, piece_after}
 
 pub Fits-same : (xs ys : List ℕ) (segments later : ℕ) (r : Run) → segments ≤ later → words_in ys r ≡ words_in xs r → Fits xs segments r → Fits ys later r
@@ -34,11 +34,11 @@ at_vertex : (runs : List (Option Run)) (v : ℕ) (r s : Run) → v < length runs
 at_vertex runs v r s lt e = some_same r s (sym (get_or-set_same runs v (Some r) None lt) ∙ e)
 
 -- the array after one vertex's run is changed
-pub layout_changed : (xs ys : List ℕ) (segments later : ℕ) (runs : List (Option Run)) (v : ℕ) (r : Run) → IsLayout xs segments runs → v < 256 → length ys ≡ 32 * later → segments ≤ later → Fits ys later r → OthersStay xs ys runs v r → IsLayout ys later (set runs v (Some r))
+pub layout_changed : (xs ys : List ℕ) (segments later : ℕ) (runs : List (Option Run)) (v : ℕ) (r : Run) → IsLayout xs segments runs → v < length runs → length ys ≡ 32 * later → segments ≤ later → Fits ys later r → OthersStay xs ys runs v r → IsLayout ys later (set runs v (Some r))
 layout_changed xs ys segments later runs v r a lt cells le fit others =
     let in' : v < length runs = omega (arith, a.table) in
     record {
-      table = length-set runs v (Some r) ∙ a.table;
+      table = omega (arith, length-set runs v (Some r), a.table);
       cells = cells;
       fits = λ i s e. elim (cases_eq i v) [
         | inl same ↦ subst (Fits ys later) (at_vertex runs v r s in' (ap (λ n. get_or (set runs v (Some r)) n None) (sym same) ∙ e)) fit
@@ -94,6 +94,20 @@ live-set runs v new lt = sum_by-set segments_of runs v new None lt
 run_read : (runs : List (Option Run)) (v : ℕ) (o : Option Run) (r : Run) → v < length runs → o ≡ get_or runs v o → o ≡ Some r → get_or runs v None ≡ Some r
 run_read runs v o r lt e is = get_or_default runs v None o lt ∙ sym e ∙ is
 
+-- a vertex with a list is listed
+pub open_listed : (xs : List ℕ) (runs : List (Option Run)) (now : List (Option (List ℕ))) (v : ℕ) → lists_in xs runs ≡ now → IsOpen now v → v < length runs
+open_listed xs runs now v shown is = elim (cases_lt v (length runs)) [
+  | inl lt ↦ lt
+  | inr past ↦ absurd (true≢false (sym is ∙ ap is_some (get_or_past now v None (omega (arith, past, ap length shown, length-map runs (list_in xs))))))
+]
+
+pub lists_length : (xs : List ℕ) (runs : List (Option Run)) (now : List (Option (List ℕ))) → lists_in xs runs ≡ now → length now ≡ length runs
+lists_length xs runs now shown = ap length (sym shown) ∙ length-map runs (list_in xs)
+
+-- and so is one of which the lists are asked
+pub vertex_listed : (xs : List ℕ) (runs : List (Option Run)) (now : List (Option (List ℕ))) (v : ℕ) → lists_in xs runs ≡ now → v < length now → v < length runs
+vertex_listed xs runs now v shown inside = omega (arith, inside, ap length shown, length-map runs (list_in xs))
+
 -- a list of an open run, and the run of an open list
 pub list_of_run : (xs : List ℕ) (runs : List (Option Run)) (now : List (Option (List ℕ))) (v : ℕ) (r : Run) → lists_in xs runs ≡ now → v < length runs → get_or runs v None ≡ Some r → get_or now v None ≡ Some (words_in xs r)
 list_of_run xs runs now v r shown lt e =
@@ -121,7 +135,7 @@ pub record RunAt (xs : List ℕ) (segments : ℕ) (runs : List (Option Run)) (v 
   pub fits : Fits xs segments r
   pub inside : SEGMENT * r.segment + r.count ≤ length xs
 
-pub run_read_at : (xs : List ℕ) (segments : ℕ) (runs : List (Option Run)) (v : ℕ) (o : Option Run) (r : Run) → IsLayout xs segments runs → v < 256 → o ≡ get_or runs v o → o ≡ Some r → RunAt xs segments runs v r
+pub run_read_at : (xs : List ℕ) (segments : ℕ) (runs : List (Option Run)) (v : ℕ) (o : Option Run) (r : Run) → IsLayout xs segments runs → v < length runs → o ≡ get_or runs v o → o ≡ Some r → RunAt xs segments runs v r
 run_read_at xs segments runs v o r a small read is =
     let listed : v < length runs = omega (arith, a.table, small) in
     let here = run_read runs v o r listed read is in
@@ -136,7 +150,7 @@ lists_none xs (suc n) = ap (λ l. None ∷ l) (lists_none xs n)
 abbrev pub empty_run : Run
 empty_run = record { segment = 0; segments = 0; count = 0 }
 
-pub opened : (xs : List ℕ) (segments : ℕ) (runs : List (Option Run)) (now : List (Option (List ℕ))) (v : ℕ) → IsArray xs segments runs → lists_in xs runs ≡ now → v < 256 → IsNone (get_or now v None) → IsArray xs segments (set runs v (Some empty_run)) × (lists_in xs (set runs v (Some empty_run)) ≡ set now v (Some []))
+pub opened : (xs : List ℕ) (segments : ℕ) (runs : List (Option Run)) (now : List (Option (List ℕ))) (v : ℕ) → IsArray xs segments runs → lists_in xs runs ≡ now → v < length runs → IsNone (get_or now v None) → IsArray xs segments (set runs v (Some empty_run)) × (lists_in xs (set runs v (Some empty_run)) ≡ set now v (Some []))
 opened xs segments runs now v a shown lt h =
     let in' : v < length runs = omega (arith, a.layout.table) in
     let was : get_or runs v None ≡ None = no_run xs runs now v shown in' h in
@@ -150,7 +164,7 @@ opened xs segments runs now v a shown lt h =
     )
 
 -- a run is put behind all segments
-pub appended : (xs ys zs : List ℕ) (segments more : ℕ) (runs : List (Option Run)) (v : ℕ) (r : Run) (ws : List ℕ) → IsArray xs segments runs → v < 256 → ys ≡ xs ++ (ws ++ zs) → length ws ≡ r.count → r.segment ≡ segments → length ws + length zs ≡ SEGMENT * r.segments → IsSet ws → 0 < r.segments → segments_of (get_or runs v None) ≤ more → segments + r.segments + 2 * more ≤ 2 * (live runs + r.segments) + 256 → IsArray ys (segments + r.segments) (set runs v (Some r)) × (words_in ys r ≡ ws) × (lists_in ys (set runs v (Some r)) ≡ set (lists_in xs runs) v (Some ws))
+pub appended : (xs ys zs : List ℕ) (segments more : ℕ) (runs : List (Option Run)) (v : ℕ) (r : Run) (ws : List ℕ) → IsArray xs segments runs → v < length runs → ys ≡ xs ++ (ws ++ zs) → length ws ≡ r.count → r.segment ≡ segments → length ws + length zs ≡ SEGMENT * r.segments → IsSet ws → 0 < r.segments → segments_of (get_or runs v None) ≤ more → segments + r.segments + 2 * more ≤ 2 * (live runs + r.segments) + 256 → IsArray ys (segments + r.segments) (set runs v (Some r)) × (words_in ys r ≡ ws) × (lists_in ys (set runs v (Some r)) ≡ set (lists_in xs runs) v (Some ws))
 appended xs ys zs segments more runs v r ws a lt is count at long set' some old space =
     let in' : v < length runs = omega (arith, a.layout.table) in
     let all : length xs ≡ SEGMENT * segments = a.layout.cells in
@@ -167,7 +181,7 @@ appended xs ys zs segments more runs v r ws a lt is count at long set' some old 
     )
 
 -- the words of a run are replaced
-pub replaced : (xs zs : List ℕ) (segments : ℕ) (runs : List (Option Run)) (v : ℕ) (r : Run) (ws : List ℕ) (c : ℕ) → IsArray xs segments runs → v < 256 → get_or runs v None ≡ Some r → length ws ≤ SEGMENT * r.segments → c ≤ length ws → IsSet (take c ws) → zs ≡ take (SEGMENT * r.segment) xs ++ (ws ++ drop (SEGMENT * r.segment + length ws) xs) → let new : Run = record { segment = r.segment; segments = r.segments; count = c } in IsArray zs segments (set runs v (Some new)) × (lists_in zs (set runs v (Some new)) ≡ set (lists_in xs runs) v (Some (take c ws)))
+pub replaced : (xs zs : List ℕ) (segments : ℕ) (runs : List (Option Run)) (v : ℕ) (r : Run) (ws : List ℕ) (c : ℕ) → IsArray xs segments runs → v < length runs → get_or runs v None ≡ Some r → length ws ≤ SEGMENT * r.segments → c ≤ length ws → IsSet (take c ws) → zs ≡ take (SEGMENT * r.segment) xs ++ (ws ++ drop (SEGMENT * r.segment + length ws) xs) → let new : Run = record { segment = r.segment; segments = r.segments; count = c } in IsArray zs segments (set runs v (Some new)) × (lists_in zs (set runs v (Some new)) ≡ set (lists_in xs runs) v (Some (take c ws)))
 replaced xs zs segments runs v r ws c a lt e short le set' is =
     let new : Run = record { segment = r.segment; segments = r.segments; count = c } in
     let in' : v < length runs = omega (arith, a.layout.table) in
@@ -203,7 +217,7 @@ same_run r s e f g =
     ap (λ a. make a r.segments r.count) e ∙ ap (λ b. make s.segment b r.count) f ∙ ap (λ c. make s.segment s.segments c) g
 
 -- room is made for one word more
-pub room_made : (xs ys : List ℕ) (segments : ℕ) (runs : List (Option Run)) (v : ℕ) (run r : Run) → IsArray xs segments runs → v < 256 → get_or runs v None ≡ Some run → HasRoom segments run xs ys r → (later : ℕ) × IsArray ys later (set runs v (Some r)) × (words_in ys r ≡ words_in xs run) × (lists_in ys (set runs v (Some r)) ≡ lists_in xs runs)
+pub room_made : (xs ys : List ℕ) (segments : ℕ) (runs : List (Option Run)) (v : ℕ) (run r : Run) → IsArray xs segments runs → v < length runs → get_or runs v None ≡ Some run → HasRoom segments run xs ys r → (later : ℕ) × IsArray ys later (set runs v (Some r)) × (words_in ys r ≡ words_in xs run) × (lists_in ys (set runs v (Some r)) ≡ lists_in xs runs)
 room_made xs ys segments runs v run r a lt e h =
     let in' : v < length runs = omega (arith, a.layout.table) in
     let f = a.layout.fits v run e in
@@ -232,7 +246,7 @@ room_made xs ys segments runs v run r a lt e h =
     ]
 
 -- a word is put in where room was made
-pub inserted : (xs ys zs : List ℕ) (segments n : ℕ) (runs : List (Option Run)) (now : List (Option (List ℕ))) (v : ℕ) (run r : Run) (at w : ℕ) → IsArray xs segments runs → lists_in xs runs ≡ now → v < 256 → get_or runs v None ≡ Some run → HasRoom segments run xs ys r → w < WORD_LIMIT → IsPlace w (words_in xs run) (Err at) → zs ≡ take (SEGMENT * r.segment) ys ++ (insert (piece (SEGMENT * r.segment) r.count ys) at w ++ drop (SEGMENT * r.segment + (r.count + 1)) ys) → n ≡ length zs → let new : Run = record { segment = r.segment; segments = r.segments; count = r.count + 1 } in IsArray zs (n / SEGMENT) (set runs v (Some new)) × (lists_in zs (set runs v (Some new)) ≡ set now v (Some (with_word w (list_at now v))))
+pub inserted : (xs ys zs : List ℕ) (segments n : ℕ) (runs : List (Option Run)) (now : List (Option (List ℕ))) (v : ℕ) (run r : Run) (at w : ℕ) → IsArray xs segments runs → lists_in xs runs ≡ now → v < length runs → get_or runs v None ≡ Some run → HasRoom segments run xs ys r → w < WORD_LIMIT → IsPlace w (words_in xs run) (Err at) → zs ≡ take (SEGMENT * r.segment) ys ++ (insert (piece (SEGMENT * r.segment) r.count ys) at w ++ drop (SEGMENT * r.segment + (r.count + 1)) ys) → n ≡ length zs → let new : Run = record { segment = r.segment; segments = r.segments; count = r.count + 1 } in IsArray zs (n / SEGMENT) (set runs v (Some new)) × (lists_in zs (set runs v (Some new)) ≡ set now v (Some (with_word w (list_at now v))))
 inserted xs ys zs segments n runs now v run r at w a shown lt e h small place is len =
     let new : Run = record { segment = r.segment; segments = r.segments; count = r.count + 1 } in
     let in' : v < length runs = omega (arith, a.layout.table) in
@@ -247,7 +261,7 @@ inserted xs ys zs segments n runs now v run r at w a shown lt e h small place is
     let becomes : ws ≡ with_word w (words_in xs run) = ap (λ l. insert l at w) m.2 ∙ place.1 in
     let is_set : IsSet (with_word w (words_in xs run)) = IsWithin-with 0 WORD_LIMIT w (words_in xs run) (omega arith) small f.words in
     let behind : drop (SEGMENT * r.segment + (r.count + 1)) ys ≡ drop (SEGMENT * r.segment + length ws) ys = ap (λ k. drop (SEGMENT * r.segment + k) ys) (sym more) in
-    let p = replaced ys zs m.0 (set runs v (Some r)) v r ws (r.count + 1) m.1 lt here (omega (arith, h.room)) (omega arith) (subst IsSet (sym (whole ∙ becomes)) is_set) (is ∙ ap (λ l. take (SEGMENT * r.segment) ys ++ (ws ++ l)) behind) in
+    let p = replaced ys zs m.0 (set runs v (Some r)) v r ws (r.count + 1) m.1 (omega (arith, length-set runs v (Some r))) here (omega (arith, h.room)) (omega arith) (subst IsSet (sym (whole ∙ becomes)) is_set) (is ∙ ap (λ l. take (SEGMENT * r.segment) ys ++ (ws ++ l)) behind) in
     let table : set (set runs v (Some r)) v (Some new) ≡ set runs v (Some new) = set-set runs v (Some r) (Some new) in
     let count : n / SEGMENT ≡ m.0 = (let q : length zs ≡ SEGMENT * m.0 = p.0.layout.cells in omega arith) in
     let P : List (Option Run) → Type 0 = λ l. IsArray zs m.0 l in
@@ -257,7 +271,7 @@ inserted xs ys zs segments n runs now v run r at w a shown lt e h small place is
     )
 
 -- a word is taken out
-pub taken : (xs zs : List ℕ) (segments : ℕ) (runs : List (Option Run)) (now : List (Option (List ℕ))) (v : ℕ) (r : Run) (at w : ℕ) → IsArray xs segments runs → lists_in xs runs ≡ now → v < 256 → get_or runs v None ≡ Some r → IsPlace w (words_in xs r) (Ok at) → zs ≡ take (SEGMENT * r.segment) xs ++ ((remove (words_in xs r) at ++ get_or (words_in xs r) at 0 ∷ []) ++ drop (SEGMENT * r.segment + r.count) xs) → let new : Run = record { segment = r.segment; segments = r.segments; count = r.count - 1 } in IsArray zs segments (set runs v (Some new)) × (lists_in zs (set runs v (Some new)) ≡ set now v (Some (without_word w (list_at now v))))
+pub taken : (xs zs : List ℕ) (segments : ℕ) (runs : List (Option Run)) (now : List (Option (List ℕ))) (v : ℕ) (r : Run) (at w : ℕ) → IsArray xs segments runs → lists_in xs runs ≡ now → v < length runs → get_or runs v None ≡ Some r → IsPlace w (words_in xs r) (Ok at) → zs ≡ take (SEGMENT * r.segment) xs ++ ((remove (words_in xs r) at ++ get_or (words_in xs r) at 0 ∷ []) ++ drop (SEGMENT * r.segment + r.count) xs) → let new : Run = record { segment = r.segment; segments = r.segments; count = r.count - 1 } in IsArray zs segments (set runs v (Some new)) × (lists_in zs (set runs v (Some new)) ≡ set now v (Some (without_word w (list_at now v))))
 taken xs zs segments runs now v r at w a shown lt e place is =
     let in' : v < length runs = omega (arith, a.layout.table) in
     let f = a.layout.fits v r e in
@@ -276,7 +290,7 @@ taken xs zs segments runs now v r at w a shown lt e place is =
     )
 
 -- a run is closed: its segments are left as they are
-pub closed : (xs : List ℕ) (segments : ℕ) (runs : List (Option Run)) (v : ℕ) → IsLayout xs segments runs → v < 256 → IsLayout xs segments (set runs v None) × (lists_in xs (set runs v None) ≡ set (lists_in xs runs) v None)
+pub closed : (xs : List ℕ) (segments : ℕ) (runs : List (Option Run)) (v : ℕ) → IsLayout xs segments runs → v < length runs → IsLayout xs segments (set runs v None) × (lists_in xs (set runs v None) ≡ set (lists_in xs runs) v None)
 closed xs segments runs v a lt =
     let in' : v < length runs = omega (arith, a.table) in
     let before : (i : ℕ) (r : Run) → get_or (set runs v None) i None ≡ Some r → get_or runs i None ≡ Some r = λ i r e. elim (cases_eq i v) [
@@ -284,7 +298,7 @@ closed xs segments runs v a lt =
       | inr other ↦ sym (get_or-set_other runs v i None None other) ∙ e
     ] in (
       record {
-        table = length-set runs v None ∙ a.table;
+        table = omega (arith, length-set runs v None, a.table);
         cells = a.cells;
         fits = λ i r e. a.fits i r (before i r e);
         apart = λ i j r s ne e f. a.apart i j r s ne (before i r e) (before j s f);
@@ -318,10 +332,58 @@ none_open xs runs e f =
     let none : (i : ℕ) (r : Run) → get_or runs i None ≡ Some r → ⊥ = λ i r q. (let n : None ≡ Some r = sym (ap (λ l. get_or l i None) f ∙ none_at 256 i) ∙ q in cc) in
     record {
       layout = record {
-        table = ap length f ∙ length-replicate {A = Option Run} 256 None;
+        table = omega (arith, ap length f, length-replicate {A = Option Run} 256 None);
         cells = ap length e;
         fits = λ i r q. absurd (none i r q);
         apart = λ i j r s ne q p. absurd (none i r q);
       };
       space = omega arith;
     }
+
+-- and no vertex
+pub none_listed_yet : (xs : List ℕ) (runs : List (Option Run)) → xs ≡ [] → runs ≡ [] → IsArray xs 0 runs
+none_listed_yet xs runs e f =
+    let none : (i : ℕ) (r : Run) → get_or runs i None ≡ Some r → ⊥ = λ i r q. (let n : None ≡ Some r = sym (ap (λ l. get_or l i None) f) ∙ q in cc) in
+    record {
+      layout = record {
+        table = omega (arith, ap length f);
+        cells = ap length e;
+        fits = λ i r q. absurd (none i r q);
+        apart = λ i j r s ne q p. absurd (none i r q);
+      };
+      space = omega arith;
+    }
+
+-- a vertex more, which has no list
+pub vertex_added : (xs : List ℕ) (segments : ℕ) (runs more : List (Option Run)) → IsArray xs segments runs → more ≡ runs ++ None ∷ [] → length runs < 256 → IsArray xs segments more
+vertex_added xs segments runs more a is room =
+    let before : (i : ℕ) (r : Run) → get_or more i None ≡ Some r → get_or runs i None ≡ Some r = λ i r e. elim (cases_lt i (length runs)) [
+      | inl lt ↦ sym (ap (λ l. get_or l i None) is ∙ get_or_append_left runs (None ∷ []) None i lt) ∙ e
+      | inr ge ↦ (let n : None ≡ Some r = sym (ap (λ l. get_or l i None) is ∙ none_behind runs i ge) ∙ e in cc)
+    ] in
+    record {
+      layout = record {
+        table = omega (arith, ap length is, length_push runs None);
+        cells = a.layout.cells;
+        fits = λ i r e. a.layout.fits i r (before i r e);
+        apart = λ i j r s ne e f. a.layout.apart i j r s ne (before i r e) (before j s f);
+      };
+      space = (let same : live more ≡ live runs = ap live is ∙ sum_by_push segments_of runs None ∙ omega arith in omega (arith, a.space, same));
+    }
+  where
+    none_behind : (l : List (Option Run)) (i : ℕ) → length l ≤ i → get_or (l ++ None ∷ []) i None ≡ None
+    none_behind [] zero h = refl
+    none_behind [] (suc i) h = refl
+    none_behind (x ∷ l) zero h = absurd (omega arith)
+    none_behind (x ∷ l) (suc i) h = none_behind l i (omega arith)
+
+pub lists_more : (xs : List ℕ) (runs more : List (Option Run)) → more ≡ runs ++ None ∷ [] → lists_in xs more ≡ lists_in xs runs ++ None ∷ []
+lists_more xs runs more is = ap (lists_in xs) is ∙ map_push (list_in xs) runs None
+
+-- the list that is put in at the last vertex
+pub set_last : (l : List (Option (List ℕ))) (v : ℕ) (ws : List ℕ) → v ≡ length l → set (l ++ None ∷ []) v (Some ws) ≡ l ++ Some ws ∷ []
+set_last l v ws e = ap (λ k. set (l ++ None ∷ []) k (Some ws)) e ∙ at_end l
+  where
+    at_end : (xs : List (Option (List ℕ))) → set (xs ++ None ∷ []) (length xs) (Some ws) ≡ xs ++ Some ws ∷ []
+    at_end [] = refl
+    at_end (x ∷ xs) = ap (λ t. x ∷ t) (at_end xs)

@@ -112,7 +112,7 @@ packed_more xs ys segments end runs v r a p lt e b first is =
       | inr behind ↦ (inr (omega (arith, behind.0, b.0)), piece_after (SEGMENT * s.segment) s.count n xs ys (omega (arith, behind.0, b.0, f.count)) back)
     ]) in
     let fit : Fits ys segments new = record { inside = omega (arith, f.inside, b.0); count = f.count; none = λ z. absurd (omega (arith, b.1, z)); words = subst IsSet (sym mine) f.words } in (
-      layout_changed xs ys segments segments runs v new a (omega (arith, a.table)) (whole ∙ all) (omega arith) fit others,
+      layout_changed xs ys segments segments runs v new a lt (whole ∙ all) (omega arith) fit others,
       lists_changed xs ys runs v (Some new) (Some ws) (ap (λ l. Some l) mine) (λ i s ne q. (others i s ne q).1)
           ∙ ap (λ o. set (lists_in xs runs) v o) (sym (list_of_run xs runs (lists_in xs runs) v r refl lt e))
           ∙ set-get_or (lists_in xs runs) v None,

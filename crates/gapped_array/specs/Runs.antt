@@ -38,9 +38,9 @@ pub record Fits (xs : List ℕ) (segments : ℕ) (r : Run) : Type 0 where
 abbrev pub AreApart : Run → Run → Type 0
 AreApart r s = (r.segment + r.segments ≤ s.segment) ⊎ (s.segment + s.segments ≤ r.segment)
 
--- a run for each vertex or none, each inside, and each apart from all others
+-- a run for each of at most 256 vertices or none, each inside, and each apart from all others
 pub record IsLayout (xs : List ℕ) (segments : ℕ) (runs : List (Option Run)) : Type 0 where
-  pub table : length runs ≡ VERTICES
+  pub table : length runs ≤ VERTICES
   pub cells : length xs ≡ SEGMENT * segments
   pub fits : (i : ℕ) (r : Run) → slice_index_or runs i None ≡ Some r → Fits xs segments r
   pub apart : (i j : ℕ) (r s : Run) → i ≢ j → slice_index_or runs i None ≡ Some r

@@ -1,5 +1,5 @@
 //! The array and its calls.
-ghost use Rattle.std.specs.Prelude.{◌≡◌, ◌<◌, ◌≤◌, ◌+◌, ◌*◌, ◌^◌, ◌↔◌, [], length, not, replicate, None, Some, IsTrue, IsNone, IfOk, OnOk, OnErr, slice_index_or, slice_set};
+ghost use Rattle.std.specs.Prelude.{◌≡◌, ◌<◌, ◌≤◌, ◌+◌, ◌*◌, ◌^◌, ◌↔◌, ◌++◌, ◌∷◌, ◌⊎◌, [], length, not, replicate, None, Some, IsTrue, IsNone, IfOk, OnOk, OnErr, slice_index_or, slice_set};
 ghost use Rattle.word_sets.specs.Words.{IsSet, has_word, with_word, without_word};
 ghost use Rattle.gapped_array.specs.Table.{IsOpen, list_at};
 
@@ -10,8 +10,8 @@ use std::alloc::{AllocError, Global};
 use std::marker::Model;
 use word_sets::{WORD_LIMIT, place};
 
-/// For each of 256 vertices a set of words, or none. Clauses see it as the list of these, in the vertices' order;
-/// a set is the ascending list of its words.
+/// For each of at most 256 vertices a set of words, or none. Clauses see it as the list of these, in the vertices'
+/// order; a set is the ascending list of its words.
 #[derive(Drop)]
 pub struct GappedArray {
     cells: Vec<u32>,
@@ -31,7 +31,18 @@ impl Model for GappedArray {
 }
 
 impl GappedArray {
-    /// The array in which no vertex has a list.
+    /// The array of no vertex. It takes no memory.
+    pub fn empty(alloc: Global) -> GappedArray
+        ensures { result ≡ [] }
+    {
+        GappedArray {
+            cells: Vec::new(alloc),
+            segments: 0,
+            runs: Vec::new(alloc),
+        }
+    }
+
+    /// The array of 256 vertices, of which none has a list.
     pub fn new(alloc: Global) -> Result<GappedArray, AllocError>
         ensures { IfOk result (λ array. array ≡ replicate VERTICES None) }
     {
@@ -44,7 +55,7 @@ impl GappedArray {
         })
     }
 
-    /// Another array of the same lists.
+    /// Another array of the same lists, with no room beyond theirs.
     pub fn copy(&self, alloc: Global) -> Result<GappedArray, AllocError>
         ensures { IfOk result (λ array. array ≡ self.now) }
     {
@@ -62,12 +73,21 @@ impl GappedArray {
         self.cells.reserve(segments.saturating_mul(SEGMENT))
     }
 
-    /// Whether a vertex has a list.
+    /// How many vertices it has.
+    pub fn vertex_count(&self) -> usize
+        ensures value { result ≡ length self.now }
+        ensures few { result ≤ VERTICES }
+    {
+        self.runs.len()
+    }
+
+    /// Whether a vertex has a list. One that the array does not have has none.
     pub fn is_open(&self, vertex: u8) -> bool
         ensures answer { IsTrue result ↔ IsOpen self.now vertex }
-        ensures vertices { length self.now ≡ VERTICES }
+        ensures vertices { length self.now ≤ VERTICES }
     {
-        self.runs[vertex as usize].is_some()
+        let vertex = usize::from(vertex);
+        vertex < self.runs.len() && self.runs[vertex].is_some()
     }
 
     /// A vertex's words, ascending. They lie in one slice.
@@ -84,9 +104,9 @@ impl GappedArray {
 
     /// Opens a vertex's list, which is empty. It takes no memory.
     pub fn open_run(&mut self, vertex: u8)
-        requires { IsNone (slice_index_or self.old vertex None) }
-        ensures opened { self.new ≡ slice_set self.old vertex (Some []) }
-        ensures vertices { length self.old ≡ VERTICES }
+        requires inside { vertex < length self.old }
+        requires closed { IsNone (slice_index_or self.old vertex None) }
+        ensures { self.new ≡ slice_set self.old vertex (Some []) }
     {
         self.runs[vertex as usize] = Some(Run {
             segment: 0,
@@ -98,11 +118,11 @@ impl GappedArray {
     /// Opens a vertex's list with these words. They go behind all others, into segments without a place free but
     /// in the last. After an error the array is as it was.
     pub fn open_with(&mut self, vertex: u8, words: &[u32]) -> Result<(), AllocError>
+        requires inside { vertex < length self.old }
         requires closed { IsNone (slice_index_or self.old vertex None) }
         requires set { IsSet words.now }
         ensures ok { OnOk result (self.new ≡ slice_set self.old vertex (Some words.now)) }
         ensures err { OnErr result (self.new ≡ self.old) }
-        ensures vertices { length self.old ≡ VERTICES }
     {
         if words.is_empty() {
             self.open_run(vertex);
@@ -117,6 +137,39 @@ impl GappedArray {
         });
         self.segments += segments;
         Ok(())
+    }
+
+    /// Takes one vertex more, behind the others, and opens its list with these words. After an error the others are
+    /// as they were, and the one more may be there without a list.
+    pub fn push(&mut self, words: &[u32]) -> Result<(), AllocError>
+        requires room { length self.old < VERTICES }
+        requires set { IsSet words.now }
+        ensures ok { OnOk result (self.new ≡ self.old ++ Some words.now ∷ []) }
+        ensures err { OnErr result ((self.new ≡ self.old) ⊎ (self.new ≡ self.old ++ None ∷ [])) }
+    {
+        let vertex = self.vertex_count() as u8;
+        self.push_closed()?;
+        self.open_with(vertex, words)?;
+        Ok(())
+    }
+
+    // One vertex more, behind the others, without a list.
+    fn push_closed(&mut self) -> Result<(), AllocError>
+        requires { length self.old < VERTICES }
+        ensures ok { OnOk result (self.new ≡ self.old ++ None ∷ []) }
+        ensures err { OnErr result (self.new ≡ self.old) }
+    {
+        self.runs.push(None)?;
+        Ok(())
+    }
+
+    /// Takes all vertices away, and keeps the room.
+    pub fn clear(&mut self)
+        ensures { self.new ≡ [] }
+    {
+        self.cells.clear();
+        self.segments = 0;
+        self.runs.clear();
     }
 
     /// Closes a vertex's list, whatever it holds. It takes no memory.

@@ -19,6 +19,7 @@ fn is_row(words: &[u32], first: u32, count: usize) -> bool {
 fn three_vertices_in_turn(rt: HostRuntime) -> Result<(), Fail> {
     let mut array = GappedArray::new(rt.alloc())?;
     for vertex in 0..3u8 {
+        assert!(rt; usize::from(vertex) < array.vertex_count());
         assert!(rt; !array.is_open(vertex));
         array.open_run(vertex);
     }
@@ -52,6 +53,7 @@ fn closed_runs_leave(rt: HostRuntime) -> Result<(), Fail> {
     array.reserve(40)?;
     let few = [1, 5, 9];
     for vertex in 0..255u8 {
+        assert!(rt; usize::from(vertex) < array.vertex_count());
         assert!(rt; !array.is_open(vertex));
         array.open_run(vertex);
         for word in 0..40u32 {
@@ -69,9 +71,25 @@ fn closed_runs_leave(rt: HostRuntime) -> Result<(), Fail> {
     assert!(rt; !array.is_open(7));
     assert!(rt; copy.is_open(7));
     assert_eq!(rt; copy.words(7).len(), 40);
+    assert!(rt; array.vertex_count() == 256);
     assert!(rt; !array.is_open(255));
     array.open_with(255, &few)?;
     assert!(rt; array.is_open(255));
     assert_eq!(rt; array.words(255), few.as_slice());
+    Ok(())
+}
+
+// An array of no vertex takes one after another, and none again.
+#[test]
+fn vertices_one_by_one(rt: HostRuntime) -> Result<(), Fail> {
+    let mut array = GappedArray::empty(rt.alloc());
+    let few = [2, 4];
+    assert_eq!(rt; array.vertex_count(), 0);
+    array.push(&few)?;
+    let copy = array.copy(rt.alloc())?;
+    array.clear();
+    assert!(rt; !array.is_open(0));
+    assert!(rt; copy.is_open(0));
+    assert_eq!(rt; copy.words(0), few.as_slice());
     Ok(())
 }

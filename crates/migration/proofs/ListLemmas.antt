@@ -1,7 +1,7 @@
 -- A list more among the lists of a range.
-use Rattle.std.proofs.Common.{◌≡◌, ◌==◌, ℕ, ◌+◌, ◌<◌, ◌≤◌, if◌then◌else◌, List, [], ◌∷◌, ◌++◌, length, get_or, set, drop, map, replicate, refl, sym, ap, subst, ◌∙◌, inl, inr, Option, Some, None, unwrap_or, IsSome, eq-eqb, arith}
+use Rattle.std.proofs.Common.{◌≡◌, ◌==◌, ℕ, ◌+◌, ◌<◌, ◌≤◌, if◌then◌else◌, List, [], ◌∷◌, ◌++◌, length, get_or, set, drop, map, replicate, refl, sym, ap, subst, ◌∙◌, inl, inr, Option, Some, None, unwrap_or, IsSome, is_some, arith}
 use Rattle.std.specs.List.{AllByRecursion}
-use Rattle.std.proofs.lemmas.Bool.{cases_lt, cases_eq, ne_eqb}
+use Rattle.std.proofs.lemmas.Bool.{cases_lt, true≢false}
 use Rattle.std.proofs.lemmas.List.{length_push, length-map, map_push, get_or_append_left, get_or_push, get_or-set_same, get_or-set_other, get_or-replicate, get_or_past, length-replicate, length-append, drop_all, append-nil, append_assoc}
 use Rattle.graph_model.specs.declared.home.Home.{Home}
 use Rattle.graph_model.specs.declared.home.Home.TheVariants.{Block, Gapped, Tree}
@@ -12,7 +12,8 @@ use Rattle.migration.specs.declared.lists.Place.{Place}
 use Rattle.migration.specs.declared.lists.Place.TheVariants.{Nowhere, InBlock, InArray, InTree}
 use Rattle.migration.specs.declared.lists.Lists.{Lists}
 use Rattle.migration.specs.Lent.{IsLentAt}
-use Rattle.migration.specs.Lists.{list_at, home_of, rows_of, homes_of, runs_of, IsThere, AreKept, IsOpened, IsPushed}
+use Rattle.gapped_array.specs.Table.{IsOpen, list_at as run_at}
+use Rattle.migration.specs.Lists.{list_at, home_of, rows_of, homes_of, IsThere, AreKept, AreSame, IsPushed}
 
 -- a set is not large
 pub few_words : (xs : List ℕ) → IsSet xs → length xs ≤ WORD_LIMIT
@@ -36,36 +37,27 @@ all_push P (y ∷ ys) x h here = (h.0, all_push P ys x h.1 here)
 -- a place more, where the others stay
 pushed : (old new : Lists) (p : Place) (row : List ℕ) (home : Home) → AreKept old → new.places.items ≡ old.places.items ++ p ∷ [] → ((q : Place) → Stays old new q) → IsThere new p → list_at new p ≡ row → home_of p ≡ home
     → length new.blocks.items ≤ length old.blocks.items + 1 → length new.trees.items ≤ length old.trees.items + 1
-    → ((v : ℕ) → length old.places.items < v → get_or (runs_of new.array) v None ≡ get_or (runs_of old.array) v None)
+    → length new.array ≤ length old.array + 1
     → IsPushed old new row home
 pushed old new p row home kept places stays there is at blocks trees runs =
     let all = all_stay old.places.items old new stays kept.there in
     let long : length new.places.items ≡ length old.places.items + 1 = ap length places ∙ length_push old.places.items p in
     let few_blocks = kept.blocks in
     let few_trees = kept.trees in
+    let few_runs = kept.runs in
     record {
       kept = record {
         there = subst (AllByRecursion (IsThere new)) (sym places) (all_push (IsThere new) old.places.items p all.0 there);
         blocks = omega (arith, long, few_blocks, blocks);
-        runs = λ v h. runs v (omega (arith, long, h)) ∙ kept.runs v (omega (arith, long, h));
+        runs = omega (arith, long, few_runs, runs);
         trees = omega (arith, long, few_trees, trees);
       };
       rows = ap (map (list_at new)) places ∙ map_push (list_at new) old.places.items p ∙ ap (λ l. l ++ list_at new p ∷ []) all.1 ∙ ap (λ l. rows_of old ++ l ∷ []) is;
       homes = ap (map home_of) places ∙ map_push home_of old.places.items p ∙ ap (λ h. homes_of old ++ h ∷ []) at;
     }
 
--- the same array, and no more places than before
-same_run : (old new : Lists) (v : ℕ) → new.array ≡ old.array → length old.places.items ≤ length new.places.items → Stays old new (InArray v)
-same_run old new v array long there = (
-  (
-    (let inside = there.0 in omega arith),
-    subst (λ a. IsSome (get_or (runs_of a) v None)) (sym array) there.1,
-  ),
-  ap (λ a. unwrap_or (get_or (runs_of a) v None) []) array,
-)
-
-longer : (old new : Lists) (p : Place) → new.places.items ≡ old.places.items ++ p ∷ [] → length old.places.items ≤ length new.places.items
-longer old new p places = omega (arith, ap length places, length_push old.places.items p)
+same_run : (old new : Lists) (k : ℕ) → new.array ≡ old.array → Stays old new (InArray k)
+same_run old new k is there = (subst (λ a. IsOpen a k) (sym is) there, ap (λ a. run_at a k) is)
 
 same_block : (old new : Lists) (k : ℕ) → new.blocks.items ≡ old.blocks.items → Stays old new (InBlock k)
 same_block old new k is there = (omega (arith, ap length is, there), ap (λ l. get_or l k []) is)
@@ -88,88 +80,82 @@ before_tree old new k row is there = (
 -- an empty list that stands nowhere
 pub pushed_nowhere : (old new : Lists) → AreKept old → new.places.items ≡ old.places.items ++ Nowhere ∷ [] → new.blocks.items ≡ old.blocks.items → new.array ≡ old.array → new.trees.items ≡ old.trees.items → IsPushed old new [] Block
 pushed_nowhere old new kept places blocks array trees =
-    pushed old new Nowhere [] Block kept places stays tt refl refl (omega (arith, ap length blocks)) (omega (arith, ap length trees)) (λ v h. ap (λ a. get_or (runs_of a) v None) array)
+    pushed old new Nowhere [] Block kept places stays tt refl refl (omega (arith, ap length blocks)) (omega (arith, ap length trees)) (omega (arith, ap length array))
   where
     stays : (q : Place) → Stays old new q
     stays Nowhere = λ h. (tt, refl)
     stays (InBlock k) = same_block old new k blocks
-    stays (InArray v) = same_run old new v array (longer old new Nowhere places)
+    stays (InArray k) = same_run old new k array
     stays (InTree k) = same_tree old new k trees
 
 -- one in a block behind the others
 pub pushed_block : (old new : Lists) (row : List ℕ) → AreKept old → new.places.items ≡ old.places.items ++ InBlock (length old.blocks.items) ∷ [] → new.blocks.items ≡ old.blocks.items ++ row ∷ [] → new.array ≡ old.array → new.trees.items ≡ old.trees.items → IsPushed old new row Block
 pushed_block old new row kept places blocks array trees =
     let more : length new.blocks.items ≡ length old.blocks.items + 1 = ap length blocks ∙ length_push old.blocks.items row in
-    pushed old new (InBlock (length old.blocks.items)) row Block kept places stays (omega (arith, more)) (ap (λ l. get_or l (length old.blocks.items) []) blocks ∙ get_or_push old.blocks.items row [] (length old.blocks.items) refl) refl (omega (arith, more)) (omega (arith, ap length trees)) (λ v h. ap (λ a. get_or (runs_of a) v None) array)
+    pushed old new (InBlock (length old.blocks.items)) row Block kept places stays (omega (arith, more)) (ap (λ l. get_or l (length old.blocks.items) []) blocks ∙ get_or_push old.blocks.items row [] (length old.blocks.items) refl) refl (omega (arith, more)) (omega (arith, ap length trees)) (omega (arith, ap length array))
   where
     stays : (q : Place) → Stays old new q
     stays Nowhere = λ h. (tt, refl)
     stays (InBlock k) = before_block old new k row blocks
-    stays (InArray v) = same_run old new v array (longer old new (InBlock (length old.blocks.items)) places)
+    stays (InArray k) = same_run old new k array
     stays (InTree k) = same_tree old new k trees
 
 -- one in a tree behind the others
 pub pushed_tree : (old new : Lists) (row : List ℕ) → AreKept old → new.places.items ≡ old.places.items ++ InTree (length old.trees.items) ∷ [] → new.blocks.items ≡ old.blocks.items → new.array ≡ old.array → new.trees.items ≡ old.trees.items ++ row ∷ [] → IsPushed old new row Tree
 pushed_tree old new row kept places blocks array trees =
     let more : length new.trees.items ≡ length old.trees.items + 1 = ap length trees ∙ length_push old.trees.items row in
-    pushed old new (InTree (length old.trees.items)) row Tree kept places stays (omega (arith, more)) (ap (λ l. get_or l (length old.trees.items) []) trees ∙ get_or_push old.trees.items row [] (length old.trees.items) refl) refl (omega (arith, ap length blocks)) (omega (arith, more)) (λ v h. ap (λ a. get_or (runs_of a) v None) array)
+    pushed old new (InTree (length old.trees.items)) row Tree kept places stays (omega (arith, more)) (ap (λ l. get_or l (length old.trees.items) []) trees ∙ get_or_push old.trees.items row [] (length old.trees.items) refl) refl (omega (arith, ap length blocks)) (omega (arith, more)) (omega (arith, ap length array))
   where
     stays : (q : Place) → Stays old new q
     stays Nowhere = λ h. (tt, refl)
     stays (InBlock k) = same_block old new k blocks
-    stays (InArray v) = same_run old new v array (longer old new (InTree (length old.trees.items)) places)
+    stays (InArray k) = same_run old new k array
     stays (InTree k) = before_tree old new k row trees
 
--- a run that was opened in an array, or in a new one
-pub opened : (old new : Option (List (Option (List ℕ)))) (v : ℕ) (row : List ℕ) → runs_of new ≡ set (runs_of old) v (Some row) → v < length (runs_of old) → IsOpened old new v row
-opened old new v row is inside u = elim (cases_eq u v) [
-  | inl same ↦
-      ap (λ l. get_or l u None) is
-      ∙ ap (λ w. get_or (set (runs_of old) v (Some row)) w None) same
-      ∙ get_or-set_same (runs_of old) v (Some row) None inside
-      ∙ sym (ap (λ b. if b then Some row else get_or (runs_of old) u None) (eq-eqb u v same))
-  | inr other ↦
-      ap (λ l. get_or l u None) is
-      ∙ get_or-set_other (runs_of old) v u (Some row) None other
-      ∙ sym (ap (λ b. if b then Some row else get_or (runs_of old) u None) (ne_eqb u v other))
-]
+-- the runs before the last one stay
+before_run : (old new : Lists) (k : ℕ) (row : List ℕ) → new.array ≡ old.array ++ Some row ∷ [] → Stays old new (InArray k)
+before_run old new k row is there =
+    let inside : k < length old.array = elim (cases_lt k (length old.array)) [
+      | inl lt ↦ lt
+      | inr past ↦ absurd (true≢false (sym there ∙ ap is_some (get_or_past old.array k None past)))
+    ] in
+    let same : get_or new.array k None ≡ get_or old.array k None = ap (λ l. get_or l k None) is ∙ get_or_append_left old.array (Some row ∷ []) None k inside in
+    (subst IsSome (sym same) there, ap (λ o. unwrap_or o []) same)
 
--- a new array has no run
-pub no_run : (runs : List (Option (List ℕ))) (u : ℕ) → runs ≡ replicate 256 None → get_or runs u None ≡ None
-no_run runs u is = ap (λ l. get_or l u None) is ∙ elim (cases_lt u 256) [
-  | inl lt ↦ get_or-replicate 256 u None None lt
-  | inr ge ↦ get_or_past (replicate {A = Option (List ℕ)} 256 None) u None (omega (arith, length-replicate {A = Option (List ℕ)} 256 None))
-]
-
-pub opened_first : (old : Option (List (Option (List ℕ)))) (runs new : List (Option (List ℕ))) (v : ℕ) (row : List ℕ) → old ≡ None → runs ≡ replicate 256 None → new ≡ set runs v (Some row) → v < length runs → IsOpened old (Some new) v row
-opened_first old runs new v row none first is inside u =
-    opened (Some runs) (Some new) v row is inside u
-    ∙ ap (λ o. if u == v then Some row else o) (no_run runs u first ∙ sym (ap (λ o. get_or (runs_of o) u None) none))
-
--- a run that was opened, and another
-opened_here : (old new : Option (List (Option (List ℕ)))) (v : ℕ) (row : List ℕ) → IsOpened old new v row → get_or (runs_of new) v None ≡ Some row
-opened_here old new v row is = is v ∙ ap (λ b. if b then Some row else get_or (runs_of old) v None) (eq-eqb v v refl)
-
-opened_other : (old new : Option (List (Option (List ℕ)))) (v u : ℕ) (row : List ℕ) → IsOpened old new v row → (u ≡ v → ⊥) → get_or (runs_of new) u None ≡ get_or (runs_of old) u None
-opened_other old new v u row is other = is u ∙ ap (λ b. if b then Some row else get_or (runs_of old) u None) (ne_eqb u v other)
-
--- one in the array
-pub pushed_run : (old new : Lists) (row : List ℕ) → AreKept old → new.places.items ≡ old.places.items ++ InArray (length old.places.items) ∷ [] → new.blocks.items ≡ old.blocks.items → IsOpened old.array new.array (length old.places.items) row → new.trees.items ≡ old.trees.items → IsPushed old new row Gapped
+-- one in the array behind the others
+pub pushed_run : (old new : Lists) (row : List ℕ) → AreKept old → new.places.items ≡ old.places.items ++ InArray (length old.array) ∷ [] → new.blocks.items ≡ old.blocks.items → new.array ≡ old.array ++ Some row ∷ [] → new.trees.items ≡ old.trees.items → IsPushed old new row Gapped
 pushed_run old new row kept places blocks array trees =
-    let here : get_or (runs_of new.array) (length old.places.items) None ≡ Some row = opened_here old.array new.array (length old.places.items) row array in
-    let long : length new.places.items ≡ length old.places.items + 1 = ap length places ∙ length_push old.places.items (InArray (length old.places.items)) in
-    pushed old new (InArray (length old.places.items)) row Gapped kept places stays (omega (arith, long), subst IsSome (sym here) refl) (ap (λ o. unwrap_or o []) here) refl (omega (arith, ap length blocks)) (omega (arith, ap length trees))
-    (λ v h. opened_other old.array new.array (length old.places.items) v row array (λ e. omega arith))
+    let here : get_or new.array (length old.array) None ≡ Some row = ap (λ l. get_or l (length old.array) None) array ∙ get_or_push old.array (Some row) None (length old.array) refl in
+    pushed old new (InArray (length old.array)) row Gapped kept places stays (subst IsSome (sym here) refl) (ap (λ o. unwrap_or o []) here) refl (omega (arith, ap length blocks)) (omega (arith, ap length trees)) (omega (arith, ap length array, length_push old.array (Some row)))
   where
     stays : (q : Place) → Stays old new q
     stays Nowhere = λ h. (tt, refl)
     stays (InBlock k) = same_block old new k blocks
-    stays (InArray v) = λ there.
-        let before : v < length old.places.items = there.0 in
-        let same = opened_other old.array new.array (length old.places.items) v row array (λ e. omega arith) in (
-          (omega (arith, longer old new (InArray (length old.places.items)) places, before), subst IsSome (sym same) there.1),
-          ap (λ o. unwrap_or o []) same,
-        )
+    stays (InArray k) = before_run old new k row array
+    stays (InTree k) = same_tree old new k trees
+
+-- the same lists in other memory
+pub kept_same : (old new : Lists) → AreKept old → new.places.items ≡ old.places.items → new.blocks.items ≡ old.blocks.items → new.array ≡ old.array → new.trees.items ≡ old.trees.items → AreSame old new
+kept_same old new kept places blocks array trees =
+    let all = all_stay old.places.items old new stays kept.there in
+    let few_blocks = kept.blocks in
+    let few_trees = kept.trees in
+    let few_runs = kept.runs in
+    record {
+      kept = record {
+        there = subst (AllByRecursion (IsThere new)) (sym places) all.0;
+        blocks = omega (arith, ap length places, ap length blocks, few_blocks);
+        runs = omega (arith, ap length places, ap length array, few_runs);
+        trees = omega (arith, ap length places, ap length trees, few_trees);
+      };
+      rows = ap (map (list_at new)) places ∙ all.1;
+      homes = ap (map home_of) places;
+    }
+  where
+    stays : (q : Place) → Stays old new q
+    stays Nowhere = λ h. (tt, refl)
+    stays (InBlock k) = same_block old new k blocks
+    stays (InArray k) = same_run old new k array
     stays (InTree k) = same_tree old new k trees
 
 -- a slice as long as the list is the list

@@ -1,5 +1,5 @@
 -- The lists of a range's vertices, each in its home.
-use Rattle.std.specs.Prelude.{◌≡◌, ◌==◌, if◌then◌else◌, ℕ, ◌<◌, ◌≤◌, List, [], ◌∷◌, ◌++◌, length, map, slice_index_or, Option, Some, None}
+use Rattle.std.specs.Prelude.{◌≡◌, ℕ, ◌<◌, ◌≤◌, List, [], ◌∷◌, ◌++◌, length, map, slice_index_or}
 use Rattle.std.specs.List.{AllByRecursion}
 use Rattle.graph_model.specs.declared.home.Home.{Home}
 use Rattle.graph_model.specs.declared.home.Home.TheVariants.{Block, Gapped, Tree}
@@ -9,22 +9,17 @@ use Rattle.migration.specs.declared.lists.Place.{Place}
 use Rattle.migration.specs.declared.lists.Place.TheVariants.{Nowhere, InBlock, InArray, InTree}
 use Rattle.migration.specs.declared.lists.Lists.{Lists}
 
--- what the vertices have in the array, if there is one
-abbrev pub runs_of : Option (List (Option (List ℕ))) → List (Option (List ℕ))
-runs_of None = []
-runs_of (Some runs) = runs
-
 -- the list that stands at a place
 abbrev pub list_at : Lists → Place → List ℕ
 list_at l Nowhere = []
 list_at l (InBlock k) = slice_index_or l.blocks.items k []
-list_at l (InArray v) = run_at (runs_of l.array) v
+list_at l (InArray k) = run_at l.array k
 list_at l (InTree k) = slice_index_or l.trees.items k []
 
 abbrev pub home_of : Place → Home
 home_of Nowhere = Block
 home_of (InBlock k) = Block
-home_of (InArray v) = Gapped
+home_of (InArray k) = Gapped
 home_of (InTree k) = Tree
 
 -- the lists of the vertices, and their homes
@@ -42,23 +37,24 @@ part_of range l = record { range = range; rows = rows_of l; homes = homes_of l }
 abbrev pub IsThere : Lists → Place → Type 0
 IsThere l Nowhere = Unit {0}
 IsThere l (InBlock k) = k < length l.blocks.items
-IsThere l (InArray v) = (v < length l.places.items) × IsOpen (runs_of l.array) v
+IsThere l (InArray k) = IsOpen l.array k
 IsThere l (InTree k) = k < length l.trees.items
 
 -- each vertex's place is there, and no more blocks, runs or trees are than vertices
 pub record AreKept (l : Lists) : Type 0 where
   pub there : AllByRecursion (IsThere l) l.places.items
   pub blocks : length l.blocks.items ≤ length l.places.items
-  pub runs : (v : ℕ) → length l.places.items ≤ v → slice_index_or (runs_of l.array) v None ≡ None
+  pub runs : length l.array ≤ length l.places.items
   pub trees : length l.trees.items ≤ length l.places.items
-
--- a list more in the array, at a vertex, and every other as it was
-abbrev pub IsOpened : Option (List (Option (List ℕ))) → Option (List (Option (List ℕ))) → ℕ → List ℕ → Type 0
-IsOpened old new v row = (u : ℕ) → slice_index_or (runs_of new) u None
-    ≡ (if u == v then Some row else slice_index_or (runs_of old) u None)
 
 -- a list more, behind the others
 pub record IsPushed (old new : Lists) (row : List ℕ) (home : Home) : Type 0 where
   pub kept : AreKept new
   pub rows : rows_of new ≡ rows_of old ++ row ∷ []
   pub homes : homes_of new ≡ homes_of old ++ home ∷ []
+
+-- the same lists in the same homes
+pub record AreSame (old new : Lists) : Type 0 where
+  pub kept : AreKept new
+  pub rows : rows_of new ≡ rows_of old
+  pub homes : homes_of new ≡ homes_of old

@@ -1,11 +1,11 @@
 //! The lists of a range's vertices, each in its home.
-ghost use Rattle.std.specs.Prelude.{◌≡◌, ◌<◌, ◌≤◌, [], length, replicate, slice_index_or, None, IfOk};
+ghost use Rattle.std.specs.Prelude.{◌≡◌, ◌<◌, ◌≤◌, [], length, replicate, slice_index_or, IfOk};
 ghost use Rattle.graph_model.specs.declared.limits.TheConstants.{RANGE_VERTICES};
 ghost use Rattle.graph_model.specs.declared.home.Home.TheVariants.{Block, Gapped, Tree};
 ghost use Rattle.graph_model.specs.Homes.{IsHomeOf};
 ghost use Rattle.word_sets.specs.Words.{IsSet, has_word};
 ghost use Rattle.migration.specs.declared.lists.Place.TheVariants.{InBlock, InArray, InTree};
-ghost use Rattle.migration.specs.Lists.{AreKept, IsThere, IsPushed, IsOpened, runs_of, list_at, rows_of, homes_of, home_of};
+ghost use Rattle.migration.specs.Lists.{AreKept, AreSame, IsThere, IsPushed, list_at, rows_of, homes_of, home_of};
 ghost use Rattle.migration.specs.Lent.{IsLentAt};
 ghost use Rattle.word_sets.specs.declared.places.TheConstants.{WORD_LIMIT};
 
@@ -23,7 +23,7 @@ pub(crate) enum Place {
     Nowhere,
     /// In the block of this number.
     InBlock(u8),
-    /// In the array, at this vertex.
+    /// In the array, at the vertex of this number.
     InArray(u8),
     /// In the tree of this number.
     InTree(u8),
@@ -36,8 +36,8 @@ pub(crate) struct Lists {
     pub places: Vec<Place>,
     /// The blocks that are used.
     pub blocks: Vec<VertexBlock>,
-    /// The array, once a vertex has its list there.
-    pub array: Option<GappedArray>,
+    /// The array, in which each vertex has a list.
+    pub array: GappedArray,
     /// The trees.
     pub trees: Vec<NeighbourTree>,
 }
@@ -52,31 +52,6 @@ fn rest_from(words: &[u32], place: u32) -> &[u32]
     }
 }
 
-// Opens a vertex's list in the array, which is made where there is none.
-fn open_run(
-    alloc: Global,
-    array: &mut Option<GappedArray>,
-    vertex: u8,
-    words: &[u32],
-) -> Result<(), AllocError>
-    requires closed { slice_index_or (runs_of array.old) vertex None ≡ None }
-    requires set { IsSet words.now }
-    ensures { IfOk result (λ _. IsOpened array.old array.new vertex words.now) }
-{
-    match array {
-        Some(runs) => {
-            runs.open_with(vertex, words)?;
-            Ok(())
-        }
-        None => {
-            let mut runs = GappedArray::new(alloc)?;
-            runs.open_with(vertex, words)?;
-            *array = Some(runs);
-            Ok(())
-        }
-    }
-}
-
 impl Lists {
     /// No list, with room for so many.
     pub fn new(alloc: Global, vertices: usize) -> Result<Lists, AllocError>
@@ -87,7 +62,7 @@ impl Lists {
         Ok(Lists {
             places: Vec::with_capacity(alloc, vertices)?,
             blocks: Vec::new(alloc),
-            array: None,
+            array: GappedArray::empty(alloc),
             trees: Vec::new(alloc),
         })
     }
@@ -125,16 +100,13 @@ impl Lists {
         self.blocks[usize::from(number)].as_slice()
     }
 
-    // A vertex's words in the array.
-    fn run(&self, vertex: u8) -> &[u32]
-        requires { IsThere self.now (InArray vertex) }
-        ensures words { result.now ≡ list_at self.now (InArray vertex) }
+    // A run's words in the array.
+    fn run(&self, number: u8) -> &[u32]
+        requires { IsThere self.now (InArray number) }
+        ensures words { result.now ≡ list_at self.now (InArray number) }
         ensures set { IsSet result.now }
     {
-        match &self.array {
-            None => unreachable!(),
-            Some(array) => array.words(vertex),
-        }
+        self.array.words(number)
     }
 
     // A tree.
@@ -169,7 +141,7 @@ impl Lists {
         match self.place(vertex) {
             Place::Nowhere => 0,
             Place::InBlock(number) => self.block(number).len() as u32,
-            Place::InArray(vertex) => self.run(vertex).len() as u32,
+            Place::InArray(number) => self.run(number).len() as u32,
             Place::InTree(number) => self.tree(number).len(),
         }
     }
@@ -184,7 +156,7 @@ impl Lists {
         match self.place(vertex) {
             Place::Nowhere => false,
             Place::InBlock(number) => place(self.block(number), word).is_ok(),
-            Place::InArray(vertex) => place(self.run(vertex), word).is_ok(),
+            Place::InArray(number) => place(self.run(number), word).is_ok(),
             Place::InTree(number) => self.tree(number).contains(word),
         }
     }
@@ -220,7 +192,7 @@ impl Lists {
         match self.place(vertex) {
             Place::Nowhere => &[],
             Place::InBlock(number) => rest_from(self.block(number), place),
-            Place::InArray(vertex) => rest_from(self.run(vertex), place),
+            Place::InArray(number) => rest_from(self.run(number), place),
             Place::InTree(number) => {
                 let tree = self.tree(number);
                 if place < tree.len() {
@@ -253,16 +225,16 @@ impl Lists {
         Ok(())
     }
 
-    // A list in the array, which there is from then on.
-    fn push_run(&mut self, alloc: Global, words: &[u32]) -> Result<(), AllocError>
+    // A list in the array.
+    fn push_run(&mut self, words: &[u32]) -> Result<(), AllocError>
         requires kept { AreKept self.old }
         requires room { length (rows_of self.old) < RANGE_VERTICES }
         requires set { IsSet words.now }
         ensures { IfOk result (λ _. IsPushed self.old self.new words.now Gapped) }
     {
-        let vertex = self.places.len() as u8;
-        open_run(alloc, &mut self.array, vertex, words)?;
-        self.places.push(Place::InArray(vertex))?;
+        let number = self.array.vertex_count() as u8;
+        self.array.push(words)?;
+        self.places.push(Place::InArray(number))?;
         Ok(())
     }
 
@@ -293,14 +265,14 @@ impl Lists {
                 }
                 self.push_block(VertexBlock::of(words))
             }
-            Home::Gapped => self.push_run(alloc, words),
+            Home::Gapped => self.push_run(words),
             Home::Tree => self.push_tree(NeighbourTree::of(alloc, words)?),
         }
     }
 
     /// Puts a list of others behind these, in its home. A block and a run are copied as memory, a tree is
     /// shared.
-    pub fn push_kept(&mut self, alloc: Global, old: &Lists, vertex: usize) -> Result<(), AllocError>
+    pub fn push_kept(&mut self, old: &Lists, vertex: usize) -> Result<(), AllocError>
         requires kept { AreKept self.old }
         requires room { length (rows_of self.old) < RANGE_VERTICES }
         requires others { AreKept old.now }
@@ -311,8 +283,23 @@ impl Lists {
         match old.place(vertex) {
             Place::Nowhere => self.push_nowhere(),
             Place::InBlock(number) => self.push_block(old.blocks[usize::from(number)]),
-            Place::InArray(vertex) => self.push_run(alloc, old.run(vertex)),
+            Place::InArray(number) => self.push_run(old.run(number)),
             Place::InTree(number) => self.push_tree(old.tree(number).share()?),
         }
+    }
+
+    /// These lists with no room beyond what they need.
+    pub fn fitted(self, alloc: Global) -> Result<Lists, AllocError>
+        requires { AreKept self }
+        ensures { IfOk result (λ lists. AreSame self lists) }
+    {
+        let blocks = Vec::from_slice(alloc, &self.blocks)?;
+        let array = self.array.copy(alloc)?;
+        Ok(Lists {
+            places: self.places,
+            blocks,
+            array,
+            trees: self.trees,
+        })
     }
 }

@@ -67,7 +67,7 @@ impl Shard {
         let mut merged = Vec::new(alloc);
         for vertex in 0..count {
             if groups.is_empty(vertex) {
-                lists.push_kept(alloc, &self.lists, vertex)?;
+                lists.push_kept(&self.lists, vertex)?;
                 continue;
             }
             groups.read(vertex, &mut own)?;
@@ -76,6 +76,7 @@ impl Shard {
             lists.push(alloc, home, &merged)?;
             counts = counts.plus(more);
         }
+        let lists = lists.fitted(alloc)?;
         let range = self.range;
         Ok((Shard { range, lists }, counts))
     }

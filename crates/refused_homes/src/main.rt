@@ -86,7 +86,7 @@ fn filled_array(alloc: Global) -> Result<GappedArray, Stop> {
     let Ok(mut array) = GappedArray::new(alloc) else {
         return Err(Stop::NotBegun);
     };
-    if array.is_open(0) || array.is_open(1) {
+    if array.vertex_count() < 2 || array.is_open(0) || array.is_open(1) {
         return Err(Stop::Wrong);
     }
     array.open_run(0);
@@ -105,7 +105,7 @@ fn filled_array(alloc: Global) -> Result<GappedArray, Stop> {
     let Ok(copy) = array.copy(alloc) else {
         return Err(Stop::ArrayUnchanged.if_unchanged(vertex_has(&array, 0, WORDS)));
     };
-    if !copy.is_open(0) || array.is_open(1) {
+    if array.vertex_count() < 2 || !copy.is_open(0) || array.is_open(1) {
         return Err(Stop::Wrong);
     }
     let opened = array.open_with(1, copy.words(0)).is_ok();

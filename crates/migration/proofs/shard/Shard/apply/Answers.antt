@@ -1,9 +1,10 @@
-use Rattle.std.proofs.Common.{◌≡◌, ◌+◌, ◌<◌, ◌++◌, ◌∷◌, [], length, refl, sym, ap, subst, subst₂, ◌∙◌, arith}
+use Rattle.std.proofs.Common.{◌≡◌, ℕ, ◌+◌, ◌<◌, ◌++◌, ◌∷◌, [], length, refl, sym, ap, ap₂, subst, subst₂, ◌∙◌, arith}
 use Rattle.std.proofs.lemmas.List.{length_push}
 use Rattle.graph_model.specs.Homes.{home_after}
 use Rattle.word_sets.specs.Words.{IsSet}
 use Rattle.migration.specs.Groups.{Grouped, edits_of}
-use Rattle.migration.specs.Part.{Part, row_at, home_at, AreEditsOf, IsPartAfter, AreCounts, AreHomesAfter}
+use Rattle.migration.specs.Part.{Part, row_at, home_at, AreEditsOf, IsPartAfter, AreCounts, AreHomesAfter, IsShard}
+use Rattle.migration.specs.declared.lists.Lists.{Lists}
 use Rattle.migration.specs.Lists.{rows_of, homes_of, part_of}
 use Rattle.migration.proofs.ListLemmas.{few_words}
 use Rattle.migration.proofs.HomeLemmas.{none_moved, one_moved, same_home, all_moved}
@@ -115,6 +116,10 @@ loop-vertex-preserved c =
           (merged_own es c.read.new.edits.items part row c.in_ok-more.more i read c.in_ok-more.ensures));
     }
 
+-- the lists as they were made, and with the room that they need
+made : (range : ℕ) (old new : Lists) → rows_of new ≡ rows_of old → homes_of new ≡ homes_of old → part_of range old ≡ part_of range new
+made range old new rows homes = sym (ap₂ (λ l h. record { range = range; rows = l; homes = h }) rows homes)
+
 pub invariant_of-result : goal.invariant_of-result
 invariant_of-result c =
     let part : Part = part_of c.self.inside.range c.self.inside.lists in
@@ -124,7 +129,8 @@ invariant_of-result c =
     let shard = c.self.invariant.1 in
     let own : AreEditsOf part es = subst (λ p. AreEditsOf p es) (sym c.self.view_is) c.requires in
     let full : length rows ≡ length part.rows = (let count = c.count-count.ensures.rows in let made = c.loop-vertex.invariant.count in let test = c.loop-vertex-test.false in let end = c.loop-vertex.auto.vertex-end in omega arith) in
-    (c.loop-vertex.invariant.kept, next_shard es part (part_of c.self.inside.range c.loop-vertex.lists) shard own (rows_done es part rows homes c.loop-vertex.counts own full c.loop-vertex.invariant.done).0 (all_moved part part.range rows homes shard.homes full c.loop-vertex.invariant.moved).1)
+    let fitted = c.in_ok-lists-2.ensures in
+    (fitted.kept, subst IsShard (made c.self.inside.range c.loop-vertex.lists c.in_ok-lists-2.lists fitted.rows fitted.homes) (next_shard es part (part_of c.self.inside.range c.loop-vertex.lists) shard own (rows_done es part rows homes c.loop-vertex.counts own full c.loop-vertex.invariant.done).0 (all_moved part part.range rows homes shard.homes full c.loop-vertex.invariant.moved).1))
 
 pub returns-clause-after : goal.returns-clause-after
 returns-clause-after c =
@@ -133,7 +139,8 @@ returns-clause-after c =
     let rows = rows_of c.loop-vertex.lists in
     let own : AreEditsOf part es = subst (λ p. AreEditsOf p es) (sym c.self.view_is) c.requires in
     let full : length rows ≡ length part.rows = (let count = c.count-count.ensures.rows in let made = c.loop-vertex.invariant.count in let test = c.loop-vertex-test.false in let end = c.loop-vertex.auto.vertex-end in omega arith) in
-    subst (λ p. IsPartAfter es p (part_of c.self.inside.range c.loop-vertex.lists)) c.self.view_is (rows_done es part rows (homes_of c.loop-vertex.lists) c.loop-vertex.counts own full c.loop-vertex.invariant.done).0
+    let fitted = c.in_ok-lists-2.ensures in
+    subst₂ (λ p q. IsPartAfter es p q) c.self.view_is (made c.self.inside.range c.loop-vertex.lists c.in_ok-lists-2.lists fitted.rows fitted.homes) (rows_done es part rows (homes_of c.loop-vertex.lists) c.loop-vertex.counts own full c.loop-vertex.invariant.done).0
 
 pub returns-clause-counts : goal.returns-clause-counts
 returns-clause-counts c =
@@ -149,4 +156,5 @@ returns-clause-homes c =
     let part : Part = part_of c.self.inside.range c.self.inside.lists in
     let rows = rows_of c.loop-vertex.lists in
     let full : length rows ≡ length part.rows = (let count = c.count-count.ensures.rows in let made = c.loop-vertex.invariant.count in let test = c.loop-vertex-test.false in let end = c.loop-vertex.auto.vertex-end in omega arith) in
-    subst (λ p. AreHomesAfter p (part_of c.self.inside.range c.loop-vertex.lists)) c.self.view_is (all_moved part part.range rows (homes_of c.loop-vertex.lists) c.self.invariant.1.homes full c.loop-vertex.invariant.moved).0
+    let fitted = c.in_ok-lists-2.ensures in
+    subst₂ (λ p q. AreHomesAfter p q) c.self.view_is (made c.self.inside.range c.loop-vertex.lists c.in_ok-lists-2.lists fitted.rows fitted.homes) (all_moved part part.range rows (homes_of c.loop-vertex.lists) c.self.invariant.1.homes full c.loop-vertex.invariant.moved).0
