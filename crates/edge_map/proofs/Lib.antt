@@ -2,4 +2,4 @@ mod Works
 mod Frontiers
 mod Joins
 mod Places
-mod Tests
+mod Refusals

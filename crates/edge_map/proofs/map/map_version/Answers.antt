@@ -3,7 +3,7 @@ use Rattle.graph_model.specs.Past.{graph_of}
 use Rattle.graph_model.proofs.Pasts.{vertex_count-graph_of}
 use Rattle.edge_map.specs.Maps.{IsFrontier, FitsRecord}
 use Rattle.edge_map.proofs.Frontiers.{frontier_short}
-use Rattle.edge_map.proofs.Tests.{clash, refused_mapped}
+use Rattle.edge_map.proofs.Refusals.{clash, refused_mapped}
 use Rattle.edge_map.proofs.map.map_version.Goals as goal
 
 pub returns-then-not-is_frontier : goal.returns-then-not-is_frontier
