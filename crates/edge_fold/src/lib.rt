@@ -7,8 +7,9 @@ mod fold;
 mod outcome;
 
 pub use bpf_model::{Reduction, Row};
+pub use bpf_runs::Memory;
 pub use edge::EDGE_BYTES;
-pub use fold::map_edges;
+pub use fold::{combine, map_edges, map_frontier, nothing};
 pub use outcome::MapOutcome;
 pub use verifier::Verified;
 pub use version::Version;

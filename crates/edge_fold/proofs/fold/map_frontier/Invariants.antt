@@ -2,7 +2,7 @@ use Rattle.std.proofs.Common.{◌≡◌, ◌≤◌, ◌*◌, length, take}
 use Rattle.graph_model.specs.Past.{graph_of}
 use Rattle.bpf_model.specs.EdgeMap.{reduction_of_numbers, all_numbers, rows_of}
 use Rattle.verifier.specs.Walks.{longest}
-use Rattle.edge_fold.proofs.fold.map_edges.Given as goal
+use Rattle.edge_fold.proofs.fold.map_frontier.Given as goal
 
 abbrev pub invariant-loop-source : goal.invariant-loop-source
 invariant-loop-source l =

@@ -6,7 +6,7 @@ use Rattle.bpf_model.specs.EdgeMap.{exit_numbers, all_numbers, row_of, rows_of}
 use Rattle.verifier.specs.Walks.{longest}
 use Rattle.edge_fold.proofs.Reductions.{total_more}
 use Rattle.edge_fold.proofs.RowFacts.{flat_map_more, row_of_some}
-use Rattle.edge_fold.proofs.fold.map_edges.Goals as goal
+use Rattle.edge_fold.proofs.fold.map_frontier.Goals as goal
 
 pub loop-source-preserved : goal.loop-source-preserved
 loop-source-preserved c =

@@ -1,0 +1,5 @@
+mod Works
+mod Frontiers
+mod Joins
+mod Places
+mod Refusals

@@ -1,0 +1,4 @@
+pub mod Maps
+pub mod Pieces
+pub mod Plans
+pub mod Refused

@@ -1,0 +1,32 @@
+//! What a frontier has to be.
+ghost use Rattle.std.specs.Prelude.{◌≡◌, ◌<◌, ◌↔◌, All, true};
+ghost use Rattle.std.specs.List.Sorted.{IsStrictlyIncreasing};
+ghost use Rattle.edge_map.specs.Maps.{IsFrontier};
+
+/// Whether each vertex is below the next one.
+fn ascends(frontier: &[u32]) -> bool
+    ensures { (result ≡ true) ↔ IsStrictlyIncreasing frontier.now }
+{
+    let mut place = 0usize;
+    'places: while place < frontier.len() && frontier.len() - place > 1 {
+        if frontier[place] >= frontier[place + 1] {
+            return false;
+        }
+        place += 1;
+    }
+    true
+}
+
+/// Whether each vertex is below a number of vertices.
+fn are_below(frontier: &[u32], vertices: u32) -> bool
+    ensures { (result ≡ true) ↔ All (λ v. v < vertices) frontier.now }
+{
+    frontier.iter().all(|v| *v < vertices)
+}
+
+/// Whether it strictly ascends, below a number of vertices.
+pub(crate) fn is_frontier(frontier: &[u32], vertices: u32) -> bool
+    ensures { (result ≡ true) ↔ IsFrontier vertices frontier.now }
+{
+    ascends(frontier) && are_below(frontier, vertices)
+}

@@ -1,0 +1,171 @@
+//! A map over edges.
+ghost use Rattle.std.specs.Prelude.{◌≡◌, ◌+◌, ◌<◌, ◌≤◌, [], length, IfOk};
+ghost use Rattle.graph_model.specs.declared.limits.TheConstants.{MOST_VERTICES};
+ghost use Rattle.graph_model.specs.Past.{graph_of};
+ghost use Rattle.gates.specs.declared.limits.TheConstants.{MOST_WORKERS};
+ghost use Rattle.claims.specs.declared.limits.TheConstants.{PARTS};
+ghost use Rattle.edge_fold.specs.declared.edge.TheConstants.{EDGE_BYTES};
+ghost use Rattle.edge_map.specs.Maps.{IsMap, IsMapped};
+ghost use Rattle.edge_map.specs.Pieces.{IsWork, task};
+ghost use Rattle.edge_map.specs.Plans.{task_of};
+
+use crate::done::Done;
+use crate::errors::MapError;
+use crate::frontier::is_frontier;
+use crate::joined::joined;
+use crate::piece::count_pieces;
+use crate::plan::Plan;
+use crate::work::{spread, work};
+use bpf_model::Reduction;
+use claims::{Claimant, Counter};
+use edge_fold::{EDGE_BYTES, MapOutcome};
+use gates::{Gate, Refusal, Workers};
+use std::alloc::{AllocError, Global};
+use std::sync::Wait;
+use std::thread;
+use std::thread::Threads;
+use verifier::Verified;
+use version::Version;
+use versions::Pin;
+
+/// What all workers have done. With one worker no thread is started.
+fn done_by<Ga: Gate, R: Threads + Wait>(
+    rt: &R,
+    alloc: Global,
+    plan: Plan<'_>,
+    gate: &Ga,
+    me: Claimant,
+    more: u8,
+) -> Result<Done, Refusal>
+    requires of { me.counter ≡ plan.counter.now }
+    requires parts { more < me.parts }
+    requires fresh { me.claimed ≡ [] }
+    ensures { IfOk result (λ done. IsWork (task_of plan.entry) me.parts done.claimant done.pieces.items) }
+{
+    if more == 0 {
+        let done = work(alloc, plan, gate, me)?;
+        return Ok(done);
+    }
+    let Plan {
+        version,
+        program,
+        argument,
+        frontier,
+        reduction,
+        counter,
+    } = plan;
+    thread::scope(
+        thread::scope_env(),
+        rt,
+        move |scope| -> Result<Done, Refusal>
+            requires { (me.counter ≡ counter.now) × (more < me.parts) × (me.claimed ≡ [])
+                × (length argument.now + EDGE_BYTES ≡ program.now.record_length)
+                × (length frontier.now ≤ MOST_VERTICES) }
+            ensures { IfOk result (λ done. IsWork (task program.entry.now (graph_of version.entry.now.past)
+                argument.entry.now frontier.entry.now reduction counter.entry.now) me.parts
+                done.claimant done.pieces.items) }
+        {
+            let plan = Plan {
+                version,
+                program,
+                argument,
+                frontier,
+                reduction,
+                counter,
+            };
+            spread(rt, alloc, scope, plan, gate, me, more)
+        },
+    )
+}
+
+/// The map by so many workers, where the argument and the frontier are as they have to be.
+fn map_allowed<Ga: Gate, R: Threads + Wait>(
+    rt: &R,
+    alloc: Global,
+    version: &Version,
+    program: &Verified,
+    argument: &[u8],
+    frontier: &[u32],
+    reduction: Reduction,
+    workers: Workers,
+    gate: &Ga,
+) -> Result<MapOutcome, Refusal>
+    requires argument { length argument.now + EDGE_BYTES ≡ program.now.record_length }
+    requires few { length frontier.now ≤ MOST_VERTICES }
+    ensures { IfOk result (λ out.
+        IsMap program.now (graph_of version.now.past) reduction argument.now frontier.now out) }
+{
+    let (counter, me) = Counter::new(alloc)?;
+    let plan = Plan {
+        version,
+        program,
+        argument,
+        frontier,
+        reduction,
+        counter: &counter,
+    };
+    let mut done = done_by(rt, alloc, plan, gate, me, workers.count() - 1)?;
+    let _claimed = counter.count(&mut done.claimant);
+    let count = count_pieces(&plan);
+    let out = joined(alloc, &plan, done.pieces, count)?;
+    Ok(out)
+}
+
+/// What `map_edges` says, of a version.
+pub(crate) fn map_version<Ga: Gate, R: Threads + Wait>(
+    rt: &R,
+    alloc: Global,
+    version: &Version,
+    program: &Verified,
+    argument: &[u8],
+    frontier: &[u32],
+    reduction: Reduction,
+    workers: Workers,
+    gate: &Ga,
+) -> Result<MapOutcome, MapError>
+    ensures { IsMapped program.now (graph_of version.now.past) reduction argument.now frontier.now result }
+{
+    if argument.len() + EDGE_BYTES != usize::from(program.image().record_length()) {
+        return Err(MapError::ArgumentLength);
+    }
+    if !is_frontier(frontier, version.vertex_count()) {
+        return Err(MapError::Frontier);
+    }
+    let out = map_allowed(
+        rt, alloc, version, program, argument, frontier, reduction, workers, gate,
+    )?;
+    Ok(out)
+}
+
+/// Runs a verified program on each edge of the frontier's vertices, on a record of the edge's own, and reduces the
+/// numbers that it exits with: those of each vertex, and all together. The graph is that of the pin's version.
+/// `ArgumentLength` exactly where the argument does not have the record's length less 16 bytes; else `Frontier` exactly
+/// where the frontier does not strictly ascend or has a vertex outside; then `OutOfMemory` where there is no memory,
+/// and `WorkerRefused` where a thread could not be started. The answer does not depend on the workers, the gate or the
+/// order in which threads run. A piece of the gate's is 64 places of the frontier: piece `p` begins at place `64 * p`.
+/// Workers claim the pieces, the caller's thread among them, so that one thread less is started than there are workers.
+pub fn map_edges<Ga: Gate, R: Threads + Wait>(
+    rt: &R,
+    alloc: Global,
+    pin: &Pin,
+    program: &Verified,
+    argument: &[u8],
+    frontier: &[u32],
+    reduction: Reduction,
+    workers: Workers,
+    gate: &Ga,
+) -> Result<MapOutcome, MapError>
+    ensures { IsMapped program.now (graph_of pin.now.past) reduction argument.now frontier.now result }
+{
+    map_version(
+        rt,
+        alloc,
+        pin.version(),
+        program,
+        argument,
+        frontier,
+        reduction,
+        workers,
+        gate,
+    )
+}

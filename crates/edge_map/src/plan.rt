@@ -1,0 +1,22 @@
+//! What workers are to do together.
+ghost use Rattle.std.specs.Prelude.{◌≡◌, ◌+◌, ◌≤◌, length};
+ghost use Rattle.graph_model.specs.declared.limits.TheConstants.{MOST_VERTICES};
+ghost use Rattle.edge_fold.specs.declared.edge.TheConstants.{EDGE_BYTES};
+
+use bpf_model::Reduction;
+use claims::Counter;
+use verifier::Verified;
+use version::Version;
+
+/// A map, and the counter of which its pieces are claimed.
+#[derive(Clone, Copy)]
+pub(crate) struct Plan<'a> {
+    pub version: &'a Version,
+    pub program: &'a Verified,
+    pub argument: &'a [u8],
+    pub frontier: &'a [u32],
+    pub reduction: Reduction,
+    pub counter: &'a Counter,
+    ghost argued: { length argument.now + EDGE_BYTES ≡ program.now.record_length },
+    ghost few: { length frontier.now ≤ MOST_VERTICES },
+}
