@@ -288,7 +288,7 @@ impl Lists {
         }
     }
 
-    /// These lists with no room beyond what they need.
+    /// These lists, with their blocks and their array in no more room than they need.
     pub fn fitted(self, alloc: Global) -> Result<Lists, AllocError>
         requires { AreKept self }
         ensures { IfOk result (λ lists. AreSame self lists) }
