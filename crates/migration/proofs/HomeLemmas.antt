@@ -1,5 +1,5 @@
 -- The homes of the lists of a part, one vertex after another.
-use Rattle.std.proofs.Common.{◌≡◌, ℕ, ◌+◌, ◌<◌, ◌≤◌, Bool, List, [], ◌∷◌, ◌++◌, length, get_or, filter, refl, sym, ap, subst, ◌∙◌, inl, inr, arith}
+use Rattle.std.proofs.Common.{◌≡◌, ℕ, ◌+◌, ◌<◌, Bool, List, [], ◌∷◌, ◌++◌, length, get_or, filter, sym, ap, subst, ◌∙◌, inl, inr, arith}
 use Rattle.std.proofs.lemmas.Bool.{cases_lt}
 use Rattle.std.proofs.lemmas.List.{length_push, get_or_append_left, get_or_push}
 use Rattle.graph_model.specs.declared.edit.Edit.{Edit}
@@ -15,20 +15,16 @@ use Rattle.word_sets.proofs.Within.{IsWithin-filter, IsWithin-wider}
 use Rattle.migration.specs.declared.counts.Counts.{Counts}
 use Rattle.migration.specs.Part.{Part, row_at, home_at, AreHomes, AreHomesAfter, IsShard}
 use Rattle.migration.specs.Merge.{decision, IsMerged}
+use Rattle.migration.specs.Begun.{AreAtHome}
 
--- the first lists have their homes after the edits
-pub record AreMoved (p : Part) (rows : List (List ℕ)) (homes : List Home) : Type 0 where
-  pub count : length homes ≡ length rows
-  pub each : (i : ℕ) → i < length homes → get_or homes i Block ≡ home_after (home_at p i) (length (get_or rows i []))
-
-pub none_moved : (p : Part) (rows : List (List ℕ)) (homes : List Home) → rows ≡ [] → homes ≡ [] → AreMoved p rows homes
+pub none_moved : (p : Part) (rows : List (List ℕ)) (homes : List Home) → rows ≡ [] → homes ≡ [] → AreAtHome p rows homes
 none_moved p rows homes no_rows no_homes = record {
   count = ap length no_homes ∙ sym (ap length no_rows);
   each = λ i h. absurd (omega (arith, ap length no_homes));
 }
 
 -- one list more
-pub one_moved : (p : Part) (rows new_rows : List (List ℕ)) (homes new_homes : List Home) (row : List ℕ) (home : Home) (i : ℕ) → AreMoved p rows homes → length rows ≡ i → new_rows ≡ rows ++ row ∷ [] → new_homes ≡ homes ++ home ∷ [] → home ≡ home_after (home_at p i) (length row) → AreMoved p new_rows new_homes
+pub one_moved : (p : Part) (rows new_rows : List (List ℕ)) (homes new_homes : List Home) (row : List ℕ) (home : Home) (i : ℕ) → AreAtHome p rows homes → length rows ≡ i → new_rows ≡ rows ++ row ∷ [] → new_homes ≡ homes ++ home ∷ [] → home ≡ home_after (home_at p i) (length row) → AreAtHome p new_rows new_homes
 one_moved p rows new_rows homes new_homes row home i moved count rows_is homes_is is =
     let same = moved.count in
     record {
@@ -57,7 +53,7 @@ same_home p i is inside =
     sym (homes_stay (home_at p i) (length (row_at p i)) (is.homes.each i (omega (arith, count, inside))))
 
 -- all homes of a part, and that they may keep its lists
-pub all_moved : (p : Part) (range : ℕ) (rows : List (List ℕ)) (homes : List Home) → AreHomes p → length rows ≡ length p.rows → AreMoved p rows homes
+pub all_moved : (p : Part) (range : ℕ) (rows : List (List ℕ)) (homes : List Home) → AreHomes p → length rows ≡ length p.rows → AreAtHome p rows homes
     → AreHomesAfter p (record { range = range; rows = rows; homes = homes }) × AreHomes (record { range = range; rows = rows; homes = homes })
 all_moved p range rows homes are long moved = (
   record {

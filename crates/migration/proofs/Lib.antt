@@ -7,7 +7,10 @@ pub mod RangeLemmas
 pub mod EditedLemmas
 pub mod TableLemmas
 pub mod BlockLemmas
+pub mod ShortLemmas
 pub mod ListLemmas
+pub mod PageLemmas
+pub mod BegunLemmas
 pub mod HomeLemmas
 pub mod HousedLemmas
 pub mod FilledLemmas

@@ -1,17 +1,19 @@
 -- A list more among the lists of a range.
-use Rattle.std.proofs.Common.{◌≡◌, ◌==◌, ℕ, ◌+◌, ◌<◌, ◌≤◌, if◌then◌else◌, List, [], ◌∷◌, ◌++◌, length, get_or, set, drop, map, replicate, refl, sym, ap, subst, ◌∙◌, inl, inr, Option, Some, None, unwrap_or, IsSome, is_some, arith}
+use Rattle.std.proofs.Common.{◌≡◌, ℕ, ◌+◌, ◌<◌, ◌≤◌, List, [], ◌∷◌, ◌++◌, length, get_or, set, drop, map, refl, sym, ap, subst, ◌∙◌, inl, inr, Some, None, unwrap_or, IsSome, is_some, arith}
 use Rattle.std.specs.List.{AllByRecursion}
 use Rattle.std.proofs.lemmas.Bool.{cases_lt, true≢false}
-use Rattle.std.proofs.lemmas.List.{length_push, length-map, map_push, get_or_append_left, get_or_push, get_or-set_same, get_or-set_other, get_or-replicate, get_or_past, length-replicate, length-append, drop_all, append-nil, append_assoc}
+use Rattle.std.proofs.lemmas.List.{length_push, map_push, get_or_append_left, get_or_push, get_or_past, length-append, drop_all, append-nil, append_assoc}
 use Rattle.graph_model.specs.declared.home.Home.{Home}
 use Rattle.graph_model.specs.declared.home.Home.TheVariants.{Block, Gapped, Tree}
 use Rattle.word_sets.specs.declared.places.TheConstants.{WORD_LIMIT}
 use Rattle.word_sets.specs.Words.{IsSet}
 use Rattle.word_sets.proofs.Within.{IsWithin-length}
 use Rattle.migration.specs.declared.lists.Place.{Place}
-use Rattle.migration.specs.declared.lists.Place.TheVariants.{Nowhere, InBlock, InArray, InTree}
+use Rattle.migration.specs.declared.lists.Place.TheVariants.{Nowhere, InShort, InBlock, InArray, InTree}
 use Rattle.migration.specs.declared.lists.Lists.{Lists}
 use Rattle.migration.specs.Lent.{IsLentAt}
+use Rattle.migration.specs.ShortBlocks.{set_at, ArePacked}
+use Rattle.migration.proofs.ShortLemmas.{same_set, same_packed, set_stays, set_pushed, packed_more}
 use Rattle.gapped_array.specs.Table.{IsOpen, list_at as run_at}
 use Rattle.migration.specs.Lists.{list_at, home_of, rows_of, homes_of, IsThere, AreKept, AreSame, IsPushed}
 
@@ -38,16 +40,20 @@ all_push P (y ∷ ys) x h here = (h.0, all_push P ys x h.1 here)
 pushed : (old new : Lists) (p : Place) (row : List ℕ) (home : Home) → AreKept old → new.places.items ≡ old.places.items ++ p ∷ [] → ((q : Place) → Stays old new q) → IsThere new p → list_at new p ≡ row → home_of p ≡ home
     → length new.blocks.items ≤ length old.blocks.items + 1 → length new.trees.items ≤ length old.trees.items + 1
     → length new.array ≤ length old.array + 1
+    → ArePacked new.shorts → length new.shorts.ends.items ≤ length old.shorts.ends.items + 1
     → IsPushed old new row home
-pushed old new p row home kept places stays there is at blocks trees runs =
+pushed old new p row home kept places stays there is at blocks trees runs packed shorts =
     let all = all_stay old.places.items old new stays kept.there in
     let long : length new.places.items ≡ length old.places.items + 1 = ap length places ∙ length_push old.places.items p in
+    let few_shorts = kept.shorts in
     let few_blocks = kept.blocks in
     let few_trees = kept.trees in
     let few_runs = kept.runs in
     record {
       kept = record {
         there = subst (AllByRecursion (IsThere new)) (sym places) (all_push (IsThere new) old.places.items p all.0 there);
+        packed = packed;
+        shorts = omega (arith, long, few_shorts, shorts);
         blocks = omega (arith, long, few_blocks, blocks);
         runs = omega (arith, long, few_runs, runs);
         trees = omega (arith, long, few_trees, trees);
@@ -58,6 +64,16 @@ pushed old new p row home kept places stays there is at blocks trees runs =
 
 same_run : (old new : Lists) (k : ℕ) → new.array ≡ old.array → Stays old new (InArray k)
 same_run old new k is there = (subst (λ a. IsOpen a k) (sym is) there, ap (λ a. run_at a k) is)
+
+same_short : (old new : Lists) (k : ℕ) → new.shorts ≡ old.shorts → Stays old new (InShort k)
+same_short old new k is there = (subst (λ b. k < length b.ends.items) (sym is) there, ap (λ b. set_at b k) is)
+
+-- and so the short blocks stay packed, and as many
+still : (old new : Lists) → AreKept old → new.shorts ≡ old.shorts → ArePacked new.shorts
+still old new kept is = subst ArePacked (sym is) kept.packed
+
+no_more : (old new : Lists) → new.shorts ≡ old.shorts → length new.shorts.ends.items ≤ length old.shorts.ends.items + 1
+no_more old new is = omega (arith, ap (λ b. length b.ends.items) is)
 
 same_block : (old new : Lists) (k : ℕ) → new.blocks.items ≡ old.blocks.items → Stays old new (InBlock k)
 same_block old new k is there = (omega (arith, ap length is, there), ap (λ l. get_or l k []) is)
@@ -78,36 +94,53 @@ before_tree old new k row is there = (
 )
 
 -- an empty list that stands nowhere
-pub pushed_nowhere : (old new : Lists) → AreKept old → new.places.items ≡ old.places.items ++ Nowhere ∷ [] → new.blocks.items ≡ old.blocks.items → new.array ≡ old.array → new.trees.items ≡ old.trees.items → IsPushed old new [] Block
-pushed_nowhere old new kept places blocks array trees =
-    pushed old new Nowhere [] Block kept places stays tt refl refl (omega (arith, ap length blocks)) (omega (arith, ap length trees)) (omega (arith, ap length array))
+pub pushed_nowhere : (old new : Lists) → AreKept old → new.places.items ≡ old.places.items ++ Nowhere ∷ [] → new.shorts ≡ old.shorts → new.blocks.items ≡ old.blocks.items → new.array ≡ old.array → new.trees.items ≡ old.trees.items → IsPushed old new [] Block
+pushed_nowhere old new kept places shorts blocks array trees =
+    pushed old new Nowhere [] Block kept places stays tt refl refl (omega (arith, ap length blocks)) (omega (arith, ap length trees)) (omega (arith, ap length array)) (still old new kept shorts) (no_more old new shorts)
   where
     stays : (q : Place) → Stays old new q
     stays Nowhere = λ h. (tt, refl)
+    stays (InShort k) = same_short old new k shorts
     stays (InBlock k) = same_block old new k blocks
     stays (InArray k) = same_run old new k array
     stays (InTree k) = same_tree old new k trees
 
 -- one in a block behind the others
-pub pushed_block : (old new : Lists) (row : List ℕ) → AreKept old → new.places.items ≡ old.places.items ++ InBlock (length old.blocks.items) ∷ [] → new.blocks.items ≡ old.blocks.items ++ row ∷ [] → new.array ≡ old.array → new.trees.items ≡ old.trees.items → IsPushed old new row Block
-pushed_block old new row kept places blocks array trees =
+pub pushed_block : (old new : Lists) (row : List ℕ) → AreKept old → new.places.items ≡ old.places.items ++ InBlock (length old.blocks.items) ∷ [] → new.shorts ≡ old.shorts → new.blocks.items ≡ old.blocks.items ++ row ∷ [] → new.array ≡ old.array → new.trees.items ≡ old.trees.items → IsPushed old new row Block
+pushed_block old new row kept places shorts blocks array trees =
     let more : length new.blocks.items ≡ length old.blocks.items + 1 = ap length blocks ∙ length_push old.blocks.items row in
-    pushed old new (InBlock (length old.blocks.items)) row Block kept places stays (omega (arith, more)) (ap (λ l. get_or l (length old.blocks.items) []) blocks ∙ get_or_push old.blocks.items row [] (length old.blocks.items) refl) refl (omega (arith, more)) (omega (arith, ap length trees)) (omega (arith, ap length array))
+    pushed old new (InBlock (length old.blocks.items)) row Block kept places stays (omega (arith, more)) (ap (λ l. get_or l (length old.blocks.items) []) blocks ∙ get_or_push old.blocks.items row [] (length old.blocks.items) refl) refl (omega (arith, more)) (omega (arith, ap length trees)) (omega (arith, ap length array)) (still old new kept shorts) (no_more old new shorts)
   where
     stays : (q : Place) → Stays old new q
     stays Nowhere = λ h. (tt, refl)
+    stays (InShort k) = same_short old new k shorts
     stays (InBlock k) = before_block old new k row blocks
     stays (InArray k) = same_run old new k array
     stays (InTree k) = same_tree old new k trees
 
--- one in a tree behind the others
-pub pushed_tree : (old new : Lists) (row : List ℕ) → AreKept old → new.places.items ≡ old.places.items ++ InTree (length old.trees.items) ∷ [] → new.blocks.items ≡ old.blocks.items → new.array ≡ old.array → new.trees.items ≡ old.trees.items ++ row ∷ [] → IsPushed old new row Tree
-pushed_tree old new row kept places blocks array trees =
-    let more : length new.trees.items ≡ length old.trees.items + 1 = ap length trees ∙ length_push old.trees.items row in
-    pushed old new (InTree (length old.trees.items)) row Tree kept places stays (omega (arith, more)) (ap (λ l. get_or l (length old.trees.items) []) trees ∙ get_or_push old.trees.items row [] (length old.trees.items) refl) refl (omega (arith, ap length blocks)) (omega (arith, more)) (omega (arith, ap length array))
+-- one in a short block behind the others
+pub pushed_short : (old new : Lists) (row : List ℕ) → AreKept old → IsSet row → length row ≤ 6 → new.places.items ≡ old.places.items ++ InShort (length old.shorts.ends.items) ∷ [] → new.shorts.words.items ≡ old.shorts.words.items ++ row → new.shorts.ends.items ≡ old.shorts.ends.items ++ (length old.shorts.words.items + length row) ∷ [] → new.blocks.items ≡ old.blocks.items → new.array ≡ old.array → new.trees.items ≡ old.trees.items → IsPushed old new row Block
+pushed_short old new row kept set short places words ends blocks array trees =
+    let end = length old.shorts.words.items + length row in
+    let more : length new.shorts.ends.items ≡ length old.shorts.ends.items + 1 = ap length ends ∙ length_push old.shorts.ends.items end in
+    pushed old new (InShort (length old.shorts.ends.items)) row Block kept places stays (omega (arith, more)) (set_pushed old.shorts new.shorts row kept.packed words ends) refl (omega (arith, ap length blocks)) (omega (arith, ap length trees)) (omega (arith, ap length array)) (packed_more old.shorts new.shorts row kept.packed set short words ends) (omega (arith, more))
   where
     stays : (q : Place) → Stays old new q
     stays Nowhere = λ h. (tt, refl)
+    stays (InShort k) = λ there. (omega (arith, there, ap length ends, length_push old.shorts.ends.items (length old.shorts.words.items + length row)), set_stays old.shorts new.shorts row (length old.shorts.words.items + length row) k kept.packed words ends there)
+    stays (InBlock k) = same_block old new k blocks
+    stays (InArray k) = same_run old new k array
+    stays (InTree k) = same_tree old new k trees
+
+-- one in a tree behind the others
+pub pushed_tree : (old new : Lists) (row : List ℕ) → AreKept old → new.places.items ≡ old.places.items ++ InTree (length old.trees.items) ∷ [] → new.shorts ≡ old.shorts → new.blocks.items ≡ old.blocks.items → new.array ≡ old.array → new.trees.items ≡ old.trees.items ++ row ∷ [] → IsPushed old new row Tree
+pushed_tree old new row kept places shorts blocks array trees =
+    let more : length new.trees.items ≡ length old.trees.items + 1 = ap length trees ∙ length_push old.trees.items row in
+    pushed old new (InTree (length old.trees.items)) row Tree kept places stays (omega (arith, more)) (ap (λ l. get_or l (length old.trees.items) []) trees ∙ get_or_push old.trees.items row [] (length old.trees.items) refl) refl (omega (arith, ap length blocks)) (omega (arith, more)) (omega (arith, ap length array)) (still old new kept shorts) (no_more old new shorts)
+  where
+    stays : (q : Place) → Stays old new q
+    stays Nowhere = λ h. (tt, refl)
+    stays (InShort k) = same_short old new k shorts
     stays (InBlock k) = same_block old new k blocks
     stays (InArray k) = same_run old new k array
     stays (InTree k) = before_tree old new k row trees
@@ -123,27 +156,31 @@ before_run old new k row is there =
     (subst IsSome (sym same) there, ap (λ o. unwrap_or o []) same)
 
 -- one in the array behind the others
-pub pushed_run : (old new : Lists) (row : List ℕ) → AreKept old → new.places.items ≡ old.places.items ++ InArray (length old.array) ∷ [] → new.blocks.items ≡ old.blocks.items → new.array ≡ old.array ++ Some row ∷ [] → new.trees.items ≡ old.trees.items → IsPushed old new row Gapped
-pushed_run old new row kept places blocks array trees =
+pub pushed_run : (old new : Lists) (row : List ℕ) → AreKept old → new.places.items ≡ old.places.items ++ InArray (length old.array) ∷ [] → new.shorts ≡ old.shorts → new.blocks.items ≡ old.blocks.items → new.array ≡ old.array ++ Some row ∷ [] → new.trees.items ≡ old.trees.items → IsPushed old new row Gapped
+pushed_run old new row kept places shorts blocks array trees =
     let here : get_or new.array (length old.array) None ≡ Some row = ap (λ l. get_or l (length old.array) None) array ∙ get_or_push old.array (Some row) None (length old.array) refl in
-    pushed old new (InArray (length old.array)) row Gapped kept places stays (subst IsSome (sym here) refl) (ap (λ o. unwrap_or o []) here) refl (omega (arith, ap length blocks)) (omega (arith, ap length trees)) (omega (arith, ap length array, length_push old.array (Some row)))
+    pushed old new (InArray (length old.array)) row Gapped kept places stays (subst IsSome (sym here) refl) (ap (λ o. unwrap_or o []) here) refl (omega (arith, ap length blocks)) (omega (arith, ap length trees)) (omega (arith, ap length array, length_push old.array (Some row))) (still old new kept shorts) (no_more old new shorts)
   where
     stays : (q : Place) → Stays old new q
     stays Nowhere = λ h. (tt, refl)
+    stays (InShort k) = same_short old new k shorts
     stays (InBlock k) = same_block old new k blocks
     stays (InArray k) = before_run old new k row array
     stays (InTree k) = same_tree old new k trees
 
 -- the same lists in other memory
-pub kept_same : (old new : Lists) → AreKept old → new.places.items ≡ old.places.items → new.blocks.items ≡ old.blocks.items → new.array ≡ old.array → new.trees.items ≡ old.trees.items → AreSame old new
-kept_same old new kept places blocks array trees =
+pub kept_same : (old new : Lists) → AreKept old → new.places.items ≡ old.places.items → new.shorts.words.items ≡ old.shorts.words.items → new.shorts.ends.items ≡ old.shorts.ends.items → new.blocks.items ≡ old.blocks.items → new.array ≡ old.array → new.trees.items ≡ old.trees.items → AreSame old new
+kept_same old new kept places words ends blocks array trees =
     let all = all_stay old.places.items old new stays kept.there in
+    let few_shorts = kept.shorts in
     let few_blocks = kept.blocks in
     let few_trees = kept.trees in
     let few_runs = kept.runs in
     record {
       kept = record {
         there = subst (AllByRecursion (IsThere new)) (sym places) all.0;
+        packed = same_packed old.shorts new.shorts kept.packed words ends;
+        shorts = omega (arith, ap length places, ap length ends, few_shorts);
         blocks = omega (arith, ap length places, ap length blocks, few_blocks);
         runs = omega (arith, ap length places, ap length array, few_runs);
         trees = omega (arith, ap length places, ap length trees, few_trees);
@@ -154,6 +191,7 @@ kept_same old new kept places blocks array trees =
   where
     stays : (q : Place) → Stays old new q
     stays Nowhere = λ h. (tt, refl)
+    stays (InShort k) = λ there. (omega (arith, ap length ends, there), same_set old.shorts new.shorts k words ends)
     stays (InBlock k) = same_block old new k blocks
     stays (InArray k) = same_run old new k array
     stays (InTree k) = same_tree old new k trees

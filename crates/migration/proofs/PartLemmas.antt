@@ -1,5 +1,5 @@
 -- A part of a graph under edit, one vertex after another.
-use Rattle.std.proofs.Common.{◌≡◌, ◌==◌, ℕ, zero, suc, ◌+◌, ◌-◌, ◌*◌, ◌%◌, ◌^◌, ◌<◌, ◌≤◌, Bool, true, false, not, ◌&&◌, cond, if◌then◌else◌, unwrap_or, Some, None, List, [], ◌∷◌, ◌++◌, length, get_or, filter, replicate, refl, sym, ap, ap₂, subst, subst₂, ◌∙◌, inl, inr, le_trans, mul-le-mul, add-zero, eqb-true, eq-eqb, arith}
+use Rattle.std.proofs.Common.{◌≡◌, ◌==◌, ℕ, zero, suc, ◌+◌, ◌-◌, ◌*◌, ◌%◌, ◌^◌, ◌<◌, ◌≤◌, Bool, true, false, not, ◌&&◌, cond, if◌then◌else◌, unwrap_or, Some, None, List, [], ◌∷◌, ◌++◌, length, filter, replicate, refl, sym, ap, ap₂, subst, subst₂, ◌∙◌, inl, inr, le_trans, mul-le-mul, add-zero, eqb-true, eq-eqb, arith}
 use Rattle.std.specs.List.{AllByRecursion}
 use Rattle.std.proofs.lemmas.Bool.{cases_lt, cases_Bool, and_parts, false_from_ne_true}
 use Rattle.std.proofs.lemmas.List.{length_push, get_or_append_left, get_or_push, get_or-replicate, length-replicate}
@@ -15,10 +15,11 @@ use Rattle.migration.specs.declared.groups.Grouping.TheVariants.{ByVertex}
 use Rattle.migration.specs.Groups.{group_of, edits_of}
 use Rattle.graph_model.specs.declared.home.Home.{Home}
 use Rattle.graph_model.specs.declared.home.Home.TheVariants.{Block}
-use Rattle.graph_model.specs.Homes.{home_after, IsHomeOf}
-use Rattle.migration.specs.Part.{Part, vertex_at, row_at, home_at, IsPart, IsEditOf, AreEditsOf, IsPartAfter, AreCounts, AreHomes, AreHomesAfter, IsShard}
+use Rattle.graph_model.specs.Homes.{IsHomeOf}
+use Rattle.migration.specs.Part.{Part, vertex_at, row_at, IsPart, IsEditOf, AreEditsOf, IsPartAfter, AreCounts, AreHomes, IsShard}
 use Rattle.migration.specs.Merge.{decision, AreEditsFrom, IsMerged}
 use Rattle.migration.specs.Blocks.{is_new, is_gone}
+use Rattle.migration.specs.Begun.{IsDone}
 use Rattle.word_sets.specs.Words.{IsSet}
 use Rattle.migration.proofs.WordLemmas.{last_word-filter}
 use Rattle.migration.proofs.HomeLemmas.{set_merged}
@@ -115,11 +116,7 @@ count_past (suc k) m n f never =
     let shift : suc k + m ≡ suc (k + m) = omega arith in
     omega (arith, ap (λ j. count_pairs j n f) shift, count_pairs-suc (k + m) n f, count_past k m n f (λ w x low high. never w x low (omega arith)), filter_none (f (k + m)) (numbers_below n) (λ x. never (k + m) x (omega arith) (omega arith)))
 
--- the lists of the first i vertices are made, and their edits counted
-pub record IsDone (es : List Edit) (p : Part) (g : Graph) (rows : List (List ℕ)) (counts : Counts) : Type 0 where
-  pub each : (i : ℕ) → i < length rows → get_or rows i [] ≡ neighbours (after_batch es g) (vertex_at p i)
-  pub gained : counts.added ≡ count_pairs (vertex_at p (length rows)) g.vertex_count (is_new es g)
-  pub lost : counts.removed ≡ count_pairs (vertex_at p (length rows)) g.vertex_count (is_gone es g)
+-- ---- the lists of the first vertices are made, and their edits counted
 
 pub nothing_done : (es : List Edit) (p : Part) (g : Graph) → AreEditsOf p es → IsDone es p g [] record { added = 0; removed = 0 }
 nothing_done es p g own = record {

@@ -1,5 +1,5 @@
 -- A search in a vertex's list.
-use Rattle.std.proofs.Common.{◌≡◌, ◌↔◌, ℕ, ◌<◌, ◌≤◌, true, length, Contains, subst, arith}
+use Rattle.std.proofs.Common.{ℕ, ◌<◌, ◌≤◌, length, Contains, subst, arith}
 use Rattle.graph_model.proofs.Neighbours.{Contains-neighbours}
 use Rattle.migration.specs.Part.{Part, row_at, vertex_at, IsShard}
 

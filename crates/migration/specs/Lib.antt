@@ -4,6 +4,9 @@ pub mod Table
 pub mod Blocks
 pub mod Lent
 pub mod Merge
+pub mod ShortBlocks
 pub mod Lists
+pub mod Pages
+pub mod Begun
 pub mod Made
 pub mod Edited

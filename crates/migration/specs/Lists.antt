@@ -4,20 +4,22 @@ use Rattle.std.specs.List.{AllByRecursion}
 use Rattle.graph_model.specs.declared.home.Home.{Home}
 use Rattle.graph_model.specs.declared.home.Home.TheVariants.{Block, Gapped, Tree}
 use Rattle.gapped_array.specs.Table.{IsOpen, list_at as run_at}
-use Rattle.migration.specs.Part.{Part}
 use Rattle.migration.specs.declared.lists.Place.{Place}
-use Rattle.migration.specs.declared.lists.Place.TheVariants.{Nowhere, InBlock, InArray, InTree}
+use Rattle.migration.specs.declared.lists.Place.TheVariants.{Nowhere, InShort, InBlock, InArray, InTree}
 use Rattle.migration.specs.declared.lists.Lists.{Lists}
+use Rattle.migration.specs.ShortBlocks.{set_at, ArePacked}
 
 -- the list that stands at a place
 abbrev pub list_at : Lists → Place → List ℕ
 list_at l Nowhere = []
+list_at l (InShort k) = set_at l.shorts k
 list_at l (InBlock k) = slice_index_or l.blocks.items k []
 list_at l (InArray k) = run_at l.array k
 list_at l (InTree k) = slice_index_or l.trees.items k []
 
 abbrev pub home_of : Place → Home
 home_of Nowhere = Block
+home_of (InShort k) = Block
 home_of (InBlock k) = Block
 home_of (InArray k) = Gapped
 home_of (InTree k) = Tree
@@ -29,13 +31,10 @@ rows_of l = map (list_at l) l.places.items
 abbrev pub homes_of : Lists → List Home
 homes_of l = map home_of l.places.items
 
--- as a part of a graph
-abbrev pub part_of : ℕ → Lists → Part
-part_of range l = record { range = range; rows = rows_of l; homes = homes_of l }
-
 -- there is such a place
 abbrev pub IsThere : Lists → Place → Type 0
 IsThere l Nowhere = Unit {0}
+IsThere l (InShort k) = k < length l.shorts.ends.items
 IsThere l (InBlock k) = k < length l.blocks.items
 IsThere l (InArray k) = IsOpen l.array k
 IsThere l (InTree k) = k < length l.trees.items
@@ -43,6 +42,8 @@ IsThere l (InTree k) = k < length l.trees.items
 -- each vertex's place is there, and no more blocks, runs or trees are than vertices
 pub record AreKept (l : Lists) : Type 0 where
   pub there : AllByRecursion (IsThere l) l.places.items
+  pub packed : ArePacked l.shorts
+  pub shorts : length l.shorts.ends.items ≤ length l.places.items
   pub blocks : length l.blocks.items ≤ length l.places.items
   pub runs : length l.array ≤ length l.places.items
   pub trees : length l.trees.items ≤ length l.places.items

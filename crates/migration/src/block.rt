@@ -13,7 +13,6 @@ use crate::counts::Counts;
 use crate::edited_shard::EditedShard;
 use crate::groups::Groups;
 use crate::shard::Shard;
-use graph_model::Edit;
 use std::alloc::{AllocError, Global};
 use std::marker::Model;
 use std::sync::Arc;
@@ -50,40 +49,6 @@ impl Block {
         ensures { parts_of result.now ≡ self.now }
     {
         &self.shards
-    }
-
-    /// The block after edits, where its first shard is of this range, and what the edits did to its
-    /// shards. A shard that no edit is of is shared. `own` is scratch space.
-    #[inline(never)]
-    pub fn after(
-        &self,
-        alloc: Global,
-        first: usize,
-        groups: &Groups<'_>,
-        own: &mut Vec<Edit>,
-    ) -> Result<(Block, Counts), AllocError>
-        requires ranges { groups.now.grouping ≡ ByRange }
-        requires within { first + length self.now ≤ groups.now.count }
-        requires fits { groups.now.count < 2 ^ 64 }
-        requires editable { AreEditable first self.now groups.now.edits }
-        ensures edited { IfOk result (λ next. (g : Graph) → AreEditsBelow g.vertex_count groups.now.edits
-            → ArePartsFrom g first self.now → AreEdited groups.now.edits g first next.0 next.1) }
-        ensures same { IfOk result (λ next. length next.0 ≡ length self.now) }
-        ensures homes { IfOk result (λ next. AreHoused self.now → AreRehoused self.now next.0) }
-    {
-        let mut shards = Vec::with_capacity(alloc, self.shards.len())?;
-        let mut counts = Counts::NONE;
-        for (place, shard) in self.shards.iter().enumerate() {
-            if groups.is_empty(first + place) {
-                shards.push(Arc::try_clone(shard)?)?;
-                continue;
-            }
-            groups.read(first + place, own)?;
-            let (edited, more) = shard.apply(alloc, own)?;
-            shards.push(Arc::new(alloc, edited)?)?;
-            counts = counts.plus(more);
-        }
-        Ok((Block { shards }, counts))
     }
 
     /// The block with edited shards put in, where its first shard is of this range, and what the edits did to its

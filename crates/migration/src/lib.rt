@@ -5,12 +5,16 @@
 mod block;
 mod counts;
 mod edited;
+mod edited_page;
 mod edited_shard;
 mod groups;
 mod lists;
 mod merge;
+mod pages;
+mod scratch;
 mod shard;
 mod shards;
+mod short_blocks;
 mod table;
 
 pub use counts::Counts;

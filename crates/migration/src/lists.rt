@@ -4,15 +4,18 @@ ghost use Rattle.graph_model.specs.declared.limits.TheConstants.{RANGE_VERTICES}
 ghost use Rattle.graph_model.specs.declared.home.Home.TheVariants.{Block, Gapped, Tree};
 ghost use Rattle.graph_model.specs.Homes.{IsHomeOf};
 ghost use Rattle.word_sets.specs.Words.{IsSet, has_word};
-ghost use Rattle.migration.specs.declared.lists.Place.TheVariants.{InBlock, InArray, InTree};
+ghost use Rattle.migration.specs.declared.lists.Place.TheVariants.{InShort, InBlock, InArray, InTree};
+ghost use Rattle.migration.specs.declared.short_blocks.TheConstants.{SHORT_PLACES};
 ghost use Rattle.migration.specs.Lists.{AreKept, AreSame, IsThere, IsPushed, list_at, rows_of, homes_of, home_of};
 ghost use Rattle.migration.specs.Lent.{IsLentAt};
 ghost use Rattle.word_sets.specs.declared.places.TheConstants.{WORD_LIMIT};
 
+use crate::short_blocks::{SHORT_PLACES, ShortBlocks};
 use gapped_array::GappedArray;
 use graph_model::Home;
 use neighbour_btree::NeighbourTree;
 use std::alloc::{AllocError, Global};
+use std::mem;
 use vertex_block::VertexBlock;
 use word_sets::place;
 
@@ -21,6 +24,8 @@ use word_sets::place;
 pub(crate) enum Place {
     /// Nowhere: its home is a block, and it is empty.
     Nowhere,
+    /// In the short block of this number.
+    InShort(u8),
     /// In the block of this number.
     InBlock(u8),
     /// In the array, at the vertex of this number.
@@ -34,7 +39,9 @@ pub(crate) enum Place {
 pub(crate) struct Lists {
     /// Where each vertex's list stands.
     pub places: Vec<Place>,
-    /// The blocks that are used.
+    /// The blocks of lists of few words.
+    pub shorts: ShortBlocks,
+    /// The blocks of the other lists at home in theirs.
     pub blocks: Vec<VertexBlock>,
     /// The array, in which each vertex has a list.
     pub array: GappedArray,
@@ -61,6 +68,7 @@ impl Lists {
     {
         Ok(Lists {
             places: Vec::with_capacity(alloc, vertices)?,
+            shorts: ShortBlocks::new(alloc, vertices)?,
             blocks: Vec::new(alloc),
             array: GappedArray::empty(alloc),
             trees: Vec::new(alloc),
@@ -68,16 +76,29 @@ impl Lists {
     }
 
     /// Lists of so many vertices, all of them empty.
-    pub fn empty(alloc: Global, vertices: u16) -> Result<Lists, AllocError>
+    pub fn empty(alloc: Global, vertices: usize) -> Result<Lists, AllocError>
         ensures kept { IfOk result (λ lists. AreKept lists) }
         ensures rows { IfOk result (λ lists. rows_of lists ≡ replicate vertices []) }
         ensures homes { IfOk result (λ lists. homes_of lists ≡ replicate vertices Block) }
     {
-        let mut lists = Lists::new(alloc, usize::from(vertices))?;
+        let mut lists = Lists::new(alloc, vertices)?;
         for _ in 0..vertices {
             lists.push_nowhere()?;
         }
         Ok(lists)
+    }
+
+    /// Takes all lists away, and keeps their room.
+    pub fn clear(&mut self)
+        ensures kept { AreKept self.new }
+        ensures rows { rows_of self.new ≡ [] }
+        ensures homes { homes_of self.new ≡ [] }
+    {
+        self.places.clear();
+        self.shorts.clear();
+        self.blocks.clear();
+        self.array.clear();
+        self.trees.clear();
     }
 
     /// Where a vertex's list stands.
@@ -89,6 +110,17 @@ impl Lists {
         ensures there { IsThere self.now result }
     {
         self.places[vertex]
+    }
+
+    // A short block's words.
+    fn short(&self, number: u8) -> &[u32]
+        requires kept { AreKept self.now }
+        requires inside { number < length self.now.shorts.ends.items }
+        ensures words { result.now ≡ list_at self.now (InShort number) }
+        ensures set { IsSet result.now }
+        ensures short { length result.now ≤ SHORT_PLACES }
+    {
+        self.shorts.words(usize::from(number))
     }
 
     // A block's words.
@@ -125,6 +157,7 @@ impl Lists {
     {
         match self.place(vertex) {
             Place::Nowhere => Home::Block,
+            Place::InShort(_) => Home::Block,
             Place::InBlock(_) => Home::Block,
             Place::InArray(_) => Home::Gapped,
             Place::InTree(_) => Home::Tree,
@@ -140,6 +173,7 @@ impl Lists {
     {
         match self.place(vertex) {
             Place::Nowhere => 0,
+            Place::InShort(number) => self.short(number).len() as u32,
             Place::InBlock(number) => self.block(number).len() as u32,
             Place::InArray(number) => self.run(number).len() as u32,
             Place::InTree(number) => self.tree(number).len(),
@@ -155,6 +189,7 @@ impl Lists {
     {
         match self.place(vertex) {
             Place::Nowhere => false,
+            Place::InShort(number) => place(self.short(number), word).is_ok(),
             Place::InBlock(number) => place(self.block(number), word).is_ok(),
             Place::InArray(number) => place(self.run(number), word).is_ok(),
             Place::InTree(number) => self.tree(number).contains(word),
@@ -191,6 +226,7 @@ impl Lists {
     {
         match self.place(vertex) {
             Place::Nowhere => &[],
+            Place::InShort(number) => rest_from(self.short(number), place),
             Place::InBlock(number) => rest_from(self.block(number), place),
             Place::InArray(number) => rest_from(self.run(number), place),
             Place::InTree(number) => {
@@ -210,6 +246,20 @@ impl Lists {
         ensures { IfOk result (λ _. IsPushed self.old self.new [] Block) }
     {
         self.places.push(Place::Nowhere)?;
+        Ok(())
+    }
+
+    // A list in a short block.
+    fn push_short(&mut self, words: &[u32]) -> Result<(), AllocError>
+        requires kept { AreKept self.old }
+        requires room { length (rows_of self.old) < RANGE_VERTICES }
+        requires set { IsSet words.now }
+        requires short { length words.now ≤ SHORT_PLACES }
+        ensures { IfOk result (λ _. IsPushed self.old self.new words.now Block) }
+    {
+        let number = self.shorts.ends.len() as u8;
+        self.shorts.push(words)?;
+        self.places.push(Place::InShort(number))?;
         Ok(())
     }
 
@@ -263,6 +313,9 @@ impl Lists {
                 if words.is_empty() {
                     return self.push_nowhere();
                 }
+                if words.len() <= SHORT_PLACES {
+                    return self.push_short(words);
+                }
                 self.push_block(VertexBlock::of(words))
             }
             Home::Gapped => self.push_run(words),
@@ -282,24 +335,29 @@ impl Lists {
     {
         match old.place(vertex) {
             Place::Nowhere => self.push_nowhere(),
+            Place::InShort(number) => self.push_short(old.short(number)),
             Place::InBlock(number) => self.push_block(old.blocks[usize::from(number)]),
             Place::InArray(number) => self.push_run(old.run(number)),
             Place::InTree(number) => self.push_tree(old.tree(number).share()?),
         }
     }
 
-    /// These lists, with their blocks and their array in no more room than they need.
-    pub fn fitted(self, alloc: Global) -> Result<Lists, AllocError>
-        requires { AreKept self }
-        ensures { IfOk result (λ lists. AreSame self lists) }
+    /// The same lists in no more room than they need. These keep theirs, but no tree.
+    pub fn taken(&mut self, alloc: Global) -> Result<Lists, AllocError>
+        requires { AreKept self.old }
+        ensures { IfOk result (λ lists. AreSame self.old lists) }
     {
+        let places = Vec::from_slice(alloc, &self.places)?;
+        let shorts = self.shorts.copy(alloc)?;
         let blocks = Vec::from_slice(alloc, &self.blocks)?;
         let array = self.array.copy(alloc)?;
+        let trees = mem::replace(&mut self.trees, Vec::new(alloc));
         Ok(Lists {
-            places: self.places,
+            places,
+            shorts,
             blocks,
             array,
-            trees: self.trees,
+            trees,
         })
     }
 }

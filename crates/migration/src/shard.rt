@@ -4,30 +4,38 @@ ghost use Rattle.graph_model.specs.declared.home.Home.TheVariants.{Block};
 ghost use Rattle.graph_model.specs.declared.limits.TheConstants.{MOST_VERTICES, MOST_RANGES, RANGE_VERTICES};
 
 use crate::counts::Counts;
-use crate::edited::edited_list;
+use crate::edited_page::edited_page;
 use crate::groups::{Grouping, Groups};
 use crate::lists::Lists;
+use crate::pages::{PAGE_VERTICES, empty_pages, page_of};
+use crate::scratch::Scratch;
 use graph_model::{Edit, Home, MOST_VERTICES};
 use std::alloc::{AllocError, Global};
 use std::marker::Model;
+use std::sync::Arc;
 
 /// A range of a graph's vertices in one version: its number, and for each of its vertices the
 /// ascending list of its targets, in its home. It never changes after it was made.
 #[derive(Drop)]
 pub struct Shard {
     range: u32,
-    lists: Lists,
+    vertices: u16,
+    // Page i has the lists of the vertices from 64 i on.
+    pages: Vec<Arc<Lists>>,
 }
 
 impl Model for Shard {
+    ghost use Rattle.std.specs.Prelude.{◌≡◌, length};
     ghost use Rattle.migration.specs.Part.{Part, IsShard};
-    ghost use Rattle.migration.specs.Lists.{part_of, AreKept};
+    ghost use Rattle.migration.specs.Pages.{part_in, rows_in, ArePages};
 
     ghost Value = { Part };
 
-    ghost view = { λ s. part_of s.range s.lists };
+    ghost view = { λ s. part_in s.range s.pages.items };
 
-    ghost invariant = { λ s. AreKept s.lists × IsShard (part_of s.range s.lists) };
+    ghost invariant = { λ s. ArePages s.pages.items
+        × (s.vertices ≡ length (rows_in s.pages.items))
+        × IsShard (part_in s.range s.pages.items) };
 }
 
 impl Shard {
@@ -45,40 +53,47 @@ impl Shard {
           homes = replicate vertices Block;
         }) }
     {
-        let lists = Lists::empty(alloc, vertices)?;
-        Ok(Shard { range, lists })
+        let pages = empty_pages(alloc, vertices)?;
+        Ok(Shard {
+            range,
+            vertices,
+            pages,
+        })
     }
 
     /// The range after a batch of edits of its vertices, to vertices that a graph may have, and what the
-    /// edits did. This shard stays, and the next one shares the lists that no edit changes. It takes one
-    /// pass over the range and the edits, and makes each changed list once.
+    /// edits did. This shard stays, and the next one shares the pages that no edit is of. It takes one
+    /// pass over the edited pages and the edits, and makes each changed list once.
     pub fn apply(&self, alloc: Global, edits: &[Edit]) -> Result<(Shard, Counts), AllocError>
         requires { AreEditsOf self.now edits.now }
         ensures after { IfOk result (λ next. IsPartAfter edits.now self.now next.0) }
         ensures counts { IfOk result (λ next. AreCounts edits.now self.now next.1) }
         ensures homes { IfOk result (λ next. AreHomesAfter self.now next.0) }
     {
-        let count = self.lists.count();
-        let groups = Groups::of(alloc, Grouping::ByVertex, count, edits)?;
-        let mut lists = Lists::new(alloc, count)?;
+        let vertices = self.vertices;
+        let groups = Groups::of(alloc, Grouping::ByVertex, usize::from(vertices), edits)?;
+        let mut scratch = Scratch::new(alloc, PAGE_VERTICES)?;
+        let mut pages = Vec::with_capacity(alloc, self.pages.len())?;
         let mut counts = Counts::NONE;
-        let mut own = Vec::new(alloc);
-        let mut gathered = Vec::new(alloc);
-        let mut merged = Vec::new(alloc);
-        for vertex in 0..count {
-            if groups.is_empty(vertex) {
-                lists.push_kept(&self.lists, vertex)?;
+        for (number, page) in self.pages.iter().enumerate() {
+            let first = PAGE_VERTICES * number;
+            if groups.are_empty(first, first + page.count()) {
+                pages.push(Arc::try_clone(page)?)?;
                 continue;
             }
-            groups.read(vertex, &mut own)?;
-            let more = edited_list(&self.lists, vertex, &mut own, &mut gathered, &mut merged)?;
-            let home = self.lists.home(vertex).after(merged.len() as u32);
-            lists.push(alloc, home, &merged)?;
-            counts = counts.plus(more);
+            let (next, done) = edited_page(alloc, page, first, &groups, counts, &mut scratch)?;
+            pages.push(Arc::new(alloc, next)?)?;
+            counts = done;
         }
-        let lists = lists.fitted(alloc)?;
         let range = self.range;
-        Ok((Shard { range, lists }, counts))
+        Ok((
+            Shard {
+                range,
+                vertices,
+                pages,
+            },
+            counts,
+        ))
     }
 
     /// Its range's number: its first vertex's, divided by 256.
@@ -95,7 +110,7 @@ impl Shard {
         // The lists of a shard are those of a graph.
         ensures shard { IsShard self.now }
     {
-        self.lists.count() as u16
+        self.vertices
     }
 
     /// The home of a vertex's list, where `vertex` counts from the range's first.
@@ -103,7 +118,8 @@ impl Shard {
         requires { vertex < length self.now.rows }
         ensures { result ≡ home_at self.now vertex }
     {
-        self.lists.home(usize::from(vertex))
+        let vertex = usize::from(vertex);
+        page_of(&self.pages, vertex).home(vertex % PAGE_VERTICES)
     }
 
     /// How many targets a vertex has, where `vertex` counts from the range's first.
@@ -112,7 +128,8 @@ impl Shard {
         ensures value { result ≡ length (row_at self.now vertex) }
         ensures small { result ≤ MOST_VERTICES }
     {
-        self.lists.degree(usize::from(vertex))
+        let vertex = usize::from(vertex);
+        page_of(&self.pages, vertex).degree(vertex % PAGE_VERTICES)
     }
 
     /// A vertex's targets from a place on, as many as lie side by side. How a list is cut into such slices
@@ -122,7 +139,8 @@ impl Shard {
         ensures lent { IsLentAt (row_at self.now vertex) place result.now }
         ensures small { length (row_at self.now vertex) ≤ MOST_VERTICES }
     {
-        self.lists.lent_at(usize::from(vertex), place)
+        let vertex = usize::from(vertex);
+        page_of(&self.pages, vertex).lent_at(vertex % PAGE_VERTICES, place)
     }
 
     /// Whether a vertex has a target.
@@ -130,10 +148,11 @@ impl Shard {
         requires { vertex < length self.now.rows }
         ensures { IsTrue result ↔ Contains (row_at self.now vertex) target }
     {
-        let lists = &self.lists;
+        let vertex = usize::from(vertex);
+        let page = page_of(&self.pages, vertex);
         if target >= u64::from(MOST_VERTICES) {
             return false;
         }
-        lists.contains(usize::from(vertex), target as u32)
+        page.contains(vertex % PAGE_VERTICES, target as u32)
     }
 }

@@ -6,12 +6,12 @@ ghost use Rattle.graph_model.specs.Graph.{Graph, empty_graph};
 ghost use Rattle.migration.specs.Blocks.{parts_in, sizes_of, AreFull};
 ghost use Rattle.migration.specs.Part.{AreEditsOf};
 ghost use Rattle.migration.specs.Made.{IsBatch, IsMade, AreMade};
-ghost use Rattle.migration.specs.Table.{IsTable, IsOfGraph, IsShardOf, IsEditable, AreAfter, AreMoved, part_at, parts_of, home_in};
+ghost use Rattle.migration.specs.Table.{IsTable, IsOfGraph, IsShardOf, AreAfter, AreMoved, part_at, parts_of, home_in};
 
 use crate::block::{BLOCK_SHARDS, Block};
 use crate::counts::Counts;
 use crate::edited_shard::EditedShard;
-use crate::groups::{Grouping, Groups};
+use crate::groups::Groups;
 use crate::shard::Shard;
 use crate::shards::{empty_shards, share_shards};
 use graph_model::{Edit, Home, RANGE_VERTICES};
@@ -102,31 +102,6 @@ impl Table {
         } else {
             Home::Block
         }
-    }
-
-    /// The table after a batch, and what the batch did. This one stays. It takes a step for each block,
-    /// and copies the blocks in which something is edited; each edited shard is made once.
-    pub fn after(&self, alloc: Global, edits: &[Edit]) -> Result<(Table, Counts), AllocError>
-        requires { IsEditable self.now edits.now }
-        ensures after { IfOk result (λ next. AreAfter edits.now self.now next.0 next.1) }
-        ensures homes { IfOk result (λ next. AreMoved self.now next.0) }
-    {
-        let groups = Groups::of(alloc, Grouping::ByRange, self.count, edits)?;
-        let mut blocks = Vec::with_capacity(alloc, self.blocks.len())?;
-        let mut counts = Counts::NONE;
-        let mut own = Vec::new(alloc);
-        for (number, block) in self.blocks.iter().enumerate() {
-            let first = BLOCK_SHARDS * number;
-            if groups.are_empty(first, first + block.shards().len()) {
-                blocks.push(Arc::try_clone(block)?)?;
-                continue;
-            }
-            let (edited, more) = block.after(alloc, first, &groups, &mut own)?;
-            blocks.push(Arc::new(alloc, edited)?)?;
-            counts = counts.plus(more);
-        }
-        let count = self.count;
-        Ok((Table { blocks, count }, counts))
     }
 
     /// How many shards it has.

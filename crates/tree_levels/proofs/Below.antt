@@ -10,16 +10,16 @@ use Rattle.word_sets.proofs.Changes.{length-with, length-without}
 use Rattle.tree_levels.specs.declared.level.TheConstants.{FEWEST}
 use Rattle.tree_levels.specs.declared.change.Change.{Change}
 use Rattle.tree_levels.specs.declared.change.Change.TheVariants.{Same, Changed, Unable}
-use Rattle.tree_levels.specs.Node.{Node, joined, inner_of, IsChild, IsEntry, IsInner}
-use Rattle.tree_levels.specs.Lists.{nothing, replaced, Mends}
+use Rattle.tree_levels.specs.Node.{Node, words_under, inner_of, IsChild, IsEntry, IsInner}
+use Rattle.tree_levels.specs.Lists.{nothing, replacement, Mends}
 use Rattle.tree_levels.specs.Changes.{Packs, Adds, Takes}
-use Rattle.tree_levels.proofs.NodeLists.{Found, Listed, found_has, found_child, grown, mended_inner, packs_nodes, shrunk_set, joined-replaced, joined_at, with-joined, without-joined, sound_inner}
+use Rattle.tree_levels.proofs.NodeLists.{Found, Listed, found_has, found_child, grown, mended_inner, packs_nodes, shrunk_set, words_under-replacement, words_under_at, with-words_under, without-words_under, sound_inner}
 
-pub set_one : (ns : List Node) (i : ℕ) (a : Node) → i < length ns → set ns i a ≡ replaced ns i 1 a None
+pub set_one : (ns : List Node) (i : ℕ) (a : Node) → i < length ns → set ns i a ≡ replacement ns i 1 a None
 set_one ns i a lt =
     set_split ns i a lt ∙ ap (λ n. take i ns ++ a ∷ drop n ns) (sym (add-one i))
 
-pub set_two : (ns ms : List Node) (i : ℕ) (a b : Node) → i < length ns → ms ≡ insert ns (i + 1) b → set ms i a ≡ replaced ns i 1 a (Some b)
+pub set_two : (ns ms : List Node) (i : ℕ) (a b : Node) → i < length ns → ms ≡ insert ns (i + 1) b → set ms i a ≡ replacement ns i 1 a (Some b)
 set_two ns ms i a b lt is =
     let x = get_or ns i nothing in
     let made : ms ≡ take i ns ++ (x ∷ (b ∷ drop (i + 1) ns)) = is ∙ ap (λ l. l ++ b ∷ drop (i + 1) ns) (take_more ns i nothing lt) ∙ append_assoc (take i ns) (x ∷ []) (b ∷ drop (i + 1) ns) in
@@ -28,9 +28,9 @@ set_two ns ms i a b lt is =
 -- the words under a child are a set
 pub found_set : (least : ℕ) (ns : List Node) (w i : ℕ) (c : Node) → Found least ns w i c → IsSet c.words
 found_set least ns w i c f =
-    let front = joined (take i ns) in
-    let back = joined (drop (i + 1) ns) in
-    let whole : IsSet (front ++ ((get_or ns i nothing).words ++ back)) = subst IsSet (joined_at ns i f.within) f.inner.set in
+    let front = words_under (take i ns) in
+    let back = words_under (drop (i + 1) ns) in
+    let whole : IsSet (front ++ ((get_or ns i nothing).words ++ back)) = subst IsSet (words_under_at ns i f.within) f.inner.set in
     let here : IsSet (get_or ns i nothing).words = (IsSet-parts (get_or ns i nothing).words back (IsSet-parts front ((get_or ns i nothing).words ++ back) whole).1).0 in
     let P : Node → Type 0 = λ n. IsSet n.words in
     subst P (sym f.is) here
@@ -41,17 +41,17 @@ set_same least ns w i c a f e =
     ap (λ n. set ns i n) (e ∙ f.is) ∙ set-get_or ns i nothing
 
 -- a child's words become others
-set_words : (least : ℕ) (ns : List Node) (w i : ℕ) (c a : Node) (change : List ℕ → List ℕ) → Found least ns w i c → a.words ≡ change c.words → (change (joined ns) ≡ joined (take i ns) ++ (change (get_or ns i nothing).words ++ joined (drop (i + 1) ns))) → joined (set ns i a) ≡ change (joined ns)
+set_words : (least : ℕ) (ns : List Node) (w i : ℕ) (c a : Node) (change : List ℕ → List ℕ) → Found least ns w i c → a.words ≡ change c.words → (change (words_under ns) ≡ words_under (take i ns) ++ (change (get_or ns i nothing).words ++ words_under (drop (i + 1) ns))) → words_under (set ns i a) ≡ change (words_under ns)
 set_words least ns w i c a change f is e =
-    let front = joined (take i ns) in
-    let back = joined (drop (i + 1) ns) in
-    ap joined (set_one ns i a f.within)
-    ∙ joined-replaced ns i 1 a None
+    let front = words_under (take i ns) in
+    let back = words_under (drop (i + 1) ns) in
+    ap words_under (set_one ns i a f.within)
+    ∙ words_under-replacement ns i 1 a None
     ∙ ap (λ l. front ++ (l ++ back)) (append-nil a.words ∙ is)
     ∙ ap (λ (n : Node). front ++ (change n.words ++ back)) f.is
     ∙ sym e
 
-set_inner : (least : ℕ) (ns : List Node) (w i : ℕ) (c a : Node) → Found least ns w i c → IsChild least a → IsSet (joined (set ns i a)) → IsInner least (set ns i a)
+set_inner : (least : ℕ) (ns : List Node) (w i : ℕ) (c a : Node) → Found least ns w i c → IsChild least a → IsSet (words_under (set ns i a)) → IsInner least (set ns i a)
 set_inner least ns w i c a f child s =
     let n : length (set ns i a) ≡ length ns = length-set ns i a in
     record {
@@ -69,9 +69,9 @@ pub added_below : {E : Type 0} (least : ℕ) (ns : List Node) (w i : ℕ) (c a :
 added_below least ns w i c a (Ok Same) f small h k =
     (kept_inner least ns w i c a f h.1, (found_has least ns w i c f ∙ h.0, ap inner_of (set_same least ns w i c a f h.1)))
 added_below least ns w i c a (Ok Changed) f small h k =
-    let words = set_words least ns w i c a (with_word w) f h.1 (with-joined ns w i f.within f.spot) in
+    let words = set_words least ns w i c a (with_word w) f h.1 (with-words_under ns w i f.within f.spot) in
     let child : IsChild least a = h.3.child (omega (arith, (found_child least ns w i c f).fewest, h.2)) in
-    let inner = set_inner least ns w i c a f child (subst IsSet (sym words) (IsWithin-with 0 WORD_LIMIT w (joined ns) (omega arith) small f.inner.set)) in
+    let inner = set_inner least ns w i c a f child (subst IsSet (sym words) (IsWithin-with 0 WORD_LIMIT w (words_under ns) (omega arith) small f.inner.set)) in
     (inner, (found_has least ns w i c f ∙ h.0, words, omega (arith, length-set ns i a), sound_inner least (set ns i a) inner))
 added_below least ns w i c a (Ok Unable) f small h k =
     (kept_inner least ns w i c a f h, ap inner_of (set_same least ns w i c a f h))
@@ -81,9 +81,9 @@ pub taken_below : {E : Type 0} (least : ℕ) (ns : List Node) (w i : ℕ) (c a :
 taken_below least ns w i c a (Ok Same) f large h k =
     (kept_inner least ns w i c a f h.1, (found_has least ns w i c f ∙ h.0, ap inner_of (set_same least ns w i c a f h.1)))
 taken_below least ns w i c a (Ok Changed) f large h k =
-    let words = set_words least ns w i c a (without_word w) f h.1 (without-joined ns w i f.within f.spot) in
+    let words = set_words least ns w i c a (without_word w) f h.1 (without-words_under ns w i f.within f.spot) in
     let child : IsChild least a = h.3.child (omega (arith, h.2)) in
-    let inner = set_inner least ns w i c a f child (subst IsSet (sym words) (IsWithin-without 0 WORD_LIMIT w (joined ns) f.inner.set)) in
+    let inner = set_inner least ns w i c a f child (subst IsSet (sym words) (IsWithin-without 0 WORD_LIMIT w (words_under ns) f.inner.set)) in
     (inner, (found_has least ns w i c f ∙ h.0, words, omega (arith, length-set ns i a), sound_inner least (set ns i a) inner))
 taken_below least ns w i c a (Ok Unable) f large h k =
     (kept_inner least ns w i c a f h, ap inner_of (set_same least ns w i c a f h))
@@ -101,22 +101,22 @@ entry_taken least first count w c a e large s h is =
     record { first_word = is; word_count = omega arith; child = h.3.child (omega (arith, h.2)) }
 
 -- the children after the found one was replaced by what it became with a word more
-pub grown_child : {C : Type 0} (node : C → Node) (least : ℕ) (ns cs list : List Node) (w i : ℕ) (c k : Node) (first : C) (second : Option C) (a : Node) (b : Option Node) → Found least ns w i c → w < WORD_LIMIT → cs ≡ ns → k ≡ c → Packs node least k.size (with_word w k.words) first second → list ≡ replaced cs i 1 a b → a ≡ node first → b ≡ option_map node second → Listed least list × (joined list ≡ with_word w (joined ns)) × (length ns ≤ length list)
+pub grown_child : {C : Type 0} (node : C → Node) (least : ℕ) (ns cs list : List Node) (w i : ℕ) (c k : Node) (first : C) (second : Option C) (a : Node) (b : Option Node) → Found least ns w i c → w < WORD_LIMIT → cs ≡ ns → k ≡ c → Packs node least k.size (with_word w k.words) first second → list ≡ replacement cs i 1 a b → a ≡ node first → b ≡ option_map node second → Listed least list × (words_under list ≡ with_word w (words_under ns)) × (length ns ≤ length list)
 grown_child node least ns cs list w i c k first second a b f small same is packs made e h =
     let P : Node → Type 0 = λ n. Packs (λ (m : Node). m) least n.size (with_word w n.words) (node first) (option_map node second) in
     let p = subst P is (packs_nodes node least k.size (with_word w k.words) first second packs) in
-    let whole : list ≡ replaced ns i 1 (node first) (option_map node second) = made ∙ ap (λ l. replaced l i 1 a b) same ∙ ap₂ (λ x y. replaced ns i 1 x y) e h in
+    let whole : list ≡ replacement ns i 1 (node first) (option_map node second) = made ∙ ap (λ l. replacement l i 1 a b) same ∙ ap₂ (λ x y. replacement ns i 1 x y) e h in
     grown least ns list w i c (node first) (option_map node second) f small p whole
 
 -- and after it was mended with a word less
-pub mended_child : (least : ℕ) (ns cs list : List Node) (w i : ℕ) (c k n : Node) → Found least ns w i c → cs ≡ ns → k ≡ c → 2 ≤ length ns → n.words ≡ without_word w k.words → Mends least cs i n list → IsInner least list × (joined list ≡ without_word w (joined ns)) × (length ns ≤ length list + 1)
+pub mended_child : (least : ℕ) (ns cs list : List Node) (w i : ℕ) (c k n : Node) → Found least ns w i c → cs ≡ ns → k ≡ c → 2 ≤ length ns → n.words ≡ without_word w k.words → Mends least cs i n list → IsInner least list × (words_under list ≡ without_word w (words_under ns)) × (length ns ≤ length list + 1)
 mended_child least ns cs list w i c k n f same is two less mends =
     let M : List Node → Type 0 = λ l. Mends least l i n list in
     let m = subst M same mends in
     let done = mended_inner least ns list w i c n f two (less ∙ ap (λ (x : Node). without_word w x.words) is) m in
     (done.0, done.1, m.fewest)
 
-pub shrunk_child_set : (least : ℕ) (ns cs : List Node) (w i : ℕ) (c k n : Node) → Found least ns w i c → cs ≡ ns → k ≡ c → n.words ≡ without_word w k.words → IsSet (joined (replaced cs i 1 n None))
+pub shrunk_child_set : (least : ℕ) (ns cs : List Node) (w i : ℕ) (c k n : Node) → Found least ns w i c → cs ≡ ns → k ≡ c → n.words ≡ without_word w k.words → IsSet (words_under (replacement cs i 1 n None))
 shrunk_child_set least ns cs w i c k n f same is less =
-    let P : List Node → Type 0 = λ l. IsSet (joined (replaced l i 1 n None)) in
-    subst P (sym same) (subst IsSet (sym (shrunk_set least ns w i c n f (less ∙ ap (λ (x : Node). without_word w x.words) is))) (IsWithin-without 0 WORD_LIMIT w (joined ns) f.inner.set))
+    let P : List Node → Type 0 = λ l. IsSet (words_under (replacement l i 1 n None)) in
+    subst P (sym same) (subst IsSet (sym (shrunk_set least ns w i c n f (less ∙ ap (λ (x : Node). without_word w x.words) is))) (IsWithin-without 0 WORD_LIMIT w (words_under ns) f.inner.set))

@@ -9,8 +9,8 @@ pub record Node : Type 0 where
   pub size : ℕ
 
 -- the words under nodes, one after another
-abbrev pub joined : List Node → List ℕ
-joined nodes = flat_map (λ n. n.words) nodes
+abbrev pub words_under : List Node → List ℕ
+words_under nodes = flat_map (λ n. n.words) nodes
 
 -- a leaf of these words
 abbrev pub leaf_of : List ℕ → Node
@@ -18,7 +18,7 @@ leaf_of words = record { words = words; size = length words }
 
 -- an inner node of these children
 abbrev pub inner_of : List Node → Node
-inner_of nodes = record { words = joined nodes; size = length nodes }
+inner_of nodes = record { words = words_under nodes; size = length nodes }
 
 -- a node that may be a child: a quarter full or more, with at least so many words
 pub record IsChild (least : ℕ) (n : Node) : Type 0 where
@@ -48,4 +48,4 @@ pub record IsInner (least : ℕ) (nodes : List Node) : Type 0 where
   pub some : 0 < length nodes
   pub most : length nodes ≤ MOST
   pub children : All (IsChild least) nodes
-  pub set : IsSet (joined nodes)
+  pub set : IsSet (words_under nodes)

@@ -3,7 +3,7 @@
 ghost use Rattle.std.specs.Prelude.{◌≡◌, ◌≤◌, ◌<◌, ◌+◌, ◌*◌, length, IfOk, IfSome, OnErr, MatchBool, None};
 ghost use Rattle.tree_levels.specs.Node.{Node, inner_of, IsChild, IsInner};
 ghost use Rattle.tree_levels.specs.Shared.{items_of};
-ghost use Rattle.tree_levels.specs.Lists.{replaced};
+ghost use Rattle.tree_levels.specs.Lists.{replacement};
 ghost use Rattle.tree_levels.specs.Changes.{Adds, Takes};
 
 use crate::change::{Change, Grown};
@@ -42,7 +42,7 @@ fn put<C: Level>(
     requires within { at < length children.old.items }
     requires most { length children.old.items ≤ MOST }
     ensures ok { IfOk result (λ done. MatchBool done (children.new.items
-        ≡ replaced children.old.items at 1 first second) (children.new.items ≡ children.old.items)) }
+        ≡ replacement children.old.items at 1 first second) (children.new.items ≡ children.old.items)) }
     ensures err { OnErr result (children.new.items ≡ children.old.items) }
     ensures fits { length children.new.items ≤ MOST }
 {

@@ -1,8 +1,8 @@
 //! Inner nodes: each level over another.
 ghost use Rattle.std.specs.Prelude.{◌≡◌, ◌≤◌, ◌<◌, ◌+◌, ◌*◌, ◌++◌, ◌∷◌, [], length, All, None, IfOk, OnErr};
 ghost use Rattle.word_sets.specs.Words.{IsSet};
-ghost use Rattle.tree_levels.specs.Node.{Node, joined, inner_of, IsChild, IsSound, IsInner};
-ghost use Rattle.tree_levels.specs.Lists.{replaced};
+ghost use Rattle.tree_levels.specs.Node.{Node, words_under, inner_of, IsChild, IsSound, IsInner};
+ghost use Rattle.tree_levels.specs.Lists.{replacement};
 ghost use Rattle.tree_levels.specs.Changes.{Packs, Grows, Shrinks, Takes, IsSliceAt};
 ghost use Rattle.tree_levels.specs.Lists.{Mends};
 
@@ -164,8 +164,8 @@ impl<C: Level> Level for Inner<C> {
 
 // How many words are under these children.
 fn counted<C: Level>(children: &[Child<C>]) -> u32
-    requires { IsSet (joined children.now) }
-    ensures { result ≡ length (joined children.now) }
+    requires { IsSet (words_under children.now) }
+    ensures { result ≡ length (words_under children.now) }
 {
     let mut count = 0;
     for child in children {
@@ -176,8 +176,8 @@ fn counted<C: Level>(children: &[Child<C>]) -> u32
 
 // The words from a place on, as far as they lie in one leaf.
 fn slice_among<C: Level>(children: &[Child<C>], place: u32) -> &[u32]
-    requires { place < length (joined children.now) }
-    ensures { IsSliceAt (joined children.now) place result.now }
+    requires { place < length (words_under children.now) }
+    ensures { IsSliceAt (words_under children.now) place result.now }
 {
     let mut left = place;
     for child in children {
@@ -198,9 +198,9 @@ fn packed<C: Level>(
     requires some { 0 < length children.items }
     requires fits { length children.items ≤ 128 }
     requires children { All (IsChild C.least) children.items }
-    requires set { IsSet (joined children.items) }
+    requires set { IsSet (words_under children.items) }
     ensures { IfOk result (λ pair. Packs (λ (n : Node). n) (16 * C.least) (length children.items)
-        (joined children.items) pair.0 pair.1) }
+        (words_under children.items) pair.0 pair.1) }
 {
     if children.len() <= MOST {
         let node = Inner::new(alloc, children)?;
@@ -224,7 +224,7 @@ pub fn mended<C: Level>(
     requires children { All (IsChild C.least) children.now }
     requires sound { IsSound C.least (C.node node) }
     requires size { FEWEST ≤ (C.node node).size + 1 }
-    requires set { IsSet (joined (replaced children.now at 1 (C.node node) None)) }
+    requires set { IsSet (words_under (replacement children.now at 1 (C.node node) None)) }
     ensures { IfOk result (λ list. Mends C.least children.now at (C.node node) list.items) }
 {
     if FEWEST <= node.size() {

@@ -1,6 +1,6 @@
 //! Lists of children.
 ghost use Rattle.std.specs.Prelude.{◌≡◌, ◌≤◌, ◌+◌, ◌++◌, ◌∷◌, length, option_to_list, IfOk, OnOk};
-ghost use Rattle.tree_levels.specs.Lists.{replaced};
+ghost use Rattle.tree_levels.specs.Lists.{replacement};
 
 use crate::child::Child;
 use crate::level::Level;
@@ -46,7 +46,7 @@ pub fn with_replaced<C: Level>(
     pair: (Child<C>, Option<Child<C>>),
 ) -> Result<Vec<Child<C>>, AllocError>
     requires { at + taken ≤ length children.now }
-    ensures { IfOk result (λ list. list.items ≡ replaced children.now at taken pair.0 pair.1) }
+    ensures { IfOk result (λ list. list.items ≡ replacement children.now at taken pair.0 pair.1) }
 {
     let (first, second) = pair;
     let mut list = Vec::with_capacity(alloc, children.len().saturating_add(1))?;

@@ -2,7 +2,7 @@
 //! for the first.
 ghost use Rattle.std.specs.Prelude.{◌≡◌, ◌≤◌, ◌*◌, length, All, IfOk};
 ghost use Rattle.word_sets.specs.Words.{IsSet};
-ghost use Rattle.tree_levels.specs.Node.{joined, inner_of, IsChild, IsInner};
+ghost use Rattle.tree_levels.specs.Node.{words_under, inner_of, IsChild, IsInner};
 ghost use Rattle.tree_levels.specs.Lists.{IsRow};
 
 use crate::child::Child;
@@ -41,10 +41,10 @@ pub fn nodes<C: Level>(
     alloc: Global,
     children: Vec<Child<C>>,
 ) -> Result<Vec<Child<Inner<C>>>, AllocError>
-    requires set { IsSet (joined children.items) }
+    requires set { IsSet (words_under children.items) }
     requires many { 64 ≤ length children.items }
     requires children { All (IsChild C.least) children.items }
-    ensures { IfOk result (λ row. IsRow (16 * C.least) (length children.items) (joined children.items) row.items) }
+    ensures { IfOk result (λ row. IsRow (16 * C.least) (length children.items) (words_under children.items) row.items) }
 {
     let mut children = children;
     let mut row = Vec::with_capacity(alloc, children.len() / HALF)?;

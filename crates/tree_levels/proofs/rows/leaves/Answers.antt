@@ -1,7 +1,7 @@
 use Rattle.std.proofs.Common.{◌≡◌, ◌+◌, [], ◌∷◌, ◌++◌, length, ap, sym, subst, ◌∙◌, arith}
 use Rattle.std.proofs.lemmas.List.{length_push}
 use Rattle.std.proofs.lemmas.List.Elements.{All-push, All-same}
-use Rattle.tree_levels.specs.Node.{joined, leaf_of, IsLeaf, IsChild}
+use Rattle.tree_levels.specs.Node.{words_under, leaf_of, IsLeaf, IsChild}
 use Rattle.tree_levels.proofs.LeafWords.{IsLeaf-take}
 use Rattle.tree_levels.proofs.RowLists.{rest_set, next_leaf}
 use Rattle.tree_levels.proofs.rows.leaves.Goals as goal
@@ -24,7 +24,7 @@ loop-rest-preserved c =
     let child : IsChild 16 leaf = subst (IsChild 16) (sym made) whole in
     let long : length c.push.new.self.items ≡ length c.loop-rest.row.items + 1 = ap length list ∙ length_push c.loop-rest.row.items leaf in
     record {
-      words = ap (λ l. joined c.push.new.self.items ++ l) c.split_at.ensures.back ∙ next_leaf c.loop-rest.row.items c.push.new.self.items leaf c.loop-rest.rest.now c.in_ok-from_slice.field-0.items c.args.words.now i.words part made list;
+      words = ap (λ l. words_under c.push.new.self.items ++ l) c.split_at.ensures.back ∙ next_leaf c.loop-rest.row.items c.push.new.self.items leaf c.loop-rest.rest.now c.in_ok-from_slice.field-0.items c.args.words.now i.words part made list;
       children = All-same (IsChild 16) c.push.new.self.items (c.loop-rest.row.items ++ leaf ∷ []) list (All-push (IsChild 16) c.loop-rest.row.items leaf i.children child);
       enough = omega (arith, c.split_at.ensures.back_len, c.loop-rest-test.true);
       counted = omega (arith, c.split_at.ensures.back_len, long, i.counted);

@@ -1,10 +1,10 @@
 use Rattle.std.proofs.Common.{◌≡◌, ◌+◌, ◌*◌, ◌≤◌, ◌++◌, length, All}
-use Rattle.tree_levels.specs.Node.{joined, IsChild}
+use Rattle.tree_levels.specs.Node.{words_under, IsChild}
 use Rattle.tree_levels.proofs.rows.leaves.Given as goal
 
 abbrev pub invariant-loop-rest : goal.invariant-loop-rest
 invariant-loop-rest l = record {
-  words : joined l.row.items ++ l.rest ≡ l.words;
+  words : words_under l.row.items ++ l.rest ≡ l.words;
   children : All (IsChild 16) l.row.items;
   enough : 16 ≤ length l.rest;
   counted : 48 * length l.row.items + length l.rest ≡ length l.words;

@@ -1,10 +1,10 @@
 use Rattle.std.proofs.Common.{◌≡◌, ◌+◌, ◌*◌, ◌≤◌, ◌++◌, length, reverse, All}
-use Rattle.tree_levels.specs.Node.{joined, IsChild}
+use Rattle.tree_levels.specs.Node.{words_under, IsChild}
 use Rattle.tree_levels.proofs.rows.nodes.Given as goal
 
 abbrev pub invariant-loop-children : goal.invariant-loop-children
 invariant-loop-children g l = record {
-  words : joined l.children.items ++ joined (reverse l.row.items) ≡ joined l.initial.children.items;
+  words : words_under l.children.items ++ words_under (reverse l.row.items) ≡ words_under l.initial.children.items;
   below : All (IsChild g.C.Level.least) l.children.items;
   children : All (IsChild (16 * g.C.Level.least)) l.row.items;
   enough : 32 ≤ length l.children.items;

@@ -2,8 +2,8 @@ use Rattle.std.proofs.Common.{arith}
 use Rattle.migration.proofs.ListLemmas.{few_words}
 use Rattle.migration.proofs.lists.Lists.degree.Goals as goal
 
-pub overflow_cast-result : goal.overflow_cast-result
-overflow_cast-result c = omega (arith, few_words c.block.result.now c.block.ensures.set)
+pub overflow_cast-result-in-InBlock : goal.overflow_cast-result-in-InBlock
+overflow_cast-result-in-InBlock c = omega (arith, few_words c.block.result.now c.block.ensures.set)
 
 pub overflow_cast-result-in-InArray : goal.overflow_cast-result-in-InArray
 overflow_cast-result-in-InArray c = omega (arith, few_words c.run.result.now c.run.ensures.set)

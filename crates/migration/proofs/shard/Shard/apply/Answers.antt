@@ -1,160 +1,195 @@
-use Rattle.std.proofs.Common.{◌≡◌, ℕ, ◌+◌, ◌<◌, ◌++◌, ◌∷◌, [], length, refl, sym, ap, ap₂, subst, subst₂, ◌∙◌, arith}
-use Rattle.std.proofs.lemmas.List.{length_push}
-use Rattle.graph_model.specs.Homes.{home_after}
-use Rattle.word_sets.specs.Words.{IsSet}
-use Rattle.migration.specs.Groups.{Grouped, edits_of}
-use Rattle.migration.specs.Part.{Part, row_at, home_at, AreEditsOf, IsPartAfter, AreCounts, AreHomesAfter, IsShard}
+use Rattle.std.proofs.Common.{◌≡◌, ℕ, ◌+◌, ◌*◌, ◌<◌, ◌≤◌, List, [], ◌++◌, length, get_or, refl, sym, ap, subst, ◌∙◌, arith}
+use Rattle.std.specs.List.{AllByRecursion}
+use Rattle.std.specs.declared.sync.Arc.{Arc}
+use Rattle.std.specs.declared.alloc.Global.{Global}
+use Rattle.std.specs.Arc.{arc_value}
 use Rattle.migration.specs.declared.lists.Lists.{Lists}
-use Rattle.migration.specs.Lists.{rows_of, homes_of, part_of}
-use Rattle.migration.proofs.ListLemmas.{few_words}
-use Rattle.migration.proofs.HomeLemmas.{none_moved, one_moved, same_home, all_moved}
-use Rattle.migration.proofs.PartLemmas.{own_edits, nothing_done, row_kept, row_edited, merged_own, set_more, few_more, rows_done, next_shard, IsDone}
+use Rattle.migration.specs.Begun.{AreBegun, IsNext, IsPageOf}
+use Rattle.migration.specs.Groups.{Grouped, edits_of}
+use Rattle.migration.specs.Lists.{rows_of, homes_of, AreKept}
+use Rattle.migration.specs.Pages.{rows_in, homes_in, sizes_in, part_in, ArePages}
+use Rattle.migration.specs.Part.{Part, AreEditsOf, IsPartAfter, AreCounts, AreHomesAfter}
+use Rattle.migration.proofs.PageLemmas.{IsKept, page_inside, page_kept, sizes_next, kept_push, lists_made, all_made}
+use Rattle.migration.proofs.BegunLemmas.{none_begun, page_begun, page_of_shard, more_begun}
+use Rattle.migration.proofs.HomeLemmas.{all_moved}
+use Rattle.migration.proofs.PartLemmas.{own_edits, rows_done, next_shard}
 use Rattle.migration.proofs.shard.Shard.apply.Goals as goal
 
-pub loop-vertex-init : goal.loop-vertex-init
-loop-vertex-init c =
-    let part : Part = part_of c.self.inside.range c.self.inside.lists in
+pub loop-number-init : goal.loop-number-init
+loop-number-init c =
+    let part : Part = part_in c.self.inside.range c.self.inside.pages.items in
     let own : AreEditsOf part c.args.edits.now = subst (λ p. AreEditsOf p c.args.edits.now) (sym c.self.view_is) c.requires in
-    let made = c.in_ok-lists.ensures in
+    let none = c.in_ok-pages.ensures.items in
     record {
-      kept = made.kept;
-      count = ap length made.rows;
-      moved = none_moved part (rows_of c.in_ok-lists.lists) (homes_of c.in_ok-lists.lists) made.rows made.homes;
-      done = λ g below is. subst (λ rows. IsDone c.args.edits.now part g rows record { added = 0; removed = 0 }) (sym made.rows) (nothing_done c.args.edits.now part g own);
+      sizes = ap sizes_in none;
+      kept = subst (AllByRecursion IsKept) (sym none) tt;
+      begun = none_begun c.args.edits.now part (rows_in c.in_ok-pages.pages.items) (homes_in c.in_ok-pages.pages.items) own (ap rows_in none) (ap homes_in none);
     }
 
-pub loop-vertex-preserved-then-is_empty : goal.loop-vertex-preserved-then-is_empty
-loop-vertex-preserved-then-is_empty c =
-    let part : Part = part_of c.self.inside.range c.self.inside.lists in
+abbrev Pages : Type 0
+Pages = List (Arc Lists Global)
+
+-- the page at hand is one of the shard's
+at : (items old : Pages) (n : ℕ) → items ≡ old → n < length items → n < length old
+at items old n same h = subst (λ l. n < length l) same h
+
+shown : (items old : Pages) (n : ℕ) (page : Arc Lists Global) → items ≡ old → page ≡ get_or items n page → page ≡ get_or old n page
+shown items old n page same is = is ∙ ap (λ l. get_or l n page) same
+
+-- its lists are inside
+ends : (old : Pages) (n count vertices : ℕ) (page : Arc Lists Global) (lists : Lists) → ArePages old → vertices ≡ length (rows_in old) → n < length old → page ≡ get_or old n page → lists ≡ arc_value page → count ≡ length (rows_of lists) → 64 * n + count ≤ vertices
+ends old n count vertices page lists are all h is own many =
+    omega (arith, many, all, ap (λ l. length (rows_of l)) (own ∙ ap arc_value is), page_inside old n page are h)
+
+pub overflow_mul-first : goal.overflow_mul-first
+overflow_mul-first c =
+    let old = c.self.inside.pages.items in
+    let few = c.self.invariant.2.few in
+    let h = at c.deref-page-items.result.now old c.loop-number.number c.deref-page-items.ensures.value c.loop-number-test.true in
+    omega (arith, few, page_inside old c.loop-number.number c.page-item.result c.self.invariant.0 h)
+
+pub overflow_add-first : goal.overflow_add-first
+overflow_add-first c =
+    let old = c.self.inside.pages.items in
+    let few = c.self.invariant.2.few in
+    let many = c.self.invariant.1 in
+    let h = at c.deref-page-items.result.now old c.loop-number.number c.deref-page-items.ensures.value c.loop-number-test.true in
+    let is = shown c.deref-page-items.result.now old c.loop-number.number c.page-item.result c.deref-page-items.ensures.value c.page-item.is in
+    omega (arith, few, many, ends old c.loop-number.number c.count.result c.self.inside.vertices c.page-item.result c.deref.result.now c.self.invariant.0 c.self.invariant.1 h is c.deref.ensures c.count.ensures.rows)
+
+pub are_empty-requires : goal.are_empty-requires
+are_empty-requires c =
+    let old = c.self.inside.pages.items in
+    let h = at c.deref-page-items.result.now old c.loop-number.number c.deref-page-items.ensures.value c.loop-number-test.true in
+    let is = shown c.deref-page-items.result.now old c.loop-number.number c.page-item.result c.deref-page-items.ensures.value c.page-item.is in
+    omega (arith, ends old c.loop-number.number c.count.result c.self.inside.vertices c.page-item.result c.deref.result.now c.self.invariant.0 c.self.invariant.1 h is c.deref.ensures c.count.ensures.rows, ap (λ (g : Grouped). g.count) c.in_ok-groups.ensures, c.from.ensures)
+
+pub loop-number-preserved-then-are_empty : goal.loop-number-preserved-then-are_empty
+loop-number-preserved-then-are_empty c =
     let es = c.args.edits.now in
-    let i = c.loop-vertex.vertex in
-    let rows = rows_of c.loop-vertex.lists in
-    let shard = c.self.invariant.1 in
-    let few = shard.few in
-    let inside : i < length part.rows = (let count = c.count-count.ensures.rows in let test = c.loop-vertex-test.true in omega arith) in
-    let none : own_edits part es i ≡ [] = ap (λ (g : Grouped). edits_of g i) (sym c.in_ok-groups.ensures) ∙ c.is_empty.ensures.0 c.if-is_empty.true in
-    let pushed = c.in_ok-push_kept.ensures in
+    let part : Part = part_in c.self.inside.range c.self.inside.pages.items in
+    let own : AreEditsOf part es = subst (λ p. AreEditsOf p es) (sym c.self.view_is) c.requires in
+    let number = c.loop-number.number in
+    let old = c.self.inside.pages.items in
+    let new = c.loop-number.pages.items in
+    let page = c.in_ok-try_clone.field-0 in
+    let pushed = c.in_ok-push.ensures.items in
+    let h = at c.deref-page-items.result.now old number c.deref-page-items.ensures.value c.loop-number-test.true in
+    let is = shown c.deref-page-items.result.now old number c.page-item.result c.deref-page-items.ensures.value c.page-item.is in
+    let before = arc_value (get_or old number c.page-item.result) in
+    let same : arc_value page ≡ before = c.in_ok-try_clone.ensures ∙ ap arc_value is in
+    let shared : c.deref.result.now ≡ before = c.deref.ensures ∙ ap arc_value is in
+    let none : (k : ℕ) → k < length (rows_of before) → own_edits part es (64 * number + k) ≡ [] =
+    (λ k within. ap (λ (g : Grouped). edits_of g (64 * number + k)) (sym c.in_ok-groups.ensures) ∙ c.are_empty.ensures.0 c.if-are_empty.true (64 * number + k) (omega arith) (omega (arith, within, c.count.ensures.rows, ap (λ l. length (rows_of l)) shared))) in
     record {
-      kept = pushed.kept;
-      count = ap length pushed.rows ∙ length_push rows (row_at part i) ∙ ap (λ n. n + 1) c.loop-vertex.invariant.count;
-      moved = one_moved part rows (rows_of c.push_kept.new.self) (homes_of c.loop-vertex.lists) (homes_of c.push_kept.new.self) (row_at part i) (home_at part i) i c.loop-vertex.invariant.moved c.loop-vertex.invariant.count pushed.rows pushed.homes (same_home part i shard inside);
-      done = λ g below is.
-          subst (λ l. IsDone es part g l c.loop-vertex.counts) (sym pushed.rows)
-          (row_kept es part g rows (row_at part i) c.loop-vertex.counts i c.loop-vertex.invariant.count inside few is (c.loop-vertex.invariant.done g below is) none refl);
+      sizes = ap sizes_in pushed ∙ sizes_next new old number page c.page-item.result h c.loop-number.invariant.sizes (ap (λ l. length (rows_of l)) same);
+      kept = subst (AllByRecursion IsKept) (sym pushed) (kept_push new page c.loop-number.invariant.kept (subst AreKept (sym same) (page_kept old number c.page-item.result c.self.invariant.0.kept h)));
+      begun = more_begun es part c.push.new.self.items new page c.loop-number.counts pushed
+          (subst (λ l. AreBegun es part (rows_in new ++ rows_of l) (homes_in new ++ homes_of l) c.loop-number.counts) (sym same)
+          (page_begun es part (rows_in new) (homes_in new) c.loop-number.counts (64 * number) before (page_of_shard es c.self.inside.range old number c.page-item.result c.self.invariant.0 c.self.invariant.2 own h) (lists_made new old number c.self.invariant.0 h c.loop-number.invariant.sizes) none c.loop-number.invariant.begun));
     }
 
-pub overflow_cast-len : goal.overflow_cast-len
-overflow_cast-len c =
-    let part : Part = part_of c.self.inside.range c.self.inside.lists in
-    let es = c.args.edits.now in
-    let i = c.loop-vertex.vertex in
-    let row = c.edited_list.new.merged.items in
-    let own : AreEditsOf part es = subst (λ p. AreEditsOf p es) (sym c.self.view_is) c.requires in
-    let inside : i < length part.rows = (let count = c.count-count.ensures.rows in let test = c.loop-vertex-test.true in omega arith) in
-    let read : c.read.new.edits.items ≡ own_edits part es i = c.in_ok-read.ensures ∙ ap (λ (g : Grouped). edits_of g i) c.in_ok-groups.ensures in
-    let set = set_more es part row c.in_ok-more.more i c.self.invariant.1 own inside (merged_own es c.read.new.edits.items part row c.in_ok-more.more i read c.in_ok-more.ensures) in
-    let ok = c.edited_list.new.merged.ok in
-    let len = c.len.ensures in
-    omega (arith, few_words row set)
+pub edited_page-requires-clause-within : goal.edited_page-requires-clause-within
+edited_page-requires-clause-within c =
+    let old = c.self.inside.pages.items in
+    let h = at c.deref-page-items.result.now old c.loop-number.number c.deref-page-items.ensures.value c.loop-number-test.true in
+    let is = shown c.deref-page-items.result.now old c.loop-number.number c.page-item.result c.deref-page-items.ensures.value c.page-item.is in
+    omega (arith, ends old c.loop-number.number (length (rows_of c.deref-in-loop-number.result.now)) c.self.inside.vertices c.page-item.result c.deref-in-loop-number.result.now c.self.invariant.0 c.self.invariant.1 h is c.deref-in-loop-number.ensures refl, ap (λ (g : Grouped). g.count) c.in_ok-groups.ensures, c.from.ensures)
 
-pub push-requires-clause-set : goal.push-requires-clause-set
-push-requires-clause-set c =
-    let part : Part = part_of c.self.inside.range c.self.inside.lists in
-    let es = c.args.edits.now in
-    let i = c.loop-vertex.vertex in
-    let row = c.edited_list.new.merged.items in
-    let own : AreEditsOf part es = subst (λ p. AreEditsOf p es) (sym c.self.view_is) c.requires in
-    let inside : i < length part.rows = (let count = c.count-count.ensures.rows in let test = c.loop-vertex-test.true in omega arith) in
-    let read : c.read.new.edits.items ≡ own_edits part es i = c.in_ok-read.ensures ∙ ap (λ (g : Grouped). edits_of g i) c.in_ok-groups.ensures in
-    subst IsSet (sym c.deref.ensures.value) (set_more es part row c.in_ok-more.more i c.self.invariant.1 own inside (merged_own es c.read.new.edits.items part row c.in_ok-more.more i read c.in_ok-more.ensures))
+pub edited_page-requires-clause-kept : goal.edited_page-requires-clause-kept
+edited_page-requires-clause-kept c =
+    let old = c.self.inside.pages.items in
+    let h = at c.deref-page-items.result.now old c.loop-number.number c.deref-page-items.ensures.value c.loop-number-test.true in
+    let is = shown c.deref-page-items.result.now old c.loop-number.number c.page-item.result c.deref-page-items.ensures.value c.page-item.is in
+    subst AreKept (sym (c.deref-in-loop-number.ensures ∙ ap arc_value is)) (page_kept old c.loop-number.number c.page-item.result c.self.invariant.0.kept h)
 
-pub plus-counts-requires-clause-added : goal.plus-counts-requires-clause-added
-plus-counts-requires-clause-added c =
-    let part : Part = part_of c.self.inside.range c.self.inside.lists in
+pub edited_page-requires-clause-next : goal.edited_page-requires-clause-next
+edited_page-requires-clause-next c =
     let es = c.args.edits.now in
-    let i = c.loop-vertex.vertex in
-    let row = c.edited_list.new.merged.items in
+    let part : Part = part_in c.self.inside.range c.self.inside.pages.items in
     let own : AreEditsOf part es = subst (λ p. AreEditsOf p es) (sym c.self.view_is) c.requires in
-    let inside : i < length part.rows = (let count = c.count-count.ensures.rows in let test = c.loop-vertex-test.true in omega arith) in
-    let read : c.read.new.edits.items ≡ own_edits part es i = c.in_ok-read.ensures ∙ ap (λ (g : Grouped). edits_of g i) c.in_ok-groups.ensures in
-    (few_more es part (rows_of c.loop-vertex.lists) row c.loop-vertex.counts c.in_ok-more.more i c.self.invariant.1 own c.loop-vertex.invariant.count inside c.loop-vertex.invariant.done (merged_own es c.read.new.edits.items part row c.in_ok-more.more i read c.in_ok-more.ensures)).0
-
-pub plus-counts-requires-clause-removed : goal.plus-counts-requires-clause-removed
-plus-counts-requires-clause-removed c =
-    let part : Part = part_of c.self.inside.range c.self.inside.lists in
-    let es = c.args.edits.now in
-    let i = c.loop-vertex.vertex in
-    let row = c.edited_list.new.merged.items in
-    let own : AreEditsOf part es = subst (λ p. AreEditsOf p es) (sym c.self.view_is) c.requires in
-    let inside : i < length part.rows = (let count = c.count-count.ensures.rows in let test = c.loop-vertex-test.true in omega arith) in
-    let read : c.read.new.edits.items ≡ own_edits part es i = c.in_ok-read.ensures ∙ ap (λ (g : Grouped). edits_of g i) c.in_ok-groups.ensures in
-    (few_more es part (rows_of c.loop-vertex.lists) row c.loop-vertex.counts c.in_ok-more.more i c.self.invariant.1 own c.loop-vertex.invariant.count inside c.loop-vertex.invariant.done (merged_own es c.read.new.edits.items part row c.in_ok-more.more i read c.in_ok-more.ensures)).1
-
-pub loop-vertex-preserved : goal.loop-vertex-preserved
-loop-vertex-preserved c =
-    let part : Part = part_of c.self.inside.range c.self.inside.lists in
-    let es = c.args.edits.now in
-    let i = c.loop-vertex.vertex in
-    let rows = rows_of c.loop-vertex.lists in
-    let row = c.edited_list.new.merged.items in
-    let shard = c.self.invariant.1 in
-    let few = shard.few in
-    let own : AreEditsOf part es = subst (λ p. AreEditsOf p es) (sym c.self.view_is) c.requires in
-    let inside : i < length part.rows = (let count = c.count-count.ensures.rows in let test = c.loop-vertex-test.true in omega arith) in
-    let read : c.read.new.edits.items ≡ own_edits part es i = c.in_ok-read.ensures ∙ ap (λ (g : Grouped). edits_of g i) c.in_ok-groups.ensures in
-    let pushed = c.in_ok-push.ensures in
-    let new_rows : rows_of c.push.new.self ≡ rows ++ row ∷ [] = pushed.rows ∙ ap (λ l. rows ++ l ∷ []) c.deref.ensures.value in
-    let long : c.len.result ≡ length row = (let ok = c.edited_list.new.merged.ok in let len = c.len.ensures in omega arith) in
-    let home : c.after-home.result ≡ home_after (home_at part i) (length row) = c.after-home.ensures ∙ ap (λ h. home_after h c.len.result) c.home.ensures ∙ ap (home_after (home_at part i)) long in
-    record {
-      kept = pushed.kept;
-      count = ap length new_rows ∙ length_push rows row ∙ ap (λ n. n + 1) c.loop-vertex.invariant.count;
-      moved = one_moved part rows (rows_of c.push.new.self) (homes_of c.loop-vertex.lists) (homes_of c.push.new.self) row c.after-home.result i c.loop-vertex.invariant.moved c.loop-vertex.invariant.count new_rows pushed.homes home;
-      done = λ g below is.
-          subst₂ (λ l counts. IsDone es part g l counts) (sym new_rows) (sym c.plus-counts.ensures)
-          (row_edited es part g rows row c.loop-vertex.counts c.in_ok-more.more i c.loop-vertex.invariant.count inside few own below is (c.loop-vertex.invariant.done g below is)
-          (merged_own es c.read.new.edits.items part row c.in_ok-more.more i read c.in_ok-more.ensures));
+    let number = c.loop-number.number in
+    let old = c.self.inside.pages.items in
+    let new = c.loop-number.pages.items in
+    let h = at c.deref-page-items.result.now old number c.deref-page-items.ensures.value c.loop-number-test.true in
+    let is = shown c.deref-page-items.result.now old number c.page-item.result c.deref-page-items.ensures.value c.page-item.is in
+    subst (λ (g : Grouped). IsNext g.edits (64 * number) c.deref-in-loop-number.result.now c.loop-number.counts) (sym c.in_ok-groups.ensures) record {
+      part = part;
+      its = subst (IsPageOf es part (64 * number)) (sym (c.deref-in-loop-number.ensures ∙ ap arc_value is)) (page_of_shard es c.self.inside.range old number c.page-item.result c.self.invariant.0 c.self.invariant.2 own h);
+      rows = rows_in new;
+      homes = homes_in new;
+      start = lists_made new old number c.self.invariant.0 h c.loop-number.invariant.sizes;
+      begun = c.loop-number.invariant.begun;
     }
 
--- the lists as they were made, and with the room that they need
-made : (range : ℕ) (old new : Lists) → rows_of new ≡ rows_of old → homes_of new ≡ homes_of old → part_of range old ≡ part_of range new
-made range old new rows homes = sym (ap₂ (λ l h. record { range = range; rows = l; homes = h }) rows homes)
+pub loop-number-preserved : goal.loop-number-preserved
+loop-number-preserved c =
+    let es = c.args.edits.now in
+    let part : Part = part_in c.self.inside.range c.self.inside.pages.items in
+    let own : AreEditsOf part es = subst (λ p. AreEditsOf p es) (sym c.self.view_is) c.requires in
+    let number = c.loop-number.number in
+    let old = c.self.inside.pages.items in
+    let new = c.loop-number.pages.items in
+    let page = c.in_ok-new.field-0 in
+    let pushed = c.in_ok-push-2.ensures.items in
+    let made = c.in_ok-new.ensures.ok in
+    let h = at c.deref-page-items.result.now old number c.deref-page-items.ensures.value c.loop-number-test.true in
+    let is = shown c.deref-page-items.result.now old number c.page-item.result c.deref-page-items.ensures.value c.page-item.is in
+    let before : c.deref-in-loop-number.result.now ≡ arc_value (get_or old number c.page-item.result) = c.deref-in-loop-number.ensures ∙ ap arc_value is in
+    let groups : c.in_ok-groups.groups.edits ≡ es = ap (λ (g : Grouped). g.edits) c.in_ok-groups.ensures in
+    let its = subst (IsPageOf es part (64 * number)) (sym before) (page_of_shard es c.self.inside.range old number c.page-item.result c.self.invariant.0 c.self.invariant.2 own h) in
+    record {
+      sizes = ap sizes_in pushed ∙ sizes_next new old number page c.page-item.result h c.loop-number.invariant.sizes (ap (λ l. length (rows_of l)) made ∙ c.in_ok-next.ensures.count ∙ ap (λ l. length (rows_of l)) before);
+      kept = subst (AllByRecursion IsKept) (sym pushed) (kept_push new page c.loop-number.invariant.kept (subst AreKept (sym made) c.in_ok-next.ensures.kept));
+      begun = more_begun es part c.push-in-loop-number.new.self.items new page c.in_ok-next.done pushed
+          (subst (λ l. AreBegun es part (rows_in new ++ rows_of l) (homes_in new ++ homes_of l) c.in_ok-next.done) (sym made)
+          (subst (λ es. AreBegun es part (rows_in new ++ rows_of c.in_ok-next.next) (homes_in new ++ homes_of c.in_ok-next.next) c.in_ok-next.done) groups
+          (c.in_ok-next.ensures.begun part (rows_in new) (homes_in new) (subst (λ es. IsPageOf es part (64 * number) c.deref-in-loop-number.result.now) (sym groups) its) (lists_made new old number c.self.invariant.0 h c.loop-number.invariant.sizes)
+          (subst (λ es. AreBegun es part (rows_in new) (homes_in new) c.loop-number.counts) (sym groups) c.loop-number.invariant.begun))));
+    }
+
+-- all pages are made
+past : (items old : Pages) (n : ℕ) → items ≡ old → length items ≤ n → length old ≤ n
+past items old n same h = subst (λ l. length l ≤ n) same h
 
 pub invariant_of-result : goal.invariant_of-result
 invariant_of-result c =
-    let part : Part = part_of c.self.inside.range c.self.inside.lists in
+    let part : Part = part_in c.self.inside.range c.self.inside.pages.items in
     let es = c.args.edits.now in
-    let rows = rows_of c.loop-vertex.lists in
-    let homes = homes_of c.loop-vertex.lists in
-    let shard = c.self.invariant.1 in
+    let old = c.self.inside.pages.items in
+    let new = c.loop-number.pages.items in
+    let shard = c.self.invariant.2 in
     let own : AreEditsOf part es = subst (λ p. AreEditsOf p es) (sym c.self.view_is) c.requires in
-    let full : length rows ≡ length part.rows = (let count = c.count-count.ensures.rows in let made = c.loop-vertex.invariant.count in let test = c.loop-vertex-test.false in let end = c.loop-vertex.auto.vertex-end in omega arith) in
-    let fitted = c.in_ok-lists-2.ensures in
-    (fitted.kept, subst IsShard (made c.self.inside.range c.loop-vertex.lists c.in_ok-lists-2.lists fitted.rows fitted.homes) (next_shard es part (part_of c.self.inside.range c.loop-vertex.lists) shard own (rows_done es part rows homes c.loop-vertex.counts own full c.loop-vertex.invariant.done).0 (all_moved part part.range rows homes shard.homes full c.loop-vertex.invariant.moved).1))
+    let all = all_made new old c.loop-number.number c.self.invariant.0 (past c.deref-page-items.result.now old c.loop-number.number c.deref-page-items.ensures.value c.loop-number-test.false) c.loop-number.invariant.sizes c.loop-number.invariant.kept in (
+      all.0,
+      c.self.invariant.1 ∙ sym all.1,
+      next_shard es part (part_in c.self.inside.range new) shard own (rows_done es part (rows_in new) (homes_in new) c.loop-number.counts own all.1 c.loop-number.invariant.begun.done).0 (all_moved part part.range (rows_in new) (homes_in new) shard.homes all.1 c.loop-number.invariant.begun.moved).1,
+    )
 
 pub returns-clause-after : goal.returns-clause-after
 returns-clause-after c =
-    let part : Part = part_of c.self.inside.range c.self.inside.lists in
+    let part : Part = part_in c.self.inside.range c.self.inside.pages.items in
     let es = c.args.edits.now in
-    let rows = rows_of c.loop-vertex.lists in
+    let old = c.self.inside.pages.items in
+    let new = c.loop-number.pages.items in
     let own : AreEditsOf part es = subst (λ p. AreEditsOf p es) (sym c.self.view_is) c.requires in
-    let full : length rows ≡ length part.rows = (let count = c.count-count.ensures.rows in let made = c.loop-vertex.invariant.count in let test = c.loop-vertex-test.false in let end = c.loop-vertex.auto.vertex-end in omega arith) in
-    let fitted = c.in_ok-lists-2.ensures in
-    subst₂ (λ p q. IsPartAfter es p q) c.self.view_is (made c.self.inside.range c.loop-vertex.lists c.in_ok-lists-2.lists fitted.rows fitted.homes) (rows_done es part rows (homes_of c.loop-vertex.lists) c.loop-vertex.counts own full c.loop-vertex.invariant.done).0
+    let all = all_made new old c.loop-number.number c.self.invariant.0 (past c.deref-page-items.result.now old c.loop-number.number c.deref-page-items.ensures.value c.loop-number-test.false) c.loop-number.invariant.sizes c.loop-number.invariant.kept in
+    subst (λ p. IsPartAfter es p (part_in c.self.inside.range new)) c.self.view_is (rows_done es part (rows_in new) (homes_in new) c.loop-number.counts own all.1 c.loop-number.invariant.begun.done).0
 
 pub returns-clause-counts : goal.returns-clause-counts
 returns-clause-counts c =
-    let part : Part = part_of c.self.inside.range c.self.inside.lists in
+    let part : Part = part_in c.self.inside.range c.self.inside.pages.items in
     let es = c.args.edits.now in
-    let rows = rows_of c.loop-vertex.lists in
+    let old = c.self.inside.pages.items in
+    let new = c.loop-number.pages.items in
     let own : AreEditsOf part es = subst (λ p. AreEditsOf p es) (sym c.self.view_is) c.requires in
-    let full : length rows ≡ length part.rows = (let count = c.count-count.ensures.rows in let made = c.loop-vertex.invariant.count in let test = c.loop-vertex-test.false in let end = c.loop-vertex.auto.vertex-end in omega arith) in
-    subst (λ p. AreCounts es p c.loop-vertex.counts) c.self.view_is (rows_done es part rows (homes_of c.loop-vertex.lists) c.loop-vertex.counts own full c.loop-vertex.invariant.done).1
+    let all = all_made new old c.loop-number.number c.self.invariant.0 (past c.deref-page-items.result.now old c.loop-number.number c.deref-page-items.ensures.value c.loop-number-test.false) c.loop-number.invariant.sizes c.loop-number.invariant.kept in
+    subst (λ p. AreCounts es p c.loop-number.counts) c.self.view_is (rows_done es part (rows_in new) (homes_in new) c.loop-number.counts own all.1 c.loop-number.invariant.begun.done).1
 
 pub returns-clause-homes : goal.returns-clause-homes
 returns-clause-homes c =
-    let part : Part = part_of c.self.inside.range c.self.inside.lists in
-    let rows = rows_of c.loop-vertex.lists in
-    let full : length rows ≡ length part.rows = (let count = c.count-count.ensures.rows in let made = c.loop-vertex.invariant.count in let test = c.loop-vertex-test.false in let end = c.loop-vertex.auto.vertex-end in omega arith) in
-    let fitted = c.in_ok-lists-2.ensures in
-    subst₂ (λ p q. AreHomesAfter p q) c.self.view_is (made c.self.inside.range c.loop-vertex.lists c.in_ok-lists-2.lists fitted.rows fitted.homes) (all_moved part part.range rows (homes_of c.loop-vertex.lists) c.self.invariant.1.homes full c.loop-vertex.invariant.moved).0
+    let part : Part = part_in c.self.inside.range c.self.inside.pages.items in
+    let old = c.self.inside.pages.items in
+    let new = c.loop-number.pages.items in
+    let all = all_made new old c.loop-number.number c.self.invariant.0 (past c.deref-page-items.result.now old c.loop-number.number c.deref-page-items.ensures.value c.loop-number-test.false) c.loop-number.invariant.sizes c.loop-number.invariant.kept in
+    subst (λ p. AreHomesAfter p (part_in c.self.inside.range new)) c.self.view_is (all_moved part part.range (rows_in new) (homes_in new) c.self.invariant.2.homes all.1 c.loop-number.invariant.begun.moved).0

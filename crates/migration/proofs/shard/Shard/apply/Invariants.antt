@@ -1,18 +1,13 @@
-use Rattle.std.proofs.Common.{◌≡◌, length}
-use Rattle.graph_model.specs.Graph.{Graph}
-use Rattle.graph_model.specs.Edits.{AreEditsBelow}
-use Rattle.migration.specs.Part.{Part, IsPart}
-use Rattle.migration.specs.Lists.{AreKept, rows_of, homes_of, part_of}
-use Rattle.migration.proofs.PartLemmas.{IsDone}
-use Rattle.migration.proofs.HomeLemmas.{AreMoved}
+use Rattle.std.proofs.Common.{◌≡◌, take}
+use Rattle.std.specs.List.{AllByRecursion}
+use Rattle.migration.specs.Begun.{AreBegun}
+use Rattle.migration.specs.Pages.{rows_in, homes_in, sizes_in, part_in}
+use Rattle.migration.proofs.PageLemmas.{IsKept}
 use Rattle.migration.proofs.shard.Shard.apply.Given as goal
 
-abbrev pub invariant-loop-vertex : goal.invariant-loop-vertex
-invariant-loop-vertex l =
-    let part : Part = part_of l.self-inside.range l.self-inside.lists in
-    record {
-      kept : AreKept l.lists;
-      count : length (rows_of l.lists) ≡ l.vertex;
-      moved : AreMoved part (rows_of l.lists) (homes_of l.lists);
-      done : (g : Graph) → AreEditsBelow g.vertex_count l.edits → IsPart g part → IsDone l.edits part g (rows_of l.lists) l.counts;
-    }
+abbrev pub invariant-loop-number : goal.invariant-loop-number
+invariant-loop-number l = record {
+  sizes : sizes_in l.pages.items ≡ take l.number (sizes_in l.self-inside.pages.items);
+  kept : AllByRecursion IsKept l.pages.items;
+  begun : AreBegun l.edits (part_in l.self-inside.range l.self-inside.pages.items) (rows_in l.pages.items) (homes_in l.pages.items) l.counts;
+}

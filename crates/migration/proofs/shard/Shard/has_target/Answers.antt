@@ -1,8 +1,9 @@
-use Rattle.std.proofs.Common.{◌≡◌, ◌↔◌, ◌≤◌, [], true, Contains, get_or, sym, ap, subst, subst₂, ◌∙◌, arith}
+use Rattle.std.proofs.Common.{◌≡◌, ◌↔◌, ◌%◌, ◌≤◌, [], true, Contains, get_or, sym, ap, subst, subst₂, ◌∙◌, arith}
 use Rattle.std.proofs.lemmas.Bool.{false≢true}
 use Rattle.word_sets.proofs.Members.{found_members}
 use Rattle.migration.specs.Part.{Part, IsShard, row_at}
 use Rattle.migration.specs.Lists.{rows_of}
+use Rattle.migration.specs.Pages.{rows_in}
 use Rattle.migration.proofs.SearchLemmas.{no_far_target}
 use Rattle.migration.proofs.shard.Shard.has_target.Goals as goal
 
@@ -10,11 +11,16 @@ pub returns-then-target-from : goal.returns-then-target-from
 returns-then-target-from c =
     let far : 1048576 ≤ c.args.target = (let from = c.from.ensures in let test = c.if-target-from.true in omega arith) in (
       λ t. absurd (false≢true t),
-      λ among. absurd (no_far_target c.args.self.now c.args.vertex c.args.target (subst IsShard c.self.view_is c.self.invariant.1) c.requires far among),
+      λ among. absurd (no_far_target c.args.self.now c.args.vertex c.args.target (subst IsShard c.self.view_is c.self.invariant.2) c.requires far among),
     )
 
 pub returns : goal.returns
 returns c =
-    let row : get_or (rows_of c.self.inside.lists) c.from-2.result [] ≡ row_at c.args.self.now c.args.vertex =
-    ap (λ v. get_or (rows_of c.self.inside.lists) v []) c.from-2.ensures ∙ ap (λ (p : Part). row_at p c.args.vertex) c.self.view_is in
-    subst₂ (λ b l. (b ≡ true) ↔ Contains l c.args.target) (sym c.contains.ensures) row (found_members c.args.target (get_or (rows_of c.self.inside.lists) c.from-2.result []))
+    let v = c.from-vertex.result in
+    let list = get_or (rows_of c.page_of-page.result.now) (v % 64) [] in
+    let row : list ≡ row_at c.args.self.now c.args.vertex =
+    c.page_of-page.ensures.row
+    ∙ ap (λ l. get_or (rows_in l) v []) c.deref.ensures.value
+    ∙ ap (λ k. get_or (rows_in c.self.inside.pages.items) k []) c.from-vertex.ensures
+    ∙ ap (λ (p : Part). row_at p c.args.vertex) c.self.view_is in
+    subst₂ (λ b l. (b ≡ true) ↔ Contains l c.args.target) (sym c.contains.ensures) row (found_members c.args.target list)

@@ -4,4 +4,4 @@ use Rattle.migration.proofs.PartLemmas.{few_targets}
 use Rattle.migration.proofs.shard.Shard.lent_at.Goals as goal
 
 pub returns-clause-small : goal.returns-clause-small
-returns-clause-small c = few_targets c.args.self.now c.args.vertex (subst IsShard c.self.view_is c.self.invariant.1) c.requires
+returns-clause-small c = few_targets c.args.self.now c.args.vertex (subst IsShard c.self.view_is c.self.invariant.2) c.requires

@@ -1,6 +1,5 @@
-use Rattle.std.proofs.Common.{◌≡◌, ◌+◌, ◌*◌, ◌<◌, ◌≤◌, List, length, ap, arith}
+use Rattle.std.proofs.Common.{◌+◌, ◌<◌, ◌≤◌, List, length, ap, arith}
 use Rattle.migration.specs.Part.{Part}
-use Rattle.migration.specs.Table.{part_at}
 use Rattle.migration.proofs.TableLemmas.{range_past}
 use Rattle.migration.proofs.table.Table.vertex_count.Goals as goal
 

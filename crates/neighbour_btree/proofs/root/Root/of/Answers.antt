@@ -2,7 +2,7 @@ use Rattle.std.proofs.Common.{◌≡◌, ◌≤◌, length, sym, subst, ◌∙�
 use Rattle.word_sets.specs.Words.{IsSet}
 use Rattle.word_sets.specs.declared.places.TheConstants.{WORD_LIMIT}
 use Rattle.word_sets.proofs.Within.{IsWithin-length}
-use Rattle.tree_levels.specs.Node.{joined}
+use Rattle.tree_levels.specs.Node.{words_under}
 use Rattle.tree_levels.proofs.RowLists.{row_inner}
 use Rattle.neighbour_btree.proofs.root.Root.of.Goals as goal
 
@@ -16,5 +16,5 @@ new-requires-2 c =
     let two = c.in_ok-row-2.ensures in
     let three = c.in_ok-row-3.ensures in
     let words = IsWithin-length 0 WORD_LIMIT c.args.words.now c.requires.set in
-    let set : IsSet (joined c.in_ok-row-2.row.items) = subst IsSet (sym (two.words ∙ one.words)) c.requires.set in
-    row_inner 4096 (length c.in_ok-row-2.row.items) (joined c.in_ok-row-2.row.items) c.in_ok-row-3.row.items three set (omega (arith, c.if-len-le-MOST-2.false, c.len-2.ensures, c.in_ok-row-2.row.ok)) (omega (arith, one.few, two.few, three.few, words))
+    let set : IsSet (words_under c.in_ok-row-2.row.items) = subst IsSet (sym (two.words ∙ one.words)) c.requires.set in
+    row_inner 4096 (length c.in_ok-row-2.row.items) (words_under c.in_ok-row-2.row.items) c.in_ok-row-3.row.items three set (omega (arith, c.if-len-le-MOST-2.false, c.len-2.ensures, c.in_ok-row-2.row.ok)) (omega (arith, one.few, two.few, three.few, words))

@@ -1,7 +1,7 @@
 use Rattle.std.proofs.Common.{◌≡◌, List, Vec, length, true, false, ◌*◌, sym, ap, subst, ◌∙◌}
 use Rattle.std.specs.declared.alloc.Global.{Global}
 use Rattle.word_sets.specs.Words.{has_word, with_word}
-use Rattle.tree_levels.specs.Node.{Node, joined}
+use Rattle.tree_levels.specs.Node.{Node, words_under}
 use Rattle.tree_levels.specs.Shared.{items_of}
 use Rattle.tree_levels.specs.Changes.{Packs}
 use Rattle.tree_levels.proofs.NodeLists.{found, found_has, packs_weaker}
@@ -52,4 +52,4 @@ returns-in_ok-first-in-New g c =
     let m = grown_child g.C.Level.node g.C.Level.least ns cs c.in_ok-list-in-New.list.items c.args.word c.child_for-at.result child (g.C.Level.node c.node.result.now) c.in-New.first c.in-New.second c.adopted-pair.result.0 c.adopted-pair.result.1 f c.requires same c.node.ensures.node grows.1 c.in_ok-list-in-New.ensures c.adopted-pair.ensures.first c.adopted-pair.ensures.second in
     let absent : has_word c.args.word child.words ≡ false = ap (λ (n : Node). has_word c.args.word n.words) (sym c.node.ensures.node) ∙ grows.0 in
     let Q : Node → Type 0 = λ n. (has_word c.args.word n.words ≡ false) × Packs (λ (m : Node). m) (16 * g.C.Level.least) n.size (with_word c.args.word n.words) c.in_ok-first-in-New.first c.in_ok-first-in-New.second in
-    subst Q c.self.view_is (found_has g.C.Level.least ns c.args.word c.child_for-at.result child f ∙ absent, packs_weaker (λ (m : Node). m) (16 * g.C.Level.least) (length c.in_ok-list-in-New.list.items) (length ns) (joined c.in_ok-list-in-New.list.items) (with_word c.args.word (joined ns)) c.in_ok-first-in-New.first c.in_ok-first-in-New.second m.2 m.1 c.in_ok-first-in-New.ensures)
+    subst Q c.self.view_is (found_has g.C.Level.least ns c.args.word c.child_for-at.result child f ∙ absent, packs_weaker (λ (m : Node). m) (16 * g.C.Level.least) (length c.in_ok-list-in-New.list.items) (length ns) (words_under c.in_ok-list-in-New.list.items) (with_word c.args.word (words_under ns)) c.in_ok-first-in-New.first c.in_ok-first-in-New.second m.2 m.1 c.in_ok-first-in-New.ensures)

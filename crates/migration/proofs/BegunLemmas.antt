@@ -1,0 +1,98 @@
+-- One list more of a shard under edit is made, or a page of them that no edit is of.
+use Rattle.std.proofs.Common.{◌≡◌, ℕ, zero, suc, ◌+◌, ◌*◌, ◌<◌, ◌≤◌, Bool, List, [], ◌∷◌, ◌++◌, length, get_or, filter, take, refl, sym, ap, subst, subst₂, ◌∙◌, append-nil, append_assoc, length-append, arith}
+use Rattle.std.specs.declared.sync.Arc.{Arc}
+use Rattle.std.specs.declared.alloc.Global.{Global}
+use Rattle.std.specs.Arc.{arc_value}
+use Rattle.std.proofs.Math.Seq.{take-suc, take-length}
+use Rattle.std.proofs.lemmas.List.{length-map, length-take-le}
+use Rattle.graph_model.specs.declared.edit.Edit.{Edit}
+use Rattle.graph_model.specs.declared.home.Home.{Home}
+use Rattle.graph_model.specs.declared.home.Home.TheVariants.{Block}
+use Rattle.graph_model.specs.Graph.{numbers_below}
+use Rattle.graph_model.specs.Homes.{home_after}
+use Rattle.migration.specs.declared.counts.Counts.{Counts}
+use Rattle.migration.specs.declared.groups.Grouping.TheVariants.{ByVertex}
+use Rattle.migration.specs.declared.lists.Lists.{Lists}
+use Rattle.migration.specs.Begun.{IsDone, AreBegun, IsPageOf}
+use Rattle.migration.specs.Groups.{Grouped, edits_of}
+use Rattle.migration.specs.Lists.{rows_of, homes_of, list_at, home_of}
+use Rattle.migration.specs.Merge.{AreEditsFrom, IsMerged}
+use Rattle.migration.specs.Pages.{rows_in, homes_in, part_in, ArePages}
+use Rattle.migration.specs.Part.{Part, row_at, home_at, AreEditsOf, IsShard}
+use Rattle.migration.proofs.HomeLemmas.{none_moved, one_moved, same_home}
+use Rattle.migration.proofs.PageLemmas.{row_in_page, home_in_page, page_inside, rows_push, homes_push}
+use Rattle.migration.proofs.PartLemmas.{own_edits, nothing_done, merged_own, row_kept, row_edited}
+
+-- the edits of a group are those of a vertex
+pub edits_in : (groups : Grouped) (p : Part) (i : ℕ) → groups.grouping ≡ ByVertex → edits_of groups i ≡ own_edits p groups.edits i
+edits_in groups p i by_vertex = ap (λ k. edits_of record { grouping = k; count = groups.count; edits = groups.edits } i) by_vertex
+
+pub none_begun : (es : List Edit) (p : Part) (rows : List (List ℕ)) (homes : List Home) → AreEditsOf p es → rows ≡ [] → homes ≡ [] → AreBegun es p rows homes record { added = 0; removed = 0 }
+none_begun es p rows homes own no_rows no_homes = record {
+  moved = none_moved p rows homes no_rows no_homes;
+  done = λ g below is. subst (λ l. IsDone es p g l record { added = 0; removed = 0 }) (sym no_rows) (nothing_done es p g own);
+}
+
+-- a list that no edit is of
+pub one_kept : (es : List Edit) (p : Part) (rows : List (List ℕ)) (homes : List Home) (counts : Counts) (row : List ℕ) (home : Home) (i : ℕ) → IsShard p → length rows ≡ i → i < length p.rows → row ≡ row_at p i → home ≡ home_at p i → own_edits p es i ≡ []
+    → AreBegun es p rows homes counts → AreBegun es p (rows ++ row ∷ []) (homes ++ home ∷ []) counts
+one_kept es p rows homes counts row home i shard count inside same at none begun = record {
+  moved = one_moved p rows (rows ++ row ∷ []) homes (homes ++ home ∷ []) row home i begun.moved count refl refl (at ∙ same_home p i shard inside ∙ ap (λ l. home_after (home_at p i) (length l)) (sym same));
+  done = λ g below is. row_kept es p g rows row counts i count inside shard.few is (begun.done g below is) none same;
+}
+
+-- a list after its edits
+pub one_edited : (es : List Edit) (p : Part) (rows : List (List ℕ)) (homes : List Home) (counts more : Counts) (row : List ℕ) (home : Home) (i : ℕ) → IsShard p → AreEditsOf p es → length rows ≡ i → i < length p.rows → home ≡ home_after (home_at p i) (length row)
+    → ((u n : ℕ) (q : ℕ → Bool) → AreEditsFrom u n (own_edits p es i) → row_at p i ≡ filter q (numbers_below n) → IsMerged (own_edits p es i) u n q row more)
+    → AreBegun es p rows homes counts → AreBegun es p (rows ++ row ∷ []) (homes ++ home ∷ []) record { added = counts.added + more.added; removed = counts.removed + more.removed }
+one_edited es p rows homes counts more row home i shard own count inside at merged begun = record {
+  moved = one_moved p rows (rows ++ row ∷ []) homes (homes ++ home ∷ []) row home i begun.moved count refl refl at;
+  done = λ g below is. row_edited es p g rows row counts more i count inside shard.few own below is (begun.done g below is) merged;
+}
+
+-- lists behind others, with one more
+pub behind : {A : Type 0} (before made : List A) (x : A) → before ++ (made ++ x ∷ []) ≡ (before ++ made) ++ x ∷ []
+behind before made x = sym (append_assoc before made (x ∷ []))
+
+-- a page that no edit is of
+pub page_begun : (es : List Edit) (p : Part) (rows : List (List ℕ)) (homes : List Home) (counts : Counts) (first : ℕ) (page : Lists) → IsPageOf es p first page → length rows ≡ first → ((k : ℕ) → k < length (rows_of page) → own_edits p es (first + k) ≡ [])
+    → AreBegun es p rows homes counts → AreBegun es p (rows ++ rows_of page) (homes ++ homes_of page) counts
+page_begun es p rows homes counts first page is start none begun =
+    subst₂ (λ l h. AreBegun es p (rows ++ l) (homes ++ h) counts) (take-length (rows_of page)) (ap (λ n. take n (homes_of page)) (sym many) ∙ take-length (homes_of page)) (so_far (length (rows_of page)) (omega arith))
+  where
+    many : length (homes_of page) ≡ length (rows_of page)
+    many = length-map page.places.items home_of ∙ sym (length-map page.places.items (list_at page))
+
+    so_far : (k : ℕ) → k ≤ length (rows_of page) → AreBegun es p (rows ++ take k (rows_of page)) (homes ++ take k (homes_of page)) counts
+    so_far zero h = subst₂ (λ l m. AreBegun es p l m counts) (sym (append-nil rows)) (sym (append-nil homes)) begun
+    so_far (suc k) h =
+        let within = is.within in
+        let row = get_or (rows_of page) k [] in
+        let home = get_or (homes_of page) k Block in
+        let inside : k < length (rows_of page) = omega arith in
+        let before : length (rows ++ take k (rows_of page)) ≡ first + k = omega (arith, start, length-append rows (take k (rows_of page)), length-take-le k (rows_of page) (omega arith)) in
+        subst₂ (λ l m. AreBegun es p (rows ++ l) (homes ++ m) counts) (sym (take-suc (rows_of page) k [] inside)) (sym (take-suc (homes_of page) k Block (omega (arith, many))))
+        (subst₂ (λ l m. AreBegun es p l m counts) (sym (behind rows (take k (rows_of page)) row)) (sym (behind homes (take k (homes_of page)) home))
+        (one_kept es p (rows ++ take k (rows_of page)) (homes ++ take k (homes_of page)) counts row home (first + k) is.shard before (omega arith) (is.rows k inside) (is.homes k inside) (none k inside) (so_far k (omega arith))))
+
+-- what is known of a list of a page after the edits that were read for it
+pub merged_of_page : (groups : Grouped) (p : Part) (page : Lists) (first place : ℕ) (own : List Edit) (row : List ℕ) (more : Counts) → groups.grouping ≡ ByVertex → IsPageOf groups.edits p first page → place < length (rows_of page) → own ≡ edits_of groups (first + place)
+    → ((u n : ℕ) (q : ℕ → Bool) → AreEditsFrom u n own → get_or (rows_of page) place [] ≡ filter q (numbers_below n) → IsMerged own u n q row more)
+    → (u n : ℕ) (q : ℕ → Bool) → AreEditsFrom u n (own_edits p groups.edits (first + place)) → row_at p (first + place) ≡ filter q (numbers_below n) → IsMerged (own_edits p groups.edits (first + place)) u n q row more
+merged_of_page groups p page first place own row more by_vertex its inside read merged =
+    merged_own groups.edits own p row more (first + place) (read ∙ edits_in groups p (first + place) by_vertex) (λ u n q from same. merged u n q from (its.rows place inside ∙ same))
+
+-- a page of a shard, from its first vertex on
+pub page_of_shard : (es : List Edit) (range : ℕ) (pages : List (Arc Lists Global)) (i : ℕ) (d : Arc Lists Global) → ArePages pages → IsShard (part_in range pages) → AreEditsOf (part_in range pages) es → i < length pages → IsPageOf es (part_in range pages) (64 * i) (arc_value (get_or pages i d))
+page_of_shard es range pages i d are shard own h = record {
+  shard = shard;
+  own = own;
+  within = page_inside pages i d are h;
+  rows = λ k within. sym (row_in_page pages i k d are h within);
+  homes = λ k within. sym (home_in_page pages i k d are h within);
+}
+
+-- a page more
+pub more_begun : (es : List Edit) (p : Part) (items pages : List (Arc Lists Global)) (page : Arc Lists Global) (counts : Counts) → items ≡ pages ++ page ∷ [] → AreBegun es p (rows_in pages ++ rows_of (arc_value page)) (homes_in pages ++ homes_of (arc_value page)) counts → AreBegun es p (rows_in items) (homes_in items) counts
+more_begun es p items pages page counts is begun =
+    subst₂ (λ l h. AreBegun es p l h counts) (sym (ap rows_in is ∙ rows_push pages page)) (sym (ap homes_in is ∙ homes_push pages page)) begun

@@ -1,0 +1,121 @@
+use Rattle.std.proofs.Common.{◌≡◌, ℕ, ◌+◌, ◌<◌, ◌++◌, ◌∷◌, List, [], length, get_or, sym, ap, subst, subst₂, ◌∙◌, length-append, append-nil, ◌^◌, arith}
+use Rattle.std.proofs.lemmas.List.{length_push}
+use Rattle.graph_model.specs.declared.home.Home.TheVariants.{Block}
+use Rattle.graph_model.specs.Homes.{home_after}
+use Rattle.word_sets.specs.Words.{IsSet}
+use Rattle.migration.specs.Begun.{AreBegun}
+use Rattle.migration.specs.Lists.{rows_of, homes_of}
+use Rattle.migration.specs.Part.{home_at}
+use Rattle.migration.proofs.ListLemmas.{few_words}
+use Rattle.migration.proofs.PartLemmas.{own_edits, set_more, few_more}
+use Rattle.migration.proofs.BegunLemmas.{edits_in, one_kept, one_edited, behind, merged_of_page}
+use Rattle.migration.proofs.edited_page.edited_page.Goals as goal
+use Rattle.migration.proofs.edited_page.edited_page.Goals.{After-len, In_ok-push}
+
+pub loop-place-init : goal.loop-place-init
+loop-place-init c = record {
+  kept = c.clear.ensures.kept;
+  count = ap length c.clear.ensures.rows;
+  begun = λ p rows homes its start begun.
+      subst₂ (λ l h. AreBegun c.args.groups.now.edits p l h c.args.counts)
+      (sym (ap (λ l. rows ++ l) c.clear.ensures.rows ∙ append-nil rows)) (sym (ap (λ h. homes ++ h) c.clear.ensures.homes ∙ append-nil homes)) begun;
+}
+
+-- so many lists are made
+made : (rows done : List (List ℕ)) (first place : ℕ) → length rows ≡ first → length done ≡ place → length (rows ++ done) ≡ first + place
+made rows done first place start count = length-append rows done ∙ omega (arith, start, count)
+
+pub loop-place-preserved-then-is_empty : goal.loop-place-preserved-then-is_empty
+loop-place-preserved-then-is_empty c =
+    let groups = c.args.groups.now in
+    let page = c.args.page.now in
+    let place = c.loop-place.place in
+    let lists = c.loop-place.scratch.lists in
+    let row = get_or (rows_of page) place [] in
+    let home = get_or (homes_of page) place Block in
+    let inside : place < length (rows_of page) = (let count = c.count-place-end.ensures.rows in let test = c.loop-place-test.true in omega arith) in
+    let pushed = c.in_ok-push_kept.ensures in
+    record {
+      kept = pushed.kept;
+      count = ap length pushed.rows ∙ length_push (rows_of lists) row ∙ ap (λ n. n + 1) c.loop-place.invariant.count;
+      begun = λ p rows homes its start begun. (
+          let within = its.within in
+          let none : own_edits p groups.edits (c.args.first + place) ≡ [] = sym (edits_in groups p (c.args.first + place) c.requires.vertices) ∙ c.is_empty.ensures.0 c.if-is_empty.true in
+          subst₂ (λ l h. AreBegun groups.edits p l h c.loop-place.counts)
+          (sym (ap (λ l. rows ++ l) pushed.rows ∙ behind rows (rows_of lists) row)) (sym (ap (λ h. homes ++ h) pushed.homes ∙ behind homes (homes_of lists) home))
+          (one_kept groups.edits p (rows ++ rows_of lists) (homes ++ homes_of lists) c.loop-place.counts row home (c.args.first + place) its.shard (made rows (rows_of lists) c.args.first place start c.loop-place.invariant.count) (omega arith) (its.rows place inside) (its.homes place inside) none
+          (c.loop-place.invariant.begun p rows homes its start begun)));
+    }
+
+-- the list after its edits is a set
+set : (c : After-len) → IsSet c.edited_list.new.merged.items
+set c =
+    let groups = c.args.groups.now in
+    let place = c.loop-place.place in
+    let its = c.requires.next.its in
+    let within = its.within in
+    let row = c.edited_list.new.merged.items in
+    let inside : place < length (rows_of c.args.page.now) = (let count = c.count-place-end.ensures.rows in let test = c.loop-place-test.true in omega arith) in
+    set_more groups.edits c.requires.next.part row c.in_ok-more.more (c.args.first + place) its.shard its.own (omega arith)
+    (merged_of_page groups c.requires.next.part c.args.page.now c.args.first place c.read.new.edits.items row c.in_ok-more.more c.requires.vertices its inside c.in_ok-read.ensures c.in_ok-more.ensures)
+
+pub overflow_cast-len : goal.overflow_cast-len
+overflow_cast-len c =
+    let ok = c.edited_list.new.merged.ok in
+    let len = c.len.ensures in
+    omega (arith, few_words c.edited_list.new.merged.items (set c))
+
+pub push-requires-clause-set : goal.push-requires-clause-set
+push-requires-clause-set c = subst IsSet (sym c.deref.ensures.value) (set c.before.before.before.before)
+
+-- the counts fit
+few : (c : In_ok-push) → (c.loop-place.counts.added + c.in_ok-more.more.added < 2 ^ 64) × (c.loop-place.counts.removed + c.in_ok-more.more.removed < 2 ^ 64)
+few c =
+    let groups = c.args.groups.now in
+    let place = c.loop-place.place in
+    let next = c.requires.next in
+    let its = next.its in
+    let within = its.within in
+    let lists = c.loop-place.scratch.lists in
+    let row = c.edited_list.new.merged.items in
+    let inside : place < length (rows_of c.args.page.now) = (let count = c.count-place-end.ensures.rows in let test = c.loop-place-test.true in omega arith) in
+    few_more groups.edits next.part (next.rows ++ rows_of lists) row c.loop-place.counts c.in_ok-more.more (c.args.first + place) its.shard its.own (made next.rows (rows_of lists) c.args.first place next.start c.loop-place.invariant.count) (omega arith)
+    (c.loop-place.invariant.begun next.part next.rows next.homes its next.start next.begun).done
+    (merged_of_page groups next.part c.args.page.now c.args.first place c.read.new.edits.items row c.in_ok-more.more c.requires.vertices its inside c.in_ok-read.ensures c.in_ok-more.ensures)
+
+pub plus-counts-requires-clause-added : goal.plus-counts-requires-clause-added
+plus-counts-requires-clause-added c = (few c).0
+
+pub plus-counts-requires-clause-removed : goal.plus-counts-requires-clause-removed
+plus-counts-requires-clause-removed c = (few c).1
+
+pub loop-place-preserved : goal.loop-place-preserved
+loop-place-preserved c =
+    let groups = c.args.groups.now in
+    let page = c.args.page.now in
+    let place = c.loop-place.place in
+    let lists = c.loop-place.scratch.lists in
+    let row = c.edited_list.new.merged.items in
+    let inside : place < length (rows_of page) = (let count = c.count-place-end.ensures.rows in let test = c.loop-place-test.true in omega arith) in
+    let pushed = c.in_ok-push.ensures in
+    let new_rows : rows_of c.push.new.self ≡ rows_of lists ++ row ∷ [] = pushed.rows ∙ ap (λ l. rows_of lists ++ l ∷ []) c.deref.ensures.value in
+    let long : c.len.result ≡ length row = (let ok = c.edited_list.new.merged.ok in let len = c.len.ensures in omega arith) in
+    record {
+      kept = pushed.kept;
+      count = ap length new_rows ∙ length_push (rows_of lists) row ∙ ap (λ n. n + 1) c.loop-place.invariant.count;
+      begun = λ p rows homes its start begun. (
+          let within = its.within in
+          let home : c.after-home.result ≡ home_after (home_at p (c.args.first + place)) (length row) = c.after-home.ensures ∙ ap (λ h. home_after h c.len.result) (c.home.ensures ∙ its.homes place inside) ∙ ap (home_after (home_at p (c.args.first + place))) long in
+          subst (AreBegun groups.edits p (rows ++ rows_of c.push.new.self) (homes ++ homes_of c.push.new.self)) (sym c.plus-counts.ensures)
+          (subst₂ (λ l h. AreBegun groups.edits p l h record { added = c.loop-place.counts.added + c.in_ok-more.more.added; removed = c.loop-place.counts.removed + c.in_ok-more.more.removed })
+          (sym (ap (λ l. rows ++ l) new_rows ∙ behind rows (rows_of lists) row)) (sym (ap (λ h. homes ++ h) pushed.homes ∙ behind homes (homes_of lists) c.after-home.result))
+          (one_edited groups.edits p (rows ++ rows_of lists) (homes ++ homes_of lists) c.loop-place.counts c.in_ok-more.more row c.after-home.result (c.args.first + place) its.shard its.own (made rows (rows_of lists) c.args.first place start c.loop-place.invariant.count) (omega arith) home
+          (merged_of_page groups p page c.args.first place c.read.new.edits.items row c.in_ok-more.more c.requires.vertices its inside c.in_ok-read.ensures c.in_ok-more.ensures)
+          (c.loop-place.invariant.begun p rows homes its start begun))));
+    }
+
+pub returns-clause-begun : goal.returns-clause-begun
+returns-clause-begun c =
+    let same = c.in_ok-next.ensures in
+    λ p rows homes its start begun.
+    subst₂ (λ l h. AreBegun c.args.groups.now.edits p (rows ++ l) (homes ++ h) c.loop-place.counts) (sym same.rows) (sym same.homes) (c.loop-place.invariant.begun p rows homes its start begun)

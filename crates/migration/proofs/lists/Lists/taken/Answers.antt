@@ -1,0 +1,9 @@
+use Rattle.std.proofs.Common.{Vec, Global, ap, ◌∙◌}
+use Rattle.neighbour_btree.specs.declared.tree.NeighbourTree.{NeighbourTree}
+use Rattle.migration.proofs.ListLemmas.{kept_same}
+use Rattle.migration.proofs.lists.Lists.taken.Goals as goal
+
+pub returns : goal.returns
+returns c =
+    kept_same c.args.self.now _ c.requires (c.in_ok-places.ensures.items ∙ c.deref.ensures.value) c.in_ok-shorts.ensures.words c.in_ok-shorts.ensures.ends (c.in_ok-blocks.ensures.items ∙ c.deref-2.ensures.value) c.in_ok-array.ensures
+    (ap (λ (v : Vec NeighbourTree Global). v.items) c.replace-trees.ensures.value)

@@ -1,0 +1,47 @@
+-- A shard under edit: the lists of its first vertices are made.
+use Rattle.std.specs.Prelude.{◌≡◌, ℕ, ◌+◌, ◌<◌, ◌≤◌, List, [], length, slice_index_or}
+use Rattle.graph_model.specs.declared.edit.Edit.{Edit}
+use Rattle.graph_model.specs.declared.home.Home.{Home}
+use Rattle.graph_model.specs.declared.home.Home.TheVariants.{Block}
+use Rattle.graph_model.specs.Graph.{Graph, neighbours, count_pairs}
+use Rattle.graph_model.specs.Edits.{after_batch, AreEditsBelow}
+use Rattle.graph_model.specs.Homes.{home_after}
+use Rattle.migration.specs.declared.counts.Counts.{Counts}
+use Rattle.migration.specs.declared.lists.Lists.{Lists}
+use Rattle.migration.specs.Blocks.{is_new, is_gone}
+use Rattle.migration.specs.Lists.{rows_of, homes_of}
+use Rattle.migration.specs.Part.{Part, vertex_at, row_at, home_at, IsPart, AreEditsOf, IsShard}
+
+-- the lists of the first vertices of a part of a graph after edits, and how many edges out of them are new and are gone
+pub record IsDone (es : List Edit) (p : Part) (g : Graph) (rows : List (List ℕ)) (counts : Counts) : Type 0 where
+  pub each : (i : ℕ) → i < length rows → slice_index_or rows i [] ≡ neighbours (after_batch es g) (vertex_at p i)
+  pub gained : counts.added ≡ count_pairs (vertex_at p (length rows)) g.vertex_count (is_new es g)
+  pub lost : counts.removed ≡ count_pairs (vertex_at p (length rows)) g.vertex_count (is_gone es g)
+
+-- each of these lists has the home of before, or the one to which it had to move
+pub record AreAtHome (p : Part) (rows : List (List ℕ)) (homes : List Home) : Type 0 where
+  pub count : length homes ≡ length rows
+  pub each : (i : ℕ) → i < length homes
+      → slice_index_or homes i Block ≡ home_after (home_at p i) (length (slice_index_or rows i []))
+
+-- both, whichever graph it is a part of
+pub record AreBegun (es : List Edit) (p : Part) (rows : List (List ℕ)) (homes : List Home) (counts : Counts) : Type 0 where
+  pub moved : AreAtHome p rows homes
+  pub done : (g : Graph) → AreEditsBelow g.vertex_count es → IsPart g p → IsDone es p g rows counts
+
+-- a page of a shard to which edits are applied, from one of its vertices on
+pub record IsPageOf (es : List Edit) (p : Part) (first : ℕ) (page : Lists) : Type 0 where
+  pub shard : IsShard p
+  pub own : AreEditsOf p es
+  pub within : first + length (rows_of page) ≤ length p.rows
+  pub rows : (k : ℕ) → k < length (rows_of page) → slice_index_or (rows_of page) k [] ≡ row_at p (first + k)
+  pub homes : (k : ℕ) → k < length (rows_of page) → slice_index_or (homes_of page) k Block ≡ home_at p (first + k)
+
+-- and the lists before it are made
+pub record IsNext (es : List Edit) (first : ℕ) (page : Lists) (counts : Counts) : Type 0 where
+  pub part : Part
+  pub its : IsPageOf es part first page
+  pub rows : List (List ℕ)
+  pub homes : List Home
+  pub start : length rows ≡ first
+  pub begun : AreBegun es part rows homes counts

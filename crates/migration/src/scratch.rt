@@ -1,0 +1,30 @@
+//! The space in which a shard's pages are made.
+
+use crate::lists::Lists;
+use graph_model::Edit;
+use std::alloc::{AllocError, Global};
+
+/// Space for pages that are made one after another, so that each takes just the memory that it needs.
+#[derive(Drop)]
+pub(crate) struct Scratch {
+    /// The lists of a page.
+    pub lists: Lists,
+    /// The edits of a vertex.
+    pub own: Vec<Edit>,
+    /// The words of a list that lies in more than one slice.
+    pub gathered: Vec<u32>,
+    /// The words of a list after its edits.
+    pub merged: Vec<u32>,
+}
+
+impl Scratch {
+    /// Space for pages of so many vertices.
+    pub fn new(alloc: Global, vertices: usize) -> Result<Scratch, AllocError> {
+        Ok(Scratch {
+            lists: Lists::new(alloc, vertices)?,
+            own: Vec::new(alloc),
+            gathered: Vec::new(alloc),
+            merged: Vec::new(alloc),
+        })
+    }
+}
