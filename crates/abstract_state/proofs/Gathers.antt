@@ -1,8 +1,10 @@
 -- What gather fills, where the rules allow it, leaves a memory that they describe.
 use Rattle.std.proofs.Common.{◌≡◌, ℕ, ◌+◌, ◌-◌, ◌^◌, ◌<◌, ◌≤◌, Some, subst, arith, inl, inr}
-use Rattle.std.specs.Prelude.{ℤ, pos, negsuc, ◌+ℤ◌, int_le}
+use Rattle.std.specs.Prelude.{ℤ, pos, ◌+ℤ◌, int_le}
 use Rattle.std.proofs.lemmas.Int.{ints}
 use Rattle.std.proofs.lemmas.Bool.{cases_Bool, and_parts, and_from, le-leb}
+use Rattle.bpf_model.specs.declared.limits.TheConstants.{FRAME_BYTES}
+use Rattle.abstract_values.specs.declared.limits.TheConstants.{FRAME_BOTTOM}
 use Rattle.bpf_model.specs.State.{Partial, record_base}
 use Rattle.bpf_model.specs.declared.cause.Cause.TheVariants.{OutOfRange}
 use Rattle.abstract_values.specs.declared.value.AbstractValue.{AbstractValue}
@@ -28,20 +30,20 @@ record_gather l top lo hi s t registers before after room x short high h d q wri
       | inr not_is ↦ absurd (let e : failed OutOfRange ≡ ok t = (rw not_is at h) in cc)
     ]
 
-frame_gather : (l top : ℕ) (offset : ℤ) (s t : AbstractState) (registers before after : Partial) (room x : ℕ) → 512 ≤ top → 1 ≤ room → gather_result l s (Stack offset) room ≡ ok t → DescribesParts l top s registers before → Describes l top (Stack offset) (Some x) → IsWritten before after x room → Leaves l top t registers after x room
+frame_gather : (l top : ℕ) (offset : ℤ) (s t : AbstractState) (registers before after : Partial) (room x : ℕ) → FRAME_BYTES ≤ top → 1 ≤ room → gather_result l s (Stack offset) room ≡ ok t → DescribesParts l top s registers before → Describes l top (Stack offset) (Some x) → IsWritten before after x room → Leaves l top t registers after x room
 frame_gather l top offset s t registers before after room x low some h d q written =
     let k = frame_index offset in
     elim (cases_Bool (is_in_frame offset room)) [
       | inl is ↦
           let same : frame_fill s k room ≡ t = (let e : ok (frame_fill s k room) ≡ ok t = (rw is at h) in cc) in
-          let both = and_parts (int_le (negsuc 511) offset) (int_le (offset +ℤ pos room) (pos 0)) is in
-          let begins = at_most (negsuc 511) offset both.0 in
+          let both = and_parts (int_le FRAME_BOTTOM offset) (int_le (offset +ℤ pos room) (pos 0)) is in
+          let begins = at_most FRAME_BOTTOM offset both.0 in
           let ends = at_most (offset +ℤ pos room) (pos 0) both.1 in
-          let index = natural (pos 512 +ℤ offset) (omega (arith, ints, begins)) in
-          let inside : k + room ≤ 512 = omega (arith, ints, index, ends) in
-          let x-is : x ≡ top - 512 + k = (let e : Some x ≡ Some q.0 = q.1 in let f : x ≡ q.0 = cc in omega (arith, ints, index, q.2, f, low)) in
-          let here : IsWritten before after (top - 512 + k) room = subst (λ a. IsWritten before after a room) x-is written in
-          let allowed : IsAllowed l top (top - 512 + k) room = inr (omega arith, omega (arith, inside, low)) in
+          let index = natural (pos FRAME_BYTES +ℤ offset) (omega (arith, ints, begins)) in
+          let inside : k + room ≤ FRAME_BYTES = omega (arith, ints, index, ends) in
+          let x-is : x ≡ top - FRAME_BYTES + k = (let e : Some x ≡ Some q.0 = q.1 in let f : x ≡ q.0 = cc in omega (arith, ints, index, q.2, f, low)) in
+          let here : IsWritten before after (top - FRAME_BYTES + k) room = subst (λ a. IsWritten before after a room) x-is written in
+          let allowed : IsAllowed l top (top - FRAME_BYTES + k) room = inr (omega arith, omega (arith, inside, low)) in
           let described = filled_described l top s registers before after k room low some d here in
           rw x-is (allowed, subst (λ w. DescribesParts l top w registers after) same described)
       | inr not_is ↦ absurd (let e : failed OutOfRange ≡ ok t = (rw not_is at h) in cc)

@@ -6,6 +6,8 @@ use Rattle.std.proofs.lemmas.Int.{ints}
 use Rattle.std.proofs.lemmas.Bool.{cases_Bool, and_parts, and_from, le-leb, eqb-true}
 use Rattle.std.proofs.Math.Nat.{mod-eq_of_lt, add-mod_left}
 use Rattle.std.proofs.Common.{pow-suc}
+use Rattle.bpf_model.specs.declared.limits.TheConstants.{FRAME_BYTES}
+use Rattle.abstract_values.specs.declared.limits.TheConstants.{FRAME_BOTTOM}
 use Rattle.bpf_isa.specs.declared.instruction.Size.{Size}
 use Rattle.bpf_isa.specs.declared.instruction.Size.TheVariants.{Byte, Half, Word, Double}
 use Rattle.bpf_model.specs.State.{Partial, record_base, joined_bytes, number_at, address_at}
@@ -103,22 +105,22 @@ spilled_number l top (Record lo hi) x h d = (record_base + d.0, d.1)
 spilled_number l top (Stack offset) x h d = (d.0, d.1)
 
 -- a load from set bytes of the frame
-frame_gives : (l top : ℕ) (s : AbstractState) (registers memory : Partial) (size : Size) (k : ℕ) → 512 ≤ top → DescribesParts l top s registers memory → k + size_bytes size ≤ 512 → are_set s.bytes_set k (size_bytes size) ≡ true → Gives l top memory (top - 512 + k) (size_bytes size) (frame_value s k (size_bytes size))
+frame_gives : (l top : ℕ) (s : AbstractState) (registers memory : Partial) (size : Size) (k : ℕ) → FRAME_BYTES ≤ top → DescribesParts l top s registers memory → k + size_bytes size ≤ FRAME_BYTES → are_set s.bytes_set k (size_bytes size) ≡ true → Gives l top memory (top - FRAME_BYTES + k) (size_bytes size) (frame_value s k (size_bytes size))
 frame_gives l top s registers memory size k low d inside set =
-    let allowed : IsAllowed l top (top - 512 + k) (size_bytes size) = inr (omega arith, omega (arith, inside, low)) in
+    let allowed : IsAllowed l top (top - FRAME_BYTES + k) (size_bytes size) = inr (omega arith, omega (arith, inside, low)) in
     elim (cases_Bool (is_slot k (size_bytes size) && is_spilled (get_or s.slots (k / 8) Unset))) [
       | inl is ↦
           let both = and_parts (is_slot k (size_bytes size)) (is_spilled (get_or s.slots (k / 8) Unset)) is in
           let whole = and_parts (eqb (size_bytes size) 8) (eqb (k % 8) 0) both.0 in
           let eight : size_bytes size ≡ 8 = eqb-true (size_bytes size) 8 whole.0 in
-          let aligned : top - 512 + 8 * (k / 8) ≡ top - 512 + k = omega (arith, eqb-true (k % 8) 0 whole.1) in
+          let aligned : top - FRAME_BYTES + 8 * (k / 8) ≡ top - FRAME_BYTES + k = omega (arith, eqb-true (k % 8) 0 whole.1) in
           let kept = d.frame.spilled (k / 8) (omega (arith, inside, eight)) in
-          let n = spilled_number l top (get_or s.slots (k / 8) Unset) (number_at memory (top - 512 + 8 * (k / 8)) 8) both.1 kept in
+          let n = spilled_number l top (get_or s.slots (k / 8) Unset) (number_at memory (top - FRAME_BYTES + 8 * (k / 8)) 8) both.1 kept in
           let described : Describes l top (get_or s.slots (k / 8) Unset) (Some n.0) = subst (λ x. Describes l top (get_or s.slots (k / 8) Unset) x) n.1 kept in
-          let here : number_at memory (top - 512 + k) (size_bytes size) ≡ Some n.0 = ap (λ z. number_at memory (top - 512 + k) z) eight ∙ ap (λ a. number_at memory a 8) (sym aligned) ∙ n.1 in
+          let here : number_at memory (top - FRAME_BYTES + k) (size_bytes size) ≡ Some n.0 = ap (λ z. number_at memory (top - FRAME_BYTES + k) z) eight ∙ ap (λ a. number_at memory a 8) (sym aligned) ∙ n.1 in
           rw is (record { number = n.0; allowed = allowed; there = here; described = described })
       | inr not_is ↦
-          let n = number_there memory (top - 512 + k) (size_bytes size) (λ i lt. let b = d.frame.stack_set (k + i) (omega (arith, inside, lt)) (each_set s.bytes_set k (size_bytes size) i set lt) in let same : (top - 512 + k) + i ≡ top - 512 + (k + i) = omega arith in (b.0, rw same b.1, b.2)) in
+          let n = number_there memory (top - FRAME_BYTES + k) (size_bytes size) (λ i lt. let b = d.frame.stack_set (k + i) (omega (arith, inside, lt)) (each_set s.bytes_set k (size_bytes size) i set lt) in let same : (top - FRAME_BYTES + k) + i ≡ top - FRAME_BYTES + (k + i) = omega arith in (b.0, rw same b.1, b.2)) in
           rw not_is (record { number = n.0; allowed = allowed; there = n.1; described = any_described l top size n.0 n.2 })
     ]
 
@@ -139,7 +141,7 @@ record_load l top lo hi s registers memory v z size x short fits h d q =
       | inr not_is ↦ absurd (let e : failed OutOfRange ≡ ok v = (rw not_is at h) in cc)
     ]
 
-frame_load : (l top : ℕ) (offset : ℤ) (s : AbstractState) (registers memory : Partial) (v : AbstractValue) (z : ℤ) (size : Size) (x : ℕ) → 512 ≤ top → top < 2 ^ 64 → FitsSigned w16 z → load_result l s (Stack offset) z (size_bytes size) ≡ ok v → DescribesParts l top s registers memory → Describes l top (Stack offset) (Some x) → Gives l top memory (address_at x z) (size_bytes size) v
+frame_load : (l top : ℕ) (offset : ℤ) (s : AbstractState) (registers memory : Partial) (v : AbstractValue) (z : ℤ) (size : Size) (x : ℕ) → FRAME_BYTES ≤ top → top < 2 ^ 64 → FitsSigned w16 z → load_result l s (Stack offset) z (size_bytes size) ≡ ok v → DescribesParts l top s registers memory → Describes l top (Stack offset) (Some x) → Gives l top memory (address_at x z) (size_bytes size) v
 frame_load l top offset s registers memory v z size x low high fits h d q =
     let place = offset +ℤ z in
     elim (cases_Bool (is_in_frame place (size_bytes size))) [
@@ -148,15 +150,15 @@ frame_load l top offset s registers memory v z size x low high fits h d q =
           elim (cases_Bool (are_set s.bytes_set (frame_index place) (size_bytes size))) [
             | inl set ↦
                 let value : frame_value s (frame_index place) (size_bytes size) ≡ v = (let e : ok (frame_value s (frame_index place) (size_bytes size)) ≡ ok v = (rw set at loads) in cc) in
-                let both = and_parts (int_le (negsuc 511) place) (int_le (place +ℤ pos (size_bytes size)) (pos 0)) is in
-                let begins = at_most (negsuc 511) place both.0 in
+                let both = and_parts (int_le FRAME_BOTTOM place) (int_le (place +ℤ pos (size_bytes size)) (pos 0)) is in
+                let begins = at_most FRAME_BOTTOM place both.0 in
                 let ends = at_most (place +ℤ pos (size_bytes size)) (pos 0) both.1 in
-                let index = natural (pos 512 +ℤ place) (omega (arith, ints, begins)) in
-                let inside : frame_index place + size_bytes size ≤ 512 = omega (arith, ints, index, ends) in
+                let index = natural (pos FRAME_BYTES +ℤ place) (omega (arith, ints, begins)) in
+                let inside : frame_index place + size_bytes size ≤ FRAME_BYTES = omega (arith, ints, index, ends) in
                 let x-is : x ≡ q.0 = (let e : Some x ≡ Some q.0 = q.1 in cc) in
-                let moved : pos (top - 512 + frame_index place) ≡ pos x +ℤ z = omega (arith, ints, index, q.2, x-is, low) in
-                let address = address_is x (top - 512 + frame_index place) z (omega (arith, inside, low, high)) fits moved in
-                rw address (subst (λ w. Gives l top memory (top - 512 + frame_index place) (size_bytes size) w) value (frame_gives l top s registers memory size (frame_index place) low d inside set))
+                let moved : pos (top - FRAME_BYTES + frame_index place) ≡ pos x +ℤ z = omega (arith, ints, index, q.2, x-is, low) in
+                let address = address_is x (top - FRAME_BYTES + frame_index place) z (omega (arith, inside, low, high)) fits moved in
+                rw address (subst (λ w. Gives l top memory (top - FRAME_BYTES + frame_index place) (size_bytes size) w) value (frame_gives l top s registers memory size (frame_index place) low d inside set))
             | inr not_set ↦ absurd (let e : failed UnsetStackByte ≡ ok v = (rw not_set at loads) in cc)
           ]
       | inr not_is ↦ absurd (let e : failed OutOfRange ≡ ok v = (rw not_is at h) in cc)
@@ -165,7 +167,7 @@ frame_load l top offset s registers memory v z size x low high fits h d q =
 gives_parts : (l top : ℕ) (memory : Partial) (a size : ℕ) (v : AbstractValue) → Gives l top memory a size v → (n : ℕ) × IsAllowed l top a size × (number_at memory a size ≡ Some n) × Describes l top v (Some n)
 gives_parts l top memory a size v g = (g.number, g.allowed, g.there, g.described)
 
-pub load_describes : (l top : ℕ) (s : AbstractState) (registers memory : Partial) (base v : AbstractValue) (z : ℤ) (size : Size) (x : ℕ) → l < 2 ^ 16 → 512 ≤ top → top < 2 ^ 64 → FitsSigned w16 z → load_result l s base z (size_bytes size) ≡ ok v → DescribesParts l top s registers memory → Describes l top base (Some x) → (n : ℕ) × IsAllowed l top (address_at x z) (size_bytes size) × (number_at memory (address_at x z) (size_bytes size) ≡ Some n) × Describes l top v (Some n)
+pub load_describes : (l top : ℕ) (s : AbstractState) (registers memory : Partial) (base v : AbstractValue) (z : ℤ) (size : Size) (x : ℕ) → l < 2 ^ 16 → FRAME_BYTES ≤ top → top < 2 ^ 64 → FitsSigned w16 z → load_result l s base z (size_bytes size) ≡ ok v → DescribesParts l top s registers memory → Describes l top base (Some x) → (n : ℕ) × IsAllowed l top (address_at x z) (size_bytes size) × (number_at memory (address_at x z) (size_bytes size) ≡ Some n) × Describes l top v (Some n)
 load_describes l top s registers memory Unset v z size x short low high fits h d q = absurd cc
 load_describes l top s registers memory (Number lo hi) v z size x short low high fits h d q = absurd cc
 load_describes l top s registers memory (Record lo hi) v z size x short low high fits h d q =

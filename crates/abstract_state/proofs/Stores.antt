@@ -1,10 +1,12 @@
 -- A store that the rules allow leaves a memory that they describe.
 use Rattle.std.proofs.Common.{◌≡◌, ◌≢◌, ℕ, zero, suc, ◌+◌, ◌-◌, ◌*◌, ◌/◌, ◌%◌, ◌^◌, ◌<◌, ◌≤◌, Bool, true, false, eqb, cond, List, [], ◌∷◌, Option, Some, Result, Ok, Err, get_or, set, refl, sym, subst, ap, ◌∙◌, arith, inl, inr, ◌⊎◌}
-use Rattle.std.specs.Prelude.{ℤ, pos, negsuc, ◌+ℤ◌, int_le, ◌&&◌, FitsSigned}
+use Rattle.std.specs.Prelude.{ℤ, pos, ◌+ℤ◌, int_le, ◌&&◌, FitsSigned}
 use Rattle.std.specs.Int.{w16}
 use Rattle.std.proofs.lemmas.Int.{ints}
 use Rattle.std.proofs.lemmas.Bool.{cases_Bool, cases_eq, cases_lt, and_parts, and_from, le-leb, eqb-true}
 use Rattle.std.proofs.Math.Nat.{mod-eq_of_lt}
+use Rattle.bpf_model.specs.declared.limits.TheConstants.{FRAME_BYTES}
+use Rattle.abstract_values.specs.declared.limits.TheConstants.{FRAME_BOTTOM}
 use Rattle.bpf_isa.specs.declared.instruction.Size.{Size}
 use Rattle.bpf_isa.specs.declared.instruction.Size.TheVariants.{Byte, Half, Word, Double}
 use Rattle.bpf_model.specs.State.{Partial, record_base, number_at, address_at}
@@ -123,63 +125,63 @@ apart_whole k j whole other =
     elim (cases_lt j (k / 8)) [ inl lt ↦ inl (omega (arith, lt)) | inr ge ↦ inr (omega (arith, ge, other, whole)) ]
 
 -- a whole slot is spilled
-spilled_whole : (l top : ℕ) (slots : List AbstractValue) (before after : Partial) (k n j : ℕ) (v : AbstractValue) → 512 ≤ top → n < 2 ^ 64 → 8 * (k / 8) ≡ k → IsStored before after (top - 512 + k) 8 n → Describes l top v (Some n) → Describes l top (get_or slots j Unset) (number_at before (top - 512 + 8 * j) 8) → Describes l top (get_or (set slots (k / 8) v) j Unset) (number_at after (top - 512 + 8 * j) 8)
+spilled_whole : (l top : ℕ) (slots : List AbstractValue) (before after : Partial) (k n j : ℕ) (v : AbstractValue) → FRAME_BYTES ≤ top → n < 2 ^ 64 → 8 * (k / 8) ≡ k → IsStored before after (top - FRAME_BYTES + k) 8 n → Describes l top v (Some n) → Describes l top (get_or slots j Unset) (number_at before (top - FRAME_BYTES + 8 * j) 8) → Describes l top (get_or (set slots (k / 8) v) j Unset) (number_at after (top - FRAME_BYTES + 8 * j) 8)
 spilled_whole l top slots before after k n j v low lt whole stored new old =
     elim (cases_eq j (k / 8)) [
       | inl same ↦
           let low_bits : n % 256 ^ 8 ≡ n = mod-eq_of_lt (omega (arith, lt)) in
-          let here : number_at after (top - 512 + k) 8 ≡ Some n = stored.number ∙ ap Some low_bits in
-          let place : top - 512 + k ≡ top - 512 + 8 * (k / 8) = omega (arith, whole) in
-          let there : Some n ≡ number_at after (top - 512 + 8 * (k / 8)) 8 = sym here ∙ ap (λ a. number_at after a 8) place in
-          let described = set_described l top slots (k / 8) v (number_at after (top - 512 + 8 * (k / 8)) 8) (subst (λ x. Describes l top v x) there new) in
-          subst (λ i. Describes l top (get_or (set slots (k / 8) v) i Unset) (number_at after (top - 512 + 8 * i) 8)) (sym same) described
+          let here : number_at after (top - FRAME_BYTES + k) 8 ≡ Some n = stored.number ∙ ap Some low_bits in
+          let place : top - FRAME_BYTES + k ≡ top - FRAME_BYTES + 8 * (k / 8) = omega (arith, whole) in
+          let there : Some n ≡ number_at after (top - FRAME_BYTES + 8 * (k / 8)) 8 = sym here ∙ ap (λ a. number_at after a 8) place in
+          let described = set_described l top slots (k / 8) v (number_at after (top - FRAME_BYTES + 8 * (k / 8)) 8) (subst (λ x. Describes l top v x) there new) in
+          subst (λ i. Describes l top (get_or (set slots (k / 8) v) i Unset) (number_at after (top - FRAME_BYTES + 8 * i) 8)) (sym same) described
       | inr other ↦
           let far = apart_whole k j whole other in
-          let stays = slot_stays before after (top - 512 + k) 8 (top - 512 + 8 * j) stored.written (moved_up (top - 512) k 8 j far) in
-          let kept : Describes l top (get_or slots j Unset) (number_at after (top - 512 + 8 * j) 8) = subst (λ x. Describes l top (get_or slots j Unset) x) stays old in
-          subst (λ w. Describes l top w (number_at after (top - 512 + 8 * j) 8)) (sym (set_other slots (k / 8) j v Unset other)) kept
+          let stays = slot_stays before after (top - FRAME_BYTES + k) 8 (top - FRAME_BYTES + 8 * j) stored.written (moved_up (top - FRAME_BYTES) k 8 j far) in
+          let kept : Describes l top (get_or slots j Unset) (number_at after (top - FRAME_BYTES + 8 * j) 8) = subst (λ x. Describes l top (get_or slots j Unset) x) stays old in
+          subst (λ w. Describes l top w (number_at after (top - FRAME_BYTES + 8 * j) 8)) (sym (set_other slots (k / 8) j v Unset other)) kept
     ]
 
 -- the slots that bytes touch are no longer spilled
-spilled_part : (l top : ℕ) (slots : List AbstractValue) (before after : Partial) (k size j : ℕ) → 512 ≤ top → 1 ≤ size → IsWritten before after (top - 512 + k) size → Describes l top (get_or slots j Unset) (number_at before (top - 512 + 8 * j) 8) → Describes l top (get_or (without_spills slots k size) j Unset) (number_at after (top - 512 + 8 * j) 8)
+spilled_part : (l top : ℕ) (slots : List AbstractValue) (before after : Partial) (k size j : ℕ) → FRAME_BYTES ≤ top → 1 ≤ size → IsWritten before after (top - FRAME_BYTES + k) size → Describes l top (get_or slots j Unset) (number_at before (top - FRAME_BYTES + 8 * j) 8) → Describes l top (get_or (without_spills slots k size) j Unset) (number_at after (top - FRAME_BYTES + 8 * j) 8)
 spilled_part l top slots before after k size j low some written old =
     elim (beside j (k / 8) (slots_touched k size)) [
       | inl among ↦
-          subst (λ w. Describes l top w (number_at after (top - 512 + 8 * j) 8)) (sym (unset_among slots (k / 8) (slots_touched k size) j among.0 among.1)) tt
+          subst (λ w. Describes l top w (number_at after (top - FRAME_BYTES + 8 * j) 8)) (sym (unset_among slots (k / 8) (slots_touched k size) j among.0 among.1)) tt
       | inr out ↦
-          let stays = slot_stays before after (top - 512 + k) size (top - 512 + 8 * j) written (moved_up (top - 512) k size j (apart k size j some out)) in
-          let kept : Describes l top (get_or slots j Unset) (number_at after (top - 512 + 8 * j) 8) = subst (λ x. Describes l top (get_or slots j Unset) x) stays old in
-          subst (λ w. Describes l top w (number_at after (top - 512 + 8 * j) 8)) (sym (unset_apart slots (k / 8) (slots_touched k size) j out)) kept
+          let stays = slot_stays before after (top - FRAME_BYTES + k) size (top - FRAME_BYTES + 8 * j) written (moved_up (top - FRAME_BYTES) k size j (apart k size j some out)) in
+          let kept : Describes l top (get_or slots j Unset) (number_at after (top - FRAME_BYTES + 8 * j) 8) = subst (λ x. Describes l top (get_or slots j Unset) x) stays old in
+          subst (λ w. Describes l top w (number_at after (top - FRAME_BYTES + 8 * j) 8)) (sym (unset_apart slots (k / 8) (slots_touched k size) j out)) kept
     ]
 
 -- every slot after a store in the frame
-spilled_after : (l top : ℕ) (slots : List AbstractValue) (before after : Partial) (k size n j : ℕ) (v : AbstractValue) → 512 ≤ top → n < 2 ^ 64 → 1 ≤ size → IsStored before after (top - 512 + k) size n → Describes l top v (Some n) → Describes l top (get_or slots j Unset) (number_at before (top - 512 + 8 * j) 8) → Describes l top (get_or (cond (is_slot k size) (set slots (k / 8) v) (without_spills slots k size)) j Unset) (number_at after (top - 512 + 8 * j) 8)
+spilled_after : (l top : ℕ) (slots : List AbstractValue) (before after : Partial) (k size n j : ℕ) (v : AbstractValue) → FRAME_BYTES ≤ top → n < 2 ^ 64 → 1 ≤ size → IsStored before after (top - FRAME_BYTES + k) size n → Describes l top v (Some n) → Describes l top (get_or slots j Unset) (number_at before (top - FRAME_BYTES + 8 * j) 8) → Describes l top (get_or (cond (is_slot k size) (set slots (k / 8) v) (without_spills slots k size)) j Unset) (number_at after (top - FRAME_BYTES + 8 * j) 8)
 spilled_after l top slots before after k size n j v low lt some stored new old =
     elim (cases_Bool (is_slot k size)) [
       | inl is ↦
           let whole = and_parts (eqb size 8) (eqb (k % 8) 0) is in
           let eight : size ≡ 8 = eqb-true size 8 whole.0 in
           let aligned : 8 * (k / 8) ≡ k = omega (arith, eqb-true (k % 8) 0 whole.1) in
-          let stored_8 : IsStored before after (top - 512 + k) 8 n = subst (λ z. IsStored before after (top - 512 + k) z n) eight stored in
+          let stored_8 : IsStored before after (top - FRAME_BYTES + k) 8 n = subst (λ z. IsStored before after (top - FRAME_BYTES + k) z n) eight stored in
           rw is (spilled_whole l top slots before after k n j v low lt aligned stored_8 new old)
       | inr not_is ↦ rw not_is (spilled_part l top slots before after k size j low some stored.written old)
     ]
 
 -- the bytes of the frame after some of them were written
-set_after : (top : ℕ) (flags : List Bool) (before after : Partial) (k size i : ℕ) → IsWritten before after (top - 512 + k) size → (get_or flags i false ≡ true → IsByteAt before (top - 512 + i)) → get_or (set_from flags k size) i false ≡ true → IsByteAt after (top - 512 + i)
+set_after : (top : ℕ) (flags : List Bool) (before after : Partial) (k size i : ℕ) → IsWritten before after (top - FRAME_BYTES + k) size → (get_or flags i false ≡ true → IsByteAt before (top - FRAME_BYTES + i)) → get_or (set_from flags k size) i false ≡ true → IsByteAt after (top - FRAME_BYTES + i)
 set_after top flags before after k size i written old h =
     elim (beside i k size) [
       | inl inside ↦
           let b = written.inside (i - k) (omega (arith, inside.0, inside.1)) in
-          let same : top - 512 + k + (i - k) ≡ top - 512 + i = omega (arith, inside.0) in
+          let same : top - FRAME_BYTES + k + (i - k) ≡ top - FRAME_BYTES + i = omega (arith, inside.0) in
           subst (λ p. IsByteAt after p) same b
-      | inr out ↦ byte_stays before after (top - 512 + k) size (top - 512 + i) written (old (sym (flags_other flags k size i out) ∙ h))
+      | inr out ↦ byte_stays before after (top - FRAME_BYTES + k) size (top - FRAME_BYTES + i) written (old (sym (flags_other flags k size i out) ∙ h))
     ]
 
-frame_described : (l top : ℕ) (s : AbstractState) (registers before after : Partial) (k size n : ℕ) (v : AbstractValue) → 512 ≤ top → n < 2 ^ 64 → 1 ≤ size → DescribesParts l top s registers before → IsStored before after (top - 512 + k) size n → Describes l top v (Some n) → DescribesParts l top (frame_write s k size v) registers after
+frame_described : (l top : ℕ) (s : AbstractState) (registers before after : Partial) (k size n : ℕ) (v : AbstractValue) → FRAME_BYTES ≤ top → n < 2 ^ 64 → 1 ≤ size → DescribesParts l top s registers before → IsStored before after (top - FRAME_BYTES + k) size n → Describes l top v (Some n) → DescribesParts l top (frame_write s k size v) registers after
 frame_described l top s registers before after k size n v low lt some d stored new = record {
   values = d.values;
-  record_set = λ i inside. byte_stays before after (top - 512 + k) size (record_base + i) stored.written (d.record_set i inside);
+  record_set = λ i inside. byte_stays before after (top - FRAME_BYTES + k) size (record_base + i) stored.written (d.record_set i inside);
   frame = record {
     stack_set = λ i below h. set_after top s.bytes_set before after k size i stored.written (d.frame.stack_set i below) h;
     spilled = λ j below. spilled_after l top s.slots before after k size n j v low lt some stored new (d.frame.spilled j below);
@@ -187,10 +189,10 @@ frame_described l top s registers before after k size n v low lt some d stored n
 }
 
 -- the frame after some of its bytes were filled
-pub filled_described : (l top : ℕ) (s : AbstractState) (registers before after : Partial) (k size : ℕ) → 512 ≤ top → 1 ≤ size → DescribesParts l top s registers before → IsWritten before after (top - 512 + k) size → DescribesParts l top (frame_fill s k size) registers after
+pub filled_described : (l top : ℕ) (s : AbstractState) (registers before after : Partial) (k size : ℕ) → FRAME_BYTES ≤ top → 1 ≤ size → DescribesParts l top s registers before → IsWritten before after (top - FRAME_BYTES + k) size → DescribesParts l top (frame_fill s k size) registers after
 filled_described l top s registers before after k size low some d written = record {
   values = d.values;
-  record_set = λ i inside. byte_stays before after (top - 512 + k) size (record_base + i) written (d.record_set i inside);
+  record_set = λ i inside. byte_stays before after (top - FRAME_BYTES + k) size (record_base + i) written (d.record_set i inside);
   frame = record {
     stack_set = λ i below h. set_after top s.bytes_set before after k size i written (d.frame.stack_set i below) h;
     spilled = λ j below. spilled_part l top s.slots before after k size j low some written (d.frame.spilled j below);
@@ -203,8 +205,8 @@ record_described l top s registers before after place size short high inside d w
   values = d.values;
   record_set = λ i lt. byte_stays before after (record_base + place) size (record_base + i) written (d.record_set i lt);
   frame = record {
-    stack_set = λ i below h. byte_stays before after (record_base + place) size (top - 512 + i) written (d.frame.stack_set i below h);
-    spilled = λ j below. subst (λ x. Describes l top (get_or s.slots j Unset) x) (slot_stays before after (record_base + place) size (top - 512 + 8 * j) written (inr (omega (arith, inside, short, high)))) (d.frame.spilled j below);
+    stack_set = λ i below h. byte_stays before after (record_base + place) size (top - FRAME_BYTES + i) written (d.frame.stack_set i below h);
+    spilled = λ j below. subst (λ x. Describes l top (get_or s.slots j Unset) x) (slot_stays before after (record_base + place) size (top - FRAME_BYTES + 8 * j) written (inr (omega (arith, inside, short, high)))) (d.frame.spilled j below);
   };
 }
 
@@ -233,7 +235,7 @@ record_store l top lo hi s t registers before after v z size x n short high fits
           ]
     ]
 
-frame_store : (l top : ℕ) (offset : ℤ) (s t : AbstractState) (registers before after : Partial) (v : AbstractValue) (z : ℤ) (size : Size) (x n : ℕ) → 512 ≤ top → top < 2 ^ 64 → FitsSigned w16 z → n < 2 ^ 64 → store_result l s (Stack offset) z (size_bytes size) v ≡ ok t → DescribesParts l top s registers before → Describes l top (Stack offset) (Some x) → Describes l top v (Some n) → IsStored before after (address_at x z) (size_bytes size) n → Leaves l top t registers after (address_at x z) (size_bytes size)
+frame_store : (l top : ℕ) (offset : ℤ) (s t : AbstractState) (registers before after : Partial) (v : AbstractValue) (z : ℤ) (size : Size) (x n : ℕ) → FRAME_BYTES ≤ top → top < 2 ^ 64 → FitsSigned w16 z → n < 2 ^ 64 → store_result l s (Stack offset) z (size_bytes size) v ≡ ok t → DescribesParts l top s registers before → Describes l top (Stack offset) (Some x) → Describes l top v (Some n) → IsStored before after (address_at x z) (size_bytes size) n → Leaves l top t registers after (address_at x z) (size_bytes size)
 frame_store l top offset s t registers before after v z size x n low high fits lt h d q new stored =
     let place = offset +ℤ z in
     let k = frame_index (offset +ℤ z) in
@@ -243,16 +245,16 @@ frame_store l top offset s t registers before after v z size x n low high fits l
           elim (cases_Bool (is_in_frame place (size_bytes size))) [
             | inl is ↦
                 let same : frame_write s k (size_bytes size) v ≡ t = (let e : ok (frame_write s k (size_bytes size) v) ≡ ok t = (rw is at tests) in cc) in
-                let both = and_parts (int_le (negsuc 511) place) (int_le (place +ℤ pos (size_bytes size)) (pos 0)) is in
-                let begins = at_most (negsuc 511) place both.0 in
+                let both = and_parts (int_le FRAME_BOTTOM place) (int_le (place +ℤ pos (size_bytes size)) (pos 0)) is in
+                let begins = at_most FRAME_BOTTOM place both.0 in
                 let ends = at_most (place +ℤ pos (size_bytes size)) (pos 0) both.1 in
-                let index = natural (pos 512 +ℤ place) (omega (arith, ints, begins)) in
-                let inside : k + size_bytes size ≤ 512 = omega (arith, ints, index, ends) in
+                let index = natural (pos FRAME_BYTES +ℤ place) (omega (arith, ints, begins)) in
+                let inside : k + size_bytes size ≤ FRAME_BYTES = omega (arith, ints, index, ends) in
                 let x-is : x ≡ q.0 = (let e : Some x ≡ Some q.0 = q.1 in cc) in
-                let moved : pos (top - 512 + k) ≡ pos x +ℤ z = omega (arith, ints, index, q.2, x-is, low) in
-                let address = address_is x (top - 512 + k) z (omega (arith, inside, low, high)) fits moved in
-                let here : IsStored before after (top - 512 + k) (size_bytes size) n = subst (λ a. IsStored before after a (size_bytes size) n) address stored in
-                let allowed : IsAllowed l top (top - 512 + k) (size_bytes size) = inr (omega arith, omega (arith, inside, low)) in
+                let moved : pos (top - FRAME_BYTES + k) ≡ pos x +ℤ z = omega (arith, ints, index, q.2, x-is, low) in
+                let address = address_is x (top - FRAME_BYTES + k) z (omega (arith, inside, low, high)) fits moved in
+                let here : IsStored before after (top - FRAME_BYTES + k) (size_bytes size) n = subst (λ a. IsStored before after a (size_bytes size) n) address stored in
+                let allowed : IsAllowed l top (top - FRAME_BYTES + k) (size_bytes size) = inr (omega arith, omega (arith, inside, low)) in
                 let described = frame_described l top s registers before after k (size_bytes size) n v low lt (size_some size) d here new in
                 rw address (allowed, subst (λ w. DescribesParts l top w registers after) same described)
             | inr not_is ↦ absurd (let e : failed OutOfRange ≡ ok t = (rw not_is at tests) in cc)

@@ -2,6 +2,7 @@
 use Rattle.std.specs.Prelude.{◌≡◌, ℕ, ◌+◌, ◌<◌, ◌≤◌, ◌^◌, ℤ, FitsSigned, Some, Ok}
 use Rattle.std.specs.Int.{w16}
 use Rattle.bpf_isa.specs.declared.instruction.Size.{Size}
+use Rattle.bpf_model.specs.declared.limits.TheConstants.{FRAME_BYTES}
 use Rattle.bpf_model.specs.State.{Partial, record_base, number_at, address_at}
 use Rattle.bpf_isa.specs.Sizes.{size_bytes}
 use Rattle.abstract_values.specs.declared.value.AbstractValue.{AbstractValue}
@@ -22,7 +23,7 @@ JoinDescribesStates =
 abbrev pub LoadDescribes : Type 0
 LoadDescribes =
     (record_length top : ℕ) (a : AbstractState) (registers memory : Partial) (base v : AbstractValue) (offset : ℤ) (size : Size) (x : ℕ)
-    → record_length < 2 ^ 16 → 512 ≤ top → top < 2 ^ 64 → FitsSigned w16 offset
+    → record_length < 2 ^ 16 → FRAME_BYTES ≤ top → top < 2 ^ 64 → FitsSigned w16 offset
     → load_result record_length a base offset (size_bytes size) ≡ Ok v
     → DescribesParts record_length top a registers memory → Describes record_length top base (Some x)
     → (n : ℕ) × IsAllowed record_length top (address_at x offset) (size_bytes size)

@@ -1,9 +1,11 @@
 -- What loads and stores ask of what is known, and what is known after them.
-use Rattle.std.specs.Prelude.{ℕ, zero, suc, ◌+◌, ◌-◌, ◌*◌, ◌/◌, ◌%◌, ◌^◌, ◌==◌, ◌&&◌, Bool, true, false, if◌then◌else◌, ℤ, pos, negsuc, ◌+ℤ◌, int_le, unsigned_abs, List, Result, Ok, Err, slice_index_or, slice_set}
+use Rattle.std.specs.Prelude.{ℕ, zero, suc, ◌+◌, ◌-◌, ◌*◌, ◌/◌, ◌%◌, ◌^◌, ◌==◌, ◌&&◌, Bool, true, false, if◌then◌else◌, ℤ, pos, ◌+ℤ◌, int_le, unsigned_abs, List, Result, Ok, Err, slice_index_or, slice_set}
 use Rattle.bpf_isa.specs.declared.instruction.SignedSize.{SignedSize}
 use Rattle.bpf_isa.specs.Sizes.{size_bytes, plain_size}
+use Rattle.bpf_model.specs.declared.limits.TheConstants.{FRAME_BYTES}
 use Rattle.bpf_model.specs.declared.cause.Cause.{Cause}
 use Rattle.bpf_model.specs.declared.cause.Cause.TheVariants.{UnsetRegister, PointerUse, OutOfRange, UnsetStackByte, HelperArgument}
+use Rattle.abstract_values.specs.declared.limits.TheConstants.{FRAME_BOTTOM}
 use Rattle.abstract_values.specs.declared.value.AbstractValue.{AbstractValue}
 use Rattle.abstract_values.specs.declared.value.AbstractValue.TheVariants.{Unset, Number, Record, Stack}
 use Rattle.abstract_state.specs.declared.state.AbstractState.{AbstractState}
@@ -13,13 +15,13 @@ abbrev pub is_in_record : ℕ → ℕ → ℕ → ℤ → ℕ → Bool
 is_in_record record_length lo hi offset size =
     int_le (pos 0) (pos lo +ℤ offset) && int_le (pos (hi + size) +ℤ offset) (pos record_length)
 
--- the bytes at a distance from the top of a frame lie in its 512
+-- the bytes at a distance from the top of a frame lie in it
 abbrev pub is_in_frame : ℤ → ℕ → Bool
-is_in_frame place size = int_le (negsuc 511) place && int_le (place +ℤ pos size) (pos 0)
+is_in_frame place size = int_le FRAME_BOTTOM place && int_le (place +ℤ pos size) (pos 0)
 
 -- which byte of the frame is at a distance from its top, counted from the lowest
 abbrev pub frame_index : ℤ → ℕ
-frame_index place = unsigned_abs (pos 512 +ℤ place)
+frame_index place = unsigned_abs (pos FRAME_BYTES +ℤ place)
 
 -- bytes that make a whole slot
 abbrev pub is_slot : ℕ → ℕ → Bool

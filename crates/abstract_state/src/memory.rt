@@ -1,11 +1,12 @@
 //! Loads and stores through what is known of their base (RFC 9669, section 5).
-ghost use Rattle.std.specs.Prelude.{◌≡◌, ◌≤◌, ◌<◌, ◌+◌, ◌+ℤ◌, if◌then◌else◌, Some, None, IfErr, IfSome, negsuc, ◌≤ℤ◌};
+ghost use Rattle.std.specs.Prelude.{◌≡◌, ◌≤◌, ◌<◌, ◌+◌, ◌+ℤ◌, if◌then◌else◌, Some, None, IfErr, IfSome, ◌≤ℤ◌};
 ghost use Rattle.bpf_isa.specs.Sizes.{size_bytes};
+ghost use Rattle.abstract_values.specs.declared.limits.TheConstants.{FRAME_BOTTOM};
 ghost use Rattle.abstract_state.specs.Memory.{is_in_record, is_in_frame, frame_index, is_pointer, load_result, load_signed_result, frame_store_result, store_result, gather_result, store_answer};
 
 use crate::stack::{any_number, fill_frame, is_whole_slot, load_frame, store_frame};
 use crate::state::AbstractState;
-use abstract_values::AbstractValue;
+use abstract_values::{AbstractValue, FRAME_BOTTOM};
 use bpf_isa::{SignedSize, Size};
 use bpf_model::{Cause, FRAME_BYTES};
 
@@ -28,18 +29,18 @@ fn is_inside_frame(top: i16, offset: i16, bytes: usize) -> bool
     ensures { result ≡ is_in_frame (top +ℤ offset) bytes }
 {
     let place = i64::from(top) + i64::from(offset);
-    let begins_inside = -512 <= place;
+    let begins_inside = i64::from(FRAME_BOTTOM) <= place;
     let ends_inside = place + bytes as i64 <= 0;
     begins_inside && ends_inside
 }
 
 /// Which byte of the frame stands at an offset from a place, from the lowest.
 fn frame_byte(top: i16, offset: i16) -> usize
-    requires { negsuc 511 ≤ℤ (top +ℤ offset) }
+    requires { FRAME_BOTTOM ≤ℤ (top +ℤ offset) }
     ensures { result ≡ frame_index (top +ℤ offset) }
 {
     let place = i64::from(top) + i64::from(offset);
-    (512 + place) as usize
+    (FRAME_BYTES as i64 + place) as usize
 }
 
 /// The first byte of the frame at an offset from a place, if so many bytes lie in the frame.

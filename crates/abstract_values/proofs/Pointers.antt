@@ -10,9 +10,11 @@ use Rattle.bpf_isa.specs.declared.instruction.Width.TheVariants.{Bits64}
 use Rattle.bpf_isa.specs.declared.instruction.Operation.{Operation}
 use Rattle.bpf_isa.specs.declared.instruction.Operation.TheVariants as operations
 use Rattle.bpf_model.specs.State.{record_base}
+use Rattle.bpf_model.specs.declared.limits.TheConstants.{FRAME_BYTES}
 use Rattle.bpf_model.specs.Arithmetic.{low, alu_number}
 use Rattle.bpf_model.specs.declared.cause.Cause.{Cause}
 use Rattle.bpf_model.specs.declared.cause.Cause.TheVariants.{OutOfRange}
+use Rattle.abstract_values.specs.declared.limits.TheConstants.{FRAME_BOTTOM}
 use Rattle.abstract_values.specs.declared.range.Range.{Range}
 use Rattle.abstract_values.specs.declared.value.AbstractValue.{AbstractValue}
 use Rattle.abstract_values.specs.declared.value.AbstractValue.TheVariants.{Number, Record, Stack}
@@ -112,17 +114,17 @@ points l top lo hi z v h above below =
 
 -- a stack pointer that stays in its frame
 record StaysInFrame (v : AbstractValue) (offset : ℤ) : Type 0 where
-  least : negsuc 511 ≤ℤ offset
+  least : FRAME_BOTTOM ≤ℤ offset
   most : offset ≤ℤ pos 0
   value : Stack offset ≡ v
 
 stays : (offset : ℤ) (v : AbstractValue) → stack_pointer offset ≡ ok v → StaysInFrame v offset
 stays offset v h =
-    elim (cases_Bool (int_le (negsuc 511) offset && int_le offset (pos 0))) [
+    elim (cases_Bool (int_le FRAME_BOTTOM offset && int_le offset (pos 0))) [
       | inl is ↦
           let same : Stack offset ≡ v = (let e : ok (Stack offset) ≡ ok v = (rw is at h) in cc) in
-          let both = and_parts (int_le (negsuc 511) offset) (int_le offset (pos 0)) is in
-          record { least = at_most (negsuc 511) offset both.0; most = at_most offset (pos 0) both.1; value = same }
+          let both = and_parts (int_le FRAME_BOTTOM offset) (int_le offset (pos 0)) is in
+          record { least = at_most FRAME_BOTTOM offset both.0; most = at_most offset (pos 0) both.1; value = same }
       | inr not_is ↦ absurd (let e : failed OutOfRange ≡ ok v = (rw not_is at h) in cc)
     ]
 
@@ -132,7 +134,7 @@ record Address (top : ℕ) (offset : ℤ) : Type 0 where
   is : pos at ≡ pos top +ℤ offset
   below : at < 2 ^ 64
 
-address : (top : ℕ) (offset : ℤ) → 512 ≤ top → top < 2 ^ 64 → negsuc 511 ≤ℤ offset → offset ≤ℤ pos 0 → Address top offset
+address : (top : ℕ) (offset : ℤ) → FRAME_BYTES ≤ top → top < 2 ^ 64 → FRAME_BOTTOM ≤ℤ offset → offset ≤ℤ pos 0 → Address top offset
 address top (pos n) low high least most =
     record { at = top; is = omega (arith, ints); below = high }
 address top (negsuc n) low high least most =
@@ -143,7 +145,7 @@ known_constant : (b : Bool) (z : ℤ) (v : AbstractValue) → stack_result b z �
 known_constant true z v h = (refl, h)
 known_constant false z v h = absurd cc
 
-stack_sum : (l top : ℕ) (offset : ℤ) (r : Range) (v : AbstractValue) (x y : ℕ) → 512 ≤ top → top < 2 ^ 64 → stack_result (is_constant r) (offset +ℤ least_distance r) ≡ ok v → Describes l top (Stack offset) (Some x) → Within r y → y < 2 ^ 64 → Describes l top v (Some (alu_number Bits64 operations.Add x y))
+stack_sum : (l top : ℕ) (offset : ℤ) (r : Range) (v : AbstractValue) (x y : ℕ) → FRAME_BYTES ≤ top → top < 2 ^ 64 → stack_result (is_constant r) (offset +ℤ least_distance r) ≡ ok v → Describes l top (Stack offset) (Some x) → Within r y → y < 2 ^ 64 → Describes l top v (Some (alu_number Bits64 operations.Add x y))
 stack_sum l top offset r v x y low high h p inside lt =
     let x-is : x ≡ p.0 = (let e : Some x ≡ Some p.0 = p.1 in cc) in
     let far = distance_of r y inside lt in
@@ -154,7 +156,7 @@ stack_sum l top offset r v x y low high h p inside lt =
     let same = sum_at x y there.at far.d (stack_below l top x offset high p) lt there.below far.moves moved in
     rw same (subst (λ w. Describes l top w (Some there.at)) frame.value (there.at, refl, there.is, frame.least, frame.most))
 
-stack_difference : (l top : ℕ) (offset : ℤ) (r : Range) (v : AbstractValue) (x y : ℕ) → 512 ≤ top → top < 2 ^ 64 → stack_result (is_constant r) (offset -ℤ least_distance r) ≡ ok v → Describes l top (Stack offset) (Some x) → Within r y → y < 2 ^ 64 → Describes l top v (Some (alu_number Bits64 operations.Subtract x y))
+stack_difference : (l top : ℕ) (offset : ℤ) (r : Range) (v : AbstractValue) (x y : ℕ) → FRAME_BYTES ≤ top → top < 2 ^ 64 → stack_result (is_constant r) (offset -ℤ least_distance r) ≡ ok v → Describes l top (Stack offset) (Some x) → Within r y → y < 2 ^ 64 → Describes l top v (Some (alu_number Bits64 operations.Subtract x y))
 stack_difference l top offset r v x y low high h p inside lt =
     let x-is : x ≡ p.0 = (let e : Some x ≡ Some p.0 = p.1 in cc) in
     let far = distance_of r y inside lt in
@@ -184,7 +186,7 @@ record_difference l top lo hi r v x y short h p inside lt =
     let same = difference_at x y (record_base + there.place) far.d (record_below l top lo hi x short p) lt (omega (arith, there.inside, short)) far.moves moved in
     rw same there.described
 
-add_sound : (l top : ℕ) (a b v : AbstractValue) (x y : ℕ) → l < 2 ^ 16 → 512 ≤ top → top < 2 ^ 64 → sum_result l a b ≡ ok v → Describes l top a (Some x) → Describes l top b (Some y) → Describes l top v (Some (alu_number Bits64 operations.Add x y))
+add_sound : (l top : ℕ) (a b v : AbstractValue) (x y : ℕ) → l < 2 ^ 16 → FRAME_BYTES ≤ top → top < 2 ^ 64 → sum_result l a b ≡ ok v → Describes l top a (Some x) → Describes l top b (Some y) → Describes l top v (Some (alu_number Bits64 operations.Add x y))
 add_sound l top (Record lo hi) (Number c d) v x y short low high h p q =
     let inside = number_within l top c d y q in
     record_sum l top lo hi (range c d) v x y short h p inside.0 inside.1
@@ -193,7 +195,7 @@ add_sound l top (Stack offset) (Number c d) v x y short low high h p q =
     stack_sum l top offset (range c d) v x y low high h p inside.0 inside.1
 add_sound l top a b v x y short low high h p q = numbers_sound Bits64 operations.Add l top a b v x y h p q
 
-subtract_sound : (l top : ℕ) (a b v : AbstractValue) (x y : ℕ) → l < 2 ^ 16 → 512 ≤ top → top < 2 ^ 64 → difference_result l a b ≡ ok v → Describes l top a (Some x) → Describes l top b (Some y) → Describes l top v (Some (alu_number Bits64 operations.Subtract x y))
+subtract_sound : (l top : ℕ) (a b v : AbstractValue) (x y : ℕ) → l < 2 ^ 16 → FRAME_BYTES ≤ top → top < 2 ^ 64 → difference_result l a b ≡ ok v → Describes l top a (Some x) → Describes l top b (Some y) → Describes l top v (Some (alu_number Bits64 operations.Subtract x y))
 subtract_sound l top (Record lo hi) (Number c d) v x y short low high h p q =
     let inside = number_within l top c d y q in
     record_difference l top lo hi (range c d) v x y short h p inside.0 inside.1
@@ -202,7 +204,7 @@ subtract_sound l top (Stack offset) (Number c d) v x y short low high h p q =
     stack_difference l top offset (range c d) v x y low high h p inside.0 inside.1
 subtract_sound l top a b v x y short low high h p q = numbers_sound Bits64 operations.Subtract l top a b v x y h p q
 
-pub alu_describes : (w : Width) (operation : Operation) (l top : ℕ) (a b v : AbstractValue) (x y : ℕ) → l < 2 ^ 16 → 512 ≤ top → top < 2 ^ 64 → alu_result w operation l a b ≡ ok v → Describes l top a (Some x) → Describes l top b (Some y) → Describes l top v (Some (alu_number w operation x y))
+pub alu_describes : (w : Width) (operation : Operation) (l top : ℕ) (a b v : AbstractValue) (x y : ℕ) → l < 2 ^ 16 → FRAME_BYTES ≤ top → top < 2 ^ 64 → alu_result w operation l a b ≡ ok v → Describes l top a (Some x) → Describes l top b (Some y) → Describes l top v (Some (alu_number w operation x y))
 alu_describes w operations.Move l top a b v x y short low high h p q = move_sound w l top b v x y short high h q
 alu_describes Bits64 operations.Add l top a b v x y short low high h p q = add_sound l top a b v x y short low high h p q
 alu_describes Bits64 operations.Subtract l top a b v x y short low high h p q = subtract_sound l top a b v x y short low high h p q

@@ -1,7 +1,8 @@
 -- What is known of a value describes it: the meaning of abstract values.
-use Rattle.std.specs.Prelude.{◌≡◌, ℕ, ◌+◌, ◌<◌, ◌≤◌, ◌^◌, pos, negsuc, ◌+ℤ◌, ◌≤ℤ◌, Bool, true, false, Option, Some, None}
+use Rattle.std.specs.Prelude.{◌≡◌, ℕ, ◌+◌, ◌<◌, ◌≤◌, ◌^◌, pos, ◌+ℤ◌, ◌≤ℤ◌, Bool, true, false, Option, Some, None}
 use Rattle.bpf_model.specs.State.{record_base}
 use Rattle.abstract_values.specs.declared.branch.Sides.{Sides}
+use Rattle.abstract_values.specs.declared.limits.TheConstants.{FRAME_BOTTOM}
 use Rattle.abstract_values.specs.declared.value.AbstractValue.{AbstractValue}
 use Rattle.abstract_values.specs.declared.value.AbstractValue.TheVariants.{Unset, Number, Record, Stack}
 
@@ -12,7 +13,7 @@ Describes record_length top (Number lo hi) x = (n : ℕ) × (x ≡ Some n) × (l
 Describes record_length top (Record lo hi) x =
     (n : ℕ) × (x ≡ Some (record_base + n)) × (lo ≤ n) × (n ≤ hi) × (n ≤ record_length)
 Describes record_length top (Stack offset) x =
-    (n : ℕ) × (x ≡ Some n) × (pos n ≡ pos top +ℤ offset) × (negsuc 511 ≤ℤ offset) × (offset ≤ℤ pos 0)
+    (n : ℕ) × (x ≡ Some n) × (pos n ≡ pos top +ℤ offset) × (FRAME_BOTTOM ≤ℤ offset) × (offset ≤ℤ pos 0)
 
 -- a side of a branch describes two numbers that come to it; none come to a side that is not walked
 abbrev pub DescribesSide : ℕ → ℕ → Option (AbstractValue × AbstractValue) → ℕ → ℕ → Type 0

@@ -7,6 +7,7 @@ use Rattle.bpf_isa.specs.declared.instruction.Comparison.{Comparison}
 use Rattle.bpf_isa.specs.declared.instruction.Extension.{Extension}
 use Rattle.bpf_isa.specs.declared.instruction.ByteOrder.{ByteOrder}
 use Rattle.bpf_isa.specs.declared.instruction.SwapBits.{SwapBits}
+use Rattle.bpf_model.specs.declared.limits.TheConstants.{FRAME_BYTES}
 use Rattle.bpf_model.specs.Arithmetic.{alu_number, negate_number, move_signed_number, swap_number, holds}
 use Rattle.abstract_values.specs.declared.branch.Sides.{Sides}
 use Rattle.abstract_values.specs.declared.value.AbstractValue.{AbstractValue}
@@ -22,11 +23,11 @@ JoinDescribes =
     × (Describes record_length top b x → Describes record_length top (join_of a b) x)
 
 -- what the rules give describes what the arithmetic makes of two described numbers. A record's length
--- has 16 bits, and a frame of 512 bytes lies below 2^64.
+-- has 16 bits, and a frame lies below 2^64.
 abbrev pub AluDescribes : Type 0
 AluDescribes =
     (width : Width) (operation : Operation) (record_length top : ℕ) (a b v : AbstractValue) (x y : ℕ)
-    → record_length < 2 ^ 16 → 512 ≤ top → top < 2 ^ 64
+    → record_length < 2 ^ 16 → FRAME_BYTES ≤ top → top < 2 ^ 64
     → alu_result width operation record_length a b ≡ Ok v
     → Describes record_length top a (Some x) → Describes record_length top b (Some y)
     → Describes record_length top v (Some (alu_number width operation x y))

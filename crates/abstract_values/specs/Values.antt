@@ -14,6 +14,7 @@ use Rattle.bpf_model.specs.Arithmetic.{negate_number, move_signed_number, swap_n
 use Rattle.bpf_model.specs.declared.cause.Cause.{Cause}
 use Rattle.bpf_model.specs.declared.cause.Cause.TheVariants.{UnsetRegister, PointerUse, OutOfRange}
 use Rattle.abstract_values.specs.declared.range.Range.{Range}
+use Rattle.abstract_values.specs.declared.limits.TheConstants.{FRAME_BOTTOM}
 use Rattle.abstract_values.specs.declared.value.AbstractValue.{AbstractValue}
 use Rattle.abstract_values.specs.declared.value.AbstractValue.TheVariants.{Unset, Number, Record, Stack}
 use Rattle.abstract_values.specs.Ranges.{range, constant, is_constant, everything, input, computed_range}
@@ -73,10 +74,10 @@ abbrev pub record_pointer : ℕ → ℤ → ℤ → Result AbstractValue Cause
 record_pointer record_length lo hi =
     if is_place record_length lo && is_place record_length hi then Ok (Record (unsigned_abs lo) (unsigned_abs hi)) else Err OutOfRange
 
--- a pointer into a stack frame of 512 bytes, which does not leave it
+-- a pointer into a stack frame, which does not leave it
 abbrev pub stack_pointer : ℤ → Result AbstractValue Cause
 stack_pointer offset =
-    if int_le (negsuc 511) offset && int_le offset (pos 0) then Ok (Stack offset) else Err OutOfRange
+    if int_le FRAME_BOTTOM offset && int_le offset (pos 0) then Ok (Stack offset) else Err OutOfRange
 
 -- a stack pointer has one offset, so only a constant moves it
 abbrev pub stack_result : Bool → ℤ → Result AbstractValue Cause

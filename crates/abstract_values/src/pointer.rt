@@ -3,6 +3,7 @@ ghost use Rattle.std.specs.Prelude.{◌≡◌, pos, ◌+ℤ◌, ◌-ℤ◌};
 ghost use Rattle.abstract_values.specs.Ranges.{is_constant};
 ghost use Rattle.abstract_values.specs.Values.{IsShort, least_distance, greatest_distance, is_place, record_pointer, stack_pointer, stack_result};
 
+use crate::limits::FRAME_BOTTOM;
 use crate::range::Range;
 use crate::range_rules::is_one_number;
 use crate::value::AbstractValue;
@@ -47,7 +48,7 @@ fn point_into_record(record_length: u16, lo: i128, hi: i128) -> Result<AbstractV
 fn point_into_stack(offset: i128) -> Result<AbstractValue, Cause>
     ensures { result ≡ stack_pointer offset }
 {
-    if -512 <= offset && offset <= 0 {
+    if i128::from(FRAME_BOTTOM) <= offset && offset <= 0 {
         Ok(AbstractValue::Stack {
             offset: offset as i16,
         })

@@ -3,18 +3,21 @@ ghost use Rattle.std.specs.Prelude.{◌≡◌, ◌≤◌, IfOk, length as count_
 
 use super::*;
 use bpf_image::Image;
+use gates::{OpenGate, Workers};
 use graph_model::{Batch, Edit, Entry};
 use history::Head;
 use programs::PROGRAMS;
 use std::alloc::Global;
+use std::sync::Wait;
 use std::test::Fail;
+use std::thread::Threads;
 use verifier::verify;
 use version::Version;
 
 mod programs;
 
 /// Eight vertices with edges, some of which lead back.
-fn some_edges(alloc: Global) -> Result<Version, Fail> {
+fn some_edges<R: Threads + Wait>(rt: &R, alloc: Global) -> Result<Version, Fail> {
     let (head, known) = Head::new();
     let first = Version::opening(alloc, 8, known)?;
     let edits = [
@@ -28,7 +31,7 @@ fn some_edges(alloc: Global) -> Result<Version, Fail> {
     ];
     let batch = Batch::new(alloc, Vec::from_slice(alloc, &edits)?)?;
     let entry = Entry { feed: 0, batch };
-    let (draft, _) = first.draft(alloc, &entry)?;
+    let (draft, _) = first.draft(rt, alloc, &entry, Workers::one(), &OpenGate)?;
     let Some(known) = head.add(&first.known(), 0, &entry) else {
         return Err(Fail::new("the history was longer"));
     };
@@ -64,7 +67,7 @@ fn record_of(alloc: Global, length: u16, number: u8) -> Result<Vec<u8>, Fail>
 #[test]
 fn both_ways_agree(rt: HostRuntime) -> Result<(), Fail> {
     let alloc = rt.alloc();
-    let version = some_edges(alloc)?;
+    let version = some_edges(&rt, alloc)?;
     for line in PROGRAMS.lines() {
         let program = program_of(alloc, line)?;
         let length = program.image().record_length();

@@ -5,6 +5,7 @@ use Rattle.std.specs.List.{AllByRecursion}
 use Rattle.std.proofs.lemmas.Bool.Decides.{nat_tests}
 use Rattle.std.proofs.lemmas.List.{drop_all, take-append-drop, drop-drop}
 use Rattle.std.proofs.lemmas.List.Folds.{list_any-append}
+use Rattle.bpf_isa.specs.declared.limits.TheConstants.{MOST_CODE_BYTES}
 use Rattle.bpf_isa.specs.Encoding.{spelling, units_of}
 use Rattle.bpf_asm.specs.declared.errors.TextCause.{TextCause}
 use Rattle.bpf_asm.specs.declared.errors.AssembleError.{AssembleError}
@@ -48,7 +49,7 @@ landing_at : (all : List Placed) (z : ℤ) → LandsIn all (landing z) → IsMar
 landing_at all (pos k) lands marks = (k, refl, lands, marks k refl)
 landing_at all (negsuc n) lands marks = absurd lands
 
-pub resolves : (code : List ℕ) (all : List Placed) (pc : ℕ) (o : Option ℤ) → length code ≤ 32768 → StandFrom code 0 all → LandsIn all (target_at pc o) → IsMarked all (target_at pc o) → IsResolved (items_of all all) pc o
+pub resolves : (code : List ℕ) (all : List Placed) (pc : ℕ) (o : Option ℤ) → length code ≤ MOST_CODE_BYTES → StandFrom code 0 all → LandsIn all (target_at pc o) → IsMarked all (target_at pc o) → IsResolved (items_of all all) pc o
 resolves code all pc None short stands lands marks = tt
 resolves code all pc (Some n) short stands lands marks =
     let at = landing_at all (pos (pc + 1) +ℤ n) lands marks in
@@ -59,7 +60,7 @@ resolves code all pc (Some n) short stands lands marks =
       stands = place_is code all at.0 0 all short stands at.2 at.3;
     }
 
-pub has_label : (code : List ℕ) (all : List Placed) (pc : ℕ) (o : Option ℤ) → length code ≤ 32768 → StandFrom code 0 all → LandsIn all (target_at pc o) → IsMarked all (target_at pc o) → HasLabel o (target_at pc o)
+pub has_label : (code : List ℕ) (all : List Placed) (pc : ℕ) (o : Option ℤ) → length code ≤ MOST_CODE_BYTES → StandFrom code 0 all → LandsIn all (target_at pc o) → IsMarked all (target_at pc o) → HasLabel o (target_at pc o)
 has_label code all pc None short stands lands marks = tt
 has_label code all pc (Some n) short stands lands marks =
     let at = landing_at all (pos (pc + 1) +ℤ n) lands marks in
@@ -81,7 +82,7 @@ abbrev some_bytes : List ℕ → Result (List ℕ) AssembleError
 some_bytes bytes = Ok bytes
 
 -- from each pc on, the lines mean what is left of the code
-pub code_again : (code : List ℕ) (all : List Placed) (pc : ℕ) (placed : List Placed) → length code ≤ 32768 → StandFrom code pc placed → AllByRecursion (λ (p : Placed). IsResolved (items_of all all) p.pc (distance_of p.instruction)) placed → (line : ℕ) → code_from (items_of all all) line pc (items_of all placed) ≡ Ok (drop (8 * pc) code)
+pub code_again : (code : List ℕ) (all : List Placed) (pc : ℕ) (placed : List Placed) → length code ≤ MOST_CODE_BYTES → StandFrom code pc placed → AllByRecursion (λ (p : Placed). IsResolved (items_of all all) p.pc (distance_of p.instruction)) placed → (line : ℕ) → code_from (items_of all all) line pc (items_of all placed) ≡ Ok (drop (8 * pc) code)
 code_again code all pc [] short stands resolved line = ap some_bytes (sym (drop_all (8 * pc) code (omega arith)))
 code_again code all pc (p ∷ placed) short stands resolved line =
     let i = p.instruction in

@@ -3,6 +3,7 @@ use Rattle.std.proofs.Common.{◌≡◌, ◌≤◌, ◌<◌, ◌+◌, ◌-◌, �
 use Rattle.std.specs.Prelude.{ℤ, pos, negsuc, ◌+ℤ◌, nat_le, nat_lt, Option, Some, None, Ok, ⊤}
 use Rattle.std.proofs.lemmas.Bool.Decides.{nat_tests}
 use Rattle.std.proofs.lemmas.Int.{ints}
+use Rattle.bpf_isa.specs.declared.limits.TheConstants.{MOST_UNITS}
 use Rattle.bpf_isa.specs.declared.instruction.Distance.TheVariants as distances
 use Rattle.bpf_isa.specs.declared.instruction.Instruction.{Instruction}
 use Rattle.bpf_isa.specs.declared.instruction.Instruction.TheVariants.{Alu, MoveSigned, Negate, Swap, Jump, Branch, CallHelper, CallLocal, Exit, Load, LoadSigned, Store, StoreRegister, Wide}
@@ -40,7 +41,7 @@ landed (negsuc n) k is = absurd (cc)
 pub record IsLabelled (all : List Item) (pc : ℕ) (n : ℤ) : Type 0 where
   pub unit : ℕ
   pub lands : landing (pos (pc + 1) +ℤ n) ≡ At unit
-  pub small : unit < 4096
+  pub small : unit < MOST_UNITS
   pub stands : place (label_text unit) all ≡ Some unit
 
 abbrev pub IsResolved : List Item → ℕ → Option ℤ → Type 0
@@ -56,14 +57,14 @@ goes_back all pc n jumping i at jumps =
     let here = found all pc n at in
     ap (λ (o : Option ℕ). spelling_of (jump_instruction jumping (pc + 1) o)) here ∙ simp jumps
 
-near_again : (all : List Item) (pc : ℕ) (n : ℤ) (at : IsLabelled all pc n) → pc < 4096 → distance (2 ^ 15) (pc + 1) at.unit ≡ Some n
+near_again : (all : List Item) (pc : ℕ) (n : ℤ) (at : IsLabelled all pc n) → pc < MOST_UNITS → distance (2 ^ 15) (pc + 1) at.unit ≡ Some n
 near_again all pc n at small = distance_again (2 ^ 15) (pc + 1) at.unit n (omega arith) (omega (arith, at.small)) (landed (pos (pc + 1) +ℤ n) at.unit at.lands)
 
-far_again : (all : List Item) (pc : ℕ) (n : ℤ) (at : IsLabelled all pc n) → pc < 4096 → distance (2 ^ 31) (pc + 1) at.unit ≡ Some n
+far_again : (all : List Item) (pc : ℕ) (n : ℤ) (at : IsLabelled all pc n) → pc < MOST_UNITS → distance (2 ^ 31) (pc + 1) at.unit ≡ Some n
 far_again all pc n at small = distance_again (2 ^ 31) (pc + 1) at.unit n (omega arith) (omega (arith, at.small)) (landed (pos (pc + 1) +ℤ n) at.unit at.lands)
 
 -- an instruction's line has the instruction's bytes
-pub bytes_again : (all : List Item) (pc : ℕ) (i : Instruction) → pc < 4096 → IsResolved all pc (distance_of i) → item_bytes all pc (item_for i (target_of pc i)) ≡ Ok (spelling i)
+pub bytes_again : (all : List Item) (pc : ℕ) (i : Instruction) → pc < MOST_UNITS → IsResolved all pc (distance_of i) → item_bytes all pc (item_for i (target_of pc i)) ≡ Ok (spelling i)
 bytes_again all pc (Jump (distances.Near n)) small at = goes_back all pc n jumpings.Near (Jump (distances.Near n)) at (simp (near_again all pc n at small))
 bytes_again all pc (Jump (distances.Far n)) small at = goes_back all pc n jumpings.Far (Jump (distances.Far n)) at (simp (far_again all pc n at small))
 bytes_again all pc (Branch width comparison left right n) small at = goes_back all pc n (jumpings.Branch width comparison left right) (Branch width comparison left right n) at (simp (near_again all pc n at small))

@@ -5,6 +5,7 @@ use Rattle.std.specs.Fmt.{decimal}
 use Rattle.std.proofs.lemmas.Fmt.{decimal_injective}
 use Rattle.std.proofs.lemmas.Bool.{cases_Bool}
 use Rattle.std.proofs.lemmas.Bool.Decides.{nat_tests}
+use Rattle.bpf_isa.specs.declared.limits.TheConstants.{MOST_CODE_BYTES}
 use Rattle.bpf_isa.specs.declared.instruction.Distance.TheVariants as distances
 use Rattle.bpf_isa.specs.declared.instruction.Instruction.{Instruction}
 use Rattle.bpf_isa.specs.declared.instruction.Instruction.TheVariants.{Alu, Jump}
@@ -112,7 +113,7 @@ at_label : (k pc : ℕ) (marked : Bool) (rest : List Item) → marked ≡ true �
 at_label k pc false rest is = absurd (cc)
 at_label k pc true rest is = simp (same_itself (label_text k))
 
-pub place_is : (code : List ℕ) (all : List Placed) (k pc : ℕ) (placed : List Placed) → length code ≤ 32768 → StandFrom code pc placed → is_start k placed ≡ true → is_target k all ≡ true → place_from pc (label_text k) (items_of all placed) ≡ Some k
+pub place_is : (code : List ℕ) (all : List Placed) (k pc : ℕ) (placed : List Placed) → length code ≤ MOST_CODE_BYTES → StandFrom code pc placed → is_start k placed ≡ true → is_target k all ≡ true → place_from pc (label_text k) (items_of all placed) ≡ Some k
 place_is code all k pc [] short stands start marked = absurd (cc)
 place_is code all k pc (p ∷ placed) short stands start marked = elim (cases_Bool (p.pc == k)) [
   | inl here ↦

@@ -4,6 +4,7 @@ use Rattle.std.specs.Prelude.{nat_lt, Option, Some, None, Result, Ok, Err, if◌
 use Rattle.std.specs.Str.{bytes_eq}
 use Rattle.std.proofs.lemmas.Bool.{cases_Bool}
 use Rattle.std.proofs.lemmas.Slice.Eq.{bytes_eq-Decides}
+use Rattle.bpf_isa.specs.declared.limits.TheConstants.{MOST_UNITS}
 use Rattle.bpf_asm.specs.declared.errors.TextCause.{TextCause}
 use Rattle.bpf_asm.specs.declared.errors.TextCause.TheVariants.{TooLong, DoubleLabel}
 use Rattle.bpf_asm.specs.Lexing.{same_bytes}
@@ -86,21 +87,21 @@ ok_units n = Ok n
 abbrev no_units : TextCause → Result ℕ TextCause
 no_units cause = Err cause
 
-pub fits : (before : List Item) (i : Item) (n m : ℕ) → n ≡ units before → (if nat_lt 4096 (n + item_units i) then Err TooLong else Ok (n + item_units i)) ≡ Ok m → (fitting before i ≡ Ok i) × (m ≡ n + item_units i)
-fits before i n m total is = elim (cases_Bool (nat_lt 4096 (n + item_units i))) [
+pub fits : (before : List Item) (i : Item) (n m : ℕ) → n ≡ units before → (if nat_lt MOST_UNITS (n + item_units i) then Err TooLong else Ok (n + item_units i)) ≡ Ok m → (fitting before i ≡ Ok i) × (m ≡ n + item_units i)
+fits before i n m total is = elim (cases_Bool (nat_lt MOST_UNITS (n + item_units i))) [
   | inl long ↦ absurd (let e : no_units TooLong ≡ ok_units m = (simp long at is) in cc)
   | inr short ↦
       let e : ok_units (n + item_units i) ≡ ok_units m = (simp short at is) in
       let more : m ≡ n + item_units i = cc in
-      let same : nat_lt 4096 (units before + item_units i) ≡ false = ap (λ (k : ℕ). nat_lt 4096 (k + item_units i)) (sym total) ∙ short in
+      let same : nat_lt MOST_UNITS (units before + item_units i) ≡ false = ap (λ (k : ℕ). nat_lt MOST_UNITS (k + item_units i)) (sym total) ∙ short in
       (simp same, more)
 ]
 
-pub fits_not : (before : List Item) (i : Item) (n : ℕ) (cause : TextCause) → n ≡ units before → (if nat_lt 4096 (n + item_units i) then Err TooLong else Ok (n + item_units i)) ≡ Err cause → (fitting before i ≡ Err cause) × (cause ≡ TooLong)
-fits_not before i n cause total is = elim (cases_Bool (nat_lt 4096 (n + item_units i))) [
+pub fits_not : (before : List Item) (i : Item) (n : ℕ) (cause : TextCause) → n ≡ units before → (if nat_lt MOST_UNITS (n + item_units i) then Err TooLong else Ok (n + item_units i)) ≡ Err cause → (fitting before i ≡ Err cause) × (cause ≡ TooLong)
+fits_not before i n cause total is = elim (cases_Bool (nat_lt MOST_UNITS (n + item_units i))) [
   | inl long ↦
       let e : no_units TooLong ≡ no_units cause = (simp long at is) in
-      let same : nat_lt 4096 (units before + item_units i) ≡ true = ap (λ (k : ℕ). nat_lt 4096 (k + item_units i)) (sym total) ∙ long in
+      let same : nat_lt MOST_UNITS (units before + item_units i) ≡ true = ap (λ (k : ℕ). nat_lt MOST_UNITS (k + item_units i)) (sym total) ∙ long in
       let c : cause ≡ TooLong = cc in
       (simp (same, c), c)
   | inr short ↦ absurd (let e : ok_units (n + item_units i) ≡ no_units cause = (simp short at is) in cc)

@@ -3,6 +3,7 @@ use Rattle.std.proofs.Common.{◌≡◌, ◌≤◌, ◌<◌, ◌+◌, ◌^◌, �
 use Rattle.std.specs.Prelude.{nat_lt, None, Result, Ok}
 use Rattle.std.specs.List.{AllByRecursion}
 use Rattle.std.proofs.lemmas.Bool.Decides.{nat_tests}
+use Rattle.bpf_isa.specs.declared.limits.TheConstants.{MOST_UNITS, MOST_CODE_BYTES}
 use Rattle.bpf_isa.specs.declared.instruction.Distance.TheVariants as distances
 use Rattle.bpf_isa.specs.declared.instruction.Instruction.{Instruction}
 use Rattle.bpf_isa.specs.declared.instruction.Instruction.TheVariants.{Alu, Jump}
@@ -45,9 +46,9 @@ label_unplaced before true k q small small' less none = place_other 0 (label_tex
 
 -- ---- a statement's line
 
-fitting_is : (before : List Item) (i : Item) → units before + item_units i ≤ 4096 → fitting before i ≡ Ok i
+fitting_is : (before : List Item) (i : Item) → units before + item_units i ≤ MOST_UNITS → fitting before i ≡ Ok i
 fitting_is before i fits =
-    let small : nat_lt 4096 (units before + item_units i) ≡ false = grind (arith, nat_tests) in
+    let small : nat_lt MOST_UNITS (units before + item_units i) ≡ false = grind (arith, nat_tests) in
     simp small
 
 admitted_is : (before : List Item) (i : Instruction) (t : Target) → admission before (item_for i t) ≡ fitting before (item_for i t)
@@ -56,7 +57,7 @@ admitted_is before (Jump (distances.Far distance)) t = refl
 admitted_is before (Alu width operation destination right) t = refl
 admitted_is before _ t = refl
 
-statement_read : (before : List Item) (line : List ℕ) (lines : List (List ℕ)) (i : Instruction) (t : Target) → item line ≡ Ok (item_for i t) → units before + units_of i ≤ 4096 → items_from before (line ∷ lines) ≡ items_from (before ++ (item_for i t ∷ [])) lines
+statement_read : (before : List Item) (line : List ℕ) (lines : List (List ℕ)) (i : Instruction) (t : Target) → item line ≡ Ok (item_for i t) → units before + units_of i ≤ MOST_UNITS → items_from before (line ∷ lines) ≡ items_from (before ++ (item_for i t ∷ [])) lines
 statement_read before line lines i t says fits =
     read_one before line lines (item_for i t) (ap (reading_admission before) says ∙ admitted_is before i t ∙ fitting_is before (item_for i t) (omega (arith, units_for i t)))
 
@@ -74,7 +75,7 @@ some_items items = Ok items
 abbrev pub IsSpoken : Placed → Type 0
 IsSpoken p = item (statement_text p.pc p.instruction) ≡ Ok (item_for p.instruction (target p))
 
-read_from : (code : List ℕ) (before : List Item) (pc : ℕ) (program placed : List Placed) → length code ≤ 32768 → StandFrom code pc placed → AllByRecursion IsSpoken placed → units before ≡ pc → Unplaced before pc → items_from before (texts_of program placed) ≡ Ok (before ++ items_of program placed)
+read_from : (code : List ℕ) (before : List Item) (pc : ℕ) (program placed : List Placed) → length code ≤ MOST_CODE_BYTES → StandFrom code pc placed → AllByRecursion IsSpoken placed → units before ≡ pc → Unplaced before pc → items_from before (texts_of program placed) ≡ Ok (before ++ items_of program placed)
 read_from code before pc program [] short stands says here new = refl
 read_from code before pc program (p ∷ placed) short stands says here new =
     let i = p.instruction in
@@ -92,5 +93,5 @@ read_from code before pc program (p ∷ placed) short stands says here new =
     let unplaced : Unplaced next (pc + units_of i) = λ q from small'. place_other 0 (label_text q) with_label it (no_label (label_text q) i (target p)) ∙ label_unplaced before m p.pc q small small' (omega (arith, stands.0, units_some i)) (new q (omega arith) small') in
     first ∙ second ∙ read_from code next (pc + units_of i) program placed short stands.2 says.1 units_next unplaced ∙ ap some_items (joined before m p.pc it (items_of program placed))
 
-pub lines_read : (code : List ℕ) (program : List Placed) → length code ≤ 32768 → StandFrom code 0 program → AllByRecursion IsSpoken program → items_from [] (texts_of program program) ≡ Ok (items_of program program)
+pub lines_read : (code : List ℕ) (program : List Placed) → length code ≤ MOST_CODE_BYTES → StandFrom code 0 program → AllByRecursion IsSpoken program → items_from [] (texts_of program program) ≡ Ok (items_of program program)
 lines_read code program short stands says = read_from code [] 0 program program short stands says refl (λ k from small. refl)

@@ -4,6 +4,7 @@ use Rattle.std.specs.Prelude.{nat_le, nat_lt, Option, Some, None, Result, Ok, Er
 use Rattle.std.specs.List.{AllByRecursion}
 use Rattle.std.proofs.lemmas.Bool.{cases_Bool}
 use Rattle.std.proofs.lemmas.Bool.Decides.{nat_tests}
+use Rattle.bpf_isa.specs.declared.limits.TheConstants.{MOST_CODE_BYTES}
 use Rattle.bpf_isa.specs.declared.instruction.Instruction.{Instruction}
 use Rattle.bpf_isa.specs.declared.decode_error.DecodeError.{DecodeError}
 use Rattle.bpf_isa.specs.Encoding.{IsCodeAt, units_of}
@@ -59,7 +60,7 @@ none_out all (p ∷ placed) lands = simp (lands_inside all (target p) lands.0, n
 
 pub program_listed : (code : List ℕ) (all : List Placed) → Decodes code → IsProgram code all → disassembly code ≡ Ok (listing all)
 program_listed code all d program =
-    let small : nat_lt 32768 (length code) ≡ false = grind (arith, nat_tests, program.short) in
+    let small : nat_lt MOST_CODE_BYTES (length code) ≡ false = grind (arith, nat_tests, program.short) in
     let placed = placed_again code (length code) 0 all d program.stands (omega arith) in
     simp small (ap listing_of_placed placed ∙ ap (λ (o : Option ℕ). unless_out o all) (none_out all all program.lands))
 
@@ -135,11 +136,11 @@ is_listed (Err e) text is = absurd (cc)
 
 -- what has a text is a program, whose text it is
 pub listed_program : (code text : List ℕ) → Decodes code → disassembly code ≡ Ok text → (all : List Placed) × IsProgram code all × (listing all ≡ text)
-listed_program code text d is = elim (cases_Bool (nat_lt 32768 (length code))) [
+listed_program code text d is = elim (cases_Bool (nat_lt MOST_CODE_BYTES (length code))) [
   | inl long ↦ absurd (let e : no_text ≡ some_text text = (simp long at is) in cc)
   | inr short ↦
       let listing_of_placed = is_listed (instructions code) text (simp short at is) in
-      let small : length code ≤ 32768 = grind (arith, nat_tests) in (
+      let small : length code ≤ MOST_CODE_BYTES = grind (arith, nat_tests) in (
         listing_of_placed.all,
         record {
           short = small;

@@ -2,6 +2,7 @@
 use Rattle.std.proofs.Common.{◌≡◌, ◌≤◌, ◌+◌, ℕ, List, [], ◌∷◌, length, refl, ap, ◌∙◌, arith}
 use Rattle.std.specs.Prelude.{Ok}
 use Rattle.std.specs.List.{AllByRecursion}
+use Rattle.bpf_isa.specs.declared.limits.TheConstants.{MOST_CODE_BYTES}
 use Rattle.bpf_isa.specs.Encoding.{units_of}
 use Rattle.bpf_asm.specs.declared.placed.Placed.{Placed}
 use Rattle.bpf_asm.specs.Assembly.{items_from, code_of_items, assembly}
@@ -15,18 +16,18 @@ use Rattle.bpf_asm.proofs.CodeAgain.{IsMarked, marked, resolves, has_label, code
 use Rattle.bpf_asm.proofs.ListedLines.{IsOneLine, lines_are}
 use Rattle.bpf_asm.proofs.LinesRead.{IsSpoken, lines_read}
 
-all_resolved : (code : List ℕ) (all placed : List Placed) → length code ≤ 32768 → StandFrom code 0 all → AllByRecursion (λ (p : Placed). LandsIn all (target p)) placed → AllByRecursion (λ (p : Placed). IsMarked all (target p)) placed → AllByRecursion (λ (p : Placed). IsResolved (items_of all all) p.pc (distance_of p.instruction)) placed
+all_resolved : (code : List ℕ) (all placed : List Placed) → length code ≤ MOST_CODE_BYTES → StandFrom code 0 all → AllByRecursion (λ (p : Placed). LandsIn all (target p)) placed → AllByRecursion (λ (p : Placed). IsMarked all (target p)) placed → AllByRecursion (λ (p : Placed). IsResolved (items_of all all) p.pc (distance_of p.instruction)) placed
 all_resolved code all [] short stands lands marks = tt
 all_resolved code all (p ∷ placed) short stands lands marks =
     (resolves code all p.pc (distance_of p.instruction) short stands lands.0 marks.0, all_resolved code all placed short stands lands.1 marks.1)
 
-all_spoken : (code : List ℕ) (all : List Placed) (pc : ℕ) (placed : List Placed) → length code ≤ 32768 → StandFrom code 0 all → StandFrom code pc placed → AllByRecursion (λ (p : Placed). LandsIn all (target p)) placed → AllByRecursion (λ (p : Placed). IsMarked all (target p)) placed → AllByRecursion IsSpoken placed
+all_spoken : (code : List ℕ) (all : List Placed) (pc : ℕ) (placed : List Placed) → length code ≤ MOST_CODE_BYTES → StandFrom code 0 all → StandFrom code pc placed → AllByRecursion (λ (p : Placed). LandsIn all (target p)) placed → AllByRecursion (λ (p : Placed). IsMarked all (target p)) placed → AllByRecursion IsSpoken placed
 all_spoken code all pc [] short stands from lands marks = tt
 all_spoken code all pc (p ∷ placed) short stands from lands marks =
     let label = has_label code all p.pc (distance_of p.instruction) short stands lands.0 marks.0 in
     (line_says p.pc p.instruction from.1.fits label, all_spoken code all (pc + units_of p.instruction) placed short stands from.2 lands.1 marks.1)
 
-all_one_line : (code : List ℕ) (all : List Placed) (pc : ℕ) (placed : List Placed) → length code ≤ 32768 → StandFrom code 0 all → StandFrom code pc placed → AllByRecursion (λ (p : Placed). LandsIn all (target p)) placed → AllByRecursion (λ (p : Placed). IsMarked all (target p)) placed → AllByRecursion IsOneLine placed
+all_one_line : (code : List ℕ) (all : List Placed) (pc : ℕ) (placed : List Placed) → length code ≤ MOST_CODE_BYTES → StandFrom code 0 all → StandFrom code pc placed → AllByRecursion (λ (p : Placed). LandsIn all (target p)) placed → AllByRecursion (λ (p : Placed). IsMarked all (target p)) placed → AllByRecursion IsOneLine placed
 all_one_line code all pc [] short stands from lands marks = tt
 all_one_line code all pc (p ∷ placed) short stands from lands marks =
     let label = has_label code all p.pc (distance_of p.instruction) short stands lands.0 marks.0 in

@@ -1,5 +1,6 @@
 -- The code that a text means, line by line, or its first fault.
 use Rattle.std.specs.Prelude.{ℕ, ◌+◌, ◌-◌, ◌^◌, ◌≡◌, nat_le, nat_lt, Bool, false, true, if◌then◌else◌, List, [], ◌∷◌, ◌++◌, length, ℤ, Option, Some, None, option_map, Result, Ok, Err, ⊤}
+use Rattle.bpf_isa.specs.declared.limits.TheConstants.{MOST_UNITS}
 use Rattle.bpf_isa.specs.declared.instruction.Distance.TheVariants.{Near, Far}
 use Rattle.bpf_isa.specs.declared.instruction.Instruction.{Instruction}
 use Rattle.bpf_isa.specs.declared.instruction.Instruction.TheVariants as instructions
@@ -39,7 +40,7 @@ place name items = place_from 0 name items
 
 -- a statement behind some lines, if the code is not too long with it
 abbrev pub fitting : List Item → Item → Result Item TextCause
-fitting before i = if nat_lt 4096 (units before + item_units i) then Err TooLong else Ok i
+fitting before i = if nat_lt MOST_UNITS (units before + item_units i) then Err TooLong else Ok i
 
 -- a line behind some lines, unless that is a fault
 abbrev pub admission : List Item → Item → Result Item TextCause

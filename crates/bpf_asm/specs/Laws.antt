@@ -1,6 +1,7 @@
 -- What the two directions make of each other's results.
 use Rattle.std.specs.Prelude.{ℕ, ◌+◌, ◌*◌, ◌≡◌, ◌≤◌, true, List, [], ◌∷◌, length, Ok, ⊤}
 use Rattle.std.specs.List.{AllByRecursion}
+use Rattle.bpf_isa.specs.declared.limits.TheConstants.{MOST_CODE_BYTES}
 use Rattle.bpf_isa.specs.Encoding.{IsCodeAt, units_of}
 use Rattle.bpf_asm.specs.declared.placed.Placed.{Placed}
 use Rattle.bpf_asm.specs.declared.placed.Target.{Target}
@@ -22,7 +23,7 @@ LandsIn placed (At k) = is_start k placed ≡ true
 
 -- the code is these instructions, in at most 4,096 units, and each jump and local call goes to the start of one of them
 pub record IsProgram (code : List ℕ) (placed : List Placed) : Type 0 where
-  pub short : length code ≤ 32768
+  pub short : length code ≤ MOST_CODE_BYTES
   pub stands : StandFrom code 0 placed
   pub lands : AllByRecursion (λ (p : Placed). LandsIn placed (target p)) placed
 

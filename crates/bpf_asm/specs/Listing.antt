@@ -1,6 +1,7 @@
 -- The text of a program: its instructions in order, each target behind its label.
 use Rattle.std.specs.Prelude.{ℕ, zero, suc, ◌+◌, ◌*◌, ◌≡◌, ◌==◌, nat_le, nat_lt, not, Bool, true, false, if◌then◌else◌, List, [], ◌∷◌, ◌++◌, length, codes, Option, Some, None, Result, Ok, Err, ⊤}
 use Rattle.std.specs.List.{flat_map, list_any}
+use Rattle.bpf_isa.specs.declared.limits.TheConstants.{MOST_CODE_BYTES}
 use Rattle.bpf_isa.specs.declared.instruction.Instruction.{Instruction}
 use Rattle.bpf_isa.specs.declared.decode_error.DecodeError.{DecodeError}
 use Rattle.bpf_isa.specs.Reading.{decoding, units_in}
@@ -80,7 +81,7 @@ listing_of_placed (Err e) = Err e
 
 -- the text of a code, or why there is none
 abbrev pub disassembly : List ℕ → Result (List ℕ) DisassembleError
-disassembly code = if nat_lt 32768 (length code) then Err TooLong else listing_of_placed (instructions code)
+disassembly code = if nat_lt MOST_CODE_BYTES (length code) then Err TooLong else listing_of_placed (instructions code)
 
 -- the error that the definition gives, if there was memory
 abbrev pub Refuses : {A : Type 0} → DisassembleError → Result A DisassembleError → Type 0

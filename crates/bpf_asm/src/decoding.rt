@@ -1,5 +1,6 @@
 //! The instructions of some code, and the units where they start.
 ghost use Rattle.std.specs.Prelude.{◌≡◌, ◌==◌, ◌<◌, ◌≤◌, ℕ, false, ◌||◌, slice_index_or, length, Ok, IfOk, MatchResult};
+ghost use Rattle.bpf_isa.specs.declared.limits.TheConstants.{MOST_CODE_BYTES};
 ghost use Rattle.bpf_asm.specs.Listing.{instructions, is_start, Refuses};
 
 use crate::errors::DisassembleError;
@@ -33,7 +34,7 @@ pub(crate) fn is_marked(marks: &[bool], unit: usize) -> bool
 
 /// Decodes the code from its first instruction to its end.
 pub(crate) fn decode_all(alloc: Global, code: &[u8]) -> Result<Decoded, DisassembleError>
-    requires { length code.now ≤ 32768 }
+    requires { length code.now ≤ MOST_CODE_BYTES }
     ensures answer { MatchResult result (λ d. instructions code.now ≡ Ok d.placed.items)
         (λ e. Refuses e (instructions code.now)) }
     ensures starts { IfOk result (λ d. (k : ℕ) → slice_index_or d.starts.items k false ≡ is_start k d.placed.items) }

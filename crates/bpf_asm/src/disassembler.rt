@@ -8,10 +8,8 @@ use crate::errors::DisassembleError;
 use crate::placed::Placed;
 use crate::targets::find_targets;
 use crate::writing::{put, put_label_line, put_statement};
+use bpf_isa::MOST_CODE_BYTES;
 use std::alloc::{AllocError, Global};
-
-/// The most bytes of code that are disassembled.
-const MOST_BYTES: usize = 32_768;
 
 /// Writes an instruction's lines.
 fn put_lines(text: &mut String, placed: Placed, is_labelled: bool) -> Result<(), AllocError>
@@ -49,7 +47,7 @@ pub fn disassemble(alloc: Global, code: &[u8]) -> Result<String, DisassembleErro
     ensures { MatchResult result (λ text. disassembly code.now ≡ Ok (string_bytes text))
         (λ e. Refuses e (disassembly code.now)) }
 {
-    if code.len() > MOST_BYTES {
+    if code.len() > MOST_CODE_BYTES {
         return Err(DisassembleError::TooLong);
     }
     let decoded = decode_all(alloc, code)?;

@@ -2,16 +2,15 @@
 ghost use Rattle.std.specs.Prelude.{◌≡◌, ◌≤◌, ◌+◌, nat_lt, Ok, Err, ◌++◌, ◌∷◌, ℕ, List, [], Option, Some, ⊤, if◌then◌else◌, OnOk, IfOk, MatchResult};
 ghost use Rattle.std.specs.Str.{bytes_eq};
 ghost use Rattle.std.specs.HashMap as hash;
+ghost use Rattle.bpf_isa.specs.declared.limits.TheConstants.{MOST_UNITS};
 ghost use Rattle.bpf_asm.specs.Assembly.{admission, unless_memory};
 ghost use Rattle.bpf_asm.specs.Said.{said_item, IsRead};
 ghost use Rattle.bpf_asm.specs.Statements.{Item as SaidItem, Labelled};
 
 use crate::errors::TextCause;
 use crate::item::Item;
+use bpf_isa::MOST_UNITS;
 use std::collections::HashMap;
-
-/// The most units of a program's code.
-const MOST_UNITS: usize = 4096;
 
 /// The unit at which a label stands.
 pub(crate) fn place_of(labels: &HashMap<&[u8], usize>, name: &[u8]) -> Option<usize>
@@ -60,9 +59,9 @@ fn admit_label<'a>(
 
 /// The units with those of one more instruction, if they are not too many.
 fn longer(units: usize, more: usize) -> Result<usize, TextCause>
-    requires { units ≤ 4096 }
-    ensures exact { result ≡ (if nat_lt 4096 (units + more) then Err TextCause.TooLong else Ok (units + more)) }
-    ensures small { IfOk result (λ n. n ≤ 4096) }
+    requires { units ≤ MOST_UNITS }
+    ensures exact { result ≡ (if nat_lt MOST_UNITS (units + more) then Err TextCause.TooLong else Ok (units + more)) }
+    ensures small { IfOk result (λ n. n ≤ MOST_UNITS) }
 {
     if more > MOST_UNITS - units {
         return Err(TextCause::TooLong);
@@ -76,8 +75,8 @@ pub(crate) fn admit<'a>(
     units: usize,
     item: Item<'a>,
 ) -> Result<usize, TextCause>
-    requires { units ≤ 4096 }
-    ensures small { IfOk result (λ n. n ≤ 4096) }
+    requires { units ≤ MOST_UNITS }
+    ensures small { IfOk result (λ n. n ≤ MOST_UNITS) }
     ensures admits { MatchResult result
         (λ n. (before : List SaidItem) → IsRead before units (λ q. hash.get_by (λ k. bytes_eq q k.now) labels.old)
         → (admission before (said_item item.entry) ≡ Ok (said_item item.entry))

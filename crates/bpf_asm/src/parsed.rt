@@ -2,6 +2,7 @@
 ghost use Rattle.std.specs.Prelude.{◌≡◌, ◌≤◌, ◌++◌, ◌∷◌, ℕ, List, [], map, Ok, Err, IfOk, MatchResult};
 ghost use Rattle.std.specs.Str.{bytes_eq};
 ghost use Rattle.std.specs.HashMap as hash;
+ghost use Rattle.bpf_isa.specs.declared.limits.TheConstants.{MOST_UNITS};
 ghost use Rattle.bpf_asm.specs.Assembly.{reading_admission, items as items_of, unless_memory, place, Faults};
 ghost use Rattle.bpf_asm.specs.Said.{said_item, IsRead};
 ghost use Rattle.bpf_asm.specs.Statements.{item, Item as SaidItem};
@@ -27,8 +28,8 @@ fn admitted<'a>(
     units: usize,
     line: &'a [u8],
 ) -> Result<(Item<'a>, usize), TextCause>
-    requires { units ≤ 4096 }
-    ensures small { IfOk result (λ found. found.1 ≤ 4096) }
+    requires { units ≤ MOST_UNITS }
+    ensures small { IfOk result (λ found. found.1 ≤ MOST_UNITS) }
     ensures admits { MatchResult result
         (λ found. (before : List SaidItem) → IsRead before units (λ q. hash.get_by (λ k. bytes_eq q k.now) labels.old)
         → (reading_admission before (item line.now) ≡ Ok (said_item found.0))

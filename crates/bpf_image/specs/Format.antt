@@ -1,6 +1,7 @@
 -- Images as bytes: which bytes spell an image, and why other bytes spell none.
 use Rattle.std.specs.Prelude.{◌≡◌, ◌≢◌, ℕ, ◌+◌, ◌*◌, ◌<◌, ◌≤◌, List, [], ◌∷◌, ◌++◌, length, take, drop, ◌⊎◌}
 use Rattle.std.specs.Int.{w16, to_le_bytes, from_le_bytes}
+use Rattle.bpf_isa.specs.declared.limits.TheConstants.{MOST_UNITS}
 use Rattle.bpf_image.specs.Program.{Program, units, IsRecordLength}
 use Rattle.bpf_image.specs.declared.image_error.ImageError.{ImageError}
 use Rattle.bpf_image.specs.declared.image_error.ImageError.TheVariants.{Magic, Length, RecordLength, CodeLength, OutOfMemory}
@@ -22,7 +23,7 @@ abbrev pub units_field : List ℕ → ℕ
 units_field bytes = from_le_bytes w16 (take 2 (drop 6 bytes))
 
 abbrev pub IsUnitCount : ℕ → Type 0
-IsUnitCount n = (1 ≤ n) × (n ≤ 4096)
+IsUnitCount n = (1 ≤ n) × (n ≤ MOST_UNITS)
 
 abbrev pub HasMagic : List ℕ → Type 0
 HasMagic bytes = take 4 bytes ≡ magic

@@ -1,6 +1,8 @@
 -- The front of an image as a computing function.
 use Rattle.std.specs.Prelude.{ℕ, ◌+◌, ◌*◌, ◌==◌, nat_eq, nat_le, ◌&&◌, Bool, true, false, List, length, Result, Ok, Err}
 use Rattle.std.specs.List.{starts_with}
+use Rattle.bpf_isa.specs.declared.limits.TheConstants.{MOST_UNITS}
+use Rattle.bpf_image.specs.declared.limits.TheConstants.{LEAST_RECORD_LENGTH, MOST_RECORD_LENGTH}
 use Rattle.bpf_image.specs.declared.image_error.ImageError.{ImageError}
 use Rattle.bpf_image.specs.declared.image_error.ImageError.TheVariants.{Magic, Length, RecordLength, CodeLength}
 use Rattle.bpf_image.specs.Format.{magic, record_field, units_field}
@@ -15,11 +17,11 @@ abbrev pub from_code : List ℕ → Result ℕ ImageError
 from_code bytes = after_test (length bytes == 8 + 8 * units_field bytes) Length (Ok (record_field bytes))
 
 abbrev pub from_units : List ℕ → Result ℕ ImageError
-from_units bytes = after_test (nat_le 1 (units_field bytes) && nat_le (units_field bytes) 4096) CodeLength (from_code bytes)
+from_units bytes = after_test (nat_le 1 (units_field bytes) && nat_le (units_field bytes) MOST_UNITS) CodeLength (from_code bytes)
 
 abbrev pub from_record_length : List ℕ → Result ℕ ImageError
 from_record_length bytes =
-    after_test (nat_le 16 (record_field bytes) && nat_le (record_field bytes) 256) RecordLength (from_units bytes)
+    after_test (nat_le LEAST_RECORD_LENGTH (record_field bytes) && nat_le (record_field bytes) MOST_RECORD_LENGTH) RecordLength (from_units bytes)
 
 abbrev pub from_length : List ℕ → Result ℕ ImageError
 from_length bytes = after_test (nat_le 8 (length bytes)) Length (from_record_length bytes)

@@ -3,6 +3,8 @@ ghost use Rattle.std.specs.Prelude.{◌≡◌};
 ghost use Rattle.bpf_image.specs.Reading.{header_of};
 
 use crate::image_error::ImageError;
+use crate::limits::{LEAST_RECORD_LENGTH, MOST_RECORD_LENGTH};
+use bpf_isa::MOST_UNITS;
 use byteorder::{ByteOrder, LittleEndian};
 
 /// The bytes that each image begins with.
@@ -19,14 +21,14 @@ pub(crate) fn read_header(bytes: &[u8]) -> Result<u16, ImageError>
         return Err(ImageError::Length);
     }
     let record_length = LittleEndian::read_u16(&bytes[4..6]);
-    if record_length < 16 || record_length > 256 {
+    if record_length < LEAST_RECORD_LENGTH || record_length > MOST_RECORD_LENGTH {
         return Err(ImageError::RecordLength);
     }
-    let units = LittleEndian::read_u16(&bytes[6..8]);
-    if units == 0 || units > 4096 {
+    let units = usize::from(LittleEndian::read_u16(&bytes[6..8]));
+    if units == 0 || units > MOST_UNITS {
         return Err(ImageError::CodeLength);
     }
-    if bytes.len() != 8 + 8 * usize::from(units) {
+    if bytes.len() != 8 + 8 * units {
         return Err(ImageError::Length);
     }
     Ok(record_length)

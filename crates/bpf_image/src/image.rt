@@ -5,6 +5,8 @@ ghost use Rattle.bpf_image.specs.Format.{image_bytes, IsFault};
 
 use crate::format::{MAGIC, read_header};
 use crate::image_error::ImageError;
+use crate::limits::{LEAST_RECORD_LENGTH, MOST_RECORD_LENGTH};
+use bpf_isa::MOST_UNITS;
 use std::alloc::Global;
 use std::marker::Model;
 
@@ -43,11 +45,11 @@ impl Image {
         // On an error the code comes back.
         ensures kept { IfErr result (λ e. e.0 ≡ code) }
     {
-        if record_length < 16 || record_length > 256 {
+        if record_length < LEAST_RECORD_LENGTH || record_length > MOST_RECORD_LENGTH {
             return Err((code, ImageError::RecordLength));
         }
         let units = code.len() / 8;
-        if code.len() % 8 != 0 || units == 0 || units > 4096 {
+        if code.len() % 8 != 0 || units == 0 || units > MOST_UNITS {
             return Err((code, ImageError::CodeLength));
         }
         Ok(Image {

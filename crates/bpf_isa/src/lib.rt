@@ -8,6 +8,7 @@ mod decode_error;
 mod encoding;
 mod instruction;
 pub mod laws;
+mod limits;
 mod making;
 mod register;
 mod row;
@@ -22,4 +23,5 @@ pub use instruction::{
     ByteOrder, Comparison, Distance, Extension, Instruction, Operand, Operation, SignedSize, Size,
     SwapBits, Width,
 };
+pub use limits::{MOST_CODE_BYTES, MOST_UNITS};
 pub use register::Register;

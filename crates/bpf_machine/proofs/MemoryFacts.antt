@@ -6,8 +6,11 @@ use Rattle.std.proofs.Math.Nat.{pow-suc, pow-le-pow_right}
 use Rattle.std.proofs.lemmas.Bool.{cases_lt, cases_Bool, leb-true, cond-true, cond-false}
 use Rattle.std.proofs.lemmas.List.{get_or-replicate, get_or_past, length-replicate}
 use Rattle.std.proofs.lemmas.Option.{slice_get_past}
+use Rattle.bpf_image.specs.declared.limits.TheConstants.{MOST_RECORD_LENGTH}
 use Rattle.bpf_model.specs.State.{Partial, joined_bytes, number_at, record_base, record_memory}
+use Rattle.bpf_model.specs.declared.limits.TheConstants.{STACK_BASE, FRAME_SPACE}
 use Rattle.bpf_machine.specs.Seen.{values_of, stack_byte, memory_of}
+use Rattle.bpf_machine.specs.declared.stack.TheConstants.{FRAME_START}
 
 -- no byte of a new frame is set
 pub held-replicate : (n k : ℕ) → values_of (replicate n None) k ≡ None
@@ -18,7 +21,7 @@ held-replicate n k =
     ]
 
 -- a short record has no byte as far up as the stack
-record_memory_past : (bytes : List ℕ) (a : ℕ) → length bytes ≤ 256 → 0x200000000 ≤ a → record_memory bytes a ≡ None
+record_memory_past : (bytes : List ℕ) (a : ℕ) → length bytes ≤ MOST_RECORD_LENGTH → STACK_BASE ≤ a → record_memory bytes a ≡ None
 record_memory_past bytes a short above =
     elim (cases_Bool (nat_le record_base a)) [
       | inl within ↦ (let past : length bytes ≤ a - record_base = omega arith in cond-true _ _ _ within ∙ slice_get_past bytes (a - record_base) past)
@@ -27,15 +30,15 @@ record_memory_past bytes a short above =
 
 none_there : (cells : Partial) (d : ℕ) → ((k : ℕ) → cells k ≡ None) → stack_byte cells d ≡ None
 none_there cells d unset =
-    elim (cases_Bool (nat_le 3584 (d % 4096))) [
+    elim (cases_Bool (nat_le FRAME_START (d % FRAME_SPACE))) [
       | inl room ↦ cond-true _ _ _ room ∙ unset _
       | inr low ↦ cond-false _ _ _ low
     ]
 
-pub memory_begins : (bytes : List ℕ) (cells : Partial) → length bytes ≤ 256 → ((k : ℕ) → cells k ≡ None) → record_memory bytes ≡ memory_of bytes cells
+pub memory_begins : (bytes : List ℕ) (cells : Partial) → length bytes ≤ MOST_RECORD_LENGTH → ((k : ℕ) → cells k ≡ None) → record_memory bytes ≡ memory_of bytes cells
 memory_begins bytes cells short unset =
-    fun_ext (λ a. elim (cases_Bool (nat_le 0x200000000 a)) [
-      | inl above ↦ record_memory_past bytes a short (leb-true _ a above) ∙ sym (cond-true _ _ _ above ∙ none_there cells (a - 0x200000000) unset)
+    fun_ext (λ a. elim (cases_Bool (nat_le STACK_BASE a)) [
+      | inl above ↦ record_memory_past bytes a short (leb-true _ a above) ∙ sym (cond-true _ _ _ above ∙ none_there cells (a - STACK_BASE) unset)
       | inr below ↦ sym (cond-false _ _ _ below)
     ])
 

@@ -5,11 +5,13 @@ use Rattle.std.proofs.Math.Path.{fun_ext}
 use Rattle.std.proofs.lemmas.Bool.{cases_Bool, cases_eq, cases_lt, and_parts, and_from, or_left, or_right, le-leb, lt-leb, leb-true, leb-false, lt-ltb, le-ltb, ne_eqb}
 use Rattle.std.proofs.lemmas.List.{get_or-set_same, get_or-set_other}
 use Rattle.bpf_model.specs.State.{Partial, with_value, with_values, without_values, frame_top, frame_bytes, in_frame, in_frames}
+use Rattle.bpf_model.specs.declared.limits.TheConstants.{STACK_BASE, FRAME_SPACE, FRAME_BYTES}
 use Rattle.bpf_machine.specs.declared.callers.Kept.{Kept}
 use Rattle.bpf_machine.specs.declared.stack.Stack.{Stack}
 use Rattle.bpf_machine.specs.declared.stack.Stack.TheVariants.{One, All}
 use Rattle.bpf_machine.specs.Cells.{frames_in}
 use Rattle.bpf_machine.specs.Seen.{values_of, memory_of, no_caller, callers_of}
+use Rattle.bpf_machine.specs.declared.stack.TheConstants.{FRAME_START}
 
 -- ---- which frame an access lies in
 
@@ -24,7 +26,7 @@ found_inside (suc n) k j a size lt is inside =
 -- an access that lies in no frame's room in the right way
 abbrev pub IsOutside : ℕ → ℕ → ℕ → Type 0
 IsOutside n a size =
-    (a < 0x200000000) ⊎ ((n ≤ (a - 0x200000000) / 4096) ⊎ (((a - 0x200000000) % 4096 < 3584) ⊎ (4096 < (a - 0x200000000) % 4096 + size)))
+    (a < STACK_BASE) ⊎ ((n ≤ (a - STACK_BASE) / FRAME_SPACE) ⊎ (((a - STACK_BASE) % FRAME_SPACE < FRAME_START) ⊎ (FRAME_SPACE < (a - STACK_BASE) % FRAME_SPACE + size)))
 
 in_no_frame : (n k a size : ℕ) → 1 ≤ size → k < n → IsOutside n a size → in_frame k a size ≡ true → ⊥
 in_no_frame n k a size some lt outside is =
@@ -66,21 +68,21 @@ stored_at bytes cells frame place v a inside =
     elim (cases_eq a (address_of frame place)) [
       | inl same ↦
           let test : eqb a (address_of frame place) ≡ true = eq-eqb _ _ same in
-          let above : nat_le 0x200000000 a ≡ true = le-leb _ _ (omega (arith, same)) in
-          let room : nat_le 3584 ((a - 0x200000000) % 4096) ≡ true = le-leb _ _ (omega (arith, same, inside)) in
-          let cell : 512 * ((a - 0x200000000) / 4096) + ((a - 0x200000000) % 4096 - 3584) ≡ 512 * frame + place = omega (arith, same, inside) in
-          let is : eqb (512 * ((a - 0x200000000) / 4096) + ((a - 0x200000000) % 4096 - 3584)) (512 * frame + place) ≡ true = eq-eqb _ _ cell in
+          let above : nat_le STACK_BASE a ≡ true = le-leb _ _ (omega (arith, same)) in
+          let room : nat_le FRAME_START ((a - STACK_BASE) % FRAME_SPACE) ≡ true = le-leb _ _ (omega (arith, same, inside)) in
+          let cell : FRAME_BYTES * ((a - STACK_BASE) / FRAME_SPACE) + ((a - STACK_BASE) % FRAME_SPACE - FRAME_START) ≡ FRAME_BYTES * frame + place = omega (arith, same, inside) in
+          let is : eqb (FRAME_BYTES * ((a - STACK_BASE) / FRAME_SPACE) + ((a - STACK_BASE) % FRAME_SPACE - FRAME_START)) (FRAME_BYTES * frame + place) ≡ true = eq-eqb _ _ cell in
           rw (test, above, room, is) refl
       | inr other ↦
           let test : eqb a (address_of frame place) ≡ false = ne_eqb _ _ other in
-          elim (cases_Bool (nat_le 0x200000000 a)) [
+          elim (cases_Bool (nat_le STACK_BASE a)) [
             | inr below ↦ rw (test, below) refl
-            | inl above ↦ elim (cases_Bool (nat_le 3584 ((a - 0x200000000) % 4096))) [
+            | inl above ↦ elim (cases_Bool (nat_le FRAME_START ((a - STACK_BASE) % FRAME_SPACE))) [
               | inr low ↦ rw (test, above, low) refl
               | inl room ↦
-                  let base = leb-true 0x200000000 a above in
-                  let start = leb-true 3584 ((a - 0x200000000) % 4096) room in
-                  let apart : eqb (512 * ((a - 0x200000000) / 4096) + ((a - 0x200000000) % 4096 - 3584)) (512 * frame + place) ≡ false = ne_eqb _ _ (λ e. omega (arith, e, base, start, other, inside)) in
+                  let base = leb-true STACK_BASE a above in
+                  let start = leb-true FRAME_START ((a - STACK_BASE) % FRAME_SPACE) room in
+                  let apart : eqb (FRAME_BYTES * ((a - STACK_BASE) / FRAME_SPACE) + ((a - STACK_BASE) % FRAME_SPACE - FRAME_START)) (FRAME_BYTES * frame + place) ≡ false = ne_eqb _ _ (λ e. omega (arith, e, base, start, other, inside)) in
                   rw (test, above, room, apart) refl
             ]
           ]
@@ -119,25 +121,25 @@ cleared_out m from count x (inr high) =
 
 cleared_at : (bytes : List ℕ) (cells : Partial) (frame a : ℕ) → without_values (memory_of bytes cells) (frame_top frame - frame_bytes) frame_bytes a ≡ memory_of bytes (without_values cells (frame_bytes * frame) frame_bytes) a
 cleared_at bytes cells frame a =
-    elim (cases_Bool (nat_le 0x200000000 a)) [
+    elim (cases_Bool (nat_le STACK_BASE a)) [
       | inr below ↦
-          let low = leb-false 0x200000000 a below in
+          let low = leb-false STACK_BASE a below in
           cleared_out (memory_of bytes cells) (frame_top frame - frame_bytes) frame_bytes a (inl (omega (arith, low))) ∙ rw below refl
       | inl above ↦
-          let base = leb-true 0x200000000 a above in
-          elim (cases_Bool (nat_le 3584 ((a - 0x200000000) % 4096))) [
+          let base = leb-true STACK_BASE a above in
+          elim (cases_Bool (nat_le FRAME_START ((a - STACK_BASE) % FRAME_SPACE))) [
             | inr low ↦
-                let start = leb-false 3584 ((a - 0x200000000) % 4096) low in
+                let start = leb-false FRAME_START ((a - STACK_BASE) % FRAME_SPACE) low in
                 cleared_out (memory_of bytes cells) (frame_top frame - frame_bytes) frame_bytes a (elim (cases_lt a (frame_top frame - frame_bytes)) [ inl lt ↦ inl lt | inr ge ↦ inr (omega (arith, base, start, ge)) ]) ∙ rw (above, low) refl
             | inl room ↦
-                let start = leb-true 3584 ((a - 0x200000000) % 4096) room in
-                elim (cases_eq ((a - 0x200000000) / 4096) frame) [
+                let start = leb-true FRAME_START ((a - STACK_BASE) % FRAME_SPACE) room in
+                elim (cases_eq ((a - STACK_BASE) / FRAME_SPACE) frame) [
                   | inl same ↦
-                      let inside : memory_of bytes (without_values cells (frame_bytes * frame) frame_bytes) a ≡ None = rw (above, room) (cleared_in cells (frame_bytes * frame) frame_bytes (512 * ((a - 0x200000000) / 4096) + ((a - 0x200000000) % 4096 - 3584)) (omega (arith, same, start)) (omega (arith, same, start))) in
+                      let inside : memory_of bytes (without_values cells (frame_bytes * frame) frame_bytes) a ≡ None = rw (above, room) (cleared_in cells (frame_bytes * frame) frame_bytes (FRAME_BYTES * ((a - STACK_BASE) / FRAME_SPACE) + ((a - STACK_BASE) % FRAME_SPACE - FRAME_START)) (omega (arith, same, start)) (omega (arith, same, start))) in
                       cleared_in (memory_of bytes cells) (frame_top frame - frame_bytes) frame_bytes a (omega (arith, base, start, same)) (omega (arith, base, start, same)) ∙ sym inside
                   | inr other ↦
-                      let outside : memory_of bytes (without_values cells (frame_bytes * frame) frame_bytes) a ≡ cells (512 * ((a - 0x200000000) / 4096) + ((a - 0x200000000) % 4096 - 3584)) = rw (above, room) (cleared_out cells (frame_bytes * frame) frame_bytes (512 * ((a - 0x200000000) / 4096) + ((a - 0x200000000) % 4096 - 3584)) (elim (cases_lt ((a - 0x200000000) / 4096) frame) [ inl lt ↦ inl (omega (arith, lt, start)) | inr ge ↦ inr (omega (arith, ge, other, start)) ])) in
-                      cleared_out (memory_of bytes cells) (frame_top frame - frame_bytes) frame_bytes a (elim (cases_lt ((a - 0x200000000) / 4096) frame) [ inl lt ↦ inl (omega (arith, lt, start, base)) | inr ge ↦ inr (omega (arith, ge, other, start, base)) ]) ∙ rw (above, room) refl ∙ sym outside
+                      let outside : memory_of bytes (without_values cells (frame_bytes * frame) frame_bytes) a ≡ cells (FRAME_BYTES * ((a - STACK_BASE) / FRAME_SPACE) + ((a - STACK_BASE) % FRAME_SPACE - FRAME_START)) = rw (above, room) (cleared_out cells (frame_bytes * frame) frame_bytes (FRAME_BYTES * ((a - STACK_BASE) / FRAME_SPACE) + ((a - STACK_BASE) % FRAME_SPACE - FRAME_START)) (elim (cases_lt ((a - STACK_BASE) / FRAME_SPACE) frame) [ inl lt ↦ inl (omega (arith, lt, start)) | inr ge ↦ inr (omega (arith, ge, other, start)) ])) in
+                      cleared_out (memory_of bytes cells) (frame_top frame - frame_bytes) frame_bytes a (elim (cases_lt ((a - STACK_BASE) / FRAME_SPACE) frame) [ inl lt ↦ inl (omega (arith, lt, start, base)) | inr ge ↦ inr (omega (arith, ge, other, start, base)) ]) ∙ rw (above, room) refl ∙ sym outside
                 ]
           ]
     ]

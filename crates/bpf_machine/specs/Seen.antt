@@ -3,9 +3,10 @@ use Rattle.std.specs.Prelude.{◌≡◌, ℕ, zero, suc, ◌+◌, ◌-◌, ◌*�
 use Rattle.bpf_model.specs.declared.trap.TrapKind.{TrapKind}
 use Rattle.bpf_model.specs.State.{Saved, State, Partial, record_memory, frame_bytes}
 use Rattle.bpf_model.specs.Step.{Next, Goes, Exits, Traps}
+use Rattle.bpf_model.specs.declared.limits.TheConstants.{STACK_BASE, FRAME_SPACE}
 use Rattle.bpf_machine.specs.declared.callers.Kept.{Kept}
 use Rattle.bpf_machine.specs.declared.machine.Machine.{Machine}
-use Rattle.bpf_machine.specs.declared.stack.TheConstants.{STACK_BASE, FRAME_SPACE, FRAME_START}
+use Rattle.bpf_machine.specs.declared.stack.TheConstants.{FRAME_START}
 use Rattle.bpf_machine.specs.Cells.{cells_of}
 use Rattle.bpf_machine.specs.declared.turn.Turn.{Turn}
 use Rattle.bpf_machine.specs.declared.turn.Turn.TheVariants.{Went, Exited, Trapped}

@@ -2,6 +2,7 @@
 ghost use Rattle.std.specs.Prelude.{◌≡◌, ℕ, ◌≤ℤ◌, pos, List};
 ghost use Rattle.bpf_isa.specs.Encoding.{number_of};
 ghost use Rattle.bpf_isa.specs.declared.instruction.Instruction.TheVariants.{Alu, MoveSigned, Negate, Swap};
+ghost use Rattle.bpf_isa.specs.declared.limits.TheConstants.{MOST_UNITS};
 ghost use Rattle.graph_model.specs.Graph.{Graph};
 ghost use Rattle.bpf_model.specs.Step.{left_of, effect};
 ghost use Rattle.bpf_machine.specs.Seen.{values_of, state_of, answer};
@@ -30,7 +31,7 @@ pub fn operate(
     destination: Register,
     operand: Operand,
 ) -> Turn
-    requires { machine.old.pc ≤ℤ pos 4096 }
+    requires { machine.old.pc ≤ℤ pos MOST_UNITS }
     ensures { (record_length : ℕ) (g : Graph) (bytes : List ℕ)
         → effect record_length g
         (Alu width operation destination operand)
@@ -54,7 +55,7 @@ pub fn move_signed(
     destination: Register,
     source: Register,
 ) -> Turn
-    requires { machine.old.pc ≤ℤ pos 4096 }
+    requires { machine.old.pc ≤ℤ pos MOST_UNITS }
     ensures { (record_length : ℕ) (g : Graph) (bytes : List ℕ)
         → effect record_length g
         (MoveSigned extension destination source)
@@ -69,7 +70,7 @@ pub fn move_signed(
 
 /// A negation (RFC 9669, section 4.1).
 pub fn negate_register(machine: &mut Machine, width: Width, destination: Register) -> Turn
-    requires { machine.old.pc ≤ℤ pos 4096 }
+    requires { machine.old.pc ≤ℤ pos MOST_UNITS }
     ensures { (record_length : ℕ) (g : Graph) (bytes : List ℕ)
         → effect record_length g (Negate width destination) (state_of machine.old bytes)
         ≡ answer result (state_of machine.new bytes) }
@@ -87,7 +88,7 @@ pub fn swap_register(
     bits: SwapBits,
     destination: Register,
 ) -> Turn
-    requires { machine.old.pc ≤ℤ pos 4096 }
+    requires { machine.old.pc ≤ℤ pos MOST_UNITS }
     ensures { (record_length : ℕ) (g : Graph) (bytes : List ℕ)
         → effect record_length g (Swap order bits destination) (state_of machine.old bytes)
         ≡ answer result (state_of machine.new bytes) }

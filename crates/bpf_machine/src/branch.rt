@@ -1,6 +1,7 @@
 //! Jumps and branches.
 ghost use Rattle.std.specs.Prelude.{◌≡◌, ℕ, ◌≤ℤ◌, pos, List};
 ghost use Rattle.bpf_isa.specs.declared.instruction.Instruction.TheVariants.{Jump, Branch};
+ghost use Rattle.bpf_isa.specs.declared.limits.TheConstants.{MOST_UNITS};
 ghost use Rattle.graph_model.specs.Graph.{Graph};
 ghost use Rattle.bpf_model.specs.Step.{effect};
 ghost use Rattle.bpf_machine.specs.Seen.{state_of, answer};
@@ -14,7 +15,7 @@ use bpf_model::TrapKind;
 /// A jump (RFC 9669, section 4.3).
 pub fn jump_over(machine: &mut Machine, distance: Distance) -> Turn
     requires from { pos 0 ≤ℤ machine.old.pc }
-    requires limit { machine.old.pc ≤ℤ pos 4096 }
+    requires limit { machine.old.pc ≤ℤ pos MOST_UNITS }
     ensures { (record_length : ℕ) (g : Graph) (bytes : List ℕ)
         → effect record_length g (Jump distance) (state_of machine.old bytes)
         ≡ answer result (state_of machine.new bytes) }
@@ -35,7 +36,7 @@ pub fn branch(
     distance: i16,
 ) -> Turn
     requires from { pos 0 ≤ℤ machine.old.pc }
-    requires limit { machine.old.pc ≤ℤ pos 4096 }
+    requires limit { machine.old.pc ≤ℤ pos MOST_UNITS }
     ensures { (record_length : ℕ) (g : Graph) (bytes : List ℕ)
         → effect record_length g
         (Branch width comparison left right distance)

@@ -1,6 +1,7 @@
 //! Calls of the program's own functions, and their exits (RFC 9669, section 4.3.2).
 ghost use Rattle.std.specs.Prelude.{◌≡◌, ℕ, ◌<◌, ◌≤ℤ◌, pos, List};
 ghost use Rattle.bpf_isa.specs.declared.instruction.Instruction.TheVariants.{CallLocal, Exit};
+ghost use Rattle.bpf_isa.specs.declared.limits.TheConstants.{MOST_UNITS};
 ghost use Rattle.graph_model.specs.Graph.{Graph};
 ghost use Rattle.bpf_model.specs.State.{with_value, only};
 ghost use Rattle.bpf_model.specs.Calls.{saved_state};
@@ -56,7 +57,7 @@ fn returned_registers(caller: &Kept, value: u64, top: u64) -> [Option<u64>; 11]
 /// What is kept of the function that runs while another runs that it calls.
 fn kept_of(machine: &Machine) -> Kept
     requires from { pos 0 ≤ℤ machine.now.pc }
-    requires limit { machine.now.pc ≤ℤ pos 4096 }
+    requires limit { machine.now.pc ≤ℤ pos MOST_UNITS }
     ensures { (bytes : List ℕ) → saved_of result ≡ saved_state (state_of machine.now bytes) }
 {
     let registers = &machine.registers;
@@ -69,7 +70,7 @@ fn kept_of(machine: &Machine) -> Kept
 /// A call of a function, so many units from the next instruction.
 pub fn call(machine: &mut Machine, distance: i32) -> Turn
     requires from { pos 0 ≤ℤ machine.old.pc }
-    requires limit { machine.old.pc ≤ℤ pos 4096 }
+    requires limit { machine.old.pc ≤ℤ pos MOST_UNITS }
     ensures { (record_length : ℕ) (g : Graph) (bytes : List ℕ)
         → effect record_length g (CallLocal distance) (state_of machine.old bytes)
         ≡ answer result (state_of machine.new bytes) }

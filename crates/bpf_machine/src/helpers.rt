@@ -1,6 +1,8 @@
 //! Calls of helpers: what a program asks of the graph that it runs on.
 ghost use Rattle.std.specs.Prelude.{◌≡◌, ℕ, ◌/◌, ◌≤◌, ◌≤ℤ◌, pos, List, IsTrue, length};
 ghost use Rattle.bpf_isa.specs.declared.instruction.Instruction.TheVariants.{CallHelper};
+ghost use Rattle.bpf_isa.specs.declared.limits.TheConstants.{MOST_UNITS};
+ghost use Rattle.bpf_image.specs.declared.limits.TheConstants.{MOST_RECORD_LENGTH};
 ghost use Rattle.graph_model.specs.Views.{neighbour_words, neighbours_among, word_bytes};
 ghost use Rattle.bpf_model.specs.State.{with_value, without_values};
 ghost use Rattle.bpf_model.specs.Helpers.{is_room, with_answer, helper_effect, write_neighbours};
@@ -38,7 +40,7 @@ fn registers_behind(registers: &[Option<u64>; 11], value: u64) -> [Option<u64>; 
 
 /// Goes on behind the call of a helper that has answered.
 fn go_on_with(machine: &mut Machine, value: u64) -> Turn
-    requires { machine.old.pc ≤ℤ pos 4096 }
+    requires { machine.old.pc ≤ℤ pos MOST_UNITS }
     ensures went { result ≡ Turn.Went }
     ensures step { (bytes : List ℕ)
         → Goes (with_answer (state_of machine.old bytes) value) ≡ answer result (state_of machine.new bytes) }
@@ -50,7 +52,7 @@ fn go_on_with(machine: &mut Machine, value: u64) -> Turn
 
 /// How many neighbours a vertex has.
 fn degree<G: GraphView>(machine: &mut Machine, graph: &G) -> Turn
-    requires { machine.old.pc ≤ℤ pos 4096 }
+    requires { machine.old.pc ≤ℤ pos MOST_UNITS }
     ensures { (record_length : ℕ) (bytes : List ℕ)
         → helper_effect record_length (G.graph graph.now) Helper.Degree (state_of machine.old bytes)
         ≡ answer result (state_of machine.new bytes) }
@@ -63,7 +65,7 @@ fn degree<G: GraphView>(machine: &mut Machine, graph: &G) -> Turn
 
 /// Whether there is an edge between two vertices.
 fn has_edge<G: GraphView>(machine: &mut Machine, graph: &G) -> Turn
-    requires { machine.old.pc ≤ℤ pos 4096 }
+    requires { machine.old.pc ≤ℤ pos MOST_UNITS }
     ensures { (record_length : ℕ) (bytes : List ℕ)
         → helper_effect record_length (G.graph graph.now) Helper.HasEdge (state_of machine.old bytes)
         ≡ answer result (state_of machine.new bytes) }
@@ -79,7 +81,7 @@ fn has_edge<G: GraphView>(machine: &mut Machine, graph: &G) -> Turn
 
 /// The neighbour of a vertex at a place.
 fn neighbour<G: GraphView>(machine: &mut Machine, graph: &G) -> Turn
-    requires { machine.old.pc ≤ℤ pos 4096 }
+    requires { machine.old.pc ≤ℤ pos MOST_UNITS }
     ensures { (record_length : ℕ) (bytes : List ℕ)
         → helper_effect record_length (G.graph graph.now) Helper.Neighbour (state_of machine.old bytes)
         ≡ answer result (state_of machine.new bytes) }
@@ -132,8 +134,8 @@ fn write<G: GraphView>(
     graph: &G,
     request: &Request,
 ) -> Turn
-    requires pc { machine.old.pc ≤ℤ pos 4096 }
-    requires record { length bytes.old ≤ 256 }
+    requires pc { machine.old.pc ≤ℤ pos MOST_UNITS }
+    requires record { length bytes.old ≤ MOST_RECORD_LENGTH }
     requires room { IsTrue (is_room request.now.room) }
     ensures step { write_neighbours (length bytes.old) (G.graph graph.now) (state_of machine.old bytes.old)
         request.now.vertex request.now.first request.now.address request.now.room
@@ -152,8 +154,8 @@ fn write<G: GraphView>(
 
 /// The neighbours of a vertex from a place on, in memory.
 fn gather<G: GraphView>(machine: &mut Machine, bytes: &mut [u8], graph: &G) -> Turn
-    requires pc { machine.old.pc ≤ℤ pos 4096 }
-    requires record { length bytes.old ≤ 256 }
+    requires pc { machine.old.pc ≤ℤ pos MOST_UNITS }
+    requires record { length bytes.old ≤ MOST_RECORD_LENGTH }
     ensures step { helper_effect (length bytes.old) (G.graph graph.now) Helper.Gather (state_of machine.old bytes.old)
         ≡ answer result (state_of machine.new bytes.new) }
     ensures kept { Keeps result bytes.old bytes.new }
@@ -189,8 +191,8 @@ pub fn call_helper<G: GraphView>(
     graph: &G,
     number: i32,
 ) -> Turn
-    requires pc { machine.old.pc ≤ℤ pos 4096 }
-    requires record { length bytes.old ≤ 256 }
+    requires pc { machine.old.pc ≤ℤ pos MOST_UNITS }
+    requires record { length bytes.old ≤ MOST_RECORD_LENGTH }
     ensures step { effect (length bytes.old) (G.graph graph.now) (CallHelper number) (state_of machine.old bytes.old)
         ≡ answer result (state_of machine.new bytes.new) }
     ensures kept { Keeps result bytes.old bytes.new }

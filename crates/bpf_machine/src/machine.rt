@@ -1,6 +1,8 @@
 //! A run between two instructions.
 ghost use Rattle.std.specs.Prelude.{◌≡◌, ℕ, ◌≤◌, ◌≤ℤ◌, pos, List, length};
 ghost use Rattle.bpf_isa.specs.Encoding.{number_of};
+ghost use Rattle.bpf_isa.specs.declared.limits.TheConstants.{MOST_UNITS};
+ghost use Rattle.bpf_image.specs.declared.limits.TheConstants.{MOST_RECORD_LENGTH};
 ghost use Rattle.bpf_model.specs.State.{start_registers};
 ghost use Rattle.bpf_machine.specs.Seen.{values_of};
 
@@ -8,10 +10,7 @@ use crate::callers::Callers;
 use crate::stack::{Stack, top_of};
 use crate::turn::Turn;
 use bpf_isa::{Operand, Register};
-use bpf_model::TrapKind;
-
-/// Where the record begins that a run is lent.
-pub const RECORD_BASE: u64 = 0x1_0000_0000;
+use bpf_model::{RECORD_BASE, TrapKind};
 
 /// A run between two instructions, without the record that it is lent.
 #[derive(Drop)]
@@ -44,7 +43,7 @@ impl Machine {
 
     /// The machine as a run begins on a record of so many bytes.
     pub fn new(record_length: u16) -> Machine
-        requires { record_length ≤ 256 }
+        requires { record_length ≤ MOST_RECORD_LENGTH }
         ensures pc { result.pc ≡ pos 0 }
         ensures start { (bytes : List ℕ) → length bytes ≡ record_length → start bytes ≡ state_of result bytes }
     {
@@ -86,7 +85,7 @@ impl Machine {
 
     /// Gives a register a number and goes on with the next instruction, so many units ahead.
     pub fn put(&mut self, units: u8, destination: Register, value: u64) -> Turn
-        requires { self.old.pc ≤ℤ pos 4096 }
+        requires { self.old.pc ≤ℤ pos MOST_UNITS }
         ensures { (bytes : List ℕ)
             → put (state_of self.old bytes) units destination value ≡ answer result (state_of self.new bytes) }
     {
@@ -102,7 +101,7 @@ impl Machine {
     /// Goes on at a distance from the next instruction, wherever that is.
     pub fn jump(&mut self, distance: i32) -> Turn
         requires from { pos 0 ≤ℤ self.old.pc }
-        requires limit { self.old.pc ≤ℤ pos 4096 }
+        requires limit { self.old.pc ≤ℤ pos MOST_UNITS }
         ensures { (bytes : List ℕ) → jump (state_of self.old bytes) distance ≡ answer result (state_of self.new bytes) }
     {
         self.pc = self.pc + 1 + i64::from(distance);

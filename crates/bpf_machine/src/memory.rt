@@ -1,11 +1,12 @@
 //! Which region an address lies in.
 ghost use Rattle.std.specs.Prelude.{◌≡◌, ◌+◌, ◌^◌, ◌<◌, ◌≤◌, nat_le, ◌&&◌, true, length};
+ghost use Rattle.bpf_image.specs.declared.limits.TheConstants.{MOST_RECORD_LENGTH};
 ghost use Rattle.bpf_model.specs.State.{may_access, in_frames, live_frames, number_at};
 ghost use Rattle.bpf_machine.specs.Seen.{state_of};
 
-use crate::machine::{Machine, RECORD_BASE};
-use crate::stack::{FRAME_SPACE, FRAME_START, STACK_BASE, find_spot};
-use bpf_model::FRAME_BYTES;
+use crate::machine::Machine;
+use crate::stack::{FRAME_START, find_spot};
+use bpf_model::{FRAME_BYTES, FRAME_SPACE, RECORD_BASE, STACK_BASE};
 
 /// Whether so many bytes from an address lie wholly in a region.
 pub fn lies_within(base: u64, room: u64, address: u64, size: u64) -> bool
@@ -30,7 +31,7 @@ fn is_in_frame(machine: &Machine, bytes: &[u8], address: u64, size: u64) -> bool
 /// Whether an access is allowed: wholly in the record, or wholly in one live frame.
 pub fn is_allowed(machine: &Machine, bytes: &[u8], address: u64, size: u64) -> bool
     requires some { 1 ≤ size }
-    requires record { length bytes.now ≤ 256 }
+    requires record { length bytes.now ≤ MOST_RECORD_LENGTH }
     ensures exact { result ≡ may_access (length bytes.now) (state_of machine.now bytes.now) address size }
     ensures room { result ≡ true → address + size < 2 ^ 64 }
 {

@@ -1,21 +1,23 @@
 //! Bytes that are set in the record and in frames.
 ghost use Rattle.std.specs.Prelude.{◌≡◌, ◌+◌, ◌≤◌, ◌<◌, ◌≤ℤ◌, ◌||◌, true, false, pos, length};
+ghost use Rattle.bpf_isa.specs.declared.limits.TheConstants.{MOST_UNITS};
+ghost use Rattle.bpf_image.specs.declared.limits.TheConstants.{MOST_RECORD_LENGTH};
 ghost use Rattle.bpf_model.specs.State.{Partial, with_value, with_values, record_base, in_record, in_frames, most_frames};
 ghost use Rattle.bpf_model.specs.Step.{store};
 ghost use Rattle.bpf_machine.specs.Cells.{cells_of};
 ghost use Rattle.bpf_machine.specs.Seen.{values_of, memory_of, state_of, answer, Keeps};
 
-use crate::machine::{Machine, RECORD_BASE};
+use crate::machine::Machine;
 use crate::memory::lies_within;
 use crate::stack::{Stack, find_spot};
 use crate::turn::Turn;
 use bpf_isa::Size;
-use bpf_model::TrapKind;
+use bpf_model::{RECORD_BASE, TrapKind};
 
 /// Sets a byte of the record.
 fn set_record_byte(bytes: &mut [u8], place: usize, byte: u8)
     requires place { place < length bytes.old }
-    requires record { length bytes.old ≤ 256 }
+    requires record { length bytes.old ≤ MOST_RECORD_LENGTH }
     ensures { (cells : Partial)
         → with_value (memory_of bytes.old cells) (record_base + place) byte ≡ memory_of bytes.new cells }
 {
@@ -25,7 +27,7 @@ fn set_record_byte(bytes: &mut [u8], place: usize, byte: u8)
 /// Sets bytes of the record, from a place on.
 fn set_record(bytes: &mut [u8], place: usize, value: &[u8])
     requires places { place + length value.now ≤ length bytes.old }
-    requires record { length bytes.old ≤ 256 }
+    requires record { length bytes.old ≤ MOST_RECORD_LENGTH }
     ensures { (cells : Partial)
         → with_values (memory_of bytes.old cells) (record_base + place) value.now
         ≡ memory_of bytes.new cells }
@@ -46,7 +48,7 @@ pub fn store_bytes(
 ) -> bool
     requires some { 1 ≤ length value.now }
     requires frames { frames ≤ most_frames }
-    requires record { length bytes.old ≤ 256 }
+    requires record { length bytes.old ≤ MOST_RECORD_LENGTH }
     ensures allowed { result ≡ (in_record (length bytes.old) address (length value.now) || in_frames frames address
         (length value.now)) }
     ensures stored { result ≡ true → with_values (memory_of bytes.old
@@ -75,8 +77,8 @@ pub fn store_to(
     size: Size,
     value: u64,
 ) -> Turn
-    requires pc { machine.old.pc ≤ℤ pos 4096 }
-    requires record { length bytes.old ≤ 256 }
+    requires pc { machine.old.pc ≤ℤ pos MOST_UNITS }
+    requires record { length bytes.old ≤ MOST_RECORD_LENGTH }
     ensures step { store (length bytes.old) (state_of machine.old bytes.old) address size value
         ≡ answer result (state_of machine.new bytes.new) }
     ensures kept { Keeps result bytes.old bytes.new }

@@ -14,7 +14,9 @@ mod trap;
 
 pub use cause::Cause;
 pub use helper::Helper;
-pub use limits::{FRAME_BYTES, MOST_FRAMES, MOST_GATHER_BYTES};
+pub use limits::{
+    EDGE_BYTES, FRAME_BYTES, FRAME_SPACE, MOST_FRAMES, MOST_GATHER_BYTES, RECORD_BASE, STACK_BASE,
+};
 pub use outcome::Outcome;
 pub use reduction::Reduction;
 pub use row::Row;

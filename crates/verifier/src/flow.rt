@@ -1,5 +1,6 @@
 //! The second pass: where jumps and calls land, and what stands last in each function.
 ghost use Rattle.std.specs.Prelude.{◌≡◌, ◌<◌, ◌≤◌, Option};
+ghost use Rattle.bpf_isa.specs.declared.limits.TheConstants.{MOST_UNITS};
 ghost use Rattle.bpf_image.specs.Program.{units};
 ghost use Rattle.verifier.specs.Listing.{listing_of};
 ghost use Rattle.verifier.specs.Functions.{start_above, function_end};
@@ -70,7 +71,7 @@ fn fault_of(
 ) -> Option<Cause>
     requires listing { listing.now ≡ listing_of image.now (units image.now) }
     requires end { end ≡ function_end image.now pc }
-    requires near { pc ≤ 4096 }
+    requires near { pc ≤ MOST_UNITS }
     ensures { result ≡ flow_cause image.now pc instruction }
 {
     match instruction {

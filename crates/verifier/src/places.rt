@@ -1,5 +1,6 @@
 //! Where jumps and calls go, and what stands there.
 ghost use Rattle.std.specs.Prelude.{◌≡◌, ◌<◌, ◌≤◌, IfSome};
+ghost use Rattle.bpf_isa.specs.declared.limits.TheConstants.{MOST_UNITS};
 ghost use Rattle.bpf_model.specs.Step.{units_over};
 ghost use Rattle.bpf_image.specs.Program.{units};
 ghost use Rattle.verifier_rules.specs.Rules.{target as target_pc};
@@ -11,7 +12,7 @@ use bpf_isa::{Distance, Instruction};
 
 /// The pc at a distance from the instruction behind the one at a pc; it may lie outside the code.
 pub fn place_at(pc: usize, distance: i32) -> i64
-    requires { pc ≤ 4096 }
+    requires { pc ≤ MOST_UNITS }
     ensures { result ≡ target_pc pc distance }
 {
     pc as i64 + 1 + i64::from(distance)
@@ -31,7 +32,7 @@ pub fn length_of(distance: Distance) -> i32
 pub fn starting_at(image: &Image, listing: &[Option<Instruction>], pc: usize) -> Option<Instruction>
     requires { listing.now ≡ listing_of image.now (units image.now) }
     ensures exact { result ≡ instruction_at image.now pc }
-    ensures few { units image.now ≤ 4096 }
+    ensures few { units image.now ≤ MOST_UNITS }
 {
     let end = image.code().len() / 8;
     if pc < end { listing[pc] } else { None }
@@ -45,7 +46,7 @@ pub fn entry_of_call(
     distance: i32,
 ) -> Option<usize>
     requires listing { listing.now ≡ listing_of image.now (units image.now) }
-    requires near { pc ≤ 4096 }
+    requires near { pc ≤ MOST_UNITS }
     ensures { result ≡ start_above image.now pc (target_pc pc distance) }
 {
     let place = place_at(pc, distance);

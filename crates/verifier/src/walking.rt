@@ -1,5 +1,6 @@
 //! The fifth pass: what is known at each walked pc, and whether the instructions' rules hold of it.
 ghost use Rattle.std.specs.Prelude.{◌≡◌, ◌<◌, ◌≤◌, ◌+◌, ℕ, ℤ, pos, None, Some, IfOk, MatchResult, length};
+ghost use Rattle.bpf_isa.specs.declared.limits.TheConstants.{MOST_UNITS};
 ghost use Rattle.bpf_image.specs.Program.{units};
 ghost use Rattle.abstract_state.specs.declared.state.AbstractState.{AbstractState as KnownState};
 ghost use Rattle.verifier_rules.specs.Rules.{Ways, branch_ways, call_ways};
@@ -29,7 +30,7 @@ fn split(
     sides: Sides,
     state: Box<AbstractState>,
 ) -> Result<(), AllocError>
-    requires near { pc ≤ 4096 }
+    requires near { pc ≤ MOST_UNITS }
     requires inside { LeadInside (length states.old.items)
         (branch_ways pc distance state.value compared.0 compared.1 sides) }
     ensures gone { IfOk result (λ _. (q : ℕ) → state_at states.new.items q
@@ -58,7 +59,7 @@ fn enter(
     distance: i32,
     state: Box<AbstractState>,
 ) -> Result<(), AllocError>
-    requires near { pc ≤ 4096 }
+    requires near { pc ≤ MOST_UNITS }
     requires inside { LeadInside (length states.old.items) (call_ways pc distance state.value) }
     ensures gone { IfOk result (λ _. (q : ℕ) → state_at states.new.items q
         ≡ joined_ways (state_at states.old.items q) (call_ways pc distance state.value) q) }
@@ -81,7 +82,7 @@ fn go_on(
     onward: Onward,
     state: Box<AbstractState>,
 ) -> Result<(), AllocError>
-    requires near { pc ≤ 4096 }
+    requires near { pc ≤ MOST_UNITS }
     requires inside { LeadInside (length states.old.items) (ways_onward pc instruction onward state.value) }
     ensures gone { IfOk result (λ _. (q : ℕ) → state_at states.new.items q
         ≡ joined_ways (state_at states.old.items q) (ways_onward pc instruction onward state.value) q) }

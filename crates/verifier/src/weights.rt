@@ -1,6 +1,7 @@
 //! The third and the fourth pass: how many frames a walk through the code has, and how much it counts.
 ghost use Rattle.std.specs.Prelude.{◌≡◌, ◌<◌, ◌≤◌, ◌+◌, ℕ, min, unsigned_abs, slice_index_or, MatchResult, None, false};
 ghost use Rattle.std.specs.Option.{option_or};
+ghost use Rattle.bpf_isa.specs.declared.limits.TheConstants.{MOST_UNITS};
 ghost use Rattle.bpf_image.specs.Program.{units};
 ghost use Rattle.bpf_model.specs.State.{most_frames};
 ghost use Rattle.verifier.specs.Listing.{listing_of};
@@ -68,7 +69,7 @@ fn weight_at(weights: &[u32], place: i64) -> u32
 
 /// The weight of what is called, 0 where nothing is.
 fn weight_called(weights: &[u32], pc: usize, instruction: Instruction) -> u32
-    requires { pc ≤ 4096 }
+    requires { pc ≤ MOST_UNITS }
     ensures { result ≡ greatest (λ q. slice_index_or weights.now q 0) (called_pcs instruction pc) }
 {
     match instruction {
@@ -79,7 +80,7 @@ fn weight_called(weights: &[u32], pc: usize, instruction: Instruction) -> u32
 
 /// The greatest weight of what may come behind an instruction in its function.
 fn weight_behind(weights: &[u32], pc: usize, instruction: Instruction) -> u32
-    requires { pc ≤ 4096 }
+    requires { pc ≤ MOST_UNITS }
     ensures { result ≡ greatest (λ q. slice_index_or weights.now q 0) (next_pcs instruction pc) }
 {
     match instruction {

@@ -13,6 +13,7 @@ use Rattle.bpf_model.specs.Arithmetic.{move_signed_number}
 use Rattle.bpf_model.specs.State.{State, record_base, with_values, frame_top, frame_bytes, in_frame, may_access, address_at}
 use Rattle.bpf_model.specs.Step.{Goes, load_extension, low_bytes, load, store, put}
 use Rattle.bpf_isa.specs.Sizes.{size_bytes, plain_size}
+use Rattle.bpf_image.specs.declared.limits.TheConstants.{MOST_RECORD_LENGTH}
 use Rattle.bpf_model.proofs.ArithmeticFacts.{extended_fits}
 use Rattle.bpf_model.specs.declared.cause.Cause.{Cause}
 use Rattle.abstract_values.specs.declared.value.AbstractValue.{AbstractValue}
@@ -38,7 +39,7 @@ allowed l s a size (inr inside) =
     or_right _ _ (or_left _ _ here)
 
 -- it lies beside the callers' frames
-pub apart_below : (l n a size k i : ℕ) → l ≤ 256 → IsAllowed l (frame_top n) a size → k < n → i < frame_bytes → (frame_top k - frame_bytes + i < a) ⊎ (a + size ≤ frame_top k - frame_bytes + i)
+pub apart_below : (l n a size k i : ℕ) → l ≤ MOST_RECORD_LENGTH → IsAllowed l (frame_top n) a size → k < n → i < frame_bytes → (frame_top k - frame_bytes + i < a) ⊎ (a + size ≤ frame_top k - frame_bytes + i)
 apart_below l n a size k i short (inl within) low lt =
     let both = and_parts (nat_le record_base a) (nat_le (a + size) (record_base + l)) within in
     let ends : a + size ≤ record_base + l = leb-true (a + size) (record_base + l) both.1 in
@@ -46,7 +47,7 @@ apart_below l n a size k i short (inl within) low lt =
 apart_below l n a size k i short (inr inside) low lt = inl (omega (arith, inside.0, low, lt))
 
 -- a plain load
-pub load_follows : (l pc : ℕ) (i : Instruction) (b : AbstractValue) (z : ℤ) (a : AbstractState) (s : State) (d : Register) (size : Size) (x : ℕ) (ws : Ways) → l ≤ 256 → FitsSigned w16 z → s.pc ≡ pos pc → DescribesState l a s → Describes l (top s) b (Some x) → write_ways (pc + 1) a d (load_result l a b z (size_bytes size)) ≡ ok ws → Follows l i a s ws (load l s (address_at x z) size (put s 1 d))
+pub load_follows : (l pc : ℕ) (i : Instruction) (b : AbstractValue) (z : ℤ) (a : AbstractState) (s : State) (d : Register) (size : Size) (x : ℕ) (ws : Ways) → l ≤ MOST_RECORD_LENGTH → FitsSigned w16 z → s.pc ≡ pos pc → DescribesState l a s → Describes l (top s) b (Some x) → write_ways (pc + 1) a d (load_result l a b z (size_bytes size)) ≡ ok ws → Follows l i a s ws (load l s (address_at x z) size (put s 1 d))
 load_follows l pc i b z a s d size x ws short fits at described base h =
     let w = writes_from (pc + 1) a d (load_result l a b z (size_bytes size)) ws h in
     let n = load_describes l (top s) a s.registers s.memory b w.value z size x (omega (arith, short)) (omega arith) (top_below l a s described) fits w.from described.parts base in
@@ -67,7 +68,7 @@ any_from : (r : Result AbstractValue Cause) (v : AbstractValue) → any_number_w
 any_from (Ok u) v h = (u, refl, cc)
 any_from (Err cause) v h = absurd cc
 
-pub load_extended_follows : (l pc : ℕ) (i : Instruction) (b : AbstractValue) (z : ℤ) (a : AbstractState) (s : State) (d : Register) (size : SignedSize) (x : ℕ) (ws : Ways) → l ≤ 256 → FitsSigned w16 z → s.pc ≡ pos pc → DescribesState l a s → Describes l (top s) b (Some x) → write_ways (pc + 1) a d (load_signed_result l a b z size) ≡ ok ws → Follows l i a s ws (load l s (address_at x z) (plain_size size) (λ n. put s 1 d (move_signed_number (load_extension size) n)))
+pub load_extended_follows : (l pc : ℕ) (i : Instruction) (b : AbstractValue) (z : ℤ) (a : AbstractState) (s : State) (d : Register) (size : SignedSize) (x : ℕ) (ws : Ways) → l ≤ MOST_RECORD_LENGTH → FitsSigned w16 z → s.pc ≡ pos pc → DescribesState l a s → Describes l (top s) b (Some x) → write_ways (pc + 1) a d (load_signed_result l a b z size) ≡ ok ws → Follows l i a s ws (load l s (address_at x z) (plain_size size) (λ n. put s 1 d (move_signed_number (load_extension size) n)))
 load_extended_follows l pc i b z a s d size x ws short fits at described base h =
     let w = writes_from (pc + 1) a d (load_signed_result l a b z size) ws h in
     let u = any_from (load_result l a b z (size_bytes (plain_size size))) w.value w.from in
@@ -77,7 +78,7 @@ load_extended_follows l pc i b z a s d size x ws short fits at described base h 
     rw (may, n.2) (put_follows l pc 1 i a s d (ok w.value) m ws at described (subst (λ r. write_ways (pc + 1) a d r ≡ ok ws) w.from h) (λ v e. let same : Number 0 (2 ^ 64 - 1) ≡ v = (let f : w.value ≡ v = cc in u.2 ∙ f) in subst (λ t. Describes l (top s) t (Some m)) same (any_number l (top s) m (extended_64 size n.0))))
 
 -- a store
-pub store_follows : (l pc : ℕ) (i : Instruction) (b v : AbstractValue) (z : ℤ) (a : AbstractState) (s : State) (size : Size) (x n : ℕ) (ws : Ways) → l ≤ 256 → FitsSigned w16 z → n < 2 ^ 64 → s.pc ≡ pos pc → DescribesState l a s → Describes l (top s) b (Some x) → Describes l (top s) v (Some n) → behind_store (pc + 1) (store_result l a b z (size_bytes size) v) ≡ ok ws → Follows l i a s ws (store l s (address_at x z) size n)
+pub store_follows : (l pc : ℕ) (i : Instruction) (b v : AbstractValue) (z : ℤ) (a : AbstractState) (s : State) (size : Size) (x n : ℕ) (ws : Ways) → l ≤ MOST_RECORD_LENGTH → FitsSigned w16 z → n < 2 ^ 64 → s.pc ≡ pos pc → DescribesState l a s → Describes l (top s) b (Some x) → Describes l (top s) v (Some n) → behind_store (pc + 1) (store_result l a b z (size_bytes size) v) ≡ ok ws → Follows l i a s ws (store l s (address_at x z) size n)
 store_follows l pc i b v z a s size x n ws short fits lt at described base value h =
     let parts = bind_ok (store_result l a b z (size_bytes size) v) (λ t. ok (onward (pc + 1) t)) ws h in
     let t = parts.0 in

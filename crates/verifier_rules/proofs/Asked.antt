@@ -4,6 +4,7 @@ use Rattle.std.specs.Prelude.{pos, ◌+ℤ◌, ◌&&◌, unwrap_or}
 use Rattle.std.proofs.lemmas.Bool.{cases_Bool, and_parts, eqb-true, leb-true}
 use Rattle.bpf_isa.specs.declared.register.Register.TheVariants.{R1, R2, R3, R4}
 use Rattle.bpf_isa.specs.declared.instruction.Instruction.{Instruction}
+use Rattle.bpf_image.specs.declared.limits.TheConstants.{MOST_RECORD_LENGTH}
 use Rattle.graph_model.specs.Graph.{Graph, degree}
 use Rattle.graph_model.specs.Views.{is_edge, neighbour_at, neighbour_words, neighbours_among, word_bytes}
 use Rattle.bpf_model.specs.declared.cause.Cause.{Cause}
@@ -14,6 +15,7 @@ use Rattle.bpf_model.specs.State.{Partial, State, with_value, with_values, witho
 use Rattle.bpf_model.specs.Helpers.{IsView, no_neighbour, with_answer, is_room, gather, argument, helper_effect}
 use Rattle.bpf_model.specs.Next.{Goes}
 use Rattle.bpf_model.specs.Step.{call_helper}
+use Rattle.bpf_model.specs.declared.limits.TheConstants.{MOST_GATHER_BYTES}
 use Rattle.abstract_values.specs.declared.value.AbstractValue.{AbstractValue}
 use Rattle.abstract_values.specs.declared.value.AbstractValue.TheVariants.{Unset, Number, Record, Stack}
 use Rattle.abstract_values.specs.Described.{Describes}
@@ -108,17 +110,17 @@ room_is l t x room (Stack offset) h d = absurd cc
 -- an allowed room is whole words
 record Room (room : ℕ) : Type 0 where
   some : 1 ≤ room
-  few : room ≤ 256
+  few : room ≤ MOST_GATHER_BYTES
   words : 4 * (room / 4) ≡ room
 
 room_parts : (room : ℕ) → is_room room ≡ true → Room room
 room_parts room h =
-    let parts = and_parts (eqb (room % 4) 0) (leb 4 room && leb room 256) h in
-    let ends = and_parts (leb 4 room) (leb room 256) parts.1 in
+    let parts = and_parts (eqb (room % 4) 0) (leb 4 room && leb room MOST_GATHER_BYTES) h in
+    let ends = and_parts (leb 4 room) (leb room MOST_GATHER_BYTES) parts.1 in
     let whole = eqb-true (room % 4) 0 parts.0 in
-    record { some = omega (arith, leb-true 4 room ends.0); few = leb-true room 256 ends.1; words = omega (arith, whole) }
+    record { some = omega (arith, leb-true 4 room ends.0); few = leb-true room MOST_GATHER_BYTES ends.1; words = omega (arith, whole) }
 
-gathers : (l pc : ℕ) (i : Instruction) (g : Graph) (a : AbstractState) (s : State) (pointer : AbstractValue) (room v first p : ℕ) (ws : Ways) → l ≤ 256 → s.pc ≡ pos pc → DescribesState l a s → Describes l (top s) pointer (Some p) → is_room room ≡ true → gather_ways l pc a pointer (Some room) ≡ ok ws → Follows l i a s ws (gather l g s v first p room)
+gathers : (l pc : ℕ) (i : Instruction) (g : Graph) (a : AbstractState) (s : State) (pointer : AbstractValue) (room v first p : ℕ) (ws : Ways) → l ≤ MOST_RECORD_LENGTH → s.pc ≡ pos pc → DescribesState l a s → Describes l (top s) pointer (Some p) → is_room room ≡ true → gather_ways l pc a pointer (Some room) ≡ ok ws → Follows l i a s ws (gather l g s v first p room)
 gathers l pc i g a s pointer room v first p ws short at described base is h =
     let parts = bind_ok (gather_result l a pointer room) (λ t. ok (way_with_answer pc t (room / 4))) ws h in
     let of_room = room_parts room is in
@@ -133,7 +135,7 @@ gathers l pc i g a s pointer room v first p ws short at described base is h =
     rw (is, may) (answer_follows l pc i a parts.0 s memory (room / 4) (neighbours_among g v first (room / 4)) ws at described left.1 keeps (among_most g v first (room / 4)) few parts.2)
 
 -- gather with the room that is known
-room_follows : (l pc : ℕ) (i : Instruction) (g : Graph) (a : AbstractState) (s : State) (pointer value : AbstractValue) (room : Option ℕ) (v first p x : ℕ) (ws : Ways) → l ≤ 256 → s.pc ≡ pos pc → DescribesState l a s → Describes l (top s) pointer (Some p) → Describes l (top s) value (Some x) → known_room value ≡ room → gather_ways l pc a pointer room ≡ ok ws → Follows l i a s ws (gather l g s v first p x)
+room_follows : (l pc : ℕ) (i : Instruction) (g : Graph) (a : AbstractState) (s : State) (pointer value : AbstractValue) (room : Option ℕ) (v first p x : ℕ) (ws : Ways) → l ≤ MOST_RECORD_LENGTH → s.pc ≡ pos pc → DescribesState l a s → Describes l (top s) pointer (Some p) → Describes l (top s) value (Some x) → known_room value ≡ room → gather_ways l pc a pointer room ≡ ok ws → Follows l i a s ws (gather l g s v first p x)
 room_follows l pc i g a s pointer value None v first p x ws short at described base lent known h = absurd cc
 room_follows l pc i g a s pointer value (Some room) v first p x ws short at described base lent known h =
     let is = room_is l (top s) x room value known lent in
@@ -169,7 +171,7 @@ asks l pc a ws h =
       ways = of_kind (is_number u.0 && is_number v.0) (gather_ways l pc a w.0 (known_room room.0)) ws room.2;
     }
 
-gather_follows : (l pc : ℕ) (i : Instruction) (g : Graph) (a : AbstractState) (s : State) (ws : Ways) → l ≤ 256 → s.pc ≡ pos pc → DescribesState l a s → gather_call l pc a ≡ ok ws → Follows l i a s ws (helper_effect l g Gather s)
+gather_follows : (l pc : ℕ) (i : Instruction) (g : Graph) (a : AbstractState) (s : State) (ws : Ways) → l ≤ MOST_RECORD_LENGTH → s.pc ≡ pos pc → DescribesState l a s → gather_call l pc a ≡ ok ws → Follows l i a s ws (helper_effect l g Gather s)
 gather_follows l pc i g a s ws short at described h =
     let asked = asks l pc a ws h in
     let x = register_read l a s R1 asked.vertex described asked.vertex_known in
@@ -180,7 +182,7 @@ gather_follows l pc i g a s ws short at described h =
 
 -- ---- any helper
 
-helper_follows : (l pc : ℕ) (i : Instruction) (g : Graph) (helper : Helper) (a : AbstractState) (s : State) (ws : Ways) → IsView g → l ≤ 256 → s.pc ≡ pos pc → DescribesState l a s → helper_ways l pc helper a ≡ ok ws → Follows l i a s ws (helper_effect l g helper s)
+helper_follows : (l pc : ℕ) (i : Instruction) (g : Graph) (helper : Helper) (a : AbstractState) (s : State) (ws : Ways) → IsView g → l ≤ MOST_RECORD_LENGTH → s.pc ≡ pos pc → DescribesState l a s → helper_ways l pc helper a ≡ ok ws → Follows l i a s ws (helper_effect l g helper s)
 helper_follows l pc i g Degree a s ws few short at described h =
     one_follows l pc i a s (2 ^ 32 - 1) (λ v. degree g v) ws at described (λ v. degree_most g v few) (omega arith) h
 helper_follows l pc i g HasEdge a s ws few short at described h =
@@ -191,7 +193,7 @@ helper_follows l pc i g VertexCount a s ws few short at described h =
     plain_follows l pc i a s (2 ^ 32 - 1) g.vertex_count ws at described (omega (arith, few)) (omega arith) h
 helper_follows l pc i g Gather a s ws few short at described h = gather_follows l pc i g a s ws short at described h
 
-pub helper_call_follows : (l pc : ℕ) (i : Instruction) (g : Graph) (helper : Option Helper) (a : AbstractState) (s : State) (ws : Ways) → IsView g → l ≤ 256 → s.pc ≡ pos pc → DescribesState l a s → helper_call_ways l pc helper a ≡ ok ws → Follows l i a s ws (call_helper l g helper s)
+pub helper_call_follows : (l pc : ℕ) (i : Instruction) (g : Graph) (helper : Option Helper) (a : AbstractState) (s : State) (ws : Ways) → IsView g → l ≤ MOST_RECORD_LENGTH → s.pc ≡ pos pc → DescribesState l a s → helper_call_ways l pc helper a ≡ ok ws → Follows l i a s ws (call_helper l g helper s)
 helper_call_follows l pc i g None a s ws few short at described h = absurd cc
 helper_call_follows l pc i g (Some helper) a s ws few short at described h = helper_follows l pc i g helper a s ws few short at described h
 

@@ -4,6 +4,7 @@ use Rattle.std.specs.Prelude.{ℤ, pos, ◌+ℤ◌}
 use Rattle.std.proofs.lemmas.Bool.{lt-leb, lt-ltb, le-leb}
 use Rattle.std.proofs.lemmas.Int.{ints}
 use Rattle.bpf_isa.specs.declared.instruction.Instruction.TheVariants.{CallLocal, Exit}
+use Rattle.bpf_image.specs.declared.limits.TheConstants.{MOST_RECORD_LENGTH}
 use Rattle.bpf_model.specs.declared.trap.TrapKind.TheVariants.{UnsetResult}
 use Rattle.bpf_model.specs.State.{Partial, Saved, State, without_values, record_base, frame_top, frame_bytes, live_frames, most_frames}
 use Rattle.bpf_model.specs.Calls.{saved_state, enter, return_to}
@@ -70,7 +71,7 @@ entered_values l a s z d (suc (suc (suc (suc (suc (suc (suc (suc (suc zero))))))
 entered_values l a s z d (suc (suc (suc (suc (suc (suc (suc (suc (suc (suc zero)))))))))) = (frame_top (live_frames s), refl, omega (arith, ints), omega (arith, ints), omega (arith, ints))
 entered_values l a s z d (suc (suc (suc (suc (suc (suc (suc (suc (suc (suc (suc r))))))))))) = tt
 
-pub entered_described : (l : ℕ) (a : AbstractState) (s : State) (z : ℤ) → l ≤ 256 → live_frames s < most_frames → DescribesState l a s → DescribesState l (callee_state a) (enter s z)
+pub entered_described : (l : ℕ) (a : AbstractState) (s : State) (z : ℤ) → l ≤ MOST_RECORD_LENGTH → live_frames s < most_frames → DescribesState l a s → DescribesState l (callee_state a) (enter s z)
 entered_described l a s z short few d = record {
   parts = record {
     values = entered_values l a s z d;
@@ -94,7 +95,7 @@ caller_described l a s z d = record {
   frame = frame_kept l (top s) a.bytes_set a.slots s.memory (enter s z).memory (λ i lt. enter_keeps s z (length s.callers) i (omega arith) lt) d.parts.frame;
 }
 
-pub call_follows : (l pc : ℕ) (z : ℤ) (a : AbstractState) (s : State) (ws : Ways) → l ≤ 256 → s.pc ≡ pos pc → DescribesState l a s → MayCall (CallLocal z) s → call_ways pc z a ≡ ws → Follows l (CallLocal z) a s ws (call s z)
+pub call_follows : (l pc : ℕ) (z : ℤ) (a : AbstractState) (s : State) (ws : Ways) → l ≤ MOST_RECORD_LENGTH → s.pc ≡ pos pc → DescribesState l a s → MayCall (CallLocal z) s → call_ways pc z a ≡ ws → Follows l (CallLocal z) a s ws (call s z)
 call_follows l pc z a s ws short at d may ways =
     let few : live_frames s < most_frames = may z refl in
     let room : ltb (live_frames s) most_frames ≡ true = lt-ltb _ _ few in

@@ -10,6 +10,7 @@ use Rattle.bpf_isa.specs.declared.instruction.Operation.TheVariants.{Move}
 use Rattle.bpf_isa.specs.declared.instruction.Operand.{Operand}
 use Rattle.bpf_isa.specs.declared.instruction.Operand.TheVariants.{Immediate, Source}
 use Rattle.bpf_isa.specs.Encoding.{number_of}
+use Rattle.bpf_image.specs.declared.limits.TheConstants.{MOST_RECORD_LENGTH}
 use Rattle.bpf_model.specs.Arithmetic.{low, alu_number}
 use Rattle.bpf_model.specs.State.{State, record_base}
 use Rattle.bpf_model.specs.Step.{immediate_value, operand_of, left_of}
@@ -61,7 +62,7 @@ register_read l a s r v d h =
     held l (top s) (register a r) v (s.registers (number_of r)) h (d.parts.values (number_of r))
 
 -- a described number has 64 bits
-pub described_below : (l t : ℕ) (v : AbstractValue) (n : ℕ) → l ≤ 256 → t < 2 ^ 64 → known_value v ≡ ok v → Describes l t v (Some n) → n < 2 ^ 64
+pub described_below : (l t : ℕ) (v : AbstractValue) (n : ℕ) → l ≤ MOST_RECORD_LENGTH → t < 2 ^ 64 → known_value v ≡ ok v → Describes l t v (Some n) → n < 2 ^ 64
 described_below l t Unset n short low h d = absurd cc
 described_below l t (Number lo hi) n short low h d =
     let number : n ≡ d.0 = (let e : Some n ≡ Some d.0 = d.1 in cc) in
@@ -120,15 +121,15 @@ pub record ReadsLeft (l t : ℕ) (operation : Operation) (x : Option ℕ) (u : A
   pub there : left_of operation x ≡ Some number
   pub gives : (w : Width) (b v : AbstractValue) (y : ℕ) → alu_result w operation l u b ≡ ok v → Describes l t b (Some y) → Describes l t v (Some (alu_number w operation number y))
 
-move_read : (l t : ℕ) (x : Option ℕ) (u : AbstractValue) → l ≤ 256 → record_base + 2 ^ 17 ≤ t → t < 2 ^ 64 → ReadsLeft l t Move x u
+move_read : (l t : ℕ) (x : Option ℕ) (u : AbstractValue) → l ≤ MOST_RECORD_LENGTH → record_base + 2 ^ 17 ≤ t → t < 2 ^ 64 → ReadsLeft l t Move x u
 move_read l t x u short high low =
     record { number = 0; there = refl; gives = λ w b v y h q. alu_describes w Move l t (constant 0) b v 0 y (omega (arith, short)) (omega (arith, high)) low h (constant_described l t 0 (omega arith)) q }
 
-other_read : (l t : ℕ) (operation : Operation) (x : Option ℕ) (u : AbstractValue) → l ≤ 256 → record_base + 2 ^ 17 ≤ t → t < 2 ^ 64 → left_of operation x ≡ x → Reads l t x u → ReadsLeft l t operation x u
+other_read : (l t : ℕ) (operation : Operation) (x : Option ℕ) (u : AbstractValue) → l ≤ MOST_RECORD_LENGTH → record_base + 2 ^ 17 ≤ t → t < 2 ^ 64 → left_of operation x ≡ x → Reads l t x u → ReadsLeft l t operation x u
 other_read l t operation x u short high low same r =
     record { number = r.number; there = rw same r.there; gives = λ w b v y h q. alu_describes w operation l t u b v r.number y (omega (arith, short)) (omega (arith, high)) low h r.described q }
 
-pub left_read : (l : ℕ) (operation : Operation) (a : AbstractState) (s : State) (d : Register) (u : AbstractValue) → l ≤ 256 → DescribesState l a s → known_left operation a d ≡ ok u → ReadsLeft l (top s) operation (s.registers (number_of d)) u
+pub left_read : (l : ℕ) (operation : Operation) (a : AbstractState) (s : State) (d : Register) (u : AbstractValue) → l ≤ MOST_RECORD_LENGTH → DescribesState l a s → known_left operation a d ≡ ok u → ReadsLeft l (top s) operation (s.registers (number_of d)) u
 left_read l Move a s d u short described h = move_read l (top s) (s.registers (number_of d)) u short (top_above_record l a s described) (top_below l a s described)
 left_read l operation a s d u short described h =
     other_read l (top s) operation (s.registers (number_of d)) u short (top_above_record l a s described) (top_below l a s described) refl (register_read l a s d u described h)

@@ -10,6 +10,7 @@ use Rattle.bpf_model.specs.Arithmetic.{low, operation_number, alu_number, negate
 use Rattle.bpf_model.specs.State.{State}
 use Rattle.bpf_model.specs.Step.{immediate_value, units_over, jump, effect}
 use Rattle.bpf_isa.specs.Sizes.{size_bytes}
+use Rattle.bpf_image.specs.declared.limits.TheConstants.{MOST_RECORD_LENGTH}
 use Rattle.abstract_values.specs.declared.value.AbstractValue.{AbstractValue}
 use Rattle.abstract_values.specs.declared.value.AbstractValue.TheVariants.{Unset}
 use Rattle.abstract_values.specs.Values.{alu_result, negate_result, move_signed_result, swap_result}
@@ -35,7 +36,7 @@ constant_is l t n v lt e =
     subst (λ u. Describes l t u (Some n)) same (constant_described l t n lt)
 
 -- one clause an instruction
-pub step_describes : (g : Graph) (l pc : ℕ) (i : Instruction) (a : AbstractState) (s : State) (ws : Ways) → IsView g → l ≤ 256 → InstructionFits i → s.pc ≡ pos pc → DescribesState l a s → MayCall i s → transfer l pc i a ≡ ok ws → Follows l i a s ws (effect l g i s)
+pub step_describes : (g : Graph) (l pc : ℕ) (i : Instruction) (a : AbstractState) (s : State) (ws : Ways) → IsView g → l ≤ MOST_RECORD_LENGTH → InstructionFits i → s.pc ≡ pos pc → DescribesState l a s → MayCall i s → transfer l pc i a ≡ ok ws → Follows l i a s ws (effect l g i s)
 unfolding transfer
 step_describes g l pc (Alu w operation d o) a s ws few short fits at described may h =
     let u = bind_ok (known_left operation a d) (λ u. bind (known_operand w a o) (λ b. write_ways (pc + 1) a d (alu_result w operation l u b))) ws h in

@@ -1,5 +1,6 @@
 use Rattle.std.proofs.Common.{◌≡◌, ◌≤◌, ◌∙◌, ℕ, List, sym, ap, subst, refl, add-one, FitsSigned, w64, to_z, of_z, length, arith, rules}
 use Rattle.std.proofs.lemmas.Int.{to_z-of_z}
+use Rattle.bpf_image.specs.declared.limits.TheConstants.{MOST_RECORD_LENGTH}
 use Rattle.bpf_model.specs.State.{start}
 use Rattle.bpf_model.specs.Step.{Goes, Exits, Traps, step}
 use Rattle.bpf_model.specs.Run.{after, Stops}
@@ -13,7 +14,7 @@ loop-steps-init g c = ap (λ s. Goes s) (c.new-machine.ensures.start c.args.byte
 pub returns-in-Exited : goal.returns-in-Exited
 returns-in-Exited g c =
     let graph = g.G.GraphView.graph c.args.graph.now in
-    let short : length c.loop-steps.bytes ≤ 256 = omega (arith, c.loop-steps.auto.bytes, c.record_length.ensures.image.record_length.1) in
+    let short : length c.loop-steps.bytes ≤ MOST_RECORD_LENGTH = omega (arith, c.loop-steps.auto.bytes, c.record_length.ensures.image.record_length.1) in
     let kept : c.take_turn.new.bytes ≡ c.loop-steps.bytes = (rw c.in-Exited.is at c.take_turn.ensures.kept) in
     let exits = (rw c.in-Exited.is at c.take_turn.ensures.step) in (
       c.loop-steps.steps,
@@ -27,7 +28,7 @@ returns-in-Exited g c =
 pub returns-in-Trapped : goal.returns-in-Trapped
 returns-in-Trapped g c =
     let graph = g.G.GraphView.graph c.args.graph.now in
-    let short : length c.loop-steps.bytes ≤ 256 = omega (arith, c.loop-steps.auto.bytes, c.record_length.ensures.image.record_length.1) in
+    let short : length c.loop-steps.bytes ≤ MOST_RECORD_LENGTH = omega (arith, c.loop-steps.auto.bytes, c.record_length.ensures.image.record_length.1) in
     let kept : c.take_turn.new.bytes ≡ c.loop-steps.bytes = (rw c.in-Trapped.is at c.take_turn.ensures.kept) in
     let traps = (rw c.in-Trapped.is at c.take_turn.ensures.step) in
     let fits : FitsSigned w64 c.take_turn.new.machine.pc = search rules in
@@ -48,7 +49,7 @@ loop-steps-preserved g c =
 pub returns : goal.returns
 returns g c =
     let graph = g.G.GraphView.graph c.args.graph.now in
-    let short : length c.loop-steps.bytes ≤ 256 = omega (arith, c.loop-steps.auto.bytes, c.record_length.ensures.image.record_length.1) in
+    let short : length c.loop-steps.bytes ≤ MOST_RECORD_LENGTH = omega (arith, c.loop-steps.auto.bytes, c.record_length.ensures.image.record_length.1) in
     let all : c.args.fuel ≡ c.loop-steps.steps = omega arith in
     let reached = ap (λ k. after c.args.image.now graph k (start c.args.bytes.now)) all ∙ c.loop-steps.invariant in (
       step c.args.image.now graph (state_of c.loop-steps.machine c.loop-steps.bytes),

@@ -4,9 +4,10 @@ use Rattle.std.proofs.lemmas.Bool.{cases_eq}
 use Rattle.std.proofs.lemmas.List.{length-set, get_or-set_same, get_or-set_other}
 use Rattle.bpf_machine.proofs.MemoryFacts.{held-replicate}
 use Rattle.bpf_machine.proofs.stack.all_of.Goals as goal
+use Rattle.bpf_machine.specs.declared.stack.TheConstants.{STACK_BYTES}
 
 pub loop-k-init : goal.loop-k-init
-loop-k-init c = record { long = refl; copied = λ i lt. absurd (omega (arith, lt)); rest = λ i le. held-replicate 4096 i }
+loop-k-init c = record { long = refl; copied = λ i lt. absurd (omega (arith, lt)); rest = λ i le. held-replicate STACK_BYTES i }
 
 pub loop-k-preserved : goal.loop-k-preserved
 loop-k-preserved c =

@@ -1,5 +1,6 @@
 use Rattle.std.proofs.Common.{◌≡◌, ◌+◌, ◌<◌, length, ap, ◌∙◌, arith}
 use Rattle.bpf_model.specs.State.{without_values}
+use Rattle.bpf_model.specs.declared.limits.TheConstants.{FRAME_BYTES}
 use Rattle.bpf_machine.specs.Seen.{values_of}
 use Rattle.bpf_machine.proofs.StackFacts.{cleared_more, cleared_none}
 use Rattle.bpf_machine.proofs.stack.clear_row.Goals as goal
@@ -14,5 +15,5 @@ loop-k-preserved c =
 
 pub returns : goal.returns
 returns c =
-    let all : c.loop-k.k ≡ 512 = omega (arith, c.loop-k-test.false, c.loop-k.auto.k-end) in
+    let all : c.loop-k.k ≡ FRAME_BYTES = omega (arith, c.loop-k-test.false, c.loop-k.auto.k-end) in
     c.loop-k.invariant ∙ ap (without_values (values_of c.args.cells.now) c.args.first) all
