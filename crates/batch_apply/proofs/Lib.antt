@@ -1,1 +1,3 @@
-mod Dealing
+pub mod Dealing
+pub mod Sorting
+pub mod Cuts

@@ -1,3 +1,4 @@
 pub mod Dealt
 pub mod Refused
 pub mod Applied
+pub mod Splits

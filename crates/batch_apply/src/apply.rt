@@ -14,7 +14,7 @@ use std::sync::Wait;
 use std::thread::Threads;
 
 /// Whether the ends of all edits are below a number of vertices.
-fn are_below(edits: &[Edit], vertices: u32) -> bool
+pub(crate) fn are_below(edits: &[Edit], vertices: u32) -> bool
     ensures { (result ≡ true) ↔ AreEditsBelow vertices edits.now }
 {
     edits.iter().all(|edit| edit.source() < vertices && edit.target() < vertices)

@@ -6,8 +6,8 @@ ghost use Rattle.migration.specs.Made.{IsBatch};
 ghost use Rattle.migration.specs.Table.{IsEditable, AreAfter, AreMoved};
 ghost use Rattle.batch_apply.specs.Dealt.{IsReady, IsSplit, AreDealt};
 
+use crate::grouped::split_groups;
 use crate::hands::{spread, work_alone};
-use crate::split::split_groups;
 use gates::{Gate, Refusal, Workers};
 use graph_model::Edit;
 use migration::{Counts, EditedShard, Grouping, Groups, Table};

@@ -2,12 +2,15 @@
 #![tactic(auto)]
 
 mod apply;
+mod by_range;
 mod edited;
 mod errors;
+mod grouped;
 mod hands;
-mod split;
+mod runs;
 
 pub use apply::apply_batch;
+pub use by_range::split;
 pub use edited::edit_table;
 pub use errors::ApplyError;
 

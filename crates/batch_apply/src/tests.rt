@@ -1,61 +1,10 @@
 //! Batches by several workers, and what each gate sees.
-use crate::{ApplyError, apply_batch};
-use gates::{Gate, OpenGate, Workers};
+use crate::{ApplyError, apply_batch, split};
+use gates::{HoldingGate, OpenGate, Workers};
 use graph_model::{Batch, Edit};
 use migration::Table;
 use std::alloc::{AllocError, Global};
-use std::sync::atomic::{AtomicU64, Ordering};
 use std::test::Fail;
-use std::thread;
-
-// How many turns a piece waits for the others.
-const TURNS: u32 = 10_000_000;
-
-// Holds each piece until so many were entered, and keeps how often pieces were entered and left: a digit of 16 for each
-// of the first 16 numbers.
-#[derive(Drop)]
-struct Holding {
-    until: u64,
-    count: AtomicU64,
-    entered: AtomicU64,
-    left: AtomicU64,
-    ran_out: AtomicU64,
-}
-
-// The digit of a piece.
-fn digit(piece: u32) -> u64 {
-    1u64 << (4 * (piece % 16))
-}
-
-impl Holding {
-    fn new(until: u64) -> Holding {
-        Holding {
-            until,
-            count: AtomicU64::new(0),
-            entered: AtomicU64::new(0),
-            left: AtomicU64::new(0),
-            ran_out: AtomicU64::new(0),
-        }
-    }
-}
-
-impl Gate for Holding {
-    fn enter(&self, piece: u32) {
-        self.entered.fetch_add(digit(piece), Ordering::SeqCst);
-        self.count.fetch_add(1, Ordering::SeqCst);
-        for _ in 0..TURNS {
-            if self.count.load(Ordering::SeqCst) >= self.until {
-                return;
-            }
-            thread::yield_now();
-        }
-        self.ran_out.fetch_add(1, Ordering::SeqCst);
-    }
-
-    fn leave(&self, piece: u32) {
-        self.left.fetch_add(digit(piece), Ordering::SeqCst);
-    }
-}
 
 // A batch of these edits.
 fn batch_of(alloc: Global, edits: &[Edit]) -> Result<Batch, AllocError> {
@@ -97,13 +46,13 @@ fn pieces_of_as_many_workers_are_inside_at_once(rt: HostRuntime) -> Result<(), F
     let Some(workers) = Workers::new(4) else {
         return Err(Fail::new("four workers are allowed"));
     };
-    let gate = Holding::new(4);
+    let gate = HoldingGate::until(4);
     let (_, counts) = apply_batch(&rt, alloc, &table, &batch, workers, &gate)?;
     assert_eq!(rt; counts.added, 4);
     assert_eq!(rt; counts.removed, 0);
-    assert_eq!(rt; gate.ran_out.load(Ordering::SeqCst), 0);
-    assert_eq!(rt; gate.entered.load(Ordering::SeqCst), 0x1111);
-    assert_eq!(rt; gate.left.load(Ordering::SeqCst), 0x1111);
+    assert_eq!(rt; gate.in_vain(), 0);
+    assert_eq!(rt; gate.entered(), 0x1111);
+    assert_eq!(rt; gate.left(), 0x1111);
     Ok(())
 }
 
@@ -115,12 +64,12 @@ fn two_workers_are_inside_at_once(rt: HostRuntime) -> Result<(), Fail> {
     let Some(workers) = Workers::new(2) else {
         return Err(Fail::new("two workers are allowed"));
     };
-    let gate = Holding::new(2);
+    let gate = HoldingGate::until(2);
     let (_, counts) = apply_batch(&rt, alloc, &table, &batch, workers, &gate)?;
     assert_eq!(rt; counts.added, 2);
-    assert_eq!(rt; gate.ran_out.load(Ordering::SeqCst), 0);
-    assert_eq!(rt; gate.entered.load(Ordering::SeqCst), 0x11);
-    assert_eq!(rt; gate.left.load(Ordering::SeqCst), 0x11);
+    assert_eq!(rt; gate.in_vain(), 0);
+    assert_eq!(rt; gate.entered(), 0x11);
+    assert_eq!(rt; gate.left(), 0x11);
     Ok(())
 }
 
@@ -132,11 +81,11 @@ fn three_workers_share_four_ranges(rt: HostRuntime) -> Result<(), Fail> {
     let Some(workers) = Workers::new(3) else {
         return Err(Fail::new("three workers are allowed"));
     };
-    let gate = Holding::new(1);
+    let gate = HoldingGate::until(1);
     let (next, counts) = apply_batch(&rt, alloc, &table, &batch, workers, &gate)?;
     assert_eq!(rt; counts.added, 4);
-    assert_eq!(rt; gate.entered.load(Ordering::SeqCst), 0x1111);
-    assert_eq!(rt; gate.left.load(Ordering::SeqCst), 0x1111);
+    assert_eq!(rt; gate.entered(), 0x1111);
+    assert_eq!(rt; gate.left(), 0x1111);
     assert_eq!(rt; next.shard_of(768).map(|shard| shard.degree(0)), Some(1));
     assert_eq!(rt; table.shard_of(768).map(|shard| shard.degree(0)), Some(0));
     Ok(())
@@ -170,5 +119,101 @@ fn too_many_edits_come_before_a_vertex_outside(rt: HostRuntime) -> Result<(), Fa
     let inside = batch_of(alloc, &[Edit::Insert(0, 299)])?;
     let (_, counts) = apply_batch(&rt, alloc, &table, &inside, Workers::one(), &OpenGate)?;
     assert_eq!(rt; counts.added, 1);
+    Ok(())
+}
+
+// The range of the piece at a place.
+fn range_at(pieces: &[(u32, Vec<Edit>)], place: usize) -> Option<u32> {
+    let (range, _) = pieces.get(place)?;
+    Some(*range)
+}
+
+// The edits of the piece at a place.
+fn edits_at(pieces: &[(u32, Vec<Edit>)], place: usize) -> &[Edit] {
+    match pieces.get(place) {
+        Some((_, edits)) => edits.as_slice(),
+        None => &[],
+    }
+}
+
+#[test]
+fn a_batch_is_split_into_its_ranges(rt: HostRuntime) -> Result<(), Fail> {
+    let alloc = rt.alloc();
+    let pieces = split(&rt, alloc, &four_ranges(alloc)?)?;
+    assert_eq!(rt; pieces.len(), 4);
+    for (place, range, source) in [(0usize, 0u32, 0u32), (1, 1, 256), (2, 2, 512), (3, 3, 768)] {
+        assert_eq!(rt; range_at(&pieces, place), Some(range));
+        assert_eq!(rt;
+            edits_at(&pieces, place),
+            [Edit::Insert(source, 0)].as_slice()
+        );
+    }
+    Ok(())
+}
+
+// Below the number from which threads sort, at it and above it.
+#[test]
+fn a_range_keeps_its_edits_in_order(rt: HostRuntime) -> Result<(), Fail> {
+    let alloc = rt.alloc();
+    for count in [2047, 2048, 2049] {
+        let batch = alternating(alloc, count)?;
+        let pieces = split(&rt, alloc, &batch)?;
+        assert_eq!(rt; pieces.len(), 1);
+        assert_eq!(rt; range_at(&pieces, 0), Some(1));
+        assert_eq!(rt; edits_at(&pieces, 0), batch.edits());
+    }
+    Ok(())
+}
+
+// Edits of two ranges in turn.
+#[test]
+fn threads_sort_by_ranges(rt: HostRuntime) -> Result<(), Fail> {
+    let alloc = rt.alloc();
+    let mut edits = Vec::new(alloc);
+    let mut low = Vec::new(alloc);
+    let mut high = Vec::new(alloc);
+    for number in 0..10_000u32 {
+        edits.push(Edit::Insert(700, number))?;
+        high.push(Edit::Insert(700, number))?;
+        edits.push(Edit::Remove(7, number))?;
+        low.push(Edit::Remove(7, number))?;
+    }
+    let batch = Batch::new(alloc, edits)?;
+    let pieces = split(&rt, alloc, &batch)?;
+    assert_eq!(rt; pieces.len(), 2);
+    assert_eq!(rt; range_at(&pieces, 0), Some(0));
+    assert_eq!(rt; edits_at(&pieces, 0), low.as_slice());
+    assert_eq!(rt; range_at(&pieces, 1), Some(2));
+    assert_eq!(rt; edits_at(&pieces, 1), high.as_slice());
+    Ok(())
+}
+
+#[test]
+fn a_batch_that_is_not_split(rt: HostRuntime) -> Result<(), Fail> {
+    let alloc = rt.alloc();
+    let many = alternating(alloc, 65_537)?;
+    assert_eq!(rt;
+        split(&rt, alloc, &many).err(),
+        Some(ApplyError::TooManyEdits)
+    );
+    let outside = batch_of(alloc, &[Edit::Insert(0, 1_048_576)])?;
+    assert_eq!(rt;
+        split(&rt, alloc, &outside).err(),
+        Some(ApplyError::VertexRange)
+    );
+    Ok(())
+}
+
+#[test]
+fn the_most_edits_and_none(rt: HostRuntime) -> Result<(), Fail> {
+    let alloc = rt.alloc();
+    let most = alternating(alloc, 65_536)?;
+    let pieces = split(&rt, alloc, &most)?;
+    assert_eq!(rt; pieces.len(), 1);
+    let last = batch_of(alloc, &[Edit::Remove(1_048_575, 0)])?;
+    let pieces = split(&rt, alloc, &last)?;
+    assert_eq!(rt; range_at(&pieces, 0), Some(4_095));
+    let pieces = split(&rt, alloc, &Batch::empty())?;
+    assert_eq!(rt; pieces.len(), 0);
     Ok(())
 }

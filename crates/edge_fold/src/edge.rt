@@ -1,8 +1,8 @@
 //! An edge, and its record's first bytes.
 ghost use Rattle.std.specs.Prelude.{◌≡◌, ◌+◌, length};
+ghost use Rattle.bpf_model.specs.declared.limits.TheConstants.{EDGE_BYTES};
 
-/// How many bytes of a record are the edge's own: its four numbers. The argument stands behind them.
-pub const EDGE_BYTES: usize = 16;
+use bpf_model::EDGE_BYTES;
 
 /// An edge as a program sees it.
 #[derive(Clone, Copy)]

@@ -3,10 +3,13 @@ ghost use Rattle.std.specs.Prelude.{◌≡◌, ◌≤◌, IfOk, length};
 
 use super::*;
 use bpf_image::Image;
+use gates::{OpenGate, Workers};
 use graph_model::{Batch, Edit, Entry};
 use history::Head;
 use std::alloc::{AllocError, Global};
+use std::sync::Wait;
 use std::test::Fail;
+use std::thread::Threads;
 use verifier::verify;
 
 fn batch_of(alloc: Global, edits: &[Edit]) -> Result<Batch, AllocError>
@@ -15,8 +18,31 @@ fn batch_of(alloc: Global, edits: &[Edit]) -> Result<Batch, AllocError>
     Batch::new(alloc, Vec::from_slice(alloc, edits)?)
 }
 
+/// Maps a program over the edges of some vertices, in a memory of its own.
+fn map_alone(
+    alloc: Global,
+    version: &Version,
+    program: &Verified,
+    frontier: &[u32],
+    reduction: Reduction,
+) -> Result<MapOutcome, AllocError>
+    requires argument { program.now.record_length ≡ 16 }
+    requires few { length frontier.now ≤ 1048576 }
+{
+    let mut memory = Memory::new();
+    map_frontier(
+        alloc,
+        &mut memory,
+        version,
+        program,
+        &[],
+        frontier,
+        reduction,
+    )
+}
+
 /// Four vertices, and the edges 0-1, 0-2 and 1-2.
-fn three_edges(alloc: Global) -> Result<Version, Fail> {
+fn three_edges<R: Threads + Wait>(rt: &R, alloc: Global) -> Result<Version, Fail> {
     let (head, known) = Head::new();
     let first = Version::opening(alloc, 4, known)?;
     let batch = batch_of(
@@ -24,7 +50,7 @@ fn three_edges(alloc: Global) -> Result<Version, Fail> {
         &[Edit::Insert(0, 1), Edit::Insert(0, 2), Edit::Insert(1, 2)],
     )?;
     let entry = Entry { feed: 0, batch };
-    let (draft, _) = first.draft(alloc, &entry)?;
+    let (draft, _) = first.draft(rt, alloc, &entry, Workers::one(), &OpenGate)?;
     let Some(known) = head.add(&first.known(), 0, &entry) else {
         return Err(Fail::new("the history was longer"));
     };
@@ -58,7 +84,7 @@ const fn row(vertex: u32, value: u64) -> Row {
 #[test]
 fn reductions(rt: HostRuntime) -> Result<(), Fail> {
     let alloc = rt.alloc();
-    let version = three_edges(alloc)?;
+    let version = three_edges(&rt, alloc)?;
     let program = target(alloc)?;
     let wanted = [
         (Reduction::Sum, 5, [row(0, 3), row(1, 2)]),
@@ -66,7 +92,7 @@ fn reductions(rt: HostRuntime) -> Result<(), Fail> {
         (Reduction::Max, 2, [row(0, 2), row(1, 2)]),
     ];
     for (reduction, total, rows) in wanted {
-        let out = map_edges(alloc, &version, &program, &[], &[0, 1, 2, 3], reduction)?;
+        let out = map_alone(alloc, &version, &program, &[0, 1, 2, 3], reduction)?;
         assert_eq!(rt; out.edges, 3);
         assert_eq!(rt; out.total, total);
         assert_eq!(rt; out.rows.as_slice(), rows.as_slice());
@@ -78,10 +104,10 @@ fn reductions(rt: HostRuntime) -> Result<(), Fail> {
 #[test]
 fn records(rt: HostRuntime) -> Result<(), Fail> {
     let alloc = rt.alloc();
-    let version = three_edges(alloc)?;
+    let version = three_edges(&rt, alloc)?;
     for (place, total) in [(0, 1), (4, 5), (8, 1), (12, 5)] {
         let program = loader(alloc, place)?;
-        let out = map_edges(alloc, &version, &program, &[], &[0, 1], Reduction::Sum)?;
+        let out = map_alone(alloc, &version, &program, &[0, 1], Reduction::Sum)?;
         assert_eq!(rt; out.total, total, "{place}");
     }
     Ok(())
@@ -92,18 +118,18 @@ fn nothing_to_map(rt: HostRuntime) -> Result<(), Fail> {
     let alloc = rt.alloc();
     let program = target(alloc)?;
     let edgeless = Version::opening(alloc, 4, Head::new().1)?;
-    let version = three_edges(alloc)?;
+    let version = three_edges(&rt, alloc)?;
     for (reduction, total) in [
         (Reduction::Min, u64::MAX),
         (Reduction::Max, 0),
         (Reduction::Sum, 0),
     ] {
-        let out = map_edges(alloc, &edgeless, &program, &[], &[0, 1, 2, 3], reduction)?;
+        let out = map_alone(alloc, &edgeless, &program, &[0, 1, 2, 3], reduction)?;
         assert_eq!(rt; out.edges, 0);
         assert_eq!(rt; out.total, total);
         assert_eq!(rt; out.rows.len(), 0);
 
-        let out = map_edges(alloc, &version, &program, &[], &[], reduction)?;
+        let out = map_alone(alloc, &version, &program, &[], reduction)?;
         assert_eq!(rt; out.edges, 0);
         assert_eq!(rt; out.total, total);
         assert_eq!(rt; out.rows.len(), 0);

@@ -1,10 +1,10 @@
 -- A frontier's length, and its pieces.
-use Rattle.std.proofs.Common.{◌≡◌, ℕ, suc, zero, ◌+◌, ◌-◌, ◌*◌, ◌/◌, ◌<◌, ◌≤◌, min, List, [], length, take, drop, slice_index, All, length-drop, sym, ap, subst, ◌∙◌, inl, inr, arith, length-take}
+use Rattle.std.proofs.Common.{◌≡◌, ℕ, suc, zero, ◌+◌, ◌-◌, ◌*◌, ◌<◌, ◌≤◌, min, List, length, take, drop, slice_index, length-drop, sym, ap, ◌∙◌, inl, inr, arith, length-take}
 use Rattle.std.specs.List.Sorted.{IsStrictlyIncreasing}
 use Rattle.std.proofs.lemmas.Bool.{cases_lt}
 use Rattle.std.proofs.lemmas.List.{take_all, length-take}
 use Rattle.edge_map.specs.Maps.{IsFrontier}
-use Rattle.edge_map.specs.Pieces.{piece_count, piece_of}
+use Rattle.edge_map.specs.Pieces.{piece_of}
 
 at_least : (f : List ℕ) → IsStrictlyIncreasing f → (k : ℕ) → k < length f → k ≤ slice_index f k
 at_least f up zero inside = omega arith

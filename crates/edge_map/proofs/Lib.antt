@@ -3,3 +3,5 @@ mod Frontiers
 mod Joins
 mod Places
 mod Refusals
+pub mod Walks
+pub mod Lists

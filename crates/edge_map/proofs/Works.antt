@@ -1,14 +1,12 @@
 -- What workers have done, claim by claim and together.
-use Rattle.std.proofs.Common.{◌≡◌, ◌≢◌, ℕ, ◌+◌, ◌<◌, ◌≤◌, List, [], ◌∷◌, ◌++◌, length, map, refl, sym, ap, subst, ◌∙◌, length-append, All, arith}
+use Rattle.std.proofs.Common.{◌≡◌, ℕ, ◌+◌, ◌<◌, ◌≤◌, List, [], ◌∷◌, ◌++◌, length, refl, sym, ap, subst, ◌∙◌, All, arith}
 use Rattle.std.proofs.lemmas.Bool.Decides.{nat_tests}
 use Rattle.std.proofs.lemmas.List.{length_push, map-append}
 use Rattle.std.proofs.lemmas.List.Elements.{All-append, All-nil, All-cons}
-use Rattle.claims.specs.declared.limits.TheConstants.{PARTS}
 use Rattle.claims.specs.Claims.{Claiming, claiming, times, once_below, AreAllBelow}
 use Rattle.claims.proofs.Sums.{times_both}
-use Rattle.edge_fold.specs.declared.outcome.MapOutcome.{MapOutcome}
 use Rattle.edge_map.specs.declared.piece.Piece.{Piece}
-use Rattle.edge_map.specs.Pieces.{Task, piece_count, IsPart, IsPiece, numbers_of, IsWork, IsWorkDone}
+use Rattle.edge_map.specs.Pieces.{Task, piece_count, IsPiece, numbers_of, IsWork, IsWorkDone}
 
 times_same : (n : ℕ) → times n (n ∷ []) ≡ 1
 times_same n = grind (arith, nat_tests)

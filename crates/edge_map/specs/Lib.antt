@@ -2,3 +2,5 @@ pub mod Maps
 pub mod Pieces
 pub mod Plans
 pub mod Refused
+pub mod Listing
+pub mod Ahead

@@ -1,12 +1,12 @@
 -- What is answered for a map over the edges of a frontier.
-use Rattle.std.specs.Prelude.{◌≡◌, ◌≢◌, ℕ, ◌+◌, ◌<◌, List, length, All, Result, Ok, Err}
+use Rattle.std.specs.Prelude.{◌≡◌, ℕ, ◌+◌, ◌<◌, List, length, All, Result, Ok, Err}
 use Rattle.std.specs.List.Sorted.{IsStrictlyIncreasing}
 use Rattle.bpf_image.specs.Program.{Program}
 use Rattle.bpf_model.specs.declared.reduction.Reduction.{Reduction}
 use Rattle.bpf_model.specs.EdgeMap.{all_numbers, rows_of, reduction_of_numbers}
 use Rattle.graph_model.specs.Graph.{Graph}
+use Rattle.bpf_model.specs.declared.limits.TheConstants.{EDGE_BYTES}
 use Rattle.verifier.specs.Walks.{longest}
-use Rattle.edge_fold.specs.declared.edge.TheConstants.{EDGE_BYTES}
 use Rattle.edge_fold.specs.declared.outcome.MapOutcome.{MapOutcome}
 use Rattle.edge_map.specs.declared.errors.MapError.{MapError}
 use Rattle.edge_map.specs.declared.errors.MapError.TheVariants.{ArgumentLength, Frontier, OutOfMemory, WorkerRefused}

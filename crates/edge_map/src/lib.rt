@@ -1,4 +1,5 @@
-//! A verified program mapped over the edges of a version by several workers, with the answer of one.
+//! A verified program mapped over the edges of a version by several workers, with the answer of one; and a list of all
+//! edges with their numbers.
 #![tactic(auto)]
 
 mod done;
@@ -6,15 +7,21 @@ mod errors;
 mod frontier;
 mod joined;
 mod limits;
+mod list;
+mod listed;
 mod map;
 mod piece;
 mod plan;
+mod targets;
+mod walk;
 mod work;
 
 pub use edge_fold::{MapOutcome, Reduction, Row, Verified};
 pub use errors::MapError;
 pub use gates::{Gate, OpenGate, Workers};
-pub use limits::PIECE_VERTICES;
+pub use limits::{BLOCK_EDGES, PIECE_VERTICES};
+pub use list::{EdgeList, list_edges};
+pub use listed::ListedEdge;
 pub use map::map_edges;
 pub use versions::Pin;
 

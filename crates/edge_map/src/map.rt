@@ -2,9 +2,9 @@
 ghost use Rattle.std.specs.Prelude.{◌≡◌, ◌+◌, ◌<◌, ◌≤◌, [], length, IfOk};
 ghost use Rattle.graph_model.specs.declared.limits.TheConstants.{MOST_VERTICES};
 ghost use Rattle.graph_model.specs.Past.{graph_of};
+ghost use Rattle.bpf_model.specs.declared.limits.TheConstants.{EDGE_BYTES};
 ghost use Rattle.gates.specs.declared.limits.TheConstants.{MOST_WORKERS};
 ghost use Rattle.claims.specs.declared.limits.TheConstants.{PARTS};
-ghost use Rattle.edge_fold.specs.declared.edge.TheConstants.{EDGE_BYTES};
 ghost use Rattle.edge_map.specs.Maps.{IsMap, IsMapped};
 ghost use Rattle.edge_map.specs.Pieces.{IsWork, task};
 ghost use Rattle.edge_map.specs.Plans.{task_of};
@@ -16,9 +16,9 @@ use crate::joined::joined;
 use crate::piece::count_pieces;
 use crate::plan::Plan;
 use crate::work::{spread, work};
-use bpf_model::Reduction;
+use bpf_model::{EDGE_BYTES, Reduction};
 use claims::{Claimant, Counter};
-use edge_fold::{EDGE_BYTES, MapOutcome};
+use edge_fold::MapOutcome;
 use gates::{Gate, Refusal, Workers};
 use std::alloc::{AllocError, Global};
 use std::sync::Wait;
@@ -78,6 +78,13 @@ fn done_by<Ga: Gate, R: Threads + Wait>(
     )
 }
 
+/// How many threads are started besides the caller's: no more than have a piece to claim.
+fn more_workers(workers: Workers, pieces: u64) -> u8
+    ensures { result < MOST_WORKERS }
+{
+    u64::from(workers.count() - 1).min(pieces.saturating_sub(1)) as u8
+}
+
 /// The map by so many workers, where the argument and the frontier are as they have to be.
 fn map_allowed<Ga: Gate, R: Threads + Wait>(
     rt: &R,
@@ -104,9 +111,10 @@ fn map_allowed<Ga: Gate, R: Threads + Wait>(
         reduction,
         counter: &counter,
     };
-    let mut done = done_by(rt, alloc, plan, gate, me, workers.count() - 1)?;
-    let _claimed = counter.count(&mut done.claimant);
     let count = count_pieces(&plan);
+    let more = more_workers(workers, count);
+    let mut done = done_by(rt, alloc, plan, gate, me, more)?;
+    let _claimed = counter.count(&mut done.claimant);
     let out = joined(alloc, &plan, done.pieces, count)?;
     Ok(out)
 }
@@ -143,7 +151,8 @@ pub(crate) fn map_version<Ga: Gate, R: Threads + Wait>(
 /// where the frontier does not strictly ascend or has a vertex outside; then `OutOfMemory` where there is no memory,
 /// and `WorkerRefused` where a thread could not be started. The answer does not depend on the workers, the gate or the
 /// order in which threads run. A piece of the gate's is 64 places of the frontier: piece `p` begins at place `64 * p`.
-/// Workers claim the pieces, the caller's thread among them, so that one thread less is started than there are workers.
+/// Workers claim the pieces, the caller's thread among them, so that one thread less is started than there are workers,
+/// and none that has no piece to claim.
 pub fn map_edges<Ga: Gate, R: Threads + Wait>(
     rt: &R,
     alloc: Global,

@@ -1,7 +1,7 @@
 //! What workers are to do together.
 ghost use Rattle.std.specs.Prelude.{◌≡◌, ◌+◌, ◌≤◌, length};
 ghost use Rattle.graph_model.specs.declared.limits.TheConstants.{MOST_VERTICES};
-ghost use Rattle.edge_fold.specs.declared.edge.TheConstants.{EDGE_BYTES};
+ghost use Rattle.bpf_model.specs.declared.limits.TheConstants.{EDGE_BYTES};
 
 use bpf_model::Reduction;
 use claims::Counter;

@@ -1,12 +1,16 @@
 //! How many threads work on something, and a gate around each piece of their work.
 #![tactic(auto)]
 
+mod crew;
 mod gate;
+mod holding;
 mod limits;
 mod refusal;
 mod workers;
 
+pub use crew::Crew;
 pub use gate::{Gate, OpenGate};
+pub use holding::HoldingGate;
 pub use limits::MOST_WORKERS;
 pub use refusal::Refusal;
 pub use workers::Workers;

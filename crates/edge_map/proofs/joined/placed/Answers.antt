@@ -1,4 +1,4 @@
-use Rattle.std.proofs.Common.{◌≡◌, ap, sym, subst, refl, IfSome, ◌∙◌, arith}
+use Rattle.std.proofs.Common.{subst, refl, IfSome, arith}
 use Rattle.std.proofs.lemmas.List.Elements.{All-pop}
 use Rattle.edge_map.specs.Pieces.{IsPiece}
 use Rattle.edge_map.specs.Plans.{task_of}

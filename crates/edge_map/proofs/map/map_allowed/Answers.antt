@@ -1,4 +1,3 @@
-use Rattle.edge_map.specs.Plans.{task_of}
 use Rattle.edge_map.proofs.Works.{all_done}
 use Rattle.edge_map.proofs.map.map_allowed.Goals as goal
 

@@ -1,4 +1,4 @@
-use Rattle.std.proofs.Common.{◌≡◌, ◌≤◌, length, refl, sym, subst, ◌∙◌, rules, arith}
+use Rattle.std.proofs.Common.{◌≡◌, refl, sym, subst, ◌∙◌, rules, arith}
 use Rattle.graph_model.specs.Past.{graph_of}
 use Rattle.graph_model.proofs.Pasts.{vertex_count-graph_of}
 use Rattle.edge_map.specs.Maps.{IsFrontier, FitsRecord}

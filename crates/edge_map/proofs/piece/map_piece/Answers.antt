@@ -1,4 +1,4 @@
-use Rattle.std.proofs.Common.{◌≡◌, ◌*◌, ◌-◌, ◌+◌, ◌≤◌, length, take, drop, ap, subst, ◌∙◌, arith}
+use Rattle.std.proofs.Common.{◌*◌, ◌-◌, ◌≤◌, take, drop, subst, arith}
 use Rattle.edge_map.specs.Maps.{IsMap}
 use Rattle.edge_map.specs.Plans.{task_of}
 use Rattle.edge_map.proofs.Frontiers.{piece_places, part_short}
