@@ -7,19 +7,26 @@ ghost use Rattle.history.specs.Moment.{Begins};
 ghost use Rattle.board.specs.Reading.{showing};
 
 use crate::{Board, PinError, Reader, Version, open};
+use gates::{OpenGate, Workers};
 use graph_model::{Batch, Entry};
 use history::Head;
 use std::alloc::{AllocError, Global};
 use std::sync::{Arc, Wait};
 use std::test::Fail;
 use std::thread;
+use std::thread::Threads;
 use store_model::READERS;
 
 // How many versions are shown while another thread reads.
 const SHOWN: u64 = 200;
 
 // The version after `last`, by an empty batch.
-fn version_after(alloc: Global, head: &Head, last: &Version) -> Result<Arc<Version>, AllocError>
+fn version_after<R: Threads + Wait>(
+    rt: &R,
+    alloc: Global,
+    head: &Head,
+    last: &Version,
+) -> Result<Arc<Version>, AllocError>
     requires history { head.now ≡ last.now.book }
     requires room { number_of last.now.past < MOST_BATCHES }
     ensures begins { IfOk result (λ next. Begins last.now (arc_value next)) }
@@ -29,7 +36,9 @@ fn version_after(alloc: Global, head: &Head, last: &Version) -> Result<Arc<Versi
         feed: 0,
         batch: Batch::empty(),
     };
-    let (draft, _counts) = last.draft(alloc, &entry)?;
+    let (draft, _counts) = last
+        .draft(rt, alloc, &entry, Workers::one(), &OpenGate)
+        .map_err(|_| AllocError)?;
     let Some(known) = head.add(&last.known(), last.number(), &entry) else {
         return Err(AllocError);
     };
@@ -38,7 +47,7 @@ fn version_after(alloc: Global, head: &Head, last: &Version) -> Result<Arc<Versi
 }
 
 // Shows the version after `last`, by an empty batch.
-fn show_next<R: Wait>(
+fn show_next<R: Threads + Wait>(
     rt: &R,
     alloc: Global,
     head: &Head,
@@ -52,7 +61,7 @@ fn show_next<R: Wait>(
     ensures history { IfOk result (λ next. head.now ≡ (arc_value next).book) }
     ensures number { IfOk result (λ next. number_of (arc_value next).past ≡ number_of last.now.past + 1) }
 {
-    let next = version_after(alloc, head, last)?;
+    let next = version_after(rt, alloc, head, last)?;
     board
         .append(Arc::try_clone(&next)?)
         .map_err(|_| AllocError)?;
@@ -61,7 +70,7 @@ fn show_next<R: Wait>(
 }
 
 // Shows so many versions after the first, one after another.
-fn show_many<R: Wait>(
+fn show_many<R: Threads + Wait>(
     rt: &R,
     alloc: Global,
     head: &Head,
@@ -95,7 +104,7 @@ fn last_read<R: Wait>(rt: &R, mut reader: Reader) -> u64 {
 }
 
 // What a reader pins, and then pins again, over three versions.
-fn read_three<R: Wait>(
+fn read_three<R: Threads + Wait>(
     rt: &R,
     alloc: Global,
     head: &Head,

@@ -11,8 +11,10 @@ use std::alloc::{AllocError, Global};
 use std::io;
 use std::io::Read;
 use std::sync::Wait;
+use std::thread::Threads;
 use versions::{
-    Batch, Edit, Feed, Finished, PublishError, Publisher, Reader, Receipt, Store, Version,
+    Batch, Edit, Feed, Finished, OpenGate, PublishError, Publisher, Reader, Receipt, Store,
+    Version, Workers,
 };
 
 /// What came of it.
@@ -85,7 +87,7 @@ fn pins_such(reader: &mut Reader, number: u64, neighbours: &[u32]) -> bool {
 
 /// Publishes the next batch, which came by this feed. Between steps the version before it, with these neighbours of
 /// vertex 1, is shown.
-fn publish<R: Wait>(
+fn publish<R: Threads + Wait>(
     rt: &R,
     publisher: &mut Publisher,
     reader: &mut Reader,
@@ -96,7 +98,7 @@ fn publish<R: Wait>(
     ensures store { OneStore publisher.old.moment publisher.new.moment }
 {
     let number = u64::from(feed);
-    match publisher.step(rt) {
+    match publisher.step(rt, Workers::one(), &OpenGate) {
         Ok(Some(receipt)) if is_next(&receipt, number + 1, feed) => return Told::Published,
         Err(PublishError::OutOfMemory) => {}
         _ => return Told::Changed,
@@ -104,14 +106,14 @@ fn publish<R: Wait>(
     if publisher.holds() != Some(feed) || !pins_such(reader, number, old) {
         return Told::Changed;
     }
-    match publisher.step(rt) {
+    match publisher.step(rt, Workers::one(), &OpenGate) {
         Ok(Some(receipt)) if is_next(&receipt, number + 1, feed) => Told::Unchanged,
         _ => Told::Changed,
     }
 }
 
 /// Publishes the batches that both feeds submitted.
-fn publish_both<R: Wait>(rt: &R, publisher: &mut Publisher, reader: &mut Reader) -> Told
+fn publish_both<R: Threads + Wait>(rt: &R, publisher: &mut Publisher, reader: &mut Reader) -> Told
     ensures queue { publisher.new.queue ≡ publisher.old.queue }
     ensures store { OneStore publisher.old.moment publisher.new.moment }
 {
@@ -133,7 +135,7 @@ fn is_done(finished: &Finished) -> bool {
 }
 
 /// Submits two batches, and publishes them.
-fn publish_twice<R: Wait>(rt: &R, alloc: Global) -> Told {
+fn publish_twice<R: Threads + Wait>(rt: &R, alloc: Global) -> Told {
     let Ok((first_batch, second_batch)) = batches(alloc) else {
         return Told::NotBegun;
     };

@@ -67,6 +67,7 @@ silent x (Ok _) text s h =
     (h.0, rw none (sym (append-nil text)), h.2)
 silent x (Err (errors.Fault fault)) text s h = (refl, h.1)
 silent x (Err errors.OutOfMemory) text s h = tt
+silent x (Err errors.WorkerRefused) text s h = tt
 silent x (Err errors.Store) text s h = tt
 
 -- a line that is no end
@@ -79,4 +80,5 @@ program_line bytes text begun s t r other added =
 pub failed : (x : Execution) (e : LineError) (old new : List ℕ) (s t : Script) → Executes x (Err e) old new s → Executes x (Err e) old new t
 failed x (errors.Fault fault) old new s t h = h
 failed x errors.OutOfMemory old new s t h = tt
+failed x errors.WorkerRefused old new s t h = tt
 failed x errors.Store old new s t h = tt

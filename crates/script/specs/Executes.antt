@@ -19,6 +19,7 @@ use Rattle.script.specs.declared.script.Step.TheVariants as steps
 abbrev pub line_error_of : CommandError → LineError
 line_error_of (command_errors.Fault fault) = errors.Fault (line_faults.Command fault)
 line_error_of command_errors.OutOfMemory = errors.OutOfMemory
+line_error_of command_errors.WorkerRefused = errors.WorkerRefused
 line_error_of command_errors.Store = errors.Store
 
 -- a line that was executed adds its text; a fault adds none. After another error nothing is said.
@@ -26,6 +27,7 @@ abbrev pub Executes : Execution → Result (Unit {0}) LineError → (old new : L
 Executes x (Ok _) old new s = (text : List ℕ) × (new ≡ old ++ text) × (x ≡ Says text s)
 Executes x (Err (errors.Fault fault)) old new s = (new ≡ old) × (x ≡ Stops fault)
 Executes x (Err errors.OutOfMemory) old new s = ⊤
+Executes x (Err errors.WorkerRefused) old new s = ⊤
 Executes x (Err errors.Store) old new s = ⊤
 
 -- the next line of a script: it is executed, and the line behind it is next; or its fault is written

@@ -15,9 +15,10 @@ use crate::error::LineError;
 use crate::script::Script;
 use script_model::LineFault;
 use script_words::BatchLine;
-use session::{Command, GivenEdit, Session};
+use session::{Command, Crew, Gate, GivenEdit, Session};
 use session_model::Fault;
 use std::sync::Wait;
+use std::thread::Threads;
 
 impl BegunBatch {
     /// Adds an edit to a session's batch. A fault adds nothing.
@@ -64,7 +65,11 @@ impl Script {
     }
 
     /// Publishes the batch that is open, whose end has come.
-    fn end_batch<R: Wait>(&mut self, rt: &R, text: &mut Vec<u8>) -> Result<(), LineError>
+    fn end_batch<Ga: Gate, R: Threads + Wait>(
+        &mut self,
+        crew: &Crew<'_, R, Ga>,
+        text: &mut Vec<u8>,
+    ) -> Result<(), LineError>
         requires { HasBatch self.old }
         ensures executed { (begun : OpenBatch) → self.old.block ≡ Some (BatchBlock begun)
             → Executes (batch_step EndBatch begun self.old) result text.old.items text.new.items self.new }
@@ -79,15 +84,15 @@ impl Script {
                         edits,
                     },
                 ),
-            ) => self.perform(rt, text, Command::PublishBatch { feed, edits }),
+            ) => self.perform(crew, text, Command::PublishBatch { feed, edits }),
             _ => unreachable!(),
         }
     }
 
     /// Executes a line inside a batch, where it says something.
-    pub(crate) fn execute_in_batch<R: Wait>(
+    pub(crate) fn execute_in_batch<Ga: Gate, R: Threads + Wait>(
         &mut self,
-        rt: &R,
+        crew: &Crew<'_, R, Ga>,
         text: &mut Vec<u8>,
         said: Option<BatchLine>,
     ) -> Result<(), LineError>
@@ -105,7 +110,7 @@ impl Script {
             Some(BatchLine::Remove { source, target }) => {
                 self.add_edit(GivenEdit::Remove(source, target))
             }
-            Some(BatchLine::End) => self.end_batch(rt, text),
+            Some(BatchLine::End) => self.end_batch(crew, text),
         }
     }
 }

@@ -19,6 +19,9 @@ pub enum LineError {
     /// There is no memory for it.
     #[error("out of memory")]
     OutOfMemory,
+    /// A thread could not be started.
+    #[error("a worker could not be started")]
+    WorkerRefused,
     /// A version cannot have one owner more, or the store did not answer as it should.
     #[error("a version cannot have one owner more")]
     Store,
@@ -39,6 +42,7 @@ impl From<CommandError> for LineError {
         match error {
             CommandError::Fault(fault) => LineError::Fault(LineFault::Command(fault)),
             CommandError::OutOfMemory => LineError::OutOfMemory,
+            CommandError::WorkerRefused => LineError::WorkerRefused,
             CommandError::Store => LineError::Store,
         }
     }
@@ -66,6 +70,9 @@ pub enum ScriptError {
     /// There is no memory for it.
     #[error("out of memory")]
     OutOfMemory,
+    /// A thread could not be started.
+    #[error("a worker could not be started")]
+    WorkerRefused,
     /// A version cannot have one owner more, or the store did not answer as it should.
     #[error("a version cannot have one owner more")]
     Store,

@@ -14,3 +14,4 @@ mod texts;
 pub use error::ScriptError;
 pub use script::{Script, Step};
 pub use script_model::{Ending, MOST_LINE_BYTES};
+pub use session::{Crew, Gate, OpenGate, Workers};

@@ -18,10 +18,11 @@ use crate::texts::put_assembler;
 use bpf_asm::{AssembleError, TextCause, assemble};
 use script_model::{LineFault, MOST_PROGRAM_LINES};
 use script_words::is_end;
-use session::Command;
+use session::{Command, Crew, Gate};
 use session_model::Fault;
 use std::str;
 use std::sync::Wait;
+use std::thread::Threads;
 
 impl BegunProgram {
     /// Adds a line, where there is room for it. A fault adds nothing.
@@ -73,9 +74,9 @@ impl Script {
     }
 
     /// Executes a line inside a program: the end, or one more line for the assembler.
-    pub(crate) fn execute_in_program<R: Wait>(
+    pub(crate) fn execute_in_program<Ga: Gate, R: Threads + Wait>(
         &mut self,
-        rt: &R,
+        crew: &Crew<'_, R, Ga>,
         text: &mut Vec<u8>,
         mut begun: BegunProgram,
         bytes: &[u8],
@@ -88,7 +89,7 @@ impl Script {
         ensures line { self.new.line ≡ self.old.line }
     {
         if is_end(bytes) {
-            return self.end_program(rt, text, &begun);
+            return self.end_program(crew, text, &begun);
         }
         match begun.add(bytes) {
             Ok(()) => {
@@ -100,9 +101,9 @@ impl Script {
     }
 
     /// Assembles a program whose end has come, and loads its code.
-    fn end_program<R: Wait>(
+    fn end_program<Ga: Gate, R: Threads + Wait>(
         &mut self,
-        rt: &R,
+        crew: &Crew<'_, R, Ga>,
         text: &mut Vec<u8>,
         begun: &BegunProgram,
     ) -> Result<(), LineError>
@@ -114,7 +115,7 @@ impl Script {
     {
         match assemble(self.alloc, begun.text()) {
             Ok(code) => self.perform(
-                rt,
+                crew,
                 text,
                 Command::LoadProgram {
                     name: &begun.name,

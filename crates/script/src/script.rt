@@ -15,10 +15,11 @@ use crate::error::{LineError, ScriptError};
 use crate::texts::put_fault;
 use script_model::{Ending, LineFault, MOST_LINE_BYTES};
 use script_words::{batch_line, is_plain_line, statement_line};
-use session::Session;
+use session::{Crew, Gate, Session};
 use std::alloc::Global;
 use std::marker::Model;
 use std::sync::Wait;
+use std::thread::Threads;
 
 /// How far a script is: its session, the block that is open, and the number of the next line. Whoever
 /// makes one has to close it.
@@ -62,17 +63,17 @@ impl Script {
         }
     }
 
-    /// Executes the next line, its end left out. What it says, or its fault, goes to the end of the
-    /// text.
-    pub fn execute<R: Wait>(
+    /// Executes the next line, its end left out, by the crew's workers. What it says, or its fault, goes to the end of
+    /// the text: the same for each number of workers, gate and order in which threads run.
+    pub fn execute<Ga: Gate, R: Threads + Wait>(
         &mut self,
-        rt: &R,
+        crew: &Crew<'_, R, Ga>,
         text: &mut Vec<u8>,
         bytes: &[u8],
     ) -> Result<Step, ScriptError>
         ensures { Steps result bytes.now self.old self.new text.old.items text.new.items }
     {
-        match self.execute_line(rt, text, bytes) {
+        match self.execute_line(crew, text, bytes) {
             Ok(()) => {
                 self.count_line()?;
                 Ok(Step::Executed)
@@ -82,6 +83,7 @@ impl Script {
                 Ok(Step::Stopped)
             }
             Err(LineError::OutOfMemory) => Err(ScriptError::OutOfMemory),
+            Err(LineError::WorkerRefused) => Err(ScriptError::WorkerRefused),
             Err(LineError::Store) => Err(ScriptError::Store),
         }
     }
@@ -145,9 +147,9 @@ impl Script {
     }
 
     /// Executes a line whose bytes are allowed, inside a program or outside blocks.
-    fn execute_outside_batch<R: Wait>(
+    fn execute_outside_batch<Ga: Gate, R: Threads + Wait>(
         &mut self,
-        rt: &R,
+        crew: &Crew<'_, R, Ga>,
         text: &mut Vec<u8>,
         bytes: &[u8],
     ) -> Result<(), LineError>
@@ -160,18 +162,18 @@ impl Script {
         match self.block.take() {
             None => {
                 let said = statement_line(self.alloc, bytes)?;
-                self.execute_outside(rt, text, said)
+                self.execute_outside(crew, text, said)
             }
-            Some(Block::Program(begun)) => self.execute_in_program(rt, text, begun, bytes),
+            Some(Block::Program(begun)) => self.execute_in_program(crew, text, begun, bytes),
             Some(Block::Batch(_)) => unreachable!(),
         }
     }
 
     /// Executes a line whose bytes are allowed, inside a block or outside. An open batch stays where it is, as it
     /// may have many lines.
-    fn execute_plain<R: Wait>(
+    fn execute_plain<Ga: Gate, R: Threads + Wait>(
         &mut self,
-        rt: &R,
+        crew: &Crew<'_, R, Ga>,
         text: &mut Vec<u8>,
         bytes: &[u8],
     ) -> Result<(), LineError>
@@ -181,16 +183,16 @@ impl Script {
         ensures line { self.new.line ≡ self.old.line }
     {
         if self.has_batch() {
-            return self.execute_in_batch(rt, text, batch_line(bytes));
+            return self.execute_in_batch(crew, text, batch_line(bytes));
         }
-        self.execute_outside_batch(rt, text, bytes)
+        self.execute_outside_batch(crew, text, bytes)
     }
 
     /// Executes the line of the present number.
     #[tactic(auto, unfolding(script_model::specs::Execution::execution))]
-    fn execute_line<R: Wait>(
+    fn execute_line<Ga: Gate, R: Threads + Wait>(
         &mut self,
-        rt: &R,
+        crew: &Crew<'_, R, Ga>,
         text: &mut Vec<u8>,
         bytes: &[u8],
     ) -> Result<(), LineError>
@@ -203,6 +205,6 @@ impl Script {
         if !is_plain_line(bytes) {
             return Err(LineError::Fault(LineFault::Words));
         }
-        self.execute_plain(rt, text, bytes)
+        self.execute_plain(crew, text, bytes)
     }
 }

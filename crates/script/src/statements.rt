@@ -13,14 +13,15 @@ use crate::error::LineError;
 use crate::script::Script;
 use script_model::LineFault;
 use script_words::{Line, Statement};
-use session::Command;
+use session::{Command, Crew, Gate};
 use std::sync::Wait;
+use std::thread::Threads;
 
 impl Script {
     /// Has the session perform a command, and writes its answer.
-    pub(crate) fn perform<R: Wait>(
+    pub(crate) fn perform<Ga: Gate, R: Threads + Wait>(
         &mut self,
-        rt: &R,
+        crew: &Crew<'_, R, Ga>,
         text: &mut Vec<u8>,
         command: Command,
     ) -> Result<(), LineError>
@@ -29,15 +30,15 @@ impl Script {
             (command_of command.entry) self.old.session) self.old) result text.old.items text.new.items self.new }
         ensures line { self.new.line ≡ self.old.line }
     {
-        let answer = self.session.perform(rt, command)?;
+        let answer = self.session.perform(crew, command)?;
         put_answer(text, &answer)?;
         Ok(())
     }
 
     /// Executes a statement.
-    fn execute_statement<R: Wait>(
+    fn execute_statement<Ga: Gate, R: Threads + Wait>(
         &mut self,
-        rt: &R,
+        crew: &Crew<'_, R, Ga>,
         text: &mut Vec<u8>,
         statement: Statement,
     ) -> Result<(), LineError>
@@ -48,7 +49,7 @@ impl Script {
     {
         match statement {
             Statement::Graph { vertices } => self.perform(
-                rt,
+                crew,
                 text,
                 Command::MakeGraph { vertices },
             ),
@@ -58,7 +59,7 @@ impl Script {
                 record_length,
                 code,
             } => self.perform(
-                rt,
+                crew,
                 text,
                 Command::LoadProgram {
                     name,
@@ -70,7 +71,7 @@ impl Script {
                 name,
                 record_length,
             } => self.begin_program(name, record_length),
-            Statement::Pin { name } => self.perform(rt, text, Command::TakePin { name }),
+            Statement::Pin { name } => self.perform(crew, text, Command::TakePin { name }),
             Statement::Run {
                 program,
                 pin,
@@ -78,7 +79,7 @@ impl Script {
                 argument,
                 frontier,
             } => self.perform(
-                rt,
+                crew,
                 text,
                 Command::RunProgram {
                     program,
@@ -88,14 +89,14 @@ impl Script {
                     frontier: &frontier,
                 },
             ),
-            Statement::Home { vertex } => self.perform(rt, text, Command::TellHome { vertex }),
+            Statement::Home { vertex } => self.perform(crew, text, Command::TellHome { vertex }),
         }
     }
 
     /// Executes what a line outside blocks says.
-    pub(crate) fn execute_outside<R: Wait>(
+    pub(crate) fn execute_outside<Ga: Gate, R: Threads + Wait>(
         &mut self,
-        rt: &R,
+        crew: &Crew<'_, R, Ga>,
         text: &mut Vec<u8>,
         said: Line,
     ) -> Result<(), LineError>
@@ -110,7 +111,7 @@ impl Script {
         match said {
             Line::Skipped => Ok(()),
             Line::Unknown => Err(LineError::Fault(LineFault::Words)),
-            Line::Statement(statement) => self.execute_statement(rt, text, statement),
+            Line::Statement(statement) => self.execute_statement(crew, text, statement),
         }
     }
 }

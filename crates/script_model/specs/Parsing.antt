@@ -20,8 +20,8 @@ abbrev pub given : {A B : Type 0} → Option A → (A → Option B) → Option B
 given None go = None
 given (Some x) go = go x
 
-abbrev pub named : List ℕ → Option Statement → Option Statement
-named name statement = if is_name name then statement else None
+abbrev pub under_name : List ℕ → Option Statement → Option Statement
+under_name name statement = if is_name name then statement else None
 
 abbrev pub reduction_of : List ℕ → Option Reduction
 reduction_of word =
@@ -50,21 +50,21 @@ batch_statement _ = None
 
 abbrev pub code_statement : List (List ℕ) → Option Statement
 code_statement (name ∷ length ∷ digits ∷ []) =
-    named name (given (number length) (λ record_length. given (hex digits) (λ code. Some (Asks (LoadProgram name (record { code = code; record_length = record_length }))))))
+    under_name name (given (number length) (λ record_length. given (hex digits) (λ code. Some (Asks (LoadProgram name (record { code = code; record_length = record_length }))))))
 code_statement _ = None
 
 abbrev pub program_statement : List (List ℕ) → Option Statement
 program_statement (name ∷ length ∷ []) =
-    named name (given (number length) (λ record_length. Some (BeginProgram name record_length)))
+    under_name name (given (number length) (λ record_length. Some (BeginProgram name record_length)))
 program_statement _ = None
 
 abbrev pub pin_statement : List (List ℕ) → Option Statement
-pin_statement (name ∷ []) = named name (Some (Asks (TakePin name)))
+pin_statement (name ∷ []) = under_name name (Some (Asks (TakePin name)))
 pin_statement _ = None
 
 abbrev pub run_statement : List (List ℕ) → Option Statement
 run_statement (program ∷ pin ∷ reducer ∷ digits ∷ frontier) =
-    named program (named pin (given (reduction_of reducer) (λ reduction. given (hex digits) (λ argument. given (numbers frontier) (λ vertices. Some (Asks (RunProgram program pin reduction argument vertices)))))))
+    under_name program (under_name pin (given (reduction_of reducer) (λ reduction. given (hex digits) (λ argument. given (numbers frontier) (λ vertices. Some (Asks (RunProgram program pin reduction argument vertices)))))))
 run_statement _ = None
 
 abbrev pub home_statement : List (List ℕ) → Option Statement

@@ -8,7 +8,7 @@ use Rattle.script_model.specs.Parsing.{Statement, Asks, given, code_statement, s
 use Rattle.script_model.specs.Execution.{is_comment}
 use Rattle.script_words.specs.declared.line.Statement.{Statement as CodeStatement}
 use Rattle.script_words.specs.Said.{NoStatement, Makes, cut, cut_statement, cut_saying, said_statement, saying, found_statement}
-use Rattle.script_words.specs.Reading.{first_number, loaded}
+use Rattle.script_words.specs.Reading.{first_number, load_of}
 use Rattle.script_words.proofs.NumberLemmas.{first_of}
 
 -- ---- `code`
@@ -17,10 +17,10 @@ loaded_cut : (name : List ℕ) (value n : ℕ) (code : Option (List ℕ)) → cu
 loaded_cut name value n None is = refl
 loaded_cut name value n (Some bytes) is = ap (λ m. Some (Asks (LoadProgram name (record { code = bytes; record_length = m })))) is
 
-code_at : (name word digits : List ℕ) (value n : ℕ) → is_name name ≡ true → number word ≡ Some value → cut value ≡ n → option_map cut_statement (code_statement (name ∷ word ∷ digits ∷ [])) ≡ loaded name n digits
+code_at : (name word digits : List ℕ) (value n : ℕ) → is_name name ≡ true → number word ≡ Some value → cut value ≡ n → option_map cut_statement (code_statement (name ∷ word ∷ digits ∷ [])) ≡ load_of name n digits
 code_at name word digits value n named spells is = simp (named, spells) (loaded_cut name value n (hex digits) is)
 
-pub code_statement-three : (name : List ℕ) (line : List (List ℕ)) (n : ℕ) (digits : List ℕ) (others : List (List ℕ)) → first_number line ≡ Some (n, digits ∷ others) → others ≡ [] → is_name name ≡ true → option_map cut_statement (code_statement (name ∷ line)) ≡ loaded name n digits
+pub code_statement-three : (name : List ℕ) (line : List (List ℕ)) (n : ℕ) (digits : List ℕ) (others : List (List ℕ)) → first_number line ≡ Some (n, digits ∷ others) → others ≡ [] → is_name name ≡ true → option_map cut_statement (code_statement (name ∷ line)) ≡ load_of name n digits
 code_statement-three name line n digits others first none named =
     let f = first_of line n (digits ∷ others) first in
     rw (f.begins, none) (code_at name f.word digits f.value n named f.spells f.is_cut)

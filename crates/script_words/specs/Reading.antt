@@ -23,8 +23,8 @@ abbrev pub cut_pair : ℕ × ℕ → ℕ × ℕ
 cut_pair pair = (cut pair.0, cut pair.1)
 
 -- the statement to load a program whose code these digits spell
-abbrev pub loaded : List ℕ → ℕ → List ℕ → Option Statement
-loaded name record_length digits = given (hex digits) (λ code. Some (Asks (LoadProgram name (record { code = code; record_length = record_length }))))
+abbrev pub load_of : List ℕ → ℕ → List ℕ → Option Statement
+load_of name record_length digits = given (hex digits) (λ code. Some (Asks (LoadProgram name (record { code = code; record_length = record_length }))))
 
 -- the statement to run a program with the argument that these digits spell, over these vertices
 abbrev pub run_of : List ℕ → List ℕ → Reduction → List ℕ → List (List ℕ) → Option Statement

@@ -5,7 +5,7 @@ ghost use Rattle.script_model.specs.Lexing.{words};
 ghost use Rattle.script_model.specs.Parsing.{BeginBatch, graph_statement, batch_statement, code_statement, program_statement, pin_statement, run_statement, home_statement, reduction_of as reduction_word, statement as statement_of};
 ghost use Rattle.script_model.specs.Execution.{is_comment as is_comment_word};
 ghost use Rattle.script_words.specs.Said.{said_statement, cut_statement, saying, said_line, cut_saying};
-ghost use Rattle.script_words.specs.Reading.{loaded, run_of};
+ghost use Rattle.script_words.specs.Reading.{load_of, run_of};
 
 use crate::hex::hex;
 use crate::line::{Line, Statement};
@@ -94,7 +94,7 @@ fn program(operands: &[u8]) -> Option<Statement<'_>>
 fn code_words(operands: &[u8]) -> Option<CodeWords<'_>>
     ensures { MatchOption result (code_statement (words operands.now) ≡ None)
         (λ found. option_map cut_statement (code_statement (words operands.now))
-        ≡ loaded found.name.now found.record_length found.digits.now) }
+        ≡ load_of found.name.now found.record_length found.digits.now) }
 {
     let (name, rest) = next_word(operands)?;
     let (record_length, rest) = next_number(rest)?;

@@ -44,10 +44,15 @@ pub(crate) fn without_blanks(line: &[u8]) -> &[u8]
     &line[at..]
 }
 
-/// How many bytes the line has before its first blank.
+/// How many bytes a line that begins with a word has before its first blank.
 fn word_length(line: &[u8]) -> usize
+    requires { 0 < position_or_len is_blank_byte line.now }
     ensures { result ≡ position_or_len is_blank_byte line.now }
 {
+    // The sign of an edit takes no search.
+    if line.len() > 1 && is_blank(line[1]) {
+        return 1;
+    }
     memchr2(b' ', b'\t', line).unwrap_or(line.len())
 }
 

@@ -15,6 +15,7 @@ abbrev pub error_line : ServeError → List ℕ
 error_line errors.Read = codes "edgebpf: read"
 error_line errors.Write = codes "edgebpf: write"
 error_line errors.OutOfMemory = codes "edgebpf: memory"
+error_line errors.WorkerRefused = codes "edgebpf: worker"
 error_line errors.Store = codes "edgebpf: store"
 
 -- the line on standard error

@@ -14,6 +14,7 @@ use Rattle.service.specs.Serves.{IsMeant, Serves}
 
 abbrev pub serve_error_of : ScriptError → ServeError
 serve_error_of script_errors.OutOfMemory = errors.OutOfMemory
+serve_error_of script_errors.WorkerRefused = errors.WorkerRefused
 serve_error_of script_errors.Store = errors.Store
 
 -- what reads and executes does not write

@@ -4,8 +4,9 @@ ghost use Rattle.std.specs.Prelude.{◌≡◌, ◌≤◌, MatchOption};
 ghost use Rattle.service.specs.Served.{IsOneLine, IsLine, TakesLine, TakesLines, LeavesFew, Finishes};
 
 use memchr::memchr;
-use script::{Ending, MOST_LINE_BYTES, Script, ScriptError, Step};
+use script::{Crew, Ending, Gate, MOST_LINE_BYTES, Script, ScriptError, Step};
 use std::sync::Wait;
+use std::thread::Threads;
 
 /// What came of the first line of some bytes.
 #[derive(Clone, Copy, Debug, PartialEq, Eq)]
@@ -26,8 +27,8 @@ fn line_end(bytes: &[u8]) -> Option<usize>
 }
 
 /// Executes the first line of some bytes, if it is whole.
-fn execute_first<R: Wait>(
-    rt: &R,
+fn execute_first<Ga: Gate, R: Threads + Wait>(
+    crew: &Crew<'_, R, Ga>,
     script: &mut Script,
     text: &mut Vec<u8>,
     bytes: &[u8],
@@ -37,7 +38,7 @@ fn execute_first<R: Wait>(
     let Some(end) = line_end(bytes) else {
         return Ok(FirstLine::Partial);
     };
-    match script.execute(rt, text, &bytes[..end])? {
+    match script.execute(crew, text, &bytes[..end])? {
         Step::Executed => Ok(FirstLine::Executed(end + 1)),
         Step::Stopped => Ok(FirstLine::Stopped),
     }
@@ -53,8 +54,8 @@ pub enum Progress {
 }
 
 /// Executes the whole lines of some bytes.
-fn execute_lines<R: Wait>(
-    rt: &R,
+fn execute_lines<Ga: Gate, R: Threads + Wait>(
+    crew: &Crew<'_, R, Ga>,
     script: &mut Script,
     text: &mut Vec<u8>,
     bytes: &[u8],
@@ -63,7 +64,7 @@ fn execute_lines<R: Wait>(
 {
     let mut from = 0;
     loop {
-        match execute_first(rt, script, text, &bytes[from..])? {
+        match execute_first(crew, script, text, &bytes[from..])? {
             FirstLine::Partial => return Ok(Progress::Left(from)),
             FirstLine::Stopped => return Ok(Progress::Settled),
             FirstLine::Executed(count) => from += count,
@@ -72,8 +73,8 @@ fn execute_lines<R: Wait>(
 }
 
 /// Executes the whole lines of what was read. A line that is too long is a fault before its end comes.
-pub fn execute_read<R: Wait>(
-    rt: &R,
+pub fn execute_read<Ga: Gate, R: Threads + Wait>(
+    crew: &Crew<'_, R, Ga>,
     script: &mut Script,
     text: &mut Vec<u8>,
     bytes: &[u8],
@@ -81,7 +82,7 @@ pub fn execute_read<R: Wait>(
     ensures taken { TakesLines result bytes.now script.old script.new text.old.items text.new.items }
     ensures few { LeavesFew result bytes.now }
 {
-    let progress = execute_lines(rt, script, text, bytes)?;
+    let progress = execute_lines(crew, script, text, bytes)?;
     if let Progress::Left(from) = progress
         && bytes.len() - from > MOST_LINE_BYTES
     {
@@ -92,8 +93,8 @@ pub fn execute_read<R: Wait>(
 }
 
 /// Executes the last line of a script, if that lacks its end, and ends the script.
-pub fn finish<R: Wait>(
-    rt: &R,
+pub fn finish<Ga: Gate, R: Threads + Wait>(
+    crew: &Crew<'_, R, Ga>,
     script: &mut Script,
     text: &mut Vec<u8>,
     rest: &[u8],
@@ -104,7 +105,7 @@ pub fn finish<R: Wait>(
     if rest.is_empty() {
         return script.finish(text);
     }
-    match script.execute(rt, text, rest)? {
+    match script.execute(crew, text, rest)? {
         Step::Executed => script.finish(text),
         Step::Stopped => Ok(Ending::Fault),
     }

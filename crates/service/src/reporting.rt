@@ -18,6 +18,7 @@ pub fn report(answer: &Result<Ending, ServeError>) -> (u8, &'static str)
         Err(ServeError::Read) => (1, "edgebpf: read"),
         Err(ServeError::Write) => (1, "edgebpf: write"),
         Err(ServeError::OutOfMemory) => (1, "edgebpf: memory"),
+        Err(ServeError::WorkerRefused) => (1, "edgebpf: worker"),
         Err(ServeError::Store) => (1, "edgebpf: store"),
     }
 }

@@ -18,6 +18,9 @@ pub enum ServeError {
     /// There is no memory for it.
     #[error("out of memory")]
     OutOfMemory = 3,
+    /// A thread could not be started.
+    #[error("a worker could not be started")]
+    WorkerRefused = 4,
     /// A version cannot have one owner more, or the store did not answer as it should.
     #[error("a version cannot have one owner more")]
     Store = 5,
@@ -31,6 +34,7 @@ impl From<ScriptError> for ServeError {
     fn from(e: ScriptError) -> ServeError {
         match e {
             ScriptError::OutOfMemory => ServeError::OutOfMemory,
+            ScriptError::WorkerRefused => ServeError::WorkerRefused,
             ScriptError::Store => ServeError::Store,
         }
     }

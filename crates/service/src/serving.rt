@@ -9,10 +9,11 @@ use crate::ends::{Input, Output};
 use crate::lines::{Progress, execute_read, finish};
 use crate::serve_error::ServeError;
 use crate::writing::write_all;
-use script::{Ending, Script, ScriptError};
+use script::{Crew, Ending, Gate, Script, ScriptError, Workers};
 use std::alloc::Global;
 use std::marker::Model;
 use std::sync::Wait;
+use std::thread::Threads;
 
 /// The most bytes that one read asks for.
 const BLOCK_BYTES: usize = 65_536;
@@ -35,10 +36,14 @@ impl Model for Serving {
 
 impl Serving {
     /// Executes the whole lines among what was read.
-    fn advance<R: Wait>(&mut self, rt: &R, alloc: Global) -> Result<Option<Ending>, ScriptError>
+    fn advance<Ga: Gate, R: Threads + Wait>(
+        &mut self,
+        crew: &Crew<'_, R, Ga>,
+        alloc: Global,
+    ) -> Result<Option<Ending>, ScriptError>
         ensures { Advances result self.old self.new }
     {
-        match execute_read(rt, &mut self.script, &mut self.text, &self.pending)? {
+        match execute_read(crew, &mut self.script, &mut self.text, &self.pending)? {
             Progress::Settled => Ok(Some(Ending::Fault)),
             Progress::Left(from) => {
                 self.pending = Vec::from_slice(alloc, &self.pending[from..])?;
@@ -48,9 +53,9 @@ impl Serving {
     }
 
     /// Reads some bytes and executes the lines that they end. At the end of the input it ends the script.
-    fn round<I: Input, R: Wait>(
+    fn round<I: Input, Ga: Gate, R: Threads + Wait>(
         &mut self,
-        rt: &R,
+        crew: &Crew<'_, R, Ga>,
         alloc: Global,
         input: &mut I,
         block: &mut [u8],
@@ -66,18 +71,18 @@ impl Serving {
             return Err(ServeError::Read);
         };
         if count == 0 {
-            let ending = finish(rt, &mut self.script, &mut self.text, &self.pending)?;
+            let ending = finish(crew, &mut self.script, &mut self.text, &self.pending)?;
             return Ok(Some(ending));
         }
         self.pending.extend_from_slice(&block[..count])?;
-        let ended = self.advance(rt, alloc)?;
+        let ended = self.advance(crew, alloc)?;
         Ok(ended)
     }
 
     /// Reads some bytes, executes the lines that they end, and writes what they say.
-    fn turn<I: Input, O: Output, R: Wait>(
+    fn turn<I: Input, O: Output, Ga: Gate, R: Threads + Wait>(
         &mut self,
-        rt: &R,
+        crew: &Crew<'_, R, Ga>,
         alloc: Global,
         input: &mut I,
         output: &mut O,
@@ -92,7 +97,7 @@ impl Serving {
         ensures reads { CountsReads result (I.failures input.old) (I.failures input.new) }
         ensures writes { CountsWrites result (O.failures output.old) (O.failures output.new) }
     {
-        let ended = self.round(rt, alloc, input, block)?;
+        let ended = self.round(crew, alloc, input, block)?;
         if write_all(output, &self.text).is_err() {
             return Err(ServeError::Write);
         }
@@ -101,9 +106,9 @@ impl Serving {
     }
 
     /// Reads, executes and writes until the script ends.
-    fn until_ended<I: Input, O: Output, R: Wait>(
+    fn until_ended<I: Input, O: Output, Ga: Gate, R: Threads + Wait>(
         &mut self,
-        rt: &R,
+        crew: &Crew<'_, R, Ga>,
         alloc: Global,
         input: &mut I,
         output: &mut O,
@@ -119,7 +124,7 @@ impl Serving {
         ensures writes { CountsWrites result (O.failures output.old) (O.failures output.new) }
     {
         for _ in 0..u64::MAX {
-            if let Some(ending) = self.turn(rt, alloc, input, output, block)? {
+            if let Some(ending) = self.turn(crew, alloc, input, output, block)? {
                 return Ok(ending);
             }
         }
@@ -144,12 +149,16 @@ impl Serving {
 /// what was written ends with it. After an error, what was written begins what the script writes, and
 /// `Read` and `Write` come only where a read or a write failed, which is not tried again. Bytes are read
 /// and written in blocks; a line is executed once all of it was read, and one without end is a fault
-/// once it is too long.
-pub fn serve<I: Input, O: Output, R: Wait>(
+/// once it is too long. Batches and runs are done by workers, and neither their number, nor their gate, nor the order
+/// in which threads run changes what is written; a piece of a batch is a range of 256 vertices, one of a run 64 places
+/// of its frontier. `WorkerRefused` comes where a thread could not be started; one worker needs none.
+pub fn serve<I: Input, O: Output, Ga: Gate, R: Threads + Wait>(
     input: &mut I,
     output: &mut O,
     rt: &R,
     alloc: Global,
+    workers: Workers,
+    gate: &Ga,
 ) -> Result<Ending, ServeError>
     ensures served { Serves result (I.remaining input.old) (I.remaining input.new)
         (O.contents output.old) (O.contents output.new) }
@@ -162,7 +171,13 @@ pub fn serve<I: Input, O: Output, R: Wait>(
         pending: Vec::new(alloc),
         text: Vec::new(alloc),
     };
-    let answer = serving.until_ended(rt, alloc, input, output, &mut block);
+    let crew = Crew { rt, workers, gate };
+    let answer = serving.until_ended(&crew, alloc, input, output, &mut block);
+    let Crew {
+        rt,
+        workers: _,
+        gate: _,
+    } = crew;
     serving.close(rt);
     answer
 }

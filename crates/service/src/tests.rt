@@ -1,9 +1,10 @@
 //! Whole scripts, and what is written for them.
 use crate::tests::ends::{Parts, Written};
-use crate::{Ending, ServeError, serve};
+use crate::{Ending, OpenGate, ServeError, Workers, serve};
 use std::alloc::{AllocError, Global};
 use std::sync::Wait;
 use std::test::Fail;
+use std::thread::Threads;
 
 mod calls;
 mod checked;
@@ -14,16 +15,47 @@ mod helpers;
 mod homes;
 mod programs;
 mod standard;
+mod workers;
 
 /// The program that exits with the target of its edge.
 const TARGET: &str = "code t 16 61100400000000009500000000000000";
 
-/// What a script writes, and how it ends.
-fn served<R: Wait>(rt: &R, alloc: Global, script: &[u8]) -> Result<(Vec<u8>, Ending), Fail> {
+/// So many workers.
+fn workers_of(count: u8) -> Result<Workers, Fail> {
+    match Workers::new(count) {
+        Some(workers) => Ok(workers),
+        None => Err(Fail::new("so many workers are not allowed")),
+    }
+}
+
+/// What a script writes with so many workers, and how it ends.
+fn served_by<R: Threads + Wait>(
+    rt: &R,
+    alloc: Global,
+    script: &[u8],
+    count: u8,
+) -> Result<(Vec<u8>, Ending), Fail> {
     let mut input = Parts::of(script, usize::MAX, None);
     let mut output = Written::new(alloc, usize::MAX, None);
-    let ending = serve(&mut input, &mut output, rt, alloc)?;
+    let workers = workers_of(count)?;
+    let ending = serve(&mut input, &mut output, rt, alloc, workers, &OpenGate)?;
     Ok((output.bytes, ending))
+}
+
+/// What a script writes, and how it ends: the same with 1, 2 and 16 workers.
+fn served<R: Threads + Wait>(
+    rt: &R,
+    alloc: Global,
+    script: &[u8],
+) -> Result<(Vec<u8>, Ending), Fail> {
+    let (text, ending) = served_by(rt, alloc, script, 1)?;
+    for count in [2, 16] {
+        let (other, end) = served_by(rt, alloc, script, count)?;
+        if other != text || end != ending {
+            return Err(Fail::new("another number of workers, another text"));
+        }
+    }
+    Ok((text, ending))
 }
 
 /// A text whose lines end where these parts do.
@@ -291,12 +323,22 @@ const SCRIPT: &str =
 const SAID: &str =
     "graph 4\nbatch A version 1 added 3 removed 0\nprogram t bound 2 frames 1\npin a version 1 edges 3\nrun t a edges 3 total 5\nrow 0 3\nrow 1 2\nrun t a edges 1 total 2\nrow 1 2\nassembler s error 1 line 1\nfault 2 line 14\n";
 
+/// Serves by one worker, at an open gate.
+fn serve_alone<R: Threads + Wait>(
+    rt: &R,
+    alloc: Global,
+    input: &mut Parts,
+    output: &mut Written,
+) -> Result<Ending, ServeError> {
+    serve(input, output, rt, alloc, Workers::one(), &OpenGate)
+}
+
 #[test]
 fn parts_of_any_size(rt: HostRuntime) -> Result<(), Fail> {
     for (read, written) in [(1, 3), (1, 1), (7, 2), (100, 5)] {
         let mut input = Parts::of(SCRIPT.as_bytes(), read, None);
         let mut output = Written::new(rt.alloc(), written, None);
-        let ending = serve(&mut input, &mut output, &rt, rt.alloc())?;
+        let ending = serve_alone(&rt, rt.alloc(), &mut input, &mut output)?;
         assert_eq!(rt; ending, Ending::Fault);
         assert_eq!(rt; output.bytes.as_slice(), SAID.as_bytes());
     }
@@ -309,6 +351,7 @@ fn errors_have_numbers(rt: HostRuntime) -> Result<(), Fail> {
         (ServeError::Read, 1),
         (ServeError::Write, 2),
         (ServeError::OutOfMemory, 3),
+        (ServeError::WorkerRefused, 4),
         (ServeError::Store, 5),
     ] {
         assert_eq!(rt; error as u8, number);
@@ -323,7 +366,7 @@ fn failing_reads(rt: HostRuntime) -> Result<(), Fail> {
     for failing in 0..reads {
         let mut input = Parts::of(SCRIPT.as_bytes(), 1, Some(failing as u64));
         let mut output = Written::new(rt.alloc(), usize::MAX, None);
-        let answer = serve(&mut input, &mut output, &rt, rt.alloc());
+        let answer = serve_alone(&rt, rt.alloc(), &mut input, &mut output);
         assert_eq!(rt; answer, Err(ServeError::Read), "{failing}");
         assert!(rt; SAID.as_bytes().starts_with(&output.bytes), "{failing}");
     }
@@ -335,7 +378,7 @@ fn failing_writes(rt: HostRuntime) -> Result<(), Fail> {
     for failing in 0..SAID.len() {
         let mut input = Parts::of(SCRIPT.as_bytes(), 20, None);
         let mut output = Written::new(rt.alloc(), 1, Some(failing as u64));
-        let answer = serve(&mut input, &mut output, &rt, rt.alloc());
+        let answer = serve_alone(&rt, rt.alloc(), &mut input, &mut output);
         assert_eq!(rt; answer, Err(ServeError::Write), "{failing}");
         assert_eq!(rt; output.bytes.as_slice(), &SAID.as_bytes()[..failing]);
     }

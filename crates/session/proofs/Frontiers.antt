@@ -1,40 +1,45 @@
--- Strictly ascending vertices.
-use Rattle.std.proofs.Common.{◌≡◌, ℕ, ◌+◌, ◌-◌, ◌<◌, ◌≤◌, true, List, [], ◌∷◌, length, drop, refl, arith}
+-- Strictly ascending vertices, and frontiers.
+use Rattle.std.proofs.Common.{◌≡◌, ℕ, zero, suc, ◌+◌, ◌<◌, true, List, [], ◌∷◌, length, slice_index, All, refl, arith}
 use Rattle.std.specs.Prelude.{nat_lt}
 use Rattle.std.specs.List.{list_all}
-use Rattle.std.proofs.lemmas.Bool.{and_parts, ltb-true}
-use Rattle.std.proofs.lemmas.List.{length-drop}
+use Rattle.std.specs.List.Sorted.{IsStrictlyIncreasing}
+use Rattle.std.proofs.lemmas.Bool.{and_parts, and_from, ltb-true, lt-ltb}
+use Rattle.std.proofs.lemmas.List.Sums.{AllPass-from_list_all}
 use Rattle.graph_model.specs.Graph.{Graph, numbers_below}
+use Rattle.graph_model.proofs.Numbers.{numbers_below-ascend, numbers_below-are_below}
 use Rattle.session_model.specs.Faults.{is_ascending}
 use Rattle.session_model.specs.Responses.{frontier_of}
 
-one_ascends : (vs : List ℕ) → length vs ≡ 1 → is_ascending vs ≡ true
-one_ascends [] h = refl
-one_ascends (v ∷ []) h = refl
-one_ascends (v ∷ w ∷ vs) h = absurd (omega arith)
+pub increasing : (vs : List ℕ) → is_ascending vs ≡ true → IsStrictlyIncreasing vs
+increasing [] up k h = absurd (omega arith)
+increasing (v ∷ []) up k h = absurd (omega arith)
+increasing (v ∷ w ∷ vs) up zero h = ltb-true _ _ (and_parts _ _ up).0
+increasing (v ∷ w ∷ vs) up (suc k) h =
+    let next : suc k + 1 ≡ suc (k + 1) = omega arith in
+    rw next (increasing (w ∷ vs) (and_parts _ _ up).1 k (omega arith))
 
--- the last vertex alone
-pub last_ascends : (vs : List ℕ) (i : ℕ) → 0 < length vs → i ≡ length vs → is_ascending (drop (i - 1) vs) ≡ true
-last_ascends vs i some end = one_ascends (drop (i - 1) vs) (omega (arith, length-drop (i - 1) vs))
+pub ascending : (vs : List ℕ) → IsStrictlyIncreasing vs → is_ascending vs ≡ true
+ascending [] up = refl
+ascending (v ∷ []) up = refl
+ascending (v ∷ w ∷ vs) up =
+    and_from _ _ (lt-ltb _ _ (up 0 (omega arith))) (ascending (w ∷ vs) (λ k h. rest k (up (suc k) (omega arith))))
+  where
+    rest : (k : ℕ) → slice_index (v ∷ w ∷ vs) (suc k) < slice_index (v ∷ w ∷ vs) (suc k + 1) → slice_index (w ∷ vs) k < slice_index (w ∷ vs) (k + 1)
+    rest k step = let next : suc k + 1 ≡ suc (k + 1) = omega arith in rw next at step
 
--- ascending vertices below a limit are no more than it leaves above the first
-ascending_from : (v : ℕ) (vs : List ℕ) (limit : ℕ) → is_ascending (v ∷ vs) ≡ true → list_all (λ x. nat_lt x limit) (v ∷ vs) ≡ true → v + length (v ∷ vs) ≤ limit
-ascending_from v [] limit up below =
-    let parts = and_parts _ _ below in
-    let lt : v < limit = ltb-true _ _ parts.0 in
-    omega arith
-ascending_from v (w ∷ vs) limit up below =
-    let ups = and_parts _ _ up in
-    let parts = and_parts _ _ below in
-    let rest : w + length (w ∷ vs) ≤ limit = ascending_from w vs limit ups.1 parts.1 in
-    let step : v < w = ltb-true _ _ ups.0 in
-    omega arith
+-- a frontier of ascending vertices of a graph, and all vertices where it is empty
+pub frontier_ascends : (vs : List ℕ) (g : Graph) → is_ascending vs ≡ true → IsStrictlyIncreasing (frontier_of vs g)
+frontier_ascends [] g up = numbers_below-ascend g.vertex_count
+frontier_ascends (v ∷ vs) g up = increasing (v ∷ vs) up
 
-pub few_ascend : (vs : List ℕ) (limit : ℕ) → is_ascending vs ≡ true → list_all (λ x. nat_lt x limit) vs ≡ true → length vs ≤ limit
-few_ascend [] limit up below = omega arith
-few_ascend (v ∷ vs) limit up below =
-    let all = ascending_from v vs limit up below in
-    omega arith
+pub frontier_is_below : (vs : List ℕ) (g : Graph) → list_all (λ v. nat_lt v g.vertex_count) vs ≡ true → All (λ v. v < g.vertex_count) (frontier_of vs g)
+frontier_is_below [] g below = numbers_below-are_below g.vertex_count
+frontier_is_below (v ∷ vs) g below = λ k d h. ltb-true _ _ (AllPass-from_list_all (λ x. nat_lt x g.vertex_count) (v ∷ vs) below k d h)
+
+-- and back
+pub ascends_back : (vs : List ℕ) (g : Graph) → IsStrictlyIncreasing (frontier_of vs g) → is_ascending vs ≡ true
+ascends_back [] g up = refl
+ascends_back (v ∷ vs) g up = ascending (v ∷ vs) up
 
 -- no frontier stands for all vertices
 pub empty_frontier : (vs : List ℕ) (g : Graph) → length vs ≡ 0 → frontier_of vs g ≡ numbers_below g.vertex_count

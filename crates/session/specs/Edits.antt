@@ -17,4 +17,5 @@ abbrev pub AddsEdit : Option Fault → Edit → (old new : List Edit) → Result
 AddsEdit fault e old new (Ok _) = (fault ≡ None) × (new ≡ old ++ e ∷ [])
 AddsEdit fault e old new (Err (errors.Fault told)) = (fault ≡ Some told) × (new ≡ old)
 AddsEdit fault e old new (Err errors.OutOfMemory) = new ≡ old
+AddsEdit fault e old new (Err errors.WorkerRefused) = ⊥
 AddsEdit fault e old new (Err errors.Store) = ⊥

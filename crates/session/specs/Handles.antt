@@ -27,10 +27,11 @@ pub record IsOf (old : Past) (e : Entry) (p : Publication) (new : Past) : Type 0
   pub gained : p.added ≡ added e.batch (graph_of old)
   pub lost : p.removed ≡ removed e.batch (graph_of old)
 
--- the batch is published; or there is no memory, and nothing is. Where the store does not answer as it should, nothing
+-- the batch is published; or there is no memory or no worker, and nothing is. Where the store does not answer as it should, nothing
 -- is said
 abbrev pub Publishes : Past → Entry → Result Publication CommandError → Past → Type 0
 Publishes old e (Ok p) new = IsOf old e p new
 Publishes old e (Err errors.OutOfMemory) new = new ≡ old
+Publishes old e (Err errors.WorkerRefused) new = new ≡ old
 Publishes old e (Err errors.Store) new = ⊤
 Publishes old e (Err (errors.Fault fault)) new = ⊥

@@ -13,10 +13,12 @@ use crate::answer::Answer;
 use crate::error::CommandError;
 use crate::handles::Handles;
 use crate::session::Session;
+use gates::{Crew, Gate};
 use graph_model::{Batch, Edit, MOST_BATCHES, MOST_EDITS};
 use session_model::Fault;
 use std::alloc::Global;
 use std::sync::Wait;
+use std::thread::Threads;
 
 /// An edit whose vertices are not tested: source and target.
 #[derive(Clone, Copy, Debug, PartialEq, Eq)]
@@ -49,9 +51,9 @@ impl Session {
     }
 
     /// Publishes a batch.
-    pub(crate) fn publish_batch<'a, R: Wait>(
+    pub(crate) fn publish_batch<'a, Ga: Gate, R: Threads + Wait>(
         &mut self,
-        rt: &R,
+        crew: &Crew<'_, R, Ga>,
         feed: u8,
         edits: Vec<Edit>,
     ) -> Result<Answer<'a>, CommandError>
@@ -61,13 +63,13 @@ impl Session {
         let Some(store) = &mut self.store else {
             return Err(CommandError::Fault(Fault::Order));
         };
-        publish(rt, alloc, store, feed, edits)
+        publish(crew, alloc, store, feed, edits)
     }
 }
 
 /// Publishes a batch, where its edits are of the graph and few enough, and the log has room for it.
-fn publish<'a, R: Wait>(
-    rt: &R,
+fn publish<'a, Ga: Gate, R: Threads + Wait>(
+    crew: &Crew<'_, R, Ga>,
     alloc: Global,
     store: &mut Handles,
     feed: u8,
@@ -87,7 +89,7 @@ fn publish<'a, R: Wait>(
         return Err(CommandError::Fault(Fault::LogFull));
     }
     let batch = Batch::new(alloc, edits)?;
-    match store.publish(rt, feed, batch) {
+    match store.publish(crew, feed, batch) {
         Ok(receipt) => Ok(Answer::BatchPublished {
             feed,
             number: receipt.number(),

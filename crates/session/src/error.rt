@@ -1,8 +1,10 @@
 //! Why a command was not performed.
 
 ghost use Rattle.std.specs.Prelude.{◌≡◌};
+ghost use Rattle.session.specs.Runs.{map_error_of};
 ghost use Rattle.session.specs.declared.error.CommandError.TheVariants as errors;
 
+use edge_map::MapError;
 use session_model::Fault;
 use std::alloc::{AllocError, AllocFailed};
 use thiserror::Error;
@@ -16,9 +18,25 @@ pub enum CommandError {
     /// There is no memory for it.
     #[error("out of memory")]
     OutOfMemory,
+    /// A thread could not be started.
+    #[error("a worker could not be started")]
+    WorkerRefused,
     /// The store does not answer as it should.
     #[error("the store does not answer as it should")]
     Store,
+}
+
+impl From<MapError> for CommandError {
+    ghost from_gives = { λ error e. e ≡ map_error_of error };
+
+    fn from(error: MapError) -> CommandError {
+        match error {
+            MapError::ArgumentLength => CommandError::Fault(Fault::ArgumentLength),
+            MapError::Frontier => CommandError::Fault(Fault::Frontier),
+            MapError::OutOfMemory => CommandError::OutOfMemory,
+            MapError::WorkerRefused => CommandError::WorkerRefused,
+        }
+    }
 }
 
 impl From<Fault> for CommandError {

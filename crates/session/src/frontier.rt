@@ -1,9 +1,8 @@
 //! The frontier of a run: the vertices whose edges are mapped.
 
-ghost use Rattle.std.specs.Prelude.{◌≡◌, ◌≤◌, ◌<◌, length, IfOk, nat_lt, true};
+ghost use Rattle.std.specs.Prelude.{◌≡◌, IfOk, nat_lt, true};
 ghost use Rattle.std.specs.List.{list_all};
 ghost use Rattle.graph_model.specs.Graph.{numbers_below};
-ghost use Rattle.session_model.specs.Faults.{is_ascending};
 
 use std::alloc::{AllocError, Global};
 
@@ -12,21 +11,6 @@ pub(crate) fn are_below(frontier: &[u64], vertices: u32) -> bool
     ensures { result ≡ list_all (λ v. nat_lt v vertices) frontier.now }
 {
     frontier.iter().all(|v| *v < u64::from(vertices))
-}
-
-/// Whether the vertices strictly ascend.
-pub(crate) fn is_strictly_ascending(frontier: &[u64]) -> bool
-    ensures { result ≡ is_ascending frontier.now }
-{
-    if frontier.is_empty() {
-        return true;
-    }
-    for i in 1..frontier.len() {
-        if frontier[i - 1] >= frontier[i] {
-            return false;
-        }
-    }
-    true
 }
 
 /// All vertices of a graph, ascending.

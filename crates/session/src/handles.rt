@@ -7,10 +7,12 @@ ghost use Rattle.session_model.specs.Responses.{entry_of};
 ghost use Rattle.session.specs.Handles.{Publishes};
 
 use crate::error::CommandError;
+use gates::{Crew, Gate};
 use graph_model::{Batch, Edit};
 use std::alloc::Global;
 use std::marker::Model;
 use std::sync::Wait;
+use std::thread::Threads;
 use versions::{Feed, Pin, PublishError, Publisher, Reader, Receipt, Store, StoreError};
 
 /// The ends of a store. Whoever opens one has to close it. Contracts see it as what the last version is the replay of.
@@ -80,9 +82,9 @@ impl Handles {
 
     /// Submits a batch and publishes it. `Store` comes where the store refuses it or has none, and where it publishes
     /// another one.
-    pub(crate) fn publish<R: Wait>(
+    pub(crate) fn publish<Ga: Gate, R: Threads + Wait>(
         &mut self,
-        rt: &R,
+        crew: &Crew<'_, R, Ga>,
         feed: u8,
         batch: Batch,
     ) -> Result<Receipt, CommandError>
@@ -92,14 +94,14 @@ impl Handles {
             return Err(CommandError::OutOfMemory);
         };
         let submitted = if feed == 0 {
-            self.first.submit(batch, rt)
+            self.first.submit(batch, crew.rt)
         } else {
-            self.second.submit(batch, rt)
+            self.second.submit(batch, crew.rt)
         };
         if submitted.is_err() {
             return Err(CommandError::Store);
         }
-        match self.publisher.step(rt) {
+        match self.publisher.step(crew.rt, crew.workers, crew.gate) {
             Ok(Some(receipt)) => {
                 self.reader.learn(&receipt);
                 self.number = receipt.number();
@@ -110,6 +112,7 @@ impl Handles {
                 }
             }
             Err(PublishError::OutOfMemory) => Err(CommandError::OutOfMemory),
+            Err(PublishError::WorkerRefused) => Err(CommandError::WorkerRefused),
             Ok(None) | Err(PublishError::LogFull) => Err(CommandError::Store),
         }
     }

@@ -20,5 +20,6 @@ pub use answer::Answer;
 pub use batches::GivenEdit;
 pub use command::Command;
 pub use error::CommandError;
+pub use gates::{Crew, Gate, OpenGate, Workers};
 pub use session::Session;
 pub use session_model::Fault;

@@ -11,8 +11,8 @@ use crate::answer::Answer;
 use crate::error::CommandError;
 use crate::kept::{NamedProgram, find_program};
 use crate::session::Session;
-use bpf_image::Image;
-use session_model::{Fault, LEAST_RECORD_LENGTH, MOST_KEPT, MOST_RECORD_LENGTH};
+use bpf_image::{Image, LEAST_RECORD_LENGTH, MOST_RECORD_LENGTH};
+use session_model::{Fault, MOST_KEPT};
 use verifier::{Cause, verify};
 
 impl Session {

@@ -1,25 +1,27 @@
 //! The runs of a session: a program mapped over the edges of a pin.
 
-ghost use Rattle.std.specs.Prelude.{◌≡◌, ◌≤◌, ◌+◌, length, nat_lt, true, IfOk, IfNone};
+ghost use Rattle.std.specs.Prelude.{◌≡◌, nat_lt, true, IfOk};
 ghost use Rattle.std.specs.Option.{option_copied};
 ghost use Rattle.std.specs.List.{list_all};
 ghost use Rattle.graph_model.specs.Past.{graph_of};
 ghost use Rattle.session_model.specs.Session.{Session as SessionState};
-ghost use Rattle.session_model.specs.Faults.{is_ascending, argument_fault};
-ghost use Rattle.session_model.specs.Responses.{run_response, found_response, map_answer, frontier_of};
+ghost use Rattle.session_model.specs.Responses.{run_response, found_response, map_response, frontier_of};
 ghost use Rattle.session.specs.Kept.{past_of};
 ghost use Rattle.session.specs.Performs.{Performs};
-ghost use Rattle.session.specs.Runs.{Maps};
+ghost use Rattle.session.specs.Runs.{IsToldOf};
 
 use crate::answer::Answer;
 use crate::error::CommandError;
-use crate::frontier::{all_vertices, are_below, is_strictly_ascending, narrowed};
+use crate::frontier::{all_vertices, are_below, narrowed};
 use crate::kept::{find_pin, find_program};
 use crate::session::Session;
 use bpf_model::Reduction;
-use edge_fold::map_edges;
+use edge_map::{MapError, MapOutcome, map_edges};
+use gates::{Crew, Gate};
 use session_model::Fault;
 use std::alloc::{AllocError, Global};
+use std::sync::Wait;
+use std::thread::Threads;
 use verifier::Verified;
 use versions::{Pin, Version};
 
@@ -42,11 +44,8 @@ fn vertices_of(
     frontier: &[u64],
     vertices: u32,
 ) -> Result<Vec<u32>, AllocError>
-    requires most { vertices ≤ 1048576 }
-    requires below { list_all (λ v. nat_lt v vertices) frontier.now ≡ true }
-    requires ascending { is_ascending frontier.now ≡ true }
-    ensures vertices { IfOk result (λ all. all.items ≡ frontier_of frontier.now (graph_of version.now.past)) }
-    ensures few { IfOk result (λ all. length all.items ≤ 1048576) }
+    requires { list_all (λ v. nat_lt v vertices) frontier.now ≡ true }
+    ensures { IfOk result (λ all. all.items ≡ frontier_of frontier.now (graph_of version.now.past)) }
 {
     if frontier.is_empty() {
         let all = all_vertices(alloc, version.vertex_count())?;
@@ -56,46 +55,14 @@ fn vertices_of(
     Ok(narrow)
 }
 
-/// What is wrong with a run's argument or the order of its frontier, for a program with such a record.
-fn fault_of(run: &Run, record_length: u16) -> Option<Fault>
-    ensures fault { result ≡ argument_fault run.now.argument.now record_length run.now.frontier.now }
-    ensures argument { IfNone result (length run.now.argument.now + 16 ≡ record_length) }
-    ensures ascending { IfNone result (is_ascending run.now.frontier.now ≡ true) }
-{
-    if run.argument.len() + 16 != usize::from(record_length) {
-        return Some(Fault::ArgumentLength);
-    }
-    if !is_strictly_ascending(run.frontier) {
-        return Some(Fault::Frontier);
-    }
-    None
-}
-
-/// Maps a program over the edges of a version.
-fn map_version<'a>(
-    alloc: Global,
+/// The answer to a run, from what its map gave.
+fn answer_to<'a>(
     run: &Run<'a>,
-    vertices: u32,
-    program: &Verified,
-    version: &Version,
-) -> Result<Answer<'a>, AllocError>
-    requires argument { length run.now.argument.now + 16 ≡ program.now.record_length }
-    requires most { vertices ≤ 1048576 }
-    requires below { list_all (λ v. nat_lt v vertices) run.now.frontier.now ≡ true }
-    requires ascending { is_ascending run.now.frontier.now ≡ true }
-    ensures { let g = graph_of version.now.past in
-        Maps (map_answer run.now.program.now run.now.pin.now program.now g run.now.reduction run.now.argument.now
-        (frontier_of run.now.frontier.now g)) result }
+    told: Result<MapOutcome, MapError>,
+) -> Result<Answer<'a>, CommandError>
+    ensures { IsToldOf run.now.program.now run.now.pin.now told result }
 {
-    let frontier = vertices_of(alloc, version, run.frontier, vertices)?;
-    let outcome = map_edges(
-        alloc,
-        version,
-        program,
-        run.argument,
-        &frontier,
-        run.reduction,
-    )?;
+    let outcome = told?;
     Ok(Answer::EdgesMapped {
         program: run.program,
         pin: run.pin,
@@ -105,16 +72,46 @@ fn map_version<'a>(
     })
 }
 
-/// Maps a program over the edges of a pin, where both are there.
-fn map_found<'a>(
+/// Maps a program over the edges of a pin of a graph with so many vertices, below which the frontier lies.
+fn map_pin<'a, Ga: Gate, R: Threads + Wait>(
+    crew: &Crew<'_, R, Ga>,
+    alloc: Global,
+    run: &Run<'a>,
+    vertices: u32,
+    program: &Verified,
+    pin: &Pin,
+) -> Result<Answer<'a>, CommandError>
+    requires count { vertices ≡ pin.now.past.vertex_count }
+    requires below { list_all (λ v. nat_lt v vertices) run.now.frontier.now ≡ true }
+    ensures { (s : SessionState) → Performs (map_response run.now.program.now run.now.pin.now run.now.reduction
+        run.now.argument.now run.now.frontier.now program.now pin.now.past s) result s s }
+{
+    let frontier = vertices_of(alloc, pin.version(), run.frontier, vertices)?;
+    let told = map_edges(
+        crew.rt,
+        alloc,
+        pin,
+        program,
+        run.argument,
+        &frontier,
+        run.reduction,
+        crew.workers,
+        crew.gate,
+    );
+    answer_to(run, told)
+}
+
+/// Maps a program over the edges of a pin, where both are there. A session has one graph, so a pin has as many
+/// vertices as its last version.
+fn map_found<'a, Ga: Gate, R: Threads + Wait>(
+    crew: &Crew<'_, R, Ga>,
     alloc: Global,
     run: &Run<'a>,
     vertices: u32,
     program: Option<&Verified>,
     pin: Option<&Pin>,
 ) -> Result<Answer<'a>, CommandError>
-    requires most { vertices ≤ 1048576 }
-    requires below { list_all (λ v. nat_lt v vertices) run.now.frontier.now ≡ true }
+    requires { list_all (λ v. nat_lt v vertices) run.now.frontier.now ≡ true }
     ensures { (s : SessionState) → Performs (found_response run.now.program.now run.now.pin.now run.now.reduction
         run.now.argument.now run.now.frontier.now (option_copied program.entry)
         (past_of pin.entry) s) result s s }
@@ -122,16 +119,19 @@ fn map_found<'a>(
     let (Some(program), Some(pin)) = (program, pin) else {
         return Err(CommandError::Fault(Fault::Name));
     };
-    if let Some(fault) = fault_of(run, program.image().record_length()) {
-        return Err(CommandError::Fault(fault));
+    if pin.version().vertex_count() != vertices {
+        return Err(CommandError::Store);
     }
-    let answer = map_version(alloc, run, vertices, program, pin.version())?;
-    Ok(answer)
+    map_pin(crew, alloc, run, vertices, program, pin)
 }
 
 impl Session {
     /// Maps a program over the edges of a pin.
-    pub(crate) fn run_program<'a>(&self, run: &Run<'a>) -> Result<Answer<'a>, CommandError>
+    pub(crate) fn run_program<'a, Ga: Gate, R: Threads + Wait>(
+        &self,
+        crew: &Crew<'_, R, Ga>,
+        run: &Run<'a>,
+    ) -> Result<Answer<'a>, CommandError>
         ensures { Performs (run_response run.now.program.now run.now.pin.now run.now.reduction run.now.argument.now
             run.now.frontier.now self.now) result self.now self.now }
     {
@@ -144,6 +144,6 @@ impl Session {
         }
         let program = find_program(&self.programs, run.program);
         let pin = find_pin(&self.pins, run.pin);
-        map_found(self.alloc, run, vertices, program, pin)
+        map_found(crew, self.alloc, run, vertices, program, pin)
     }
 }

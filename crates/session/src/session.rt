@@ -12,9 +12,11 @@ use crate::error::CommandError;
 use crate::handles::Handles;
 use crate::kept::{NamedPin, NamedProgram};
 use crate::runs::Run;
+use gates::{Crew, Gate};
 use std::alloc::Global;
 use std::marker::Model;
 use std::sync::Wait;
+use std::thread::Threads;
 
 /// What commands have made so far. Whoever makes one has to close it.
 pub struct Session {
@@ -46,19 +48,22 @@ impl Session {
         }
     }
 
-    /// Performs a command: the answer is what the definition `response` says, or the fault is. Besides it
-    /// answers `OutOfMemory` for want of memory, and `Store` where its store does not answer as it should. After
-    /// another error the session is as it was. After `Store` there is no use of it but `close`.
-    pub fn perform<'a, R: Wait>(
+    /// Performs a command: the answer is what the definition `response` says, or the fault is, whatever the number of
+    /// workers, their gate and the order in which threads run. Batches and runs are in pieces: a batch's are the ranges
+    /// of 256 vertices that it edits, a run's are 64 places each of its frontier. Besides it answers `OutOfMemory` for
+    /// want of memory, `WorkerRefused` where a thread could not be started, of which one worker needs none, and `Store`
+    /// where its store does not answer as it should. After another error the session is as it was. After `Store` there is
+    /// no use of it but `close`.
+    pub fn perform<'a, Ga: Gate, R: Threads + Wait>(
         &mut self,
-        rt: &R,
+        crew: &Crew<'_, R, Ga>,
         command: Command<'a>,
     ) -> Result<Answer<'a>, CommandError>
         ensures { Performs (response (command_of command.entry) self.old) result self.old self.new }
     {
         match command {
-            Command::MakeGraph { vertices } => self.make_graph(rt, vertices),
-            Command::PublishBatch { feed, edits } => self.publish_batch(rt, feed, edits),
+            Command::MakeGraph { vertices } => self.make_graph(crew.rt, vertices),
+            Command::PublishBatch { feed, edits } => self.publish_batch(crew, feed, edits),
             Command::LoadProgram {
                 name,
                 record_length,
@@ -71,13 +76,16 @@ impl Session {
                 reduction,
                 argument,
                 frontier,
-            } => self.run_program(&Run {
-                program,
-                pin,
-                reduction,
-                argument,
-                frontier,
-            }),
+            } => self.run_program(
+                crew,
+                &Run {
+                    program,
+                    pin,
+                    reduction,
+                    argument,
+                    frontier,
+                },
+            ),
             Command::TellHome { vertex } => self.tell_home(vertex),
         }
     }

@@ -1,13 +1,15 @@
 -- What is wrong with a command: the first test that holds.
 use Rattle.std.specs.Prelude.{ℕ, ◌≤◌, ◌+◌, ◌==◌, ◌&&◌, not, nat_le, nat_lt, if◌then◌else◌, Bool, true, List, [], ◌∷◌, length, Option, Some, None, is_some}
 use Rattle.std.specs.List.{list_all}
+use Rattle.bpf_image.specs.declared.limits.TheConstants.{LEAST_RECORD_LENGTH, MOST_RECORD_LENGTH}
 use Rattle.graph_model.specs.declared.edit.Edit.{Edit}
 use Rattle.graph_model.specs.Edits.{source_of, target_of}
 use Rattle.graph_model.specs.Past.{Past, number_of}
 use Rattle.session_model.specs.declared.fault.Fault.{Fault}
 use Rattle.session_model.specs.declared.fault.Fault.TheVariants as faults
 use Rattle.graph_model.specs.declared.limits.TheConstants.{MOST_VERTICES, MOST_EDITS, MOST_BATCHES}
-use Rattle.session_model.specs.declared.limits.TheConstants.{MOST_KEPT, LEAST_RECORD_LENGTH, MOST_RECORD_LENGTH}
+use Rattle.bpf_model.specs.declared.limits.TheConstants.{EDGE_BYTES}
+use Rattle.session_model.specs.declared.limits.TheConstants.{MOST_KEPT}
 use Rattle.session_model.specs.Session.{Session, program_named, pin_named}
 
 -- tests in their order: the first that holds tells the fault
@@ -73,4 +75,4 @@ home_fault v past = first_fault ((not (nat_lt v past.vertex_count), faults.Range
 -- an argument for a record of this length, and the order of a frontier
 abbrev pub argument_fault : List ℕ → ℕ → List ℕ → Option Fault
 argument_fault argument record_length frontier =
-    first_fault ((not (length argument + 16 == record_length), faults.ArgumentLength) ∷ (not (is_ascending frontier), faults.Frontier) ∷ [])
+    first_fault ((not (length argument + EDGE_BYTES == record_length), faults.ArgumentLength) ∷ (not (is_ascending frontier), faults.Frontier) ∷ [])

@@ -1,5 +1,6 @@
 -- What a session answers to a command, and the session after it.
 use Rattle.std.specs.Prelude.{ℕ, ◌+◌, ◌*◌, ◌==◌, ◌&&◌, nat_le, Bool, if◌then◌else◌, List, [], ◌∷◌, ◌++◌, length, Option, Some, None}
+use Rattle.bpf_isa.specs.declared.limits.TheConstants.{MOST_UNITS}
 use Rattle.graph_model.specs.declared.edit.Edit.{Edit}
 use Rattle.graph_model.specs.declared.entry.Entry.{Entry}
 use Rattle.graph_model.specs.Graph.{Graph, numbers_below, edge_count, degree}
@@ -49,9 +50,9 @@ publish_response feed edits s =
     unless_fault (batch_fault edits past)
     (Answers (published_answer feed edits past) (record s { past = Some (longer past (entry_of feed edits)) })))
 
--- code of 1 to 4,096 whole units
+-- code of some whole units, and of no more than there may be
 abbrev pub is_code : Program → Bool
-is_code p = (8 * units p == length p.code) && nat_le 1 (units p) && nat_le (units p) 4096
+is_code p = (8 * units p == length p.code) && nat_le 1 (units p) && nat_le (units p) MOST_UNITS
 
 -- a program is kept where the verifier accepts it
 abbrev pub verdict_response : Verdict → List ℕ → Program → Session → Response

@@ -6,4 +6,4 @@ mod fault;
 mod limits;
 
 pub use fault::Fault;
-pub use limits::{LEAST_RECORD_LENGTH, MOST_KEPT, MOST_RECORD_LENGTH};
+pub use limits::MOST_KEPT;

@@ -1,5 +1,6 @@
 //! A version and the next one.
 use crate::Version;
+use gates::{OpenGate, Workers};
 use graph_model::{Batch, Edit, Entry};
 use history::Head;
 use std::test::Fail;
@@ -14,7 +15,7 @@ fn the_next_version_is_made_in_two_steps(rt: HostRuntime) -> Result<(), Fail> {
         feed: 1,
         batch: Batch::new(alloc, Vec::from_slice(alloc, &edits)?)?,
     };
-    let (draft, counts) = first.draft(alloc, &entry)?;
+    let (draft, counts) = first.draft(&rt, alloc, &entry, Workers::one(), &OpenGate)?;
     let Some(known) = head.add(&first.known(), 0, &entry) else {
         return Err(Fail::new("the history was longer"));
     };

@@ -10,12 +10,16 @@ ghost use Rattle.history.specs.Moment.{opening_moment, beginning_of, no_batch};
 
 use crate::draft::Draft;
 use crate::log::Log;
+use batch_apply::edit_table;
 use cursors::Cursor;
+use gates::{Gate, Refusal, Workers};
 use graph_model::{Entry, Home};
 use history::Known;
 use migration::{Counts, Table};
 use std::alloc::{AllocError, Global};
 use std::marker::Model;
+use std::sync::Wait;
+use std::thread::Threads;
 
 /// One state of a graph: what the log of its batches makes of the graph without an edge. It never
 /// changes after it was made. It knows that its store's history begins with these batches.
@@ -136,15 +140,31 @@ impl Version {
     }
 
     /// The version after one more batch, as far as it can be made before the store's history has it, and what
-    /// the batch does. This version stays.
-    pub fn draft(&self, alloc: Global, entry: &Entry) -> Result<(Draft, Counts), AllocError>
+    /// the batch does, by workers: the same for each number of them, gate and order in which threads run. Each edited
+    /// range's number is a piece of the gate's. This version stays. `OutOfMemory` where there is no memory,
+    /// `WorkerRefused` where a thread could not be started; with one worker none is.
+    pub fn draft<Ga: Gate, R: Threads + Wait>(
+        &self,
+        rt: &R,
+        alloc: Global,
+        entry: &Entry,
+        workers: Workers,
+        gate: &Ga,
+    ) -> Result<(Draft, Counts), Refusal>
         requires room { number_of self.now.past < MOST_BATCHES }
         requires below { AreEditsBelow self.now.past.vertex_count entry.now.batch }
         ensures draft { IfOk result (λ next. next.0 ≡ longer self.now.past entry.now) }
         ensures gained { IfOk result (λ next. next.1.added ≡ added entry.now.batch (graph_of self.now.past)) }
         ensures lost { IfOk result (λ next. next.1.removed ≡ removed entry.now.batch (graph_of self.now.past)) }
     {
-        let (shards, counts) = self.shards.after(alloc, entry.batch.edits())?;
+        let (shards, counts) = edit_table(
+            rt,
+            alloc,
+            &self.shards,
+            entry.batch.edits(),
+            workers,
+            gate,
+        )?;
         let draft = Draft {
             vertex_count: self.vertex_count,
             log: self.log.with(alloc, entry.share()?)?,

@@ -9,10 +9,11 @@ use Rattle.store_model.specs.declared.limits.TheConstants.{FEEDS}
 use Rattle.history.specs.Moment.{Moment, after_entry}
 use Rattle.versions.specs.Receipts.{Publication, publication}
 use Rattle.versions.specs.declared.errors.PublishError.{PublishError}
-use Rattle.versions.specs.declared.errors.PublishError.TheVariants.{OutOfMemory}
 use Rattle.versions.specs.declared.held.Change.{Change}
 use Rattle.versions.specs.declared.held.Held.{Held}
 use Rattle.versions.specs.declared.held.Held.TheVariants.{Taken, Added, Made, Ready}
+use Rattle.versions.specs.declared.held.Stopped.{Stopped}
+use Rattle.versions.specs.Refused.{refused_as}
 
 -- the last version, and the one that waits to be shown
 pub record Pressing : Type 0 where
@@ -71,11 +72,11 @@ IsHolding p (Some h) = IsHeld p h
 
 -- what comes of going on with a held batch: its publication, and nothing waits; or it is held, and the last version is
 -- the same
-abbrev pub IsGoneOn : Pressing → Entry → Result Publication Held → Pressing → Type 0
+abbrev pub IsGoneOn : Pressing → Entry → Result Publication Stopped → Pressing → Type 0
 IsGoneOn old e (Ok p) new = (p ≡ publication old.moment e) × (new ≡ at_rest p.moment)
-IsGoneOn old e (Err h) new = (new.moment ≡ old.moment) × (entry_in h ≡ e) × IsHeld new h
+IsGoneOn old e (Err s) new = (new.moment ≡ old.moment) × (entry_in s.held ≡ e) × IsHeld new s.held
 
--- a publication is told, and nothing is held; or the batch is held again, for want of memory
-abbrev pub IsNoted : Result Publication Held → Result (Option Publication) PublishError → Option Held → Type 0
+-- a publication is told, and nothing is held; or the batch is held again, for want of what is told
+abbrev pub IsNoted : Result Publication Stopped → Result (Option Publication) PublishError → Option Held → Type 0
 IsNoted (Ok p) told held = (told ≡ Ok (Some p)) × (held ≡ None)
-IsNoted (Err h) told held = (told ≡ Err OutOfMemory) × (held ≡ Some h)
+IsNoted (Err s) told held = (told ≡ Err (refused_as s.want)) × (held ≡ Some s.held)

@@ -1,4 +1,5 @@
 pub mod Receipts
+pub mod Refused
 pub mod Held
 pub mod Storing
 pub mod Feeds

@@ -1,7 +1,9 @@
 //! Why a store, a batch or a step is refused.
 ghost use Rattle.std.specs.Prelude.{◌≡◌};
 ghost use Rattle.versions.specs.declared.errors.StoreError.TheVariants as opening;
+ghost use Rattle.versions.specs.Refused.{refused_as};
 
+use gates::Refusal;
 use graph_model::Batch;
 use std::alloc::{AllocError, AllocFailed};
 use thiserror::Error;
@@ -63,4 +65,18 @@ pub enum PublishError {
     /// 4,096 batches were published, and there is room for no more.
     #[error("4096 batches were published, and there is room for no more")]
     LogFull = 2,
+    /// A thread could not be started. The batch is held, and the next step begins with it.
+    #[error("a worker could not be started")]
+    WorkerRefused = 3,
+}
+
+impl From<Refusal> for PublishError {
+    ghost from_gives = { λ refusal e. e ≡ refused_as refusal };
+
+    fn from(refusal: Refusal) -> PublishError {
+        match refusal {
+            Refusal::OutOfMemory => PublishError::OutOfMemory,
+            Refusal::WorkerRefused => PublishError::WorkerRefused,
+        }
+    }
 }

@@ -2,6 +2,7 @@
 ghost use Rattle.std.specs.Prelude.{◌≡◌};
 ghost use Rattle.versions.specs.Held.{entry_in};
 
+use gates::Refusal;
 use graph_model::Entry;
 use std::sync::Arc;
 use version::{Counts, Version};
@@ -24,6 +25,25 @@ pub enum Held {
     Made(Change, Arc<Version>),
     /// It was handed in to be shown. The other owners are for the publisher and for the receipt.
     Ready(Change, Arc<Version>, Arc<Version>),
+}
+
+/// A held batch that could not be gone on with, and what it is in want of.
+#[derive(Drop)]
+pub struct Stopped {
+    pub held: Held,
+    pub want: Refusal,
+}
+
+impl Stopped {
+    /// It is in want of memory.
+    pub fn for_memory(held: Held) -> Stopped
+        ensures { result.held ≡ held }
+    {
+        Stopped {
+            held,
+            want: Refusal::OutOfMemory,
+        }
+    }
 }
 
 impl Held {

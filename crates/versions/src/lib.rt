@@ -17,6 +17,7 @@ pub use board::{NoPlace, PinError};
 pub use errors::{PublishError, StoreError, SubmitCause, SubmitError};
 pub use feed::Feed;
 pub use finished::Finished;
+pub use gates::{Gate, OpenGate, Workers};
 pub use graph_model::{Batch, Edit, Entry, GraphView};
 pub use pin::Pin;
 pub use publisher::Publisher;

@@ -6,14 +6,16 @@ ghost use Rattle.graph_model.specs.Past.{number_of};
 ghost use Rattle.history.specs.Moment.{after_entry};
 ghost use Rattle.versions.specs.Held.{at_rest, and_waiting, entry_in, IsNext, IsChange, IsHeld, IsGoneOn};
 
-use crate::held::{Change, Held};
+use crate::held::{Change, Held, Stopped};
 use crate::receipt::Receipt;
 use board::Board;
+use gates::{Gate, Workers};
 use graph_model::Entry;
 use history::Head;
 use std::alloc::Global;
 use std::marker::Model;
 use std::sync::{Arc, Wait};
+use std::thread::Threads;
 use version::Version;
 
 /// Where versions are made and shown. It has to be ended by `close`.
@@ -46,12 +48,18 @@ impl Press {
     }
 
     /// Goes on with a held batch, from where it stopped.
-    pub fn go_on<R: Wait>(&mut self, held: Held, rt: &R) -> Result<Receipt, Held>
+    pub fn go_on<Ga: Gate, R: Threads + Wait>(
+        &mut self,
+        held: Held,
+        rt: &R,
+        workers: Workers,
+        gate: &Ga,
+    ) -> Result<Receipt, Stopped>
         requires { IsHeld self.old held }
         ensures { IsGoneOn self.old (entry_in held) result self.new }
     {
         match held {
-            Held::Taken(entry) => self.add(entry, rt),
+            Held::Taken(entry) => self.add(entry, rt, workers, gate),
             Held::Added(change, version) => self.share(change, version, rt),
             Held::Made(change, version) => self.hand_in(change, version, rt),
             Held::Ready(change, version, copy) => self.show(change, version, copy, rt),
@@ -59,27 +67,44 @@ impl Press {
     }
 
     // Makes the next version, and adds the batch to the history.
-    fn add<R: Wait>(&mut self, entry: Entry, rt: &R) -> Result<Receipt, Held>
+    fn add<Ga: Gate, R: Threads + Wait>(
+        &mut self,
+        entry: Entry,
+        rt: &R,
+        workers: Workers,
+        gate: &Ga,
+    ) -> Result<Receipt, Stopped>
         requires next { IsNext self.old.moment entry }
         requires rest { self.old ≡ at_rest self.old.moment }
         ensures { IsGoneOn self.old entry result self.new }
     {
-        let Ok((draft, counts)) = self.current.draft(self.alloc, &entry) else {
-            return Err(Held::Taken(entry));
+        let (draft, counts) = match self.current.draft(rt, self.alloc, &entry, workers, gate) {
+            Ok(made) => made,
+            Err(want) => {
+                return Err(Stopped {
+                    held: Held::Taken(entry),
+                    want,
+                });
+            }
         };
         // The history is never longer than what its only publisher knows.
         let Some(known) = self
             .head
             .add(&self.current.known(), self.current.number(), &entry)
         else {
-            return Err(Held::Taken(entry));
+            return Err(Stopped::for_memory(Held::Taken(entry)));
         };
         let version = draft.complete(known);
         self.share(Change { entry, counts }, version, rt)
     }
 
     // Gives the version an owner that can be shared.
-    fn share<R: Wait>(&mut self, change: Change, version: Version, rt: &R) -> Result<Receipt, Held>
+    fn share<R: Wait>(
+        &mut self,
+        change: Change,
+        version: Version,
+        rt: &R,
+    ) -> Result<Receipt, Stopped>
         requires change { IsChange self.old.moment change }
         requires version { version ≡ after_entry self.old.moment change.entry }
         requires rest { self.old ≡ at_rest self.old.moment }
@@ -87,7 +112,7 @@ impl Press {
     {
         match Arc::new(self.alloc, version) {
             Ok(version) => self.hand_in(change, version, rt),
-            Err(full) => Err(Held::Added(change, full.value)),
+            Err(full) => Err(Stopped::for_memory(Held::Added(change, full.value))),
         }
     }
 
@@ -97,21 +122,21 @@ impl Press {
         change: Change,
         version: Arc<Version>,
         rt: &R,
-    ) -> Result<Receipt, Held>
+    ) -> Result<Receipt, Stopped>
         requires change { IsChange self.old.moment change }
         requires version { arc_value version ≡ after_entry self.old.moment change.entry }
         requires rest { self.old ≡ at_rest self.old.moment }
         ensures { IsGoneOn self.old change.entry result self.new }
     {
         let Ok(copy) = Arc::try_clone(&version) else {
-            return Err(Held::Made(change, version));
+            return Err(Stopped::for_memory(Held::Made(change, version)));
         };
         let Ok(shown) = Arc::try_clone(&version) else {
-            return Err(Held::Made(change, version));
+            return Err(Stopped::for_memory(Held::Made(change, version)));
         };
         match self.board.append(shown) {
             Ok(()) => self.show(change, version, copy, rt),
-            Err(_) => Err(Held::Made(change, version)),
+            Err(_) => Err(Stopped::for_memory(Held::Made(change, version))),
         }
     }
 
@@ -122,7 +147,7 @@ impl Press {
         version: Arc<Version>,
         copy: Arc<Version>,
         rt: &R,
-    ) -> Result<Receipt, Held>
+    ) -> Result<Receipt, Stopped>
         requires change { IsChange self.old.moment change }
         requires version { arc_value version ≡ after_entry self.old.moment change.entry }
         requires copy { arc_value copy ≡ after_entry self.old.moment change.entry }
@@ -134,7 +159,7 @@ impl Press {
                 self.current = version;
                 Ok(Receipt::of(copy, change))
             }
-            Err(_) => Err(Held::Ready(change, version, copy)),
+            Err(_) => Err(Stopped::for_memory(Held::Ready(change, version, copy))),
         }
     }
 

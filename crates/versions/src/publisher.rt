@@ -13,13 +13,15 @@ ghost use Rattle.versions.specs.Storing.{taken_of, IsPublished, IsIdle, IsKept};
 use crate::errors::PublishError;
 use crate::feed::Feed;
 use crate::finished::Finished;
-use crate::held::Held;
+use crate::held::{Held, Stopped};
 use crate::press::Press;
 use crate::receipt::Receipt;
+use gates::{Gate, Workers};
 use graph_model::MOST_BATCHES;
 use intake::Intake;
 use std::marker::Model;
 use std::sync::Wait;
+use std::thread::Threads;
 
 /// The one that makes the versions of a graph, each of the one before and a batch that a feed submitted. It has to be
 /// ended by `finish`. Contracts see it as a `Storing`.
@@ -49,9 +51,16 @@ impl Model for Publisher {
 
 impl Publisher {
     /// Publishes one batch: the held one, and else the one that waits longest in the queue. `None`, and nothing is
-    /// published, where neither is there. `LogFull` comes exactly after 4,096 batches, and takes nothing. After
-    /// `OutOfMemory` nothing is published, and the batch is held.
-    pub fn step<R: Wait>(&mut self, rt: &R) -> Result<Option<Receipt>, PublishError>
+    /// published, where neither is there. The batch is applied by workers, and what is published is the same for each
+    /// number of them, gate and order in which threads run; each edited range's number is a piece of the gate's.
+    /// `LogFull` comes exactly after 4,096 batches, and takes nothing. After `OutOfMemory`, and after `WorkerRefused`,
+    /// which one worker cannot meet, nothing is published, and the batch is held.
+    pub fn step<Ga: Gate, R: Threads + Wait>(
+        &mut self,
+        rt: &R,
+        workers: Workers,
+        gate: &Ga,
+    ) -> Result<Option<Receipt>, PublishError>
         ensures same_queue { self.new.queue ≡ self.old.queue }
         ensures same_store { OneStore self.old.moment self.new.moment }
         ensures published { IfOk result (λ done. IfSome done (λ receipt. IsPublished self.old receipt self.new)) }
@@ -62,11 +71,16 @@ impl Publisher {
         ensures full { IsErrOf result PublishError.LogFull ↔ (number_of self.old.moment.past ≡ MOST_BATCHES) }
         ensures full_same { IsErrOf result PublishError.LogFull → self.new ≡ self.old }
     {
-        self.publish_next(rt)
+        self.publish_next(rt, workers, gate)
     }
 
     // Publishes the batch that comes next.
-    fn publish_next<R: Wait>(&mut self, rt: &R) -> Result<Option<Receipt>, PublishError>
+    fn publish_next<Ga: Gate, R: Threads + Wait>(
+        &mut self,
+        rt: &R,
+        workers: Workers,
+        gate: &Ga,
+    ) -> Result<Option<Receipt>, PublishError>
         ensures same_queue { self.new.queue ≡ self.old.queue }
         ensures same_store { OneStore self.old.moment self.new.moment }
         ensures published { IfOk result (λ done. IfSome done (λ receipt. IsPublished self.old receipt self.new)) }
@@ -79,9 +93,12 @@ impl Publisher {
             return Err(PublishError::LogFull);
         }
         match self.held.take() {
-            Some(held) => note(self.press.go_on(held, rt), &mut self.held),
+            Some(held) => note(self.press.go_on(held, rt, workers, gate), &mut self.held),
             None => match self.intake.pop(rt) {
-                Some(entry) => note(self.press.go_on(Held::Taken(entry), rt), &mut self.held),
+                Some(entry) => note(
+                    self.press.go_on(Held::Taken(entry), rt, workers, gate),
+                    &mut self.held,
+                ),
                 None => Ok(None),
             },
         }
@@ -126,7 +143,7 @@ impl Publisher {
 
 // The receipt; or the batch is held again.
 fn note(
-    answer: Result<Receipt, Held>,
+    answer: Result<Receipt, Stopped>,
     held: &mut Option<Held>,
 ) -> Result<Option<Receipt>, PublishError>
     requires { held.old ≡ None }
@@ -134,9 +151,9 @@ fn note(
 {
     match answer {
         Ok(receipt) => Ok(Some(receipt)),
-        Err(kept) => {
-            *held = Some(kept);
-            Err(PublishError::OutOfMemory)
+        Err(stopped) => {
+            *held = Some(stopped.held);
+            Err(PublishError::from(stopped.want))
         }
     }
 }

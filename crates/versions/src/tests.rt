@@ -8,6 +8,7 @@ use super::{
 use std::alloc::{AllocError, Global};
 use std::sync::Wait;
 use std::test::Fail;
+use std::thread::Threads;
 
 mod shop;
 mod threads;
@@ -71,7 +72,7 @@ impl Course {
     }
 }
 
-fn run_all<R: Wait>(
+fn run_all<R: Threads + Wait>(
     rt: &R,
     alloc: Global,
     shop: &mut Shop,
@@ -91,7 +92,7 @@ fn run_all<R: Wait>(
 }
 
 // A store in which these batches are published.
-fn course_of<R: Wait>(
+fn course_of<R: Threads + Wait>(
     rt: &R,
     alloc: Global,
     vertex_count: u32,
@@ -168,7 +169,7 @@ fn neighbours_ascend(rt: HostRuntime) -> Result<(), Fail> {
 }
 
 // Edges of vertices in two ranges, and then some are removed.
-fn two_ranges<R: Wait>(rt: &R, alloc: Global) -> Result<Course, Fail> {
+fn two_ranges<R: Threads + Wait>(rt: &R, alloc: Global) -> Result<Course, Fail> {
     let put = [
         Edit::Insert(299, 4),
         Edit::Insert(0, 1),
@@ -285,7 +286,10 @@ fn vertex_counts_are_tested(rt: HostRuntime) -> Result<(), Fail> {
 }
 
 // The number of the last batch that was published, and what the next step answers.
-fn fill_log<R: Wait>(rt: &R, shop: &mut Shop) -> Result<(u64, Option<PublishError>), Fail> {
+fn fill_log<R: Threads + Wait>(
+    rt: &R,
+    shop: &mut Shop,
+) -> Result<(u64, Option<PublishError>), Fail> {
     let mut last = 0;
     for _ in 0..4096 {
         last = shop.publish(rt, 0, Batch::empty())?.number();
@@ -364,6 +368,7 @@ fn errors_have_numbers(rt: HostRuntime) {
     assert_eq!(rt; SubmitCause::TooManyEdits as u8, 3);
     assert_eq!(rt; PublishError::OutOfMemory as u8, 1);
     assert_eq!(rt; PublishError::LogFull as u8, 2);
+    assert_eq!(rt; PublishError::WorkerRefused as u8, 3);
     assert_eq!(rt; PinError::Closed as u8, 1);
     assert_eq!(rt; PinError::NoShare as u8, 2);
 }
@@ -377,7 +382,7 @@ struct Listed {
     beside: Vec<u32>,
 }
 
-fn pin_thrice<R: Wait>(rt: &R, alloc: Global, shop: &mut Shop) -> Result<Listed, Fail> {
+fn pin_thrice<R: Threads + Wait>(rt: &R, alloc: Global, shop: &mut Shop) -> Result<Listed, Fail> {
     let before = shop.pin()?;
     shop.publish(rt, 0, batch_of(alloc, &[Edit::Insert(0, 1)])?)?;
     let after = shop.pin()?;

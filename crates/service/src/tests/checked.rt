@@ -5,6 +5,7 @@ use std::alloc::Global;
 use std::process::Abort;
 use std::sync::Wait;
 use std::test::Fail;
+use std::thread::Threads;
 use vectors::{ACCEPTED, CONSTANTS, REFUSED};
 
 mod vectors;
@@ -16,7 +17,7 @@ const GRAPH_SAID: &str = "graph 6\nbatch A version 1 added 6 removed 0\npin a ve
 
 /// A script behind the graph writes this behind what the graph says.
 fn assert_said(
-    rt: &(impl Abort + Wait),
+    rt: &(impl Abort + Threads + Wait),
     alloc: Global,
     script: &str,
     wanted: &str,
@@ -47,7 +48,11 @@ fn numbers_of_programs(rt: HostRuntime) -> Result<(), Fail> {
 }
 
 /// What a row of six parts says.
-fn assert_accepted(rt: &(impl Abort + Wait), alloc: Global, row: &str) -> Result<(), Fail> {
+fn assert_accepted(
+    rt: &(impl Abort + Threads + Wait),
+    alloc: Global,
+    row: &str,
+) -> Result<(), Fail> {
     let (source, parts) = row.split_once('|').ok_or("no length")?;
     let (length, parts) = parts.split_once('|').ok_or("no bytes")?;
     let (code, parts) = parts.split_once('|').ok_or("no bound")?;
@@ -71,7 +76,11 @@ fn accepted_programs(rt: HostRuntime) -> Result<(), Fail> {
 }
 
 /// What a row of five parts says.
-fn assert_refused(rt: &(impl Abort + Wait), alloc: Global, row: &str) -> Result<(), Fail> {
+fn assert_refused(
+    rt: &(impl Abort + Threads + Wait),
+    alloc: Global,
+    row: &str,
+) -> Result<(), Fail> {
     let (source, parts) = row.split_once('|').ok_or("no length")?;
     let (length, parts) = parts.split_once('|').ok_or("no bytes")?;
     let (code, parts) = parts.split_once('|').ok_or("no cause")?;

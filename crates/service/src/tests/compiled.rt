@@ -5,6 +5,7 @@ use std::alloc::Global;
 use std::process::Abort;
 use std::sync::Wait;
 use std::test::Fail;
+use std::thread::Threads;
 use vectors::LINES;
 
 mod vectors;
@@ -17,7 +18,7 @@ const GRAPH_SAID: &str =
     "graph 70000\nbatch A version 1 added 10 removed 0\npin a version 1 edges 10\n";
 
 /// One line of the vectors: the script of its parts writes what the line says.
-fn assert_line(rt: &(impl Abort + Wait), alloc: Global, line: &str) -> Result<(), Fail> {
+fn assert_line(rt: &(impl Abort + Threads + Wait), alloc: Global, line: &str) -> Result<(), Fail> {
     let (name, parts) = line.split_once('|').ok_or("no name")?;
     let (code, parts) = parts.split_once('|').ok_or("no code")?;
     let (said, parts) = parts.split_once('|').ok_or("no answer")?;

@@ -1,10 +1,11 @@
 //! Ends over the standard traits: a failure is told at once, and nothing is tried again.
-use crate::{Ending, ServeError, StdInput, StdOutput, serve};
+use crate::{Ending, OpenGate, ServeError, StdInput, StdOutput, Workers, serve};
 use std::alloc::Global;
 use std::io;
 use std::io::{ErrorKind, Read, Write};
 use std::sync::Wait;
 use std::test::Fail;
+use std::thread::Threads;
 
 /// A reader of which one read is interrupted.
 #[derive(Drop)]
@@ -53,7 +54,7 @@ impl Write for Balking {
 }
 
 /// What serving a script comes to, where one read or write fails; 0 is none.
-fn served<R: Wait>(
+fn served<R: Threads + Wait>(
     rt: &R,
     alloc: Global,
     read: u64,
@@ -70,7 +71,14 @@ fn served<R: Wait>(
         at: write,
         is_interrupted,
     });
-    serve(&mut input, &mut output, rt, alloc)
+    serve(
+        &mut input,
+        &mut output,
+        rt,
+        alloc,
+        Workers::one(),
+        &OpenGate,
+    )
 }
 
 #[test]

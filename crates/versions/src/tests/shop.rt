@@ -4,13 +4,14 @@ ghost use Rattle.history.specs.Moment.{OneStore};
 ghost use Rattle.intake.specs.Ends.{IsFeedOf};
 
 use crate::{
-    Batch, Feed, Finished, Pin, PinError, PublishError, Publisher, Reader, Receipt, Store,
-    StoreError, SubmitError,
+    Batch, Feed, Finished, OpenGate, Pin, PinError, PublishError, Publisher, Reader, Receipt,
+    Store, StoreError, SubmitError, Workers,
 };
 use std::alloc::Global;
 use std::marker::Model;
 use std::sync::Wait;
 use std::test::Fail;
+use std::thread::Threads;
 
 /// Whoever opens one has to close it.
 pub struct Shop {
@@ -60,8 +61,8 @@ impl Shop {
         }
     }
 
-    pub fn step<R: Wait>(&mut self, rt: &R) -> Result<Option<Receipt>, PublishError> {
-        self.publisher.step(rt)
+    pub fn step<R: Threads + Wait>(&mut self, rt: &R) -> Result<Option<Receipt>, PublishError> {
+        self.publisher.step(rt, Workers::one(), &OpenGate)
     }
 
     pub fn holds(&self) -> Option<u8> {
@@ -69,11 +70,16 @@ impl Shop {
     }
 
     /// Submits a batch, publishes one, and learns of it.
-    pub fn publish<R: Wait>(&mut self, rt: &R, feed: u8, batch: Batch) -> Result<Receipt, Fail> {
+    pub fn publish<R: Threads + Wait>(
+        &mut self,
+        rt: &R,
+        feed: u8,
+        batch: Batch,
+    ) -> Result<Receipt, Fail> {
         if self.submit(rt, feed, batch).is_err() {
             return Err(Fail::new("a batch was refused"));
         }
-        match self.publisher.step(rt) {
+        match self.publisher.step(rt, Workers::one(), &OpenGate) {
             Ok(Some(receipt)) => {
                 self.reader.learn(&receipt);
                 Ok(receipt)

@@ -6,7 +6,7 @@ ghost use Rattle.intake.specs.Ends.{IsFeedOf};
 
 use super::batch_of;
 use super::shop::Shop;
-use crate::{Batch, Edit, Feed, Publisher, Reader, SubmitCause};
+use crate::{Batch, Edit, Feed, OpenGate, Publisher, Reader, SubmitCause, Workers};
 use std::alloc::Global;
 use std::sync::Wait;
 use std::test::Fail;
@@ -63,14 +63,14 @@ fn number_of(batch: &Batch) -> Option<u32> {
 }
 
 // Publishes until so many batches are published. Whether each feed's came in its order, whole and once.
-fn step_all<R: Wait>(rt: &R, publisher: &mut Publisher, count: u64) -> bool
+fn step_all<R: Threads + Wait>(rt: &R, publisher: &mut Publisher, count: u64) -> bool
     ensures queue { publisher.new.queue ≡ publisher.old.queue }
     ensures store { OneStore publisher.old.moment publisher.new.moment }
 {
     let mut next = [0u32, 0];
     let mut in_order = true;
     'steps: for _ in rt.forever() {
-        let Ok(Some(receipt)) = publisher.step(rt) else {
+        let Ok(Some(receipt)) = publisher.step(rt, Workers::one(), &OpenGate) else {
             thread::yield_now();
             continue;
         };

@@ -12,13 +12,13 @@ use Rattle.session.proofs.RunLemmas.{run_outside, run_inside}
 use Rattle.session.proofs.session.Session.run_program.Goals as goal
 
 pub returns-then-not-are_below : goal.returns-then-not-are_below
-returns-then-not-are_below c =
+returns-then-not-are_below g c =
     let last : c.args.self.now.past ≡ Some c.in-Some.store = ap (λ (s : Session). s.past) (sym c.self.view_is) ∙ c.in-Some.is in
     let below : list_all (λ v. nat_lt v c.in-Some.store.vertex_count) c.args.run.now.frontier.now ≡ false = ap (λ (n : ℕ). list_all (λ v. nat_lt v n) c.args.run.now.frontier.now) (sym c.vertex_count-vertices.ensures.value) ∙ sym c.are_below.ensures ∙ c.if-not-are_below.true in
     (run_outside c.args.run.now.program.now c.args.run.now.pin.now c.args.run.now.reduction c.args.run.now.argument.now c.args.run.now.frontier.now c.args.self.now c.in-Some.store last below, refl)
 
 pub returns : goal.returns
-returns c =
+returns g c =
     let last : c.args.self.now.past ≡ Some c.in-Some.store = ap (λ (s : Session). s.past) (sym c.self.view_is) ∙ c.in-Some.is in
     let below : list_all (λ v. nat_lt v c.in-Some.store.vertex_count) c.args.run.now.frontier.now ≡ true = ap (λ (n : ℕ). list_all (λ v. nat_lt v n) c.args.run.now.frontier.now) (sym c.vertex_count-vertices.ensures.value) ∙ sym c.are_below.ensures ∙ c.if-not-are_below.false in
     let program : option_copied c.find_program-program.result ≡ program_named c.args.run.now.program.now c.args.self.now.programs = c.find_program-program.ensures ∙ ap (λ (ps : List NamedProgram). program_named c.args.run.now.program.now (map kept_program ps)) c.deref.ensures.value ∙ ap (λ (s : Session). program_named c.args.run.now.program.now s.programs) c.self.view_is in

@@ -1,0 +1,9 @@
+//! What the words of the command line ask for.
+#![tactic(auto)]
+
+mod words;
+
+pub use words::options;
+
+#[cfg(test)]
+mod tests;
