@@ -23,6 +23,7 @@ LIST = [
         ("bpf_model/specs/Run.antt", "steps in turn; the outcome of a run"),
         ("bpf_model/specs/EdgeMap.antt", "the record of an edge; the number of its run"),
         ("verifier/specs/Sound.antt", "`IsFine`, `IsRecord`, `NeverGoesWrong`, `AlwaysExits`; the others are inner"),
+        ("bpf_locality/specs/Locality.antt", "what a step touches"),
     ]),
     ("What a version is", [
         ("graph_model/src/limits.rt", "how many vertices, edits, batches"),

@@ -1,0 +1,4 @@
+mod Places
+mod Asking
+mod Written
+mod Read
