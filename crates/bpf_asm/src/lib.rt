@@ -4,8 +4,6 @@
 mod errors;
 pub mod laws;
 mod reading;
-#[cfg(test)]
-mod tests;
 mod writing;
 
 pub use errors::{AssembleError, DisassembleError, TextCause};

@@ -1,5 +1,5 @@
 //! Ranges of results and branches, worked out apart from the program.
-use super::{AbstractValue, Sides, alu, join, move_signed, narrow, negate, swap};
+use abstract_values::{AbstractValue, Sides, alu, join, move_signed, narrow, negate, swap};
 use bpf_isa::{ByteOrder, Comparison, Extension, Operation, SwapBits, Width};
 use bpf_model::Cause;
 use std::test::Fail;

@@ -1,6 +1,6 @@
 //! What the graph answers a program, and helper calls that trap.
 use super::{EXIT, RECORD, run_on_record, trap};
-use crate::{Outcome, TrapKind};
+use bpf_machine::{Outcome, TrapKind};
 use std::test::Fail;
 
 const fn call(number: u8) -> [u8; 8] {

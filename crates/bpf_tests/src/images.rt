@@ -1,5 +1,5 @@
 //! Images that are read, and each fault.
-use super::*;
+use bpf_image::{Image, ImageError};
 use std::alloc::Global;
 use std::test::Fail;
 

@@ -5,8 +5,8 @@ mod calls;
 mod helpers;
 mod stores;
 
-use super::*;
 use bpf_image::Image;
+use bpf_machine::{GraphView, Outcome, TrapKind, run_checked};
 use std::alloc::Global;
 use std::test::Fail;
 

@@ -3,7 +3,7 @@ use Rattle.std.proofs.lemmas.List.{drop_all, take_all, length-replicate, get_or-
 use Rattle.graph_model.specs.Graph.{neighbours, empty_graph}
 use Rattle.graph_model.specs.Views.{no_word, word_bytes, words_from, neighbour_words, neighbours_among}
 use Rattle.graph_model.proofs.Neighbours.{neighbours-empty_graph}
-use Rattle.bpf_machine.proofs.tests.EdgelessGraphView.gather.Goals as goal
+use Rattle.bpf_tests.proofs.machine.EdgelessGraphView.gather.Goals as goal
 
 none_from : (first count : ℕ) → words_from [] first count ≡ replicate count no_word
 none_from first count =

@@ -1,7 +1,7 @@
 //! Texts and their code from outside vectors, and each fault.
 mod vectors;
 
-use super::*;
+use bpf_asm::{AssembleError, DisassembleError, TextCause, assemble, disassemble};
 use std::alloc::{AllocError, Global};
 use std::process::Abort;
 use std::test::Fail;

@@ -1,5 +1,5 @@
 //! States that join, and loads and stores that spill and fill.
-use super::{AbstractState, join_into, load, load_signed, store};
+use abstract_state::{AbstractState, join_into, load, load_signed, store};
 use abstract_values::AbstractValue;
 use bpf_isa::{Register, SignedSize, Size};
 use bpf_model::Cause;

@@ -1,7 +1,9 @@
 //! Instructions and their bytes from outside vectors, and each fault.
 mod vectors;
 
-use super::*;
+use bpf_isa::{
+    DecodeError, Instruction, Operand, Operation, Register, Size, Width, decode_at, encode,
+};
 use std::alloc::Global;
 use std::process::Abort;
 use std::test::Fail;

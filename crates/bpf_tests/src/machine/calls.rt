@@ -1,6 +1,6 @@
 //! Functions, their frames, and calls that trap.
 use super::{EXIT, run_on_record, trap};
-use crate::{Outcome, TrapKind};
+use bpf_machine::{Outcome, TrapKind};
 use std::test::Fail;
 
 /// A call of the function so many units behind the next instruction.

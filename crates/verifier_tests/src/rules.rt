@@ -1,5 +1,4 @@
 //! Single instructions, and what is known behind them.
-use super::{Onward, step_over, take_side};
 use abstract_state::{AbstractState, load};
 use abstract_values::{AbstractValue, Sides};
 use bpf_isa::{
@@ -7,6 +6,7 @@ use bpf_isa::{
 };
 use bpf_model::Cause;
 use std::test::Fail;
+use verifier_rules::{Onward, step_over, take_side};
 
 const LENGTH: u16 = 16;
 

@@ -1,10 +1,10 @@
 //! Programs that are accepted with their bounds, and each cause of refusal.
 mod calls;
 
-use super::*;
 use bpf_image::Image;
 use std::alloc::Global;
 use std::test::Fail;
+use verifier::{Cause, verify};
 
 /// What the verifier answers: the bound, or the cause and where.
 type Answer = Result<u32, (Cause, usize)>;

@@ -1,8 +1,8 @@
 //! Programs of several functions.
 use super::{EXIT, Extent, MOVE_SEVEN, extent};
-use crate::Cause;
 use std::alloc::Global;
 use std::test::Fail;
+use verifier::Cause;
 
 /// A call of the function so many units behind the next instruction.
 const fn call_over(distance: u8) -> u64 {

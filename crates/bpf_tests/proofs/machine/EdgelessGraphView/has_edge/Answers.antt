@@ -1,6 +1,6 @@
 use Rattle.std.proofs.Common.{◌≡◌, Bool, true, false, nat_lt, refl}
 use Rattle.std.specs.Prelude.{◌&&◌}
-use Rattle.bpf_machine.proofs.tests.EdgelessGraphView.has_edge.Goals as goal
+use Rattle.bpf_tests.proofs.machine.EdgelessGraphView.has_edge.Goals as goal
 
 never : (a b : Bool) → false ≡ a && (b && false)
 never true true = refl
