@@ -8,8 +8,6 @@ pub mod laws;
 mod memory;
 mod stack;
 mod state;
-#[cfg(test)]
-mod tests;
 
 pub use calls::{enter_call, return_from_call, return_from_helper};
 pub use joining::join_into;

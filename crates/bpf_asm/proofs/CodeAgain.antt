@@ -9,9 +9,9 @@ use Rattle.bpf_isa.specs.declared.limits.TheConstants.{MOST_CODE_BYTES}
 use Rattle.bpf_isa.specs.Encoding.{spelling, units_of}
 use Rattle.bpf_asm.specs.declared.errors.TextCause.{TextCause}
 use Rattle.bpf_asm.specs.declared.errors.AssembleError.{AssembleError}
-use Rattle.bpf_asm.specs.declared.placed.Placed.{Placed}
-use Rattle.bpf_asm.specs.declared.placed.Target.{Target}
-use Rattle.bpf_asm.specs.declared.placed.Target.TheVariants.{At}
+use Rattle.bpf_asm.specs.declared.writing.placed.Placed.{Placed}
+use Rattle.bpf_asm.specs.declared.writing.placed.Target.{Target}
+use Rattle.bpf_asm.specs.declared.writing.placed.Target.TheVariants.{At}
 use Rattle.bpf_asm.specs.Statements.{Item}
 use Rattle.bpf_asm.specs.Assembly.{item_units, item_bytes, bytes_first, code_from}
 use Rattle.bpf_asm.specs.Writing.{distance_of, landing, target_at, target_text}

@@ -8,8 +8,8 @@ use Rattle.bpf_asm.specs.declared.errors.TextCause.{TextCause}
 use Rattle.bpf_asm.specs.declared.errors.TextCause.TheVariants.{Syntax, UnknownName, DoubleLabel, UnknownLabel, NumberRange, TooLong, OutOfMemory}
 use Rattle.bpf_asm.specs.declared.errors.AssembleError.{AssembleError}
 use Rattle.std.proofs.lemmas.List.{drop_more}
-use Rattle.bpf_asm.specs.declared.item.Jumping.{Jumping}
-use Rattle.bpf_asm.specs.declared.item.Item.{Item as CodeItem}
+use Rattle.bpf_asm.specs.declared.reading.item.Jumping.{Jumping}
+use Rattle.bpf_asm.specs.declared.reading.item.Item.{Item as CodeItem}
 use Rattle.bpf_asm.specs.Said.{said_item, IsWritten}
 use Rattle.bpf_asm.specs.Statements.{Item, Blank, Labelled, Plain, Goes}
 use Rattle.bpf_asm.specs.Assembly.{code_from, bytes_first, item_bytes, item_units, place, jump_instruction, spelling_of, unless_memory}

@@ -8,7 +8,7 @@ use Rattle.std.proofs.lemmas.Fmt.{decimal_by_steps}
 use Rattle.std.proofs.lemmas.Bool.{and_parts}
 use Rattle.std.proofs.lemmas.Bool.Decides.{nat_tests}
 use Rattle.std.proofs.lemmas.List.Folds.{list_all-append}
-use Rattle.bpf_asm.specs.declared.numeral.Base.TheVariants.{Ten}
+use Rattle.bpf_asm.specs.declared.reading.numeral.Base.TheVariants.{Ten}
 use Rattle.bpf_asm.specs.Lexing.{Numeral, is_digit, is_empty, numeral, number, displacement}
 use Rattle.bpf_asm.specs.Statements.{digit_value, digits_from, immediate_of, offset_of, wide_of}
 use Rattle.bpf_asm.specs.Writing.{offset_text}

@@ -3,8 +3,8 @@ use Rattle.std.proofs.Common.{◌≡◌, ◌≤◌, ◌<◌, ◌+◌, ◌*◌, �
 use Rattle.std.specs.Prelude.{length, nat_lt, Some, None, if◌then◌else◌}
 use Rattle.std.proofs.lemmas.Bool.Decides.{nat_tests}
 use Rattle.std.proofs.lemmas.List.{drop_more, drop_all}
-use Rattle.bpf_asm.specs.declared.numeral.Base.{Base}
-use Rattle.bpf_asm.specs.declared.numeral.Base.TheVariants.{Ten, Sixteen}
+use Rattle.bpf_asm.specs.declared.reading.numeral.Base.{Base}
+use Rattle.bpf_asm.specs.declared.reading.numeral.Base.TheVariants.{Ten, Sixteen}
 use Rattle.bpf_asm.specs.Statements.{base_number, digit_value, digits_from}
 
 above : (b : Base) (n : ℕ) (digits : List ℕ) → n ≤ digits_from (base_number b) n digits

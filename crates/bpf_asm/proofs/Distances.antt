@@ -8,10 +8,10 @@ use Rattle.bpf_isa.specs.declared.instruction.Distance.TheVariants as distances
 use Rattle.bpf_isa.specs.declared.instruction.Instruction.{Instruction}
 use Rattle.bpf_isa.specs.declared.instruction.Instruction.TheVariants.{Alu, MoveSigned, Negate, Swap, Jump, Branch, CallHelper, CallLocal, Exit, Load, LoadSigned, Store, StoreRegister, Wide}
 use Rattle.bpf_isa.specs.Encoding.{spelling}
-use Rattle.bpf_asm.specs.declared.item.Jumping.{Jumping}
-use Rattle.bpf_asm.specs.declared.item.Jumping.TheVariants as jumpings
-use Rattle.bpf_asm.specs.declared.placed.Target.{Target}
-use Rattle.bpf_asm.specs.declared.placed.Target.TheVariants.{At}
+use Rattle.bpf_asm.specs.declared.reading.item.Jumping.{Jumping}
+use Rattle.bpf_asm.specs.declared.reading.item.Jumping.TheVariants as jumpings
+use Rattle.bpf_asm.specs.declared.writing.placed.Target.{Target}
+use Rattle.bpf_asm.specs.declared.writing.placed.Target.TheVariants.{At}
 use Rattle.bpf_asm.specs.Statements.{Item}
 use Rattle.bpf_asm.specs.Assembly.{place, distance, jump_to, jump_instruction, spelling_of, item_bytes}
 use Rattle.bpf_asm.specs.Writing.{label_text, distance_of, landing, target_of, target_text}

@@ -24,10 +24,10 @@ use Rattle.bpf_isa.specs.declared.instruction.Distance.TheVariants as distances
 use Rattle.bpf_isa.specs.declared.instruction.Instruction.{Instruction}
 use Rattle.bpf_isa.specs.declared.instruction.Instruction.TheVariants.{Alu, MoveSigned, Negate, Swap, Jump, Branch, CallHelper, CallLocal, Exit, Load, LoadSigned, Store, StoreRegister, Wide}
 use Rattle.bpf_isa.specs.Encoding.{InstructionFits, OperandFits}
-use Rattle.bpf_asm.specs.declared.word.Word.{Word}
-use Rattle.bpf_asm.specs.declared.word.Word.TheVariants as words
-use Rattle.bpf_asm.specs.declared.item.Jumping.TheVariants as jumpings
-use Rattle.bpf_asm.specs.declared.placed.Target.{Target}
+use Rattle.bpf_asm.specs.declared.reading.word.Word.{Word}
+use Rattle.bpf_asm.specs.declared.reading.word.Word.TheVariants as words
+use Rattle.bpf_asm.specs.declared.reading.item.Jumping.TheVariants as jumpings
+use Rattle.bpf_asm.specs.declared.writing.placed.Target.{Target}
 use Rattle.bpf_asm.specs.Lexing.{is_word, Argument, Held, Counted, Addressed, Named, argument_list}
 use Rattle.bpf_asm.specs.Words.{word}
 use Rattle.bpf_asm.specs.Statements.{Item, Plain, Goes, item, statement}

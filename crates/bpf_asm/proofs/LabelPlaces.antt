@@ -10,8 +10,8 @@ use Rattle.bpf_isa.specs.declared.instruction.Distance.TheVariants as distances
 use Rattle.bpf_isa.specs.declared.instruction.Instruction.{Instruction}
 use Rattle.bpf_isa.specs.declared.instruction.Instruction.TheVariants.{Alu, Jump}
 use Rattle.bpf_isa.specs.Encoding.{units_of}
-use Rattle.bpf_asm.specs.declared.placed.Placed.{Placed}
-use Rattle.bpf_asm.specs.declared.placed.Target.{Target}
+use Rattle.bpf_asm.specs.declared.writing.placed.Placed.{Placed}
+use Rattle.bpf_asm.specs.declared.writing.placed.Target.{Target}
 use Rattle.bpf_asm.specs.Lexing.{same_bytes}
 use Rattle.bpf_asm.specs.Statements.{Item, Blank, Labelled}
 use Rattle.bpf_asm.specs.Assembly.{item_units, is_label, place_from}

@@ -9,13 +9,13 @@ pub mod Gathering
 pub mod Instructions
 pub mod LabelPlaces
 pub mod Lines
+pub mod LinesLeft
 pub mod LinesRead
 pub mod ListedLines
 pub mod Operands
 pub mod Parts
 pub mod Placing
 pub mod Programs
-pub mod Reading
 pub mod RoundTrip
 pub mod Solids
 pub mod Spoken

@@ -9,8 +9,8 @@ use Rattle.bpf_isa.specs.declared.instruction.Instruction.{Instruction}
 use Rattle.bpf_isa.specs.declared.instruction.Instruction.TheVariants.{Alu, Jump}
 use Rattle.bpf_isa.specs.Encoding.{units_of}
 use Rattle.bpf_asm.specs.declared.errors.AssembleError.{AssembleError}
-use Rattle.bpf_asm.specs.declared.placed.Placed.{Placed}
-use Rattle.bpf_asm.specs.declared.placed.Target.{Target}
+use Rattle.bpf_asm.specs.declared.writing.placed.Placed.{Placed}
+use Rattle.bpf_asm.specs.declared.writing.placed.Target.{Target}
 use Rattle.bpf_asm.specs.Statements.{Item, Labelled, item}
 use Rattle.bpf_asm.specs.Assembly.{item_units, units, place, fitting, admission, reading_admission, items_from}
 use Rattle.bpf_asm.specs.Writing.{label_text, statement_text}
@@ -18,7 +18,7 @@ use Rattle.bpf_asm.specs.Listing.{is_target, target}
 use Rattle.bpf_asm.specs.Laws.{StandFrom}
 use Rattle.bpf_asm.proofs.Lines.{units_more, place_other, label_new}
 use Rattle.bpf_asm.proofs.Placing.{units_some}
-use Rattle.bpf_asm.proofs.Reading.{read_one}
+use Rattle.bpf_asm.proofs.LinesLeft.{read_one}
 use Rattle.bpf_asm.proofs.Spoken.{item_label}
 use Rattle.bpf_asm.proofs.Operands.{label_is_name}
 use Rattle.bpf_asm.proofs.Instructions.{item_for}

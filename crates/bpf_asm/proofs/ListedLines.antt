@@ -3,7 +3,7 @@ use Rattle.std.proofs.Common.{◌≡◌, ◌<◌, ◌^◌, ℕ, Bool, true, fals
 use Rattle.std.specs.Prelude.{◌==◌, not, codes, if◌then◌else◌}
 use Rattle.std.specs.List.{AllByRecursion, list_all, flat_map}
 use Rattle.std.proofs.lemmas.Bool.{and_parts}
-use Rattle.bpf_asm.specs.declared.placed.Placed.{Placed}
+use Rattle.bpf_asm.specs.declared.writing.placed.Placed.{Placed}
 use Rattle.bpf_asm.specs.Lexing.{parts}
 use Rattle.bpf_asm.specs.Writing.{label_text, statement_text}
 use Rattle.bpf_asm.specs.Listing.{is_target, label_line, lines_of}

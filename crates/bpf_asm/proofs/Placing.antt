@@ -7,7 +7,7 @@ use Rattle.bpf_isa.specs.declared.decode_error.DecodeError.{DecodeError}
 use Rattle.bpf_isa.specs.declared.instruction.Instruction.TheVariants.{Wide}
 use Rattle.bpf_isa.specs.Encoding.{units_of}
 use Rattle.bpf_isa.specs.Reading.{decoding, units_in}
-use Rattle.bpf_asm.specs.declared.placed.Placed.{Placed}
+use Rattle.bpf_asm.specs.declared.writing.placed.Placed.{Placed}
 use Rattle.bpf_asm.specs.declared.errors.DisassembleError.{DisassembleError}
 use Rattle.bpf_asm.specs.declared.errors.DisassembleError.TheVariants.{BadCode}
 use Rattle.bpf_asm.specs.Listing.{placed_from, placed_first, is_start}

@@ -11,9 +11,9 @@ use Rattle.bpf_isa.specs.Encoding.{IsCodeAt, units_of}
 use Rattle.bpf_isa.specs.Reading.{decoding, units_in}
 use Rattle.bpf_asm.specs.declared.errors.DisassembleError.{DisassembleError}
 use Rattle.bpf_asm.specs.declared.errors.DisassembleError.TheVariants.{TooLong}
-use Rattle.bpf_asm.specs.declared.placed.Placed.{Placed}
-use Rattle.bpf_asm.specs.declared.placed.Target.{Target}
-use Rattle.bpf_asm.specs.declared.placed.Target.TheVariants.{Nowhere, Before, At}
+use Rattle.bpf_asm.specs.declared.writing.placed.Placed.{Placed}
+use Rattle.bpf_asm.specs.declared.writing.placed.Target.{Target}
+use Rattle.bpf_asm.specs.declared.writing.placed.Target.TheVariants.{Nowhere, Before, At}
 use Rattle.bpf_asm.specs.Listing.{placed_first, placed_from, instructions, is_start, target, jumps_out, first_out, listing, unless_out, listing_of_placed, disassembly}
 use Rattle.bpf_asm.specs.Laws.{StandFrom, LandsIn, IsProgram}
 use Rattle.bpf_asm.proofs.Placing.{units_some}

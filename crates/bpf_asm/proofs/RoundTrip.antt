@@ -4,7 +4,7 @@ use Rattle.std.specs.Prelude.{Ok}
 use Rattle.std.specs.List.{AllByRecursion}
 use Rattle.bpf_isa.specs.declared.limits.TheConstants.{MOST_CODE_BYTES}
 use Rattle.bpf_isa.specs.Encoding.{units_of}
-use Rattle.bpf_asm.specs.declared.placed.Placed.{Placed}
+use Rattle.bpf_asm.specs.declared.writing.placed.Placed.{Placed}
 use Rattle.bpf_asm.specs.Assembly.{items_from, code_of_items, assembly}
 use Rattle.bpf_asm.specs.Writing.{distance_of}
 use Rattle.bpf_asm.specs.Listing.{target, listing}

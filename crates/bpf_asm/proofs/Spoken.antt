@@ -6,7 +6,7 @@ use Rattle.std.proofs.lemmas.Bool.{and_parts}
 use Rattle.std.proofs.lemmas.Bool.Decides.{nat_tests}
 use Rattle.std.proofs.lemmas.List.{take_all, length-append}
 use Rattle.std.proofs.Math.Seq.{take-append_seam, drop-append_seam}
-use Rattle.bpf_asm.specs.declared.word.Word.{Word}
+use Rattle.bpf_asm.specs.declared.reading.word.Word.{Word}
 use Rattle.bpf_asm.specs.Lexing.{is_blank, is_letter, is_word_byte, is_empty, is_word, is_name, parts, without_end, without_front, without_blanks, said_part, Argument, argument, Arguments, all_arguments, argument_list, arguments}
 use Rattle.bpf_asm.specs.Words.{word}
 use Rattle.bpf_asm.specs.Statements.{Labelled, item, said, statement, word_line, ends_in_colon, label_line}

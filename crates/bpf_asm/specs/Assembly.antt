@@ -8,8 +8,8 @@ use Rattle.bpf_isa.specs.Encoding.{spelling, units_of}
 use Rattle.bpf_asm.specs.declared.errors.TextCause.{TextCause}
 use Rattle.bpf_asm.specs.declared.errors.TextCause.TheVariants.{DoubleLabel, UnknownLabel, TooLong, OutOfMemory}
 use Rattle.bpf_asm.specs.declared.errors.AssembleError.{AssembleError}
-use Rattle.bpf_asm.specs.declared.item.Jumping.{Jumping}
-use Rattle.bpf_asm.specs.declared.item.Jumping.TheVariants as jumpings
+use Rattle.bpf_asm.specs.declared.reading.item.Jumping.{Jumping}
+use Rattle.bpf_asm.specs.declared.reading.item.Jumping.TheVariants as jumpings
 use Rattle.bpf_asm.specs.Lexing.{parts, same_bytes, is_none}
 use Rattle.bpf_asm.specs.Statements.{Item, Blank, Labelled, Plain, Goes, item, in_range, signed_below}
 

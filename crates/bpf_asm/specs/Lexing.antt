@@ -5,8 +5,8 @@ use Rattle.std.specs.List.{slice_split, list_all, position_or_len}
 use Rattle.bpf_isa.specs.declared.register.Register.{Register}
 use Rattle.bpf_isa.specs.declared.register.Register.TheVariants.{R10}
 use Rattle.bpf_isa.specs.Reading.{register_at}
-use Rattle.bpf_asm.specs.declared.numeral.Base.{Base}
-use Rattle.bpf_asm.specs.declared.numeral.Base.TheVariants.{Ten, Sixteen}
+use Rattle.bpf_asm.specs.declared.reading.numeral.Base.{Base}
+use Rattle.bpf_asm.specs.declared.reading.numeral.Base.TheVariants.{Ten, Sixteen}
 
 -- ---- bytes
 

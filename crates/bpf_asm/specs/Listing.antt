@@ -5,9 +5,9 @@ use Rattle.bpf_isa.specs.declared.limits.TheConstants.{MOST_CODE_BYTES}
 use Rattle.bpf_isa.specs.declared.instruction.Instruction.{Instruction}
 use Rattle.bpf_isa.specs.declared.decode_error.DecodeError.{DecodeError}
 use Rattle.bpf_isa.specs.Reading.{decoding, units_in}
-use Rattle.bpf_asm.specs.declared.placed.Placed.{Placed}
-use Rattle.bpf_asm.specs.declared.placed.Target.{Target}
-use Rattle.bpf_asm.specs.declared.placed.Target.TheVariants.{Nowhere, Before, At}
+use Rattle.bpf_asm.specs.declared.writing.placed.Placed.{Placed}
+use Rattle.bpf_asm.specs.declared.writing.placed.Target.{Target}
+use Rattle.bpf_asm.specs.declared.writing.placed.Target.TheVariants.{Nowhere, Before, At}
 use Rattle.bpf_asm.specs.declared.errors.DisassembleError.{DisassembleError}
 use Rattle.bpf_asm.specs.declared.errors.DisassembleError.TheVariants.{BadCode, JumpOut, TooLong, OutOfMemory}
 use Rattle.bpf_asm.specs.Writing.{target_of, label_text, statement_text}

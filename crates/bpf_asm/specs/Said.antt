@@ -2,14 +2,14 @@
 use Rattle.std.specs.Prelude.{◌≡◌, ◌+◌, ◌++◌, ℕ, List, [], Option, Some, None, Result, Ok, Err}
 use Rattle.std.specs.Borrow.{Bor}
 use Rattle.bpf_isa.specs.declared.register.Register.{Register}
-use Rattle.bpf_asm.specs.declared.numeral.Numeral.{Numeral as CodeNumeral}
-use Rattle.bpf_asm.specs.declared.argument.Argument.{Argument as CodeArgument}
-use Rattle.bpf_asm.specs.declared.argument.Argument.TheVariants as argument_forms
-use Rattle.bpf_asm.specs.declared.statement_arguments.Arguments.{Arguments as CodeArguments}
-use Rattle.bpf_asm.specs.declared.statement_arguments.Arguments.TheVariants as argument_counts
+use Rattle.bpf_asm.specs.declared.reading.numeral.Numeral.{Numeral as CodeNumeral}
+use Rattle.bpf_asm.specs.declared.reading.argument.Argument.{Argument as CodeArgument}
+use Rattle.bpf_asm.specs.declared.reading.argument.Argument.TheVariants as argument_forms
+use Rattle.bpf_asm.specs.declared.reading.statement_arguments.Arguments.{Arguments as CodeArguments}
+use Rattle.bpf_asm.specs.declared.reading.statement_arguments.Arguments.TheVariants as argument_counts
 use Rattle.bpf_asm.specs.declared.errors.TextCause.{TextCause}
-use Rattle.bpf_asm.specs.declared.item.Item.{Item as CodeItem}
-use Rattle.bpf_asm.specs.declared.item.Item.TheVariants as items
+use Rattle.bpf_asm.specs.declared.reading.item.Item.{Item as CodeItem}
+use Rattle.bpf_asm.specs.declared.reading.item.Item.TheVariants as items
 use Rattle.bpf_asm.specs.Assembly.{place, units, item_bytes, item_units}
 use Rattle.bpf_asm.specs.Statements.{Item, Blank, Labelled, Plain, Goes}
 use Rattle.bpf_asm.specs.Lexing.{parts, Numeral, Argument, Held, Counted, Addressed, Named, Arguments, Zero, One, Two, Three, More}

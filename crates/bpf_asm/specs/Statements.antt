@@ -12,14 +12,14 @@ use Rattle.bpf_isa.specs.declared.instruction.SignedSize.{SignedSize}
 use Rattle.bpf_isa.specs.declared.instruction.Extension.{Extension}
 use Rattle.bpf_isa.specs.declared.instruction.Instruction.{Instruction}
 use Rattle.bpf_isa.specs.declared.instruction.Instruction.TheVariants.{Alu, MoveSigned, Negate, Swap, CallHelper, Exit, Load, LoadSigned, Store, StoreRegister, Wide}
-use Rattle.bpf_asm.specs.declared.numeral.Base.{Base}
-use Rattle.bpf_asm.specs.declared.numeral.Base.TheVariants.{Ten, Sixteen}
+use Rattle.bpf_asm.specs.declared.reading.numeral.Base.{Base}
+use Rattle.bpf_asm.specs.declared.reading.numeral.Base.TheVariants.{Ten, Sixteen}
 use Rattle.bpf_asm.specs.declared.errors.TextCause.{TextCause}
 use Rattle.bpf_asm.specs.declared.errors.TextCause.TheVariants.{Syntax, UnknownName, NumberRange}
-use Rattle.bpf_asm.specs.declared.word.Word.{Word}
-use Rattle.bpf_asm.specs.declared.word.Word.TheVariants as words
-use Rattle.bpf_asm.specs.declared.item.Jumping.{Jumping}
-use Rattle.bpf_asm.specs.declared.item.Jumping.TheVariants.{Near, Far, Call, Branch}
+use Rattle.bpf_asm.specs.declared.reading.word.Word.{Word}
+use Rattle.bpf_asm.specs.declared.reading.word.Word.TheVariants as words
+use Rattle.bpf_asm.specs.declared.reading.item.Jumping.{Jumping}
+use Rattle.bpf_asm.specs.declared.reading.item.Jumping.TheVariants.{Near, Far, Call, Branch}
 use Rattle.bpf_asm.specs.Lexing.{Numeral, Argument, Held, Counted, Addressed, Named, Arguments, Zero, One, Two, Three, arguments, is_word, is_name, is_empty, is_blank, said_part}
 use Rattle.bpf_asm.specs.Words.{word}
 

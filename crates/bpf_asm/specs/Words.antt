@@ -12,8 +12,8 @@ use Rattle.bpf_isa.specs.declared.instruction.SignedSize.TheVariants.{SignedByte
 use Rattle.bpf_isa.specs.declared.instruction.Extension.TheVariants.{From8To32, From16To32, From8To64, From16To64, From32To64}
 use Rattle.bpf_isa.specs.declared.instruction.ByteOrder.TheVariants.{Little, Big, Reversed}
 use Rattle.bpf_isa.specs.declared.instruction.SwapBits.TheVariants.{Low16, Low32, Low64}
-use Rattle.bpf_asm.specs.declared.word.Word as statement_words
-use Rattle.bpf_asm.specs.declared.word.Word.TheVariants as words
+use Rattle.bpf_asm.specs.declared.reading.word.Word as statement_words
+use Rattle.bpf_asm.specs.declared.reading.word.Word.TheVariants as words
 use Rattle.bpf_asm.specs.Lexing.{same_bytes}
 
 -- what a table has at a text

@@ -7,8 +7,6 @@ mod image;
 mod image_error;
 pub mod laws;
 mod limits;
-#[cfg(test)]
-mod tests;
 
 pub use image::Image;
 pub use image_error::ImageError;

@@ -13,8 +13,6 @@ mod making;
 mod register;
 mod row;
 mod row_table;
-#[cfg(test)]
-mod tests;
 
 pub use decode::decode_at;
 pub use decode_error::DecodeError;

@@ -13,8 +13,6 @@ mod memory;
 mod run;
 mod stack;
 mod stores;
-#[cfg(test)]
-mod tests;
 mod turn;
 
 pub use bpf_model::{Outcome, TrapKind};

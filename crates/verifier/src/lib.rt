@@ -11,8 +11,6 @@ mod listing;
 mod places;
 mod refusal;
 mod states;
-#[cfg(test)]
-mod tests;
 mod verified;
 mod walking;
 mod weights;

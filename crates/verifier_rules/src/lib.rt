@@ -11,8 +11,6 @@ pub mod laws;
 mod onward;
 mod reading;
 mod rules;
-#[cfg(test)]
-mod tests;
 mod writing;
 
 pub use onward::Onward;
