@@ -15,3 +15,4 @@ pub mod HomeLemmas
 pub mod HousedLemmas
 pub mod FilledLemmas
 pub mod MadeLemmas
+mod NearbyLemmas

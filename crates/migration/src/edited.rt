@@ -4,6 +4,7 @@ ghost use Rattle.graph_model.specs.Graph.{numbers_below};
 ghost use Rattle.migration.specs.Lists.{AreKept, rows_of};
 ghost use Rattle.migration.specs.Merge.{AreEditsFrom, IsMerged};
 
+use crate::buffer::Buffer;
 use crate::counts::Counts;
 use crate::lists::Lists;
 use crate::merge::{merge, sort_by_target};
@@ -18,13 +19,13 @@ pub(crate) fn edited_list(
     vertex: usize,
     edits: &mut Vec<Edit>,
     gathered: &mut Vec<u32>,
-    merged: &mut Vec<u32>,
+    merged: &mut Buffer,
 ) -> Result<Counts, AllocError>
     requires kept { AreKept lists.now }
     requires inside { vertex < length (rows_of lists.now) }
     ensures { IfOk result (λ counts. (u n : ℕ) (p : ℕ → Bool) → AreEditsFrom u n edits.old.items
         → slice_index_or (rows_of lists.now) vertex [] ≡ filter p (numbers_below n)
-        → IsMerged edits.old.items u n p merged.new.items counts) }
+        → IsMerged edits.old.items u n p merged.new counts) }
 {
     sort_by_target(edits)?;
     let slice = lists.lent_at(vertex, 0);

@@ -50,8 +50,9 @@ pub(crate) fn edited_page(
             &mut scratch.gathered,
             &mut scratch.merged,
         )?;
-        let home = page.home(place).after(scratch.merged.len() as u32);
-        scratch.lists.push(alloc, home, &scratch.merged)?;
+        let words = scratch.merged.words();
+        let home = page.home(place).after(words.len() as u32);
+        scratch.lists.push(alloc, home, words)?;
         counts = counts.plus(more);
     }
     let next = scratch.lists.taken(alloc)?;

@@ -3,6 +3,7 @@
 #![tactic(auto)]
 
 mod block;
+mod buffer;
 mod counts;
 mod edited;
 mod edited_page;
@@ -10,6 +11,7 @@ mod edited_shard;
 mod groups;
 mod lists;
 mod merge;
+mod nearby;
 mod pages;
 mod scratch;
 mod shard;

@@ -1,5 +1,6 @@
 //! The space in which a shard's pages are made.
 
+use crate::buffer::Buffer;
 use crate::lists::Lists;
 use graph_model::Edit;
 use std::alloc::{AllocError, Global};
@@ -14,17 +15,17 @@ pub(crate) struct Scratch {
     /// The words of a list that lies in more than one slice.
     pub gathered: Vec<u32>,
     /// The words of a list after its edits.
-    pub merged: Vec<u32>,
+    pub merged: Buffer,
 }
 
 impl Scratch {
-    /// Space for pages of so many vertices.
-    pub fn new(alloc: Global, vertices: usize) -> Result<Scratch, AllocError> {
+    /// Space for pages of so many vertices, of which none has more edits than these.
+    pub fn new(alloc: Global, vertices: usize, edits: usize) -> Result<Scratch, AllocError> {
         Ok(Scratch {
             lists: Lists::new(alloc, vertices)?,
-            own: Vec::new(alloc),
+            own: Vec::with_capacity(alloc, edits)?,
             gathered: Vec::new(alloc),
-            merged: Vec::new(alloc),
+            merged: Buffer::new(alloc),
         })
     }
 }

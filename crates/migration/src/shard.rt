@@ -72,7 +72,7 @@ impl Shard {
     {
         let vertices = self.vertices;
         let groups = Groups::of(alloc, Grouping::ByVertex, usize::from(vertices), edits)?;
-        let mut scratch = Scratch::new(alloc, PAGE_VERTICES)?;
+        let mut scratch = Scratch::new(alloc, PAGE_VERTICES, edits.len())?;
         let mut pages = Vec::with_capacity(alloc, self.pages.len())?;
         let mut counts = Counts::NONE;
         for (number, page) in self.pages.iter().enumerate() {

@@ -4,6 +4,7 @@ ghost use Rattle.graph_model.specs.declared.limits.TheConstants.{RANGE_VERTICES}
 ghost use Rattle.word_sets.specs.Words.{IsSet};
 ghost use Rattle.migration.specs.ShortBlocks.{ArePacked, set_at};
 
+use crate::nearby::push_words;
 use std::alloc::{AllocError, Global};
 
 /// The most words of a short block.
@@ -74,7 +75,7 @@ impl ShortBlocks {
         ensures ends { IfOk result (λ _. self.new.ends.items
             ≡ self.old.ends.items ++ (length self.old.words.items + length words.now) ∷ []) }
     {
-        self.words.extend_from_slice(words)?;
+        push_words(&mut self.words, words)?;
         self.ends.push(self.words.len() as u16)?;
         Ok(())
     }

@@ -12,11 +12,11 @@ returns-then-slice-degree c =
     let same = c.in_ok-sort_by_target.ensures.same u n own in
     let long : length c.lent_at-slice.result.now ≡ length row = (let degree = c.degree.ensures.value in let test = c.if-slice-degree.true in omega arith) in
     let sorted = c.in_ok-counts.ensures u n p (subst (AreEditsFrom u n) (sym c.deref.ensures.value) same.own) (whole_lent row c.lent_at-slice.result.now c.lent_at-slice.ensures long ∙ is) in
-    merged_same c.args.edits.now.items c.sort_by_target.new.edits.items u n p c.merge.new.merged.items c.in_ok-counts.counts same (subst (λ l. IsMerged l u n p c.merge.new.merged.items c.in_ok-counts.counts) c.deref.ensures.value sorted)
+    merged_same c.args.edits.now.items c.sort_by_target.new.edits.items u n p c.merge.new.merged c.in_ok-counts.counts same (subst (λ l. IsMerged l u n p c.merge.new.merged c.in_ok-counts.counts) c.deref.ensures.value sorted)
 
 pub returns : goal.returns
 returns c =
     λ u n p own is.
     let same = c.in_ok-sort_by_target.ensures.same u n own in
     let sorted = c.in_ok-counts-2.ensures u n p (subst (AreEditsFrom u n) (sym c.deref-3.ensures.value) same.own) (c.deref-2.ensures.value ∙ c.in_ok-read.ensures ∙ is) in
-    merged_same c.args.edits.now.items c.sort_by_target.new.edits.items u n p c.merge-2.new.merged.items c.in_ok-counts-2.counts same (subst (λ l. IsMerged l u n p c.merge-2.new.merged.items c.in_ok-counts-2.counts) c.deref-3.ensures.value sorted)
+    merged_same c.args.edits.now.items c.sort_by_target.new.edits.items u n p c.merge-2.new.merged c.in_ok-counts-2.counts same (subst (λ l. IsMerged l u n p c.merge-2.new.merged c.in_ok-counts-2.counts) c.deref-3.ensures.value sorted)
