@@ -1,4 +1,4 @@
-//! Serves three scripts, and tells how the serving ended where it did not come to the end of each. It is run with each
+//! Serves two scripts, and tells how the serving ended where it did not come to the end of each. It is run with each
 //! of its allocations failing in turn.
 #![tactic(auto)]
 
@@ -6,7 +6,7 @@ mod expected;
 mod scripts;
 
 use expected::Expected;
-use scripts::{FIRST, FIRST_TEXT, HOMES_TEXT, RANGES, RANGES_TEXT, homes};
+use scripts::{FIRST, FIRST_TEXT, RANGES, RANGES_TEXT};
 use service::{Ending, OpenGate, ServeError, StdInput, Workers, serve};
 use std::alloc::{AllocError, Global};
 use std::io;
@@ -17,8 +17,6 @@ use std::thread::Threads;
 /// How scripts ended.
 #[derive(Clone, Copy, PartialEq, Eq)]
 enum Told {
-    /// There was no memory to begin.
-    NotBegun,
     /// All that they mean was written.
     Complete,
     /// Memory was refused, and what was written is a beginning of what they mean.
@@ -32,7 +30,6 @@ enum Told {
 impl Told {
     fn text(self) -> &'static str {
         match self {
-            Told::NotBegun => "not begun",
             Told::Complete => "complete",
             Told::Memory => "memory",
             Told::Store => "store",
@@ -65,13 +62,8 @@ fn told_of<R: Threads + Wait>(rt: &R, alloc: Global, script: &str, text: &str) -
 }
 
 /// Serves each script, and stops at the first that does not come to its end.
-fn told_of_all<R: Threads + Wait>(rt: &R, alloc: Global, homes: &str) -> Told {
-    let scripts = [
-        (FIRST, FIRST_TEXT),
-        (RANGES, RANGES_TEXT),
-        (homes, HOMES_TEXT),
-    ];
-    for (script, text) in scripts {
+fn told_of_all<R: Threads + Wait>(rt: &R, alloc: Global) -> Told {
+    for (script, text) in [(FIRST, FIRST_TEXT), (RANGES, RANGES_TEXT)] {
         let told = told_of(rt, alloc, script, text);
         if told != Told::Complete {
             return told;
@@ -91,12 +83,7 @@ fn spend(alloc: Global, count: usize) {
 fn main(rt: HostRuntime) -> io::Result<()> {
     let mut bytes = [0; 4096];
     let count = rt.stdin().read(&mut bytes)?;
-    let told = match homes(rt.alloc()) {
-        Ok(homes) => {
-            spend(rt.alloc(), count);
-            told_of_all(&rt, rt.alloc(), &homes)
-        }
-        Err(_) => Told::NotBegun,
-    };
+    spend(rt.alloc(), count);
+    let told = told_of_all(&rt, rt.alloc());
     println!(rt; "{}", told.text())
 }

@@ -1,8 +1,4 @@
 //! The scripts that are served, and what they mean.
-use itoa::Buffer;
-use std::alloc::{AllocError, Global};
-use std::ops::Range;
-
 /// The first script of the documents.
 pub const FIRST: &str =
     "graph 4\nbatch A\n+ 0 1\n+ 0 2\n+ 1 2\nend\ncode t 16 61100400000000009500000000000000\npin a\nrun t a sum -\n";
@@ -18,33 +14,3 @@ pub const RANGES: &str =
 /// What it means.
 pub const RANGES_TEXT: &str =
     "graph 300\nbatch A version 1 added 4 removed 0\nprogram t bound 2 frames 1\npin a version 1 edges 4\nbatch B version 2 added 0 removed 1\nrun t a edges 4 total 10\nrow 0 1\nrow 70 2\nrow 299 7\nhome 299 block degree 2\n";
-
-/// What the script of `homes` means.
-pub const HOMES_TEXT: &str =
-    "graph 2000\nbatch A version 1 added 1025 removed 0\nhome 0 tree degree 1025\npin a version 1 edges 1025\nbatch B version 2 added 0 removed 1017\nhome 0 block degree 8\nprogram t bound 2 frames 1\nrun t a edges 1025 total 1024\nrow 0 1024\n";
-
-/// Bytes that have room for the script of `homes`.
-const HOMES_BYTES: usize = 24_576;
-
-/// Lines that edit the targets of vertex 0.
-fn push_edits(script: &mut String, sign: &str, targets: Range<u32>) -> Result<(), AllocError> {
-    let mut digits = Buffer::new();
-    for target in targets {
-        script.push_str(sign)?;
-        script.push_str(" 0 ")?;
-        script.push_str(digits.format(target))?;
-        script.push_str("\n")?;
-    }
-    Ok(())
-}
-
-/// A vertex gets 1,025 targets, which a pin holds, and loses all but eight.
-pub fn homes(alloc: Global) -> Result<String, AllocError> {
-    let mut script = String::with_capacity(alloc, HOMES_BYTES)?;
-    script.push_str("graph 2000\nbatch A\n")?;
-    push_edits(&mut script, "+", 0..1025)?;
-    script.push_str("end\nhome 0\npin a\nbatch B\n")?;
-    push_edits(&mut script, "-", 8..1025)?;
-    script.push_str("end\nhome 0\ncode t 16 61100400000000009500000000000000\nrun t a max -\n")?;
-    Ok(script)
-}
