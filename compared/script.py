@@ -49,6 +49,8 @@ def is_command(command, words):
         return len(words) == 1 and are_names(words)
     if command == "home":
         return len(words) == 1 and are_numbers(words)
+    if command == "list":
+        return len(words) == 3 and are_names(words[:2]) and hexadecimal(words[2]) is not None
     if command == "program":
         return len(words) == 2 and are_names(words[:1]) and are_numbers(words[1:])
     if command == "code":
@@ -128,20 +130,31 @@ class Session:
         test(name in self.programs, NAME)
         test(len(self.programs) >= 256, TOO_MANY)
 
+    def numbers(self, program, pin, argument, source):
+        """The targets of a vertex, each with the number of its edge."""
+        length, code, bound = self.programs[program]
+        graph = Graph(self.vertices, self.pins[pin])
+        targets = graph.neighbours(source)
+        for place, target in enumerate(targets):
+            record = struct.pack("<IIII", source, target, place, len(targets)) + hexadecimal(argument)
+            yield target, run(code, record, graph, bound)
+
+    def list_edges(self, program, pin, argument):
+        test(program not in self.programs or pin not in self.pins, NAME)
+        test(len(hexadecimal(argument)) != self.programs[program][0] - 16, ARGUMENT)
+        self.said.append(f"list {program} {pin} edges {len(self.pins[pin])}")
+        for source in range(self.vertices):
+            self.said += [f"edge {source} {target} {number}" for target, number in self.numbers(program, pin, argument, source)]
+
     def run(self, program, pin, reducer, argument, *frontier):
         frontier = [int(vertex) for vertex in frontier]
         test(any(vertex >= self.vertices for vertex in frontier), RANGE)
         test(program not in self.programs or pin not in self.pins, NAME)
-        length, code, bound = self.programs[program]
-        test(len(hexadecimal(argument)) != length - 16, ARGUMENT)
+        test(len(hexadecimal(argument)) != self.programs[program][0] - 16, ARGUMENT)
         test(any(low >= high for low, high in zip(frontier, frontier[1:])), FRONTIER)
-        graph, numbers, rows = Graph(self.vertices, self.pins[pin]), [], []
+        numbers, rows = [], []
         for source in frontier or range(self.vertices):
-            targets = graph.neighbours(source)
-            own = []
-            for place, target in enumerate(targets):
-                record = struct.pack("<IIII", source, target, place, len(targets)) + hexadecimal(argument)
-                own.append(run(code, record, graph, bound))
+            own = [number for _, number in self.numbers(program, pin, argument, source)]
             if own:
                 rows.append(f"row {source} {REDUCTIONS[reducer](own)}")
             numbers += own
@@ -172,6 +185,8 @@ class Session:
             vertex = int(words[0])
             test(vertex >= self.vertices, RANGE)
             self.said.append(f"home {vertex} {self.homes.get(vertex, 'block')} degree {self.degree(vertex)}")
+        elif command == "list":
+            self.list_edges(*words)
         else:
             self.run(*words)
 

@@ -19,7 +19,7 @@ GOOD_ARGUMENTS = {
 ODD_ARGUMENTS = ["2147483648", "-2147483649", "18446744073709551616", "[r1+32768]", "[r10-32769]", "???", "[r1 + 4]", "0x", ""]
 ODD_ARGUMENTS += ["+1", "-0x1", "0X1", "[r11]", "[r1+]", "[r1+0x4]", "a" * 32, "a" * 33, "r1 r2", "-", "r1:", "1x", "r01", "[r1--4]"]
 ODD_LINES = ["r1:", "r11:", "x :", "x: exit", ":", "a" * 33 + ":", "end x", "jmp x", "foo r1", "foo r1,", "12 r1", "mov! r0, 1", "#"]
-ODD_COMMANDS = ["list t a -", "home", "home x", "home 99", "batch C", "end", "graph 4", "foo", "batch", "pin", "pin a b", "code a 16", "run a", "pin a.b"]
+ODD_COMMANDS = ["list t a -", "list t a", "home", "home x", "home 99", "batch C", "end", "graph 4", "foo", "batch", "pin", "pin a b", "code a 16", "run a", "pin a.b"]
 ODD_COMMANDS += ["\x7f", "a\r", "pin " + "x" * 33, "program p 15", "program p 257", "code p 16 0", "code p 16 -", "code p 16 95", "run n1 n2 avg -"]
 ODD_EDITS = ["- 0", "-0 0", "", "# c", "+ 0", "+ 0 0 0", "end x", "+ 0 99999999999999999999", "+ 00 000", "+ -1 0"]
 MUTATIONS = b" \n\t#+-09afxzAZ[];:,.\r\x00\xff"
@@ -217,7 +217,7 @@ class Writer:
         return f"n{self.count}" if self.often(0.995) else "n1"
 
     def command(self, vertices):
-        kind = self.choice("tttccccppprrrrrbbbh")
+        kind = self.choice("tttccccppprrrrrllbbbh")
         if self.often(0.005):
             return [self.choice(ODD_COMMANDS)]
         name, length = self.name(), self.choice([16, 16, 17, 20, 32, 256])
@@ -237,6 +237,8 @@ class Writer:
             return [f"pin {name}"]
         if kind == "r" and self.programs and self.pins:
             return [self.run(vertices)]
+        if kind == "l" and self.programs and self.pins:
+            return [self.list_edges()]
         if kind == "h":
             return [f"home {self.random.randrange(vertices)}"]
         if vertices > 12 and self.often(0.6):
@@ -261,6 +263,13 @@ class Writer:
             frontier = [self.random.randrange(vertices + 1) for _ in range(3)]
         words = ["run", program, self.choice(self.pins), self.choice(["min", "max", "sum"]), argument, *map(str, frontier)]
         return " ".join(words)
+
+    def list_edges(self):
+        program = self.choice(sorted(self.programs))
+        argument = self.random.randbytes(self.programs[program] - 16).hex() or "-"
+        if self.often(0.01):
+            argument = self.choice(["-", "00", "0g", "000", "- 0"])
+        return f"list {program} {self.choice(self.pins)} {argument}"
 
     def script(self):
         vertices = self.choice([1, 2, 4, 5, 9, 20])

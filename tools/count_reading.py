@@ -21,7 +21,7 @@ LIST = [
         ("bpf_model/specs/Helpers.antt", "what a program may ask of the graph"),
         ("bpf_model/specs/Step.antt", "one step of each instruction"),
         ("bpf_model/specs/Run.antt", "steps in turn; the outcome of a run"),
-        ("bpf_model/specs/EdgeMap.antt", "the record of an edge; the number of its run"),
+        ("bpf_model/specs/EdgeMap.antt", "the record of an edge; the number of its run; all edges with their numbers"),
         ("verifier/specs/Sound.antt", "`IsFine`, `IsRecord`, `NeverGoesWrong`, `AlwaysExits`; the others are inner"),
         ("bpf_locality/specs/Locality.antt", "what a step touches"),
     ]),

@@ -14,6 +14,7 @@ FORMS = {
     "pin": "pin NAME: names the last version",
     "run": "run PROGRAM PIN min|max|sum HEX [U ..]: runs a program over the edges of all vertices, or of some, ascending",
     "home": "home V: where the last version keeps the targets of a vertex",
+    "list": "list PROGRAM PIN HEX: all edges of a pin, each with the number that a program exits with",
 }
 
 
@@ -93,7 +94,7 @@ class Language:
         command = words[0]
         if command not in FORMS:
             raise Complaint("no command has this name; .help lists them", 0)
-        counts = {"graph": 2, "batch": 2, "code": 4, "program": 3, "pin": 2, "home": 2}
+        counts = {"graph": 2, "batch": 2, "code": 4, "program": 3, "pin": 2, "home": 2, "list": 4}
         if len(words) != counts.get(command, len(words)) or (command == "run" and len(words) < 5):
             raise Complaint(FORMS[command], 0)
         if (command == "graph") != (self.vertices is None):
@@ -129,17 +130,24 @@ class Language:
     def _check_home(self, words):
         number(words, 1, "a vertex", 0, self.vertices - 1)
 
-    def _check_run(self, words):
-        if words[3] not in ("min", "max", "sum"):
-            raise Complaint("numbers are reduced by min, max or sum", 3)
-        length = digits(words, 4)
-        frontier = [number(words, place, "a vertex", 0, self.vertices - 1) for place in range(5, len(words))]
+    def _check_argument(self, words, place):
+        """The names of a program and of a pin, and the argument at this place."""
+        length = digits(words, place)
         if words[1] not in self.programs:
             raise Complaint("no program has this name", 1)
         if words[2] not in self.pins:
             raise Complaint("no pin has this name", 2)
         if length != self.programs[words[1]] - 16:
-            raise Complaint(f"this program's argument has {self.programs[words[1]] - 16} bytes", 4)
+            raise Complaint(f"this program's argument has {self.programs[words[1]] - 16} bytes", place)
+
+    def _check_list(self, words):
+        self._check_argument(words, 3)
+
+    def _check_run(self, words):
+        if words[3] not in ("min", "max", "sum"):
+            raise Complaint("numbers are reduced by min, max or sum", 3)
+        frontier = [number(words, place, "a vertex", 0, self.vertices - 1) for place in range(5, len(words))]
+        self._check_argument(words, 4)
         for place, (one, next_one) in enumerate(zip(frontier, frontier[1:])):
             if one >= next_one:
                 raise Complaint("vertices ascend", place + 6)

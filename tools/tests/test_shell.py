@@ -44,6 +44,8 @@ class EdgebpfShell(unittest.TestCase):
             ("run t b sum -", "      ^ no pin has this name"),
             ("run t a sun -", "        ^^^ numbers are reduced"),
             ("home 4", "     ^ a vertex is 0 to 3"),
+            ("list t b -", "       ^ no pin has this name"),
+            ("list t a 00", "         ^^ this program's argument has 0 bytes"),
         ]
         text = "pin a\n" + BEGUN + TARGET + "".join(line + "\n" for line, _ in slips) + "run t a sum -\n"
         said = self.said(text)

@@ -3,10 +3,11 @@ use Rattle.std.specs.Prelude.{ℕ, ◌+◌, ◌-◌, ◌^◌, ◌%◌, ◌==◌,
 use Rattle.std.specs.List.{flat_map, filter_map}
 use Rattle.std.specs.Int.{w32, to_le_bytes}
 use Rattle.bpf_image.specs.Program.{Program}
-use Rattle.graph_model.specs.Graph.{Graph, neighbours, degree}
+use Rattle.graph_model.specs.Graph.{Graph, numbers_below, neighbours, degree}
 use Rattle.bpf_model.specs.declared.reduction.Reduction.{Reduction}
 use Rattle.bpf_model.specs.declared.reduction.Reduction.TheVariants.{Min, Max, Sum}
 use Rattle.bpf_model.specs.declared.row.Row.{Row}
+use Rattle.bpf_model.specs.declared.listed_edge.ListedEdge.{ListedEdge}
 use Rattle.bpf_model.specs.State.{start}
 use Rattle.bpf_model.specs.Step.{Next, Goes, Exits, Traps}
 use Rattle.bpf_model.specs.Run.{after}
@@ -68,3 +69,24 @@ row_of p steps g reduction argument v =
 -- one row for each vertex of the frontier that has a neighbour, in the frontier's order
 abbrev pub rows_of : Program → ℕ → Graph → Reduction → List ℕ → List ℕ → List Row
 rows_of p steps g reduction argument frontier = flat_map (row_of p steps g reduction argument) frontier
+
+-- an edge with its exit number, if there is one
+abbrev pub numbered : ℕ → ℕ → Option ℕ → Option ListedEdge
+numbered source target None = None
+numbered source target (Some n) = Some (record { source = source; target = target; number = n })
+
+-- a vertex's edges with their exit numbers, from the edge at a place on
+abbrev pub numbered_from : Program → ℕ → Graph → List ℕ → ℕ → ℕ → List ℕ → List (Option ListedEdge)
+numbered_from p steps g argument source place [] = []
+numbered_from p steps g argument source place (target ∷ targets) =
+    numbered source target (number_for p steps g (edge_record g source target place argument))
+    ∷ numbered_from p steps g argument source (place + 1) targets
+
+-- a vertex's edges with their exit numbers, targets ascending, as far as runs exit within so many steps
+abbrev pub listed_of : Program → ℕ → Graph → List ℕ → ℕ → List ListedEdge
+listed_of p steps g argument source =
+    filter_map (λ edge. edge) (numbered_from p steps g argument source 0 (neighbours g source))
+
+-- all edges of a graph with their exit numbers, sources ascending
+abbrev pub listed_edges : Program → ℕ → Graph → List ℕ → List ListedEdge
+listed_edges p steps g argument = flat_map (listed_of p steps g argument) (numbers_below g.vertex_count)

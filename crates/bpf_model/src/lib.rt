@@ -7,6 +7,7 @@ mod cause;
 mod helper;
 pub mod laws;
 mod limits;
+mod listed_edge;
 mod outcome;
 mod reduction;
 mod row;
@@ -17,6 +18,7 @@ pub use helper::Helper;
 pub use limits::{
     EDGE_BYTES, FRAME_BYTES, FRAME_SPACE, MOST_FRAMES, MOST_GATHER_BYTES, RECORD_BASE, STACK_BASE,
 };
+pub use listed_edge::ListedEdge;
 pub use outcome::Outcome;
 pub use reduction::Reduction;
 pub use row::Row;

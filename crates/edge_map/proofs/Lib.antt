@@ -5,3 +5,4 @@ mod Places
 mod Refusals
 pub mod Walks
 pub mod Lists
+pub mod Listings

@@ -2,13 +2,13 @@
 use Rattle.std.specs.Prelude.{◌≡◌, ℕ, ◌+◌, List, [], ◌∷◌, Option, Some, None, Result, Ok, Err}
 use Rattle.std.specs.List.{flat_map, filter_map}
 use Rattle.bpf_image.specs.Program.{Program}
-use Rattle.bpf_model.specs.EdgeMap.{edge_record, number_for}
+use Rattle.bpf_model.specs.EdgeMap.{edge_record, number_for, numbered, listed_edges}
 use Rattle.graph_model.specs.Graph.{Graph, numbers_below, neighbours, degree}
 use Rattle.verifier.specs.Walks.{longest}
 use Rattle.edge_fold.specs.declared.edge.Edge.{Edge}
 use Rattle.edge_map.specs.declared.errors.MapError.{MapError}
 use Rattle.edge_map.specs.declared.errors.MapError.TheVariants.{ArgumentLength, Frontier, OutOfMemory, WorkerRefused}
-use Rattle.edge_map.specs.declared.listed.ListedEdge.{ListedEdge}
+use Rattle.bpf_model.specs.declared.listed_edge.ListedEdge.{ListedEdge}
 use Rattle.edge_map.specs.Maps.{FitsRecord}
 
 -- the edges from a source to some of its neighbours, of which the first stands at a place
@@ -26,15 +26,10 @@ edges_of g source = edges_from g source 0 (neighbours g source)
 abbrev pub all_edges : Graph → List Edge
 all_edges g = flat_map (edges_of g) (numbers_below g.vertex_count)
 
--- the edge with a number, if there is one
-abbrev pub with_number : Edge → Option ℕ → Option ListedEdge
-with_number e None = None
-with_number e (Some n) = Some (record { source = e.source; target = e.target; number = n })
-
 -- an edge with its exit number, if its run exits within so many steps
 abbrev pub listed : Program → ℕ → Graph → List ℕ → Edge → Option ListedEdge
 listed p steps g argument e =
-    with_number e (number_for p steps g (edge_record g e.source e.target e.place argument))
+    numbered e.source e.target (number_for p steps g (edge_record g e.source e.target e.place argument))
 
 -- some edges with their exit numbers
 abbrev pub listing : Program → Graph → List ℕ → List Edge → List ListedEdge
@@ -42,7 +37,7 @@ listing p g argument edges = filter_map (listed p (longest p) g argument) edges
 
 -- all edges of the graph with their exit numbers are still to be listed, or the argument does not fit
 abbrev pub IsListed : Program → Graph → List ℕ → Result (List ListedEdge) MapError → Type 0
-IsListed p g argument (Ok left) = FitsRecord p argument × (left ≡ listing p g argument (all_edges g))
+IsListed p g argument (Ok left) = FitsRecord p argument × (left ≡ listed_edges p (longest p) g argument)
 IsListed p g argument (Err ArgumentLength) = FitsRecord p argument → ⊥
 IsListed p g argument (Err Frontier) = ⊥
 IsListed p g argument (Err OutOfMemory) = ⊥

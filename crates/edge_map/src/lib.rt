@@ -8,7 +8,6 @@ mod frontier;
 mod joined;
 mod limits;
 mod list;
-mod listed;
 mod map;
 mod piece;
 mod plan;
@@ -16,12 +15,12 @@ mod targets;
 mod walk;
 mod work;
 
+pub use bpf_model::ListedEdge;
 pub use edge_fold::{MapOutcome, Reduction, Row, Verified};
 pub use errors::MapError;
 pub use gates::{Gate, OpenGate, Workers};
 pub use limits::{BLOCK_EDGES, PIECE_VERTICES};
 pub use list::{EdgeList, list_edges};
-pub use listed::ListedEdge;
 pub use map::map_edges;
 pub use versions::Pin;
 

@@ -8,9 +8,8 @@ ghost use Rattle.edge_map.specs.Maps.{FitsRecord};
 
 use crate::errors::MapError;
 use crate::limits::BLOCK_EDGES;
-use crate::listed::ListedEdge;
 use crate::walk::Walk;
-use bpf_model::EDGE_BYTES;
+use bpf_model::{EDGE_BYTES, ListedEdge};
 use edge_fold::{Memory, number_for_edge};
 use std::alloc::AllocError;
 use std::marker::Model;
@@ -66,7 +65,7 @@ pub struct EdgeList<'a> {
 impl<'a> Model for EdgeList<'a> {
     ghost use Rattle.std.specs.Prelude.{◌≡◌, List};
     ghost use Rattle.graph_model.specs.Past.{graph_of};
-    ghost use Rattle.edge_map.specs.declared.listed.ListedEdge.{ListedEdge};
+    ghost use Rattle.bpf_model.specs.declared.listed_edge.ListedEdge.{ListedEdge};
     ghost use Rattle.edge_map.specs.Listing.{listing};
     ghost use Rattle.edge_map.specs.Maps.{FitsRecord};
 
@@ -100,6 +99,7 @@ impl<'a> EdgeList<'a> {
 }
 
 /// The list of a version.
+#[tactic(auto, using(crate::proofs::Listings::listing_all))]
 pub(crate) fn list_version<'a>(
     version: &'a Version,
     program: &'a Verified,

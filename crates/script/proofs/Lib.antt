@@ -1,3 +1,4 @@
 pub mod ProgramLemmas
 pub mod Cuts
 pub mod Blocks
+pub mod EdgeBlocks

@@ -10,13 +10,14 @@ use Rattle.bpf_asm.specs.declared.errors.TextCause.{TextCause}
 use Rattle.bpf_asm.specs.declared.errors.TextCause.TheVariants.{Syntax, UnknownName, DoubleLabel, UnknownLabel, NumberRange, TooLong, OutOfMemory}
 use Rattle.bpf_asm.specs.Assembly.{unless_memory}
 use Rattle.script_model.specs.Lexing.{is_plain, words}
-use Rattle.std.specs.Prelude.{Result, Ok, Err}
+use Rattle.std.specs.Prelude.{Option, Result, Ok, Err}
 use Rattle.script_model.specs.State.{OpenProgram, Script}
 use Rattle.script_model.specs.Parsing.{is_end}
 use Rattle.script_model.specs.Execution.{Execution, one_line, inside_program}
 use Rattle.script.specs.declared.error.LineError.{LineError}
 use Rattle.script.specs.declared.error.LineError.TheVariants as errors
-use Rattle.script.specs.Executes.{Executes}
+use Rattle.bpf_model.specs.declared.listed_edge.ListedEdge.{ListedEdge}
+use Rattle.script.specs.Executes.{Executes, Tells, whole_of}
 use Rattle.script.specs.Kept.{is_text_byte}
 
 -- ---- text
@@ -76,9 +77,7 @@ program_line bytes text begun s t r other added =
     let line : one_line bytes begun s ≡ inside_program bytes begun s = rw other refl in
     subst (λ (x : Execution). Executes x r text text t) line (silent (one_line bytes begun s) r text t added)
 
--- after an error it does not matter which script is left
-pub failed : (x : Execution) (e : LineError) (old new : List ℕ) (s t : Script) → Executes x (Err e) old new s → Executes x (Err e) old new t
-failed x (errors.Fault fault) old new s t h = h
-failed x errors.OutOfMemory old new s t h = tt
-failed x errors.WorkerRefused old new s t h = tt
-failed x errors.Store old new s t h = tt
+-- a line all of whose text is written
+pub whole_tells : (x : Execution) (r : Result (Unit {0}) LineError) (o : Result (Option (List ListedEdge)) LineError) (old new : List ℕ) (s : Script) → o ≡ whole_of r → Executes x r old new s → Tells x o old new s
+whole_tells x (Ok _) o old new s is h = rw is h
+whole_tells x (Err e) o old new s is h = rw is h

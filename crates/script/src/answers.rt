@@ -1,18 +1,19 @@
 //! The text of an answer.
 
 ghost use Rattle.std.specs.Prelude.{◌≡◌, ◌++◌, OnOk};
-ghost use Rattle.script_model.specs.Texts.{answer_text};
 ghost use Rattle.session.specs.Kept.{answer_of};
+ghost use Rattle.script.specs.Listed.{first_text};
 
 use crate::texts::{
-    put_batch, put_graph, put_home, put_image, put_pin, put_program, put_refused, put_rows, put_run,
+    put_batch, put_graph, put_home, put_image, put_list, put_pin, put_program, put_refused,
+    put_rows, put_run,
 };
 use session::Answer;
 use std::alloc::AllocError;
 
-/// Writes the lines of an answer at the end of a text.
+/// Writes the lines of an answer at the end of a text, but those of the edges that it lists.
 pub fn put_answer(text: &mut Vec<u8>, answer: &Answer) -> Result<(), AllocError>
-    ensures { OnOk result (text.new.items ≡ text.old.items ++ answer_text (answer_of answer.now)) }
+    ensures { OnOk result (text.new.items ≡ text.old.items ++ first_text (answer_of answer.now)) }
 {
     match answer {
         Answer::GraphMade { vertices } => put_graph(text, *vertices),
@@ -49,5 +50,11 @@ pub fn put_answer(text: &mut Vec<u8>, answer: &Answer) -> Result<(), AllocError>
             home,
             degree,
         } => put_home(text, *vertex, *home, u64::from(*degree)),
+        Answer::EdgesListed {
+            program,
+            pin,
+            edges,
+            listing: _,
+        } => put_list(text, program, pin, *edges),
     }
 }

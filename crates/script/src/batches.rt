@@ -8,14 +8,15 @@ ghost use Rattle.session_model.specs.Faults.{HasFewVertices};
 ghost use Rattle.session.specs.Edits.{edit_of};
 ghost use Rattle.script_words.specs.Said.{said_batch_line, cut_batch_line};
 ghost use Rattle.script.specs.Kept.{open_batch, HasBatch};
-ghost use Rattle.script.specs.Executes.{Executes};
+ghost use Rattle.script.specs.Executes.{Executes, Tells};
 
 use crate::block::{BegunBatch, Block};
 use crate::error::LineError;
 use crate::script::Script;
+use crate::statements::whole;
 use script_model::LineFault;
 use script_words::BatchLine;
-use session::{Command, Crew, Gate, GivenEdit, Session};
+use session::{Command, Crew, Gate, GivenEdit, Listing, Session};
 use session_model::Fault;
 use std::sync::Wait;
 use std::thread::Threads;
@@ -69,10 +70,10 @@ impl Script {
         &mut self,
         crew: &Crew<'_, R, Ga>,
         text: &mut Vec<u8>,
-    ) -> Result<(), LineError>
+    ) -> Result<Option<Listing>, LineError>
         requires { HasBatch self.old }
         ensures executed { (begun : OpenBatch) → self.old.block ≡ Some (BatchBlock begun)
-            → Executes (batch_step EndBatch begun self.old) result text.old.items text.new.items self.new }
+            → Tells (batch_step EndBatch begun self.old) result text.old.items text.new.items self.new }
         ensures line { self.new.line ≡ self.old.line }
     {
         match self.block.take() {
@@ -95,20 +96,20 @@ impl Script {
         crew: &Crew<'_, R, Ga>,
         text: &mut Vec<u8>,
         said: Option<BatchLine>,
-    ) -> Result<(), LineError>
+    ) -> Result<Option<Listing>, LineError>
         requires { HasBatch self.old }
         ensures executed { (words : List (List ℕ)) (begun : OpenBatch) → self.old.block ≡ Some (BatchBlock begun)
             → option_map said_batch_line said ≡ option_map cut_batch_line (batch_line words)
-            → Executes (inside_batch words begun self.old) result text.old.items text.new.items self.new }
+            → Tells (inside_batch words begun self.old) result text.old.items text.new.items self.new }
         ensures line { self.new.line ≡ self.old.line }
     {
         match said {
             None => Err(LineError::Fault(LineFault::Words)),
             Some(BatchLine::Insert { source, target }) => {
-                self.add_edit(GivenEdit::Insert(source, target))
+                whole(self.add_edit(GivenEdit::Insert(source, target)))
             }
             Some(BatchLine::Remove { source, target }) => {
-                self.add_edit(GivenEdit::Remove(source, target))
+                whole(self.add_edit(GivenEdit::Remove(source, target)))
             }
             Some(BatchLine::End) => self.end_batch(crew, text),
         }

@@ -6,12 +6,14 @@ mod answers;
 mod batches;
 mod block;
 mod error;
+mod listed;
 mod programs;
 mod script;
 mod statements;
 mod texts;
 
 pub use error::ScriptError;
+pub use listed::EdgeLines;
 pub use script::{Script, Step};
 pub use script_model::{Ending, MOST_LINE_BYTES};
-pub use session::{Crew, Gate, OpenGate, Workers};
+pub use session::{Crew, Gate, Listing, OpenGate, Workers};

@@ -9,16 +9,17 @@ ghost use Rattle.script_model.specs.State.{Script as ScriptState, ProgramBlock};
 ghost use Rattle.script_model.specs.Execution.{begin_program, one_line, end_program, inside_program, inside};
 ghost use Rattle.script_model.specs.Texts.{assembler_text};
 ghost use Rattle.script.specs.Kept.{open_program, HasText};
-ghost use Rattle.script.specs.Executes.{Executes};
+ghost use Rattle.script.specs.Executes.{Executes, Tells};
 
 use crate::block::{BegunProgram, Block};
 use crate::error::LineError;
 use crate::script::Script;
+use crate::statements::whole;
 use crate::texts::put_assembler;
 use bpf_asm::{AssembleError, TextCause, assemble};
 use script_model::{LineFault, MOST_PROGRAM_LINES};
 use script_words::is_end;
-use session::{Command, Crew, Gate};
+use session::{Command, Crew, Gate, Listing};
 use session_model::Fault;
 use std::str;
 use std::sync::Wait;
@@ -80,11 +81,11 @@ impl Script {
         text: &mut Vec<u8>,
         mut begun: BegunProgram,
         bytes: &[u8],
-    ) -> Result<(), LineError>
+    ) -> Result<Option<Listing>, LineError>
         requires program { HasText begun }
         requires plain { list_all is_plain bytes.now ≡ true }
         requires closed { self.old.block ≡ None }
-        ensures executed { Executes (inside_program bytes.now
+        ensures executed { Tells (inside_program bytes.now
             (open_program begun) self.old) result text.old.items text.new.items self.new }
         ensures line { self.new.line ≡ self.old.line }
     {
@@ -94,7 +95,7 @@ impl Script {
         match begun.add(bytes) {
             Ok(()) => {
                 self.block = Some(Block::Program(begun));
-                Ok(())
+                Ok(None)
             }
             Err(error) => Err(error),
         }
@@ -106,10 +107,10 @@ impl Script {
         crew: &Crew<'_, R, Ga>,
         text: &mut Vec<u8>,
         begun: &BegunProgram,
-    ) -> Result<(), LineError>
+    ) -> Result<Option<Listing>, LineError>
         requires program { HasText begun.now }
         requires closed { self.old.block ≡ None }
-        ensures executed { Executes (end_program (open_program begun.now) self.old) result text.old.items
+        ensures executed { Tells (end_program (open_program begun.now) self.old) result text.old.items
             text.new.items self.new }
         ensures line { self.new.line ≡ self.old.line }
     {
@@ -123,7 +124,7 @@ impl Script {
                     code,
                 },
             ),
-            Err(error) => put_unassembled(text, &begun.name, error),
+            Err(error) => whole(put_unassembled(text, &begun.name, error)),
         }
     }
 }

@@ -7,7 +7,7 @@ ghost use Rattle.script_model.specs.State.{new_script};
 ghost use Rattle.script_model.specs.Execution.{execution, block_execution};
 ghost use Rattle.script_model.specs.Script.{end_outcome, next_line};
 ghost use Rattle.script_model.specs.Texts.{fault_text};
-ghost use Rattle.script.specs.Executes.{Executes, Steps};
+ghost use Rattle.script.specs.Executes.{Tells, Steps};
 ghost use Rattle.script.specs.Kept.{HasBatch};
 
 use crate::block::Block;
@@ -15,7 +15,7 @@ use crate::error::{LineError, ScriptError};
 use crate::texts::put_fault;
 use script_model::{Ending, LineFault, MOST_LINE_BYTES};
 use script_words::{batch_line, is_plain_line, statement_line};
-use session::{Crew, Gate, Session};
+use session::{Crew, Gate, Listing, Session};
 use std::alloc::Global;
 use std::marker::Model;
 use std::sync::Wait;
@@ -42,10 +42,12 @@ impl Model for Script {
 }
 
 /// What came of a line.
-#[derive(Clone, Copy, Debug, PartialEq, Eq)]
+#[derive(Drop)]
 pub enum Step {
     /// It was executed.
     Executed,
+    /// It was executed, and the lines of these edges are still to be written.
+    Lists(Listing),
     /// It has a fault, which is written. The script has ended.
     Stopped,
 }
@@ -64,7 +66,8 @@ impl Script {
     }
 
     /// Executes the next line, its end left out, by the crew's workers. What it says, or its fault, goes to the end of
-    /// the text: the same for each number of workers, gate and order in which threads run.
+    /// the text: the same for each number of workers, gate and order in which threads run. The lines of the edges that
+    /// it lists, of which there may be many, are left to the caller.
     pub fn execute<Ga: Gate, R: Threads + Wait>(
         &mut self,
         crew: &Crew<'_, R, Ga>,
@@ -74,9 +77,13 @@ impl Script {
         ensures { Steps result bytes.now self.old self.new text.old.items text.new.items }
     {
         match self.execute_line(crew, text, bytes) {
-            Ok(()) => {
+            Ok(None) => {
                 self.count_line()?;
                 Ok(Step::Executed)
+            }
+            Ok(Some(listing)) => {
+                self.count_line()?;
+                Ok(Step::Lists(listing))
             }
             Err(LineError::Fault(fault)) => {
                 put_fault(text, fault, self.line)?;
@@ -152,10 +159,10 @@ impl Script {
         crew: &Crew<'_, R, Ga>,
         text: &mut Vec<u8>,
         bytes: &[u8],
-    ) -> Result<(), LineError>
+    ) -> Result<Option<Listing>, LineError>
         requires plain { list_all is_plain bytes.now ≡ true }
         requires no_batch { ¬ HasBatch self.old }
-        ensures executed { Executes (block_execution self.old.block bytes.now self.old) result text.old.items
+        ensures executed { Tells (block_execution self.old.block bytes.now self.old) result text.old.items
             text.new.items self.new }
         ensures line { self.new.line ≡ self.old.line }
     {
@@ -176,9 +183,9 @@ impl Script {
         crew: &Crew<'_, R, Ga>,
         text: &mut Vec<u8>,
         bytes: &[u8],
-    ) -> Result<(), LineError>
+    ) -> Result<Option<Listing>, LineError>
         requires { list_all is_plain bytes.now ≡ true }
-        ensures executed { Executes (block_execution self.old.block bytes.now self.old) result text.old.items
+        ensures executed { Tells (block_execution self.old.block bytes.now self.old) result text.old.items
             text.new.items self.new }
         ensures line { self.new.line ≡ self.old.line }
     {
@@ -195,8 +202,8 @@ impl Script {
         crew: &Crew<'_, R, Ga>,
         text: &mut Vec<u8>,
         bytes: &[u8],
-    ) -> Result<(), LineError>
-        ensures executed { Executes (execution self.old bytes.now) result text.old.items text.new.items self.new }
+    ) -> Result<Option<Listing>, LineError>
+        ensures executed { Tells (execution self.old bytes.now) result text.old.items text.new.items self.new }
         ensures line { self.new.line ≡ self.old.line }
     {
         if bytes.len() > MOST_LINE_BYTES {

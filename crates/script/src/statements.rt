@@ -6,33 +6,43 @@ ghost use Rattle.session_model.specs.Faults.{HasFewVertices};
 ghost use Rattle.session.specs.Kept.{command_of};
 ghost use Rattle.script_model.specs.Execution.{execution_of, statement_execution};
 ghost use Rattle.script_words.specs.Said.{said_statement, said_line};
-ghost use Rattle.script.specs.Executes.{Executes, line_of};
+ghost use Rattle.script.specs.Executes.{Tells, whole_of, line_of};
 
 use crate::answers::put_answer;
 use crate::error::LineError;
 use crate::script::Script;
 use script_model::LineFault;
 use script_words::{Line, Statement};
-use session::{Command, Crew, Gate};
+use session::{Command, Crew, Gate, Listing};
 use std::sync::Wait;
 use std::thread::Threads;
 
+/// What came of a line all of whose text is written.
+pub(crate) fn whole(done: Result<(), LineError>) -> Result<Option<Listing>, LineError>
+    ensures { result ≡ whole_of done }
+{
+    match done {
+        Ok(()) => Ok(None),
+        Err(error) => Err(error),
+    }
+}
+
 impl Script {
-    /// Has the session perform a command, and writes its answer.
+    /// Has the session perform a command, and writes its answer, but for the lines of the edges that it lists.
     pub(crate) fn perform<Ga: Gate, R: Threads + Wait>(
         &mut self,
         crew: &Crew<'_, R, Ga>,
         text: &mut Vec<u8>,
         command: Command,
-    ) -> Result<(), LineError>
+    ) -> Result<Option<Listing>, LineError>
         requires { self.old.block ≡ None }
-        ensures executed { Executes (execution_of (response
+        ensures executed { Tells (execution_of (response
             (command_of command.entry) self.old.session) self.old) result text.old.items text.new.items self.new }
         ensures line { self.new.line ≡ self.old.line }
     {
         let answer = self.session.perform(crew, command)?;
         put_answer(text, &answer)?;
-        Ok(())
+        Ok(answer.into_listing())
     }
 
     /// Executes a statement.
@@ -41,9 +51,9 @@ impl Script {
         crew: &Crew<'_, R, Ga>,
         text: &mut Vec<u8>,
         statement: Statement,
-    ) -> Result<(), LineError>
+    ) -> Result<Option<Listing>, LineError>
         requires { self.old.block ≡ None }
-        ensures executed { Executes (statement_execution
+        ensures executed { Tells (statement_execution
             (said_statement statement.entry) self.old) result text.old.items text.new.items self.new }
         ensures line { self.new.line ≡ self.old.line }
     {
@@ -53,7 +63,7 @@ impl Script {
                 text,
                 Command::MakeGraph { vertices },
             ),
-            Statement::Batch { feed } => self.begin_batch(feed),
+            Statement::Batch { feed } => whole(self.begin_batch(feed)),
             Statement::Code {
                 name,
                 record_length,
@@ -70,7 +80,7 @@ impl Script {
             Statement::Program {
                 name,
                 record_length,
-            } => self.begin_program(name, record_length),
+            } => whole(self.begin_program(name, record_length)),
             Statement::Pin { name } => self.perform(crew, text, Command::TakePin { name }),
             Statement::Run {
                 program,
@@ -90,6 +100,19 @@ impl Script {
                 },
             ),
             Statement::Home { vertex } => self.perform(crew, text, Command::TellHome { vertex }),
+            Statement::List {
+                program,
+                pin,
+                argument,
+            } => self.perform(
+                crew,
+                text,
+                Command::ListEdges {
+                    program,
+                    pin,
+                    argument,
+                },
+            ),
         }
     }
 
@@ -99,9 +122,9 @@ impl Script {
         crew: &Crew<'_, R, Ga>,
         text: &mut Vec<u8>,
         said: Line,
-    ) -> Result<(), LineError>
+    ) -> Result<Option<Listing>, LineError>
         requires { self.old.block ≡ None }
-        ensures executed { Executes (line_of (said_line said.entry) self.old) result text.old.items text.new.items
+        ensures executed { Tells (line_of (said_line said.entry) self.old) result text.old.items text.new.items
             self.new }
         ensures line { self.new.line ≡ self.old.line }
         ensures few { HasFewVertices self.old.session }
@@ -109,7 +132,7 @@ impl Script {
         // The number of vertices tells that numbers cut at 2^64 - 1 fail the same tests.
         let _few = self.session.vertex_count();
         match said {
-            Line::Skipped => Ok(()),
+            Line::Skipped => Ok(None),
             Line::Unknown => Err(LineError::Fault(LineFault::Words)),
             Line::Statement(statement) => self.execute_statement(crew, text, statement),
         }

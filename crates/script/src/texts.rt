@@ -16,12 +16,14 @@ ghost use Rattle.script_model.specs.Texts.{
   row_text,
   home_word,
   home_text,
+  list_text,
+  edge_text,
   feed_text,
   fault_text,
 };
 
 use bpf_asm::AssembleError;
-use bpf_model::Row;
+use bpf_model::{ListedEdge, Row};
 use graph_model::Home;
 use itoa::Buffer;
 use script_model::LineFault;
@@ -216,6 +218,41 @@ pub fn put_home(text: &mut Vec<u8>, vertex: u64, home: Home, degree: u64) -> Res
     put_name(text, b" ", home_name(home))?;
     put_field(text, b" degree ", degree)?;
     put(text, b"\n")
+}
+
+/// The first line of a list.
+pub fn put_list(
+    text: &mut Vec<u8>,
+    program: &[u8],
+    pin: &[u8],
+    edges: u64,
+) -> Result<(), AllocError>
+    ensures { OnOk result (text.new.items ≡ text.old.items ++ list_text program.now pin.now edges) }
+{
+    put_name(text, b"list ", program)?;
+    put_name(text, b" ", pin)?;
+    put_field(text, b" edges ", edges)?;
+    put(text, b"\n")
+}
+
+/// The line of an edge in a list.
+fn put_edge(text: &mut Vec<u8>, edge: ListedEdge) -> Result<(), AllocError>
+    ensures { OnOk result (text.new.items ≡ text.old.items ++ edge_text edge) }
+{
+    put_field(text, b"edge ", u64::from(edge.source))?;
+    put_field(text, b" ", u64::from(edge.target))?;
+    put_field(text, b" ", edge.number)?;
+    put(text, b"\n")
+}
+
+/// The lines of some edges of a list.
+pub fn put_edges(text: &mut Vec<u8>, edges: &[ListedEdge]) -> Result<(), AllocError>
+    ensures { OnOk result (text.new.items ≡ text.old.items ++ flat_map edge_text edges.now) }
+{
+    for edge in edges {
+        put_edge(text, *edge)?;
+    }
+    Ok(())
 }
 
 /// The line of a fault, the last of a script.

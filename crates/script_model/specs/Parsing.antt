@@ -4,7 +4,7 @@ use Rattle.graph_model.specs.declared.edit.Edit.{Edit}
 use Rattle.graph_model.specs.declared.edit.Edit.TheVariants.{Insert, Remove}
 use Rattle.bpf_model.specs.declared.reduction.Reduction.{Reduction}
 use Rattle.bpf_model.specs.declared.reduction.Reduction.TheVariants.{Min, Max, Sum}
-use Rattle.session_model.specs.Commands.{Command, MakeGraph, LoadProgram, TakePin, RunProgram, TellHome}
+use Rattle.session_model.specs.Commands.{Command, MakeGraph, LoadProgram, TakePin, RunProgram, TellHome, ListEdges}
 use Rattle.script_model.specs.Lexing.{number, is_name, hex, same_bytes}
 
 pub data Statement : Type 0 where
@@ -71,6 +71,11 @@ abbrev pub home_statement : List (List ℕ) → Option Statement
 home_statement (v ∷ []) = given (number v) (λ vertex. Some (Asks (TellHome vertex)))
 home_statement _ = None
 
+abbrev pub list_statement : List (List ℕ) → Option Statement
+list_statement (program ∷ pin ∷ digits ∷ []) =
+    under_name program (under_name pin (given (hex digits) (λ argument. Some (Asks (ListEdges program pin argument)))))
+list_statement _ = None
+
 -- the statement that a line's first word names, with the words behind it
 abbrev pub statement : List ℕ → List (List ℕ) → Option Statement
 statement word operands =
@@ -80,7 +85,8 @@ statement word operands =
     else (if same_bytes word (codes "pin") then pin_statement operands
     else (if same_bytes word (codes "run") then run_statement operands
     else (if same_bytes word (codes "program") then program_statement operands
-    else (if same_bytes word (codes "home") then home_statement operands else None))))))
+    else (if same_bytes word (codes "home") then home_statement operands
+    else (if same_bytes word (codes "list") then list_statement operands else None)))))))
 
 -- a block ends at a line whose only word is `end`
 abbrev pub is_end : List (List ℕ) → Bool

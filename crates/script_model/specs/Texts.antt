@@ -9,11 +9,12 @@ use Rattle.bpf_asm.specs.declared.errors.TextCause.{TextCause}
 use Rattle.bpf_asm.specs.declared.errors.TextCause.TheVariants.{Syntax, UnknownName, DoubleLabel, UnknownLabel, NumberRange, TooLong, OutOfMemory}
 use Rattle.bpf_asm.specs.declared.errors.AssembleError.{AssembleError}
 use Rattle.bpf_model.specs.declared.row.Row.{Row}
+use Rattle.bpf_model.specs.declared.listed_edge.ListedEdge.{ListedEdge}
 use Rattle.graph_model.specs.declared.home.Home.{Home}
 use Rattle.graph_model.specs.declared.home.Home.TheVariants.{Block, Gapped, Tree}
 use Rattle.session_model.specs.declared.fault.Fault.{Fault}
 use Rattle.session_model.specs.declared.fault.Fault.TheVariants as faults
-use Rattle.session_model.specs.Commands.{Answer, GraphMade, BatchPublished, ProgramAccepted, ProgramRefused, NoImage, PinTaken, EdgesMapped, HomeTold}
+use Rattle.session_model.specs.Commands.{Answer, GraphMade, BatchPublished, ProgramAccepted, ProgramRefused, NoImage, PinTaken, EdgesMapped, HomeTold, EdgesListed}
 use Rattle.script_model.specs.declared.line_fault.LineFault.{LineFault}
 use Rattle.script_model.specs.declared.line_fault.LineFault.TheVariants as line_faults
 
@@ -111,6 +112,16 @@ abbrev pub home_text : ℕ → Home → ℕ → List ℕ
 home_text v home degree =
     codes "home " ++ decimal v ++ codes " " ++ home_word home ++ codes " degree " ++ decimal degree ++ newline
 
+-- the first line of a list
+abbrev pub list_text : List ℕ → List ℕ → ℕ → List ℕ
+list_text program pin edges =
+    codes "list " ++ program ++ codes " " ++ pin ++ codes " edges " ++ decimal edges ++ newline
+
+-- an edge of a list
+abbrev pub edge_text : ListedEdge → List ℕ
+edge_text e =
+    codes "edge " ++ decimal e.source ++ codes " " ++ decimal e.target ++ codes " " ++ decimal e.number ++ newline
+
 -- what is written for an answer
 abbrev pub answer_text : Answer → List ℕ
 answer_text (GraphMade vertices) = graph_text vertices
@@ -121,6 +132,7 @@ answer_text (NoImage name) = image_text name
 answer_text (PinTaken name number edges) = pin_text name number edges
 answer_text (EdgesMapped program pin edges total rows) = run_text program pin edges total ++ flat_map row_text rows
 answer_text (HomeTold v home degree) = home_text v home degree
+answer_text (EdgesListed program pin edges listed) = list_text program pin edges ++ flat_map edge_text listed
 
 abbrev pub fault_text : LineFault → ℕ → List ℕ
 fault_text fault line = codes "fault " ++ decimal (line_fault_number fault) ++ codes " line " ++ decimal line ++ newline

@@ -1,10 +1,11 @@
 -- Lines outside blocks.
-use Rattle.std.proofs.Common.{◌≡◌, ◌≢◌, ℕ, true, false, List, [], ◌∷◌, refl, sym, ◌∙◌, ap}
+use Rattle.std.proofs.Common.{◌≡◌, ◌≢◌, ℕ, true, false, List, [], ◌∷◌, refl, sym, ◌∙◌, ap, inl, inr}
 use Rattle.std.specs.Prelude.{Option, Some, None, option_map}
+use Rattle.std.proofs.lemmas.Bool.{cases_Bool}
 use Rattle.std.proofs.lemmas.Option.{same_Some}
 use Rattle.script_model.specs.Lexing.{number, hex, is_name}
 use Rattle.session_model.specs.Commands.{LoadProgram}
-use Rattle.script_model.specs.Parsing.{Statement, Asks, given, code_statement, statement}
+use Rattle.script_model.specs.Parsing.{Statement, Asks, given, code_statement, list_statement, statement}
 use Rattle.script_model.specs.Execution.{is_comment}
 use Rattle.script_words.specs.declared.line.Statement.{Statement as CodeStatement}
 use Rattle.script_words.specs.Said.{NoStatement, Makes, cut, cut_statement, cut_saying, said_statement, saying, found_statement}
@@ -39,6 +40,26 @@ pub code_statement-long : (name : List ℕ) (line : List (List ℕ)) (n : ℕ) (
 code_statement-long name line n digits others first some =
     let f = first_of line n (digits ∷ others) first in
     rw f.begins (code_long name f.word digits others some)
+
+-- ---- `list`
+
+pub list_statement-unnamed : (program : List ℕ) (line : List (List ℕ)) → is_name program ≡ false → list_statement (program ∷ line) ≡ None
+list_statement-unnamed program [] unnamed = refl
+list_statement-unnamed program (a ∷ []) unnamed = refl
+list_statement-unnamed program (a ∷ b ∷ []) unnamed = simp unnamed
+list_statement-unnamed program (a ∷ b ∷ c ∷ line) unnamed = refl
+
+pub list_statement-unnamed_pin : (program pin : List ℕ) (line : List (List ℕ)) → is_name pin ≡ false → list_statement (program ∷ pin ∷ line) ≡ None
+list_statement-unnamed_pin program pin [] unnamed = refl
+list_statement-unnamed_pin program pin (a ∷ []) unnamed = elim (cases_Bool (is_name program)) [
+  | inl named ↦ simp (named, unnamed)
+  | inr not_named ↦ simp not_named
+]
+list_statement-unnamed_pin program pin (a ∷ b ∷ line) unnamed = refl
+
+pub list_statement-long : (program pin digits : List ℕ) (others : List (List ℕ)) → others ≢ [] → list_statement (program ∷ pin ∷ digits ∷ others) ≡ None
+list_statement-long program pin digits [] some = absurd (some refl)
+list_statement-long program pin digits (a ∷ others) some = refl
 
 -- ---- what a line says
 

@@ -2,7 +2,7 @@
 use Rattle.std.specs.Prelude.{ℕ, List, [], ◌∷◌, Option, Some, None, option_map}
 use Rattle.bpf_model.specs.declared.reduction.Reduction.{Reduction}
 use Rattle.script_model.specs.Lexing.{number, hex}
-use Rattle.session_model.specs.Commands.{LoadProgram, RunProgram}
+use Rattle.session_model.specs.Commands.{LoadProgram, RunProgram, ListEdges}
 use Rattle.script_model.specs.Parsing.{pair_of, Statement, Asks, given, numbers}
 use Rattle.script_words.specs.Said.{cut}
 
@@ -30,3 +30,7 @@ load_of name record_length digits = given (hex digits) (λ code. Some (Asks (Loa
 abbrev pub run_of : List ℕ → List ℕ → Reduction → List ℕ → List (List ℕ) → Option Statement
 run_of program pin reduction digits frontier =
     given (hex digits) (λ argument. given (numbers frontier) (λ vertices. Some (Asks (RunProgram program pin reduction argument vertices))))
+
+-- the statement to list the edges of a pin with the argument that these digits spell
+abbrev pub list_of : List ℕ → List ℕ → List ℕ → Option Statement
+list_of program pin digits = given (hex digits) (λ argument. Some (Asks (ListEdges program pin argument)))

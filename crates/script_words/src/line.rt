@@ -51,6 +51,12 @@ pub enum Statement<'a> {
     Home {
         vertex: u64,
     },
+    /// All edges of a pin with the numbers of a program.
+    List {
+        program: &'a [u8],
+        pin: &'a [u8],
+        argument: Vec<u8>,
+    },
 }
 
 /// What a line outside blocks says.

@@ -2,10 +2,10 @@
 
 ghost use Rattle.std.specs.Prelude.{◌≡◌, List, [], ◌∷◌, Option, Some, None, option_map, IfOk, MatchOption};
 ghost use Rattle.script_model.specs.Lexing.{words};
-ghost use Rattle.script_model.specs.Parsing.{BeginBatch, graph_statement, batch_statement, code_statement, program_statement, pin_statement, run_statement, home_statement, reduction_of as reduction_word, statement as statement_of};
+ghost use Rattle.script_model.specs.Parsing.{BeginBatch, graph_statement, batch_statement, code_statement, program_statement, pin_statement, run_statement, home_statement, list_statement, reduction_of as reduction_word, statement as statement_of};
 ghost use Rattle.script_model.specs.Execution.{is_comment as is_comment_word};
 ghost use Rattle.script_words.specs.Said.{said_statement, cut_statement, saying, said_line, cut_saying};
-ghost use Rattle.script_words.specs.Reading.{load_of, run_of};
+ghost use Rattle.script_words.specs.Reading.{load_of, run_of, list_of};
 
 use crate::hex::hex;
 use crate::line::{Line, Statement};
@@ -31,6 +31,14 @@ struct RunWords<'a> {
     reduction: Reduction,
     digits: &'a [u8],
     frontier: &'a [u8],
+}
+
+/// The words of a `list` command, its argument in hexadecimal digits.
+#[derive(Drop)]
+struct ListWords<'a> {
+    program: &'a [u8],
+    pin: &'a [u8],
+    digits: &'a [u8],
 }
 
 fn graph(operands: &[u8]) -> Option<Statement<'_>>
@@ -195,6 +203,41 @@ fn home(operands: &[u8]) -> Option<Statement<'_>>
     Some(Statement::Home { vertex })
 }
 
+fn list_words(operands: &[u8]) -> Option<ListWords<'_>>
+    ensures { MatchOption result (list_statement (words operands.now) ≡ None)
+        (λ found. list_statement (words operands.now)
+        ≡ list_of found.program.now found.pin.now found.digits.now) }
+{
+    let (program, rest) = next_word(operands)?;
+    let (pin, rest) = next_word(rest)?;
+    let (digits, rest) = next_word(rest)?;
+    if !is_name(program) || !is_name(pin) || !has_no_word(rest) {
+        return None;
+    }
+    Some(ListWords {
+        program,
+        pin,
+        digits,
+    })
+}
+
+fn list(alloc: Global, operands: &[u8]) -> Result<Option<Statement<'_>>, AllocError>
+    ensures { IfOk result (λ found. option_map said_statement found
+        ≡ option_map cut_statement (list_statement (words operands.now))) }
+{
+    let Some(found) = list_words(operands) else {
+        return Ok(None);
+    };
+    let Some(argument) = hex(alloc, found.digits)? else {
+        return Ok(None);
+    };
+    Ok(Some(Statement::List {
+        program: found.program,
+        pin: found.pin,
+        argument,
+    }))
+}
+
 /// The statement that a line's first word names, with the words behind it.
 fn statement<'a>(
     alloc: Global,
@@ -224,6 +267,9 @@ fn statement<'a>(
     }
     if is_word(word, "home") {
         return Ok(home(operands));
+    }
+    if is_word(word, "list") {
+        return list(alloc, operands);
     }
     Ok(None)
 }

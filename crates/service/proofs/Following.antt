@@ -1,8 +1,9 @@
 -- A script is served line by line.
-use Rattle.std.proofs.Common.{◌≡◌, ℕ, ◌+◌, ◌<◌, true, false, ltb, List, [], ◌∷◌, ◌++◌, length, refl, sym, ap, ◌∙◌, arith, inl, inr, append_assoc, length-append}
+use Rattle.std.proofs.Common.{◌≡◌, ℕ, zero, suc, ◌+◌, ◌<◌, true, false, ltb, List, [], ◌∷◌, ◌++◌, length, refl, sym, ap, ◌∙◌, arith, inl, inr, append_assoc, length-append}
 use Rattle.std.specs.List.{slice_split, onto_first}
 use Rattle.std.specs.Prelude.{◌==◌}
 use Rattle.std.proofs.lemmas.Bool.{cases_Bool, lt-ltb}
+use Rattle.std.proofs.lemmas.Bool.Decides.{nat_tests}
 use Rattle.std.proofs.lemmas.List.{append-nil}
 use Rattle.std.proofs.lemmas.List.Splits.{slice_split-cons_yes, slice_split-cons_no}
 use Rattle.script_model.specs.declared.ending.Ending.{Ending}
@@ -147,24 +148,19 @@ served_last_fault read said left s fault h one some fails =
     let goes : outcome_from s (left ∷ []) ≡ fault_outcome fault s.line = rw fails refl in
     at_end read said left s h ∙ lines ∙ ap (λ (o : Outcome). after_text said o) goes
 
--- the ends of a script
-pub ends_here : (read before : List ℕ) (s : Script) (text said : List ℕ) (e : Ending) → said ≡ text ++ (end_outcome s.block).text → e ≡ (end_outcome s.block).ending → Served read before s [] → (t : List ℕ) × (said ≡ text ++ t) × (meaning read ≡ record { text = before ++ t; ending = e })
-ends_here read before s text said e writes ends h =
-    ((end_outcome s.block).text, writes, served_end read before s h ∙ ap (λ (x : Ending). record { text = before ++ (end_outcome s.block).text; ending = x }) (sym ends))
-
-pub ends_after : (read before left : List ℕ) (s : Script) (t : List ℕ) (next : Script) (text middle said : List ℕ) (e : Ending) → execution s left ≡ Says t next → IsOneLine left → 0 < length left → middle ≡ text ++ t → said ≡ middle ++ (end_outcome next.block).text → e ≡ (end_outcome next.block).ending → Served read before s left → (u : List ℕ) × (said ≡ text ++ u) × (meaning read ≡ record { text = before ++ u; ending = e })
-ends_after read before left s t next text middle said e says one some first writes ends h =
-    let last = (end_outcome next.block).text in
-    let whole : said ≡ text ++ (t ++ last) = writes ∙ ap (λ (x : List ℕ). x ++ last) first ∙ append_assoc text t last in
-    let means : meaning read ≡ after_text (before ++ t) (end_outcome next.block) = served_last read before left s t next h one some says in
-    let joined : meaning read ≡ record { text = before ++ (t ++ last); ending = (end_outcome next.block).ending } = means ∙ ap (λ (x : List ℕ). record { text = x; ending = (end_outcome next.block).ending }) (append_assoc before t last) in
-    (t ++ last, whole, joined ∙ ap (λ (x : Ending). record { text = before ++ (t ++ last); ending = x }) (sym ends))
-
-pub ends_in_fault : (read before left : List ℕ) (s : Script) (fault : LineFault) (text said : List ℕ) → execution s left ≡ Stops fault → IsOneLine left → 0 < length left → said ≡ text ++ fault_text fault s.line → Served read before s left → (u : List ℕ) × (said ≡ text ++ u) × (meaning read ≡ record { text = before ++ u; ending = endings.Fault })
-ends_in_fault read before left s fault text said fails one some writes h =
-    (fault_text fault s.line, writes, served_last_fault read before left s fault h one some fails)
-
 -- bytes that are not none are some
 pub some_left : (left : List ℕ) → false ≡ (length left == 0) → 0 < length left
 some_left [] h = absurd cc
 some_left (b ∷ left) h = omega (arith)
+
+no_count : (n : ℕ) → true ≡ (n == 0) → n ≡ 0
+no_count zero h = refl
+no_count (suc n) h = grind (arith, nat_tests)
+
+no_items : (left : List ℕ) → length left ≡ 0 → left ≡ []
+no_items [] h = refl
+no_items (b ∷ left) h = absurd (omega (arith, h))
+
+-- or they are none
+pub none_left : (left : List ℕ) → true ≡ (length left == 0) → left ≡ []
+none_left left h = no_items left (no_count (length left) h)

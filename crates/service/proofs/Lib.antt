@@ -2,3 +2,4 @@ pub mod Following
 pub mod KnownLemmas
 pub mod LineLemmas
 pub mod RoundLemmas
+pub mod EndLemmas

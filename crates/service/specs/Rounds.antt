@@ -9,51 +9,66 @@ use Rattle.script_model.specs.declared.ending.Ending.{Ending}
 use Rattle.script_model.specs.declared.ending.Ending.TheVariants as endings
 use Rattle.script_model.specs.declared.limits.TheConstants.{MOST_LINE_BYTES}
 use Rattle.service.specs.Stand.{Stand}
+use Rattle.script_model.specs.Script.{after_text, end_outcome, meaning}
+use Rattle.service.specs.Ends.{TakesFront}
 use Rattle.service.specs.Served.{Served, Settled, IsOneLine}
-use Rattle.service.specs.Serves.{IsMeant, Serves}
+use Rattle.service.specs.Serves.{Serves}
 
 abbrev pub serve_error_of : ScriptError → ServeError
 serve_error_of script_errors.OutOfMemory = errors.OutOfMemory
 serve_error_of script_errors.WorkerRefused = errors.WorkerRefused
 serve_error_of script_errors.Store = errors.Store
 
--- what reads and executes does not write
-abbrev pub IsNoWrite : {A : Type 0} → Result A ServeError → Type 0
-IsNoWrite (Err errors.Write) = ⊥
-IsNoWrite r = ⊤
+-- what executes and writes does not read
+abbrev pub IsNoRead : {A : Type 0} → Result A ServeError → Type 0
+IsNoRead (Err errors.Read) = ⊥
+IsNoRead r = ⊤
 
 -- less than a line is left, and no more bytes than a line may have
 abbrev pub HasPart : Stand → Type 0
 HasPart s = IsOneLine s.pending × (length s.pending ≤ MOST_LINE_BYTES)
 
--- what was read, and more, is served; the text that this adds is at the end of the text
-abbrev pub Goes : (more : List ℕ) → (old new : Stand) → Type 0
-Goes more old new =
-    (read before : List ℕ) → Served read before old.script old.pending
-    → (t : List ℕ) × (new.text ≡ old.text ++ t) × Served (read ++ more) (before ++ t) new.script new.pending
-
--- all whole lines are executed, or the script is settled
-abbrev pub Advances : Result (Option Ending) ScriptError → (old new : Stand) → Type 0
-Advances (Ok None) old new =
-    HasPart new
-    × ((read before : List ℕ) → Served read before old.script old.pending → (t : List ℕ) × (new.text ≡ old.text ++ t) × Served read (before ++ t) new.script new.pending)
-Advances (Ok (Some ending)) old new =
-    (ending ≡ endings.Fault)
-    × ((read before : List ℕ) → Served read before old.script old.pending → (t : List ℕ) × (new.text ≡ old.text ++ t) × Settled read (before ++ t))
-Advances (Err e) old new = ⊤
-
--- more is read, and what it leads to is said
-abbrev pub Rounds : Result (Option Ending) ServeError → (had has : Option (List ℕ)) → (old new : Stand) → Type 0
-Rounds (Ok None) had has old new = HasPart new × (more : List ℕ) × Consumes had has more × Goes more old new
-Rounds (Ok (Some ending)) had has old new =
-    (more : List ℕ) × Consumes had has more
-    × ((read before : List ℕ) → Served read before old.script old.pending → (t : List ℕ) × (new.text ≡ old.text ++ t) × IsMeant (read ++ more) (before ++ t) ending has)
-Rounds (Err e) had has old new = (more : List ℕ) × Consumes had has more
+-- what some bytes say that are read is written, but for what those say that are left
+abbrev pub IsWritten : (read : List ℕ) → (held holds : Option (List ℕ)) → Stand → Type 0
+IsWritten read held holds s = (said : List ℕ) × Appends held holds said × Served read said s.script s.pending
 
 -- so far, what was read is served, and all that it says is written
 abbrev pub IsServed : (had has held holds : Option (List ℕ)) → Stand → Type 0
-IsServed had has held holds s =
-    (read : List ℕ) × Consumes had has read × (said : List ℕ) × Appends held holds said × Served read said s.script s.pending
+IsServed had has held holds s = (read : List ℕ) × Consumes had has read × IsWritten read held holds s
+
+-- all whole lines are executed and what they say is written, or the script is settled; or what is written begins what
+-- every script writes that begins with the bytes read
+abbrev pub Advances : Result (Option Ending) ServeError → (kept holds : Option (List ℕ)) → (old new : Stand) → Type 0
+Advances (Ok None) kept holds old new =
+    HasPart new × (new.text ≡ [])
+    × ((read : List ℕ) (held : Option (List ℕ)) → IsWritten read held kept old → IsWritten read held holds new)
+Advances (Ok (Some ending)) kept holds old new =
+    (ending ≡ endings.Fault)
+    × ((read : List ℕ) (held : Option (List ℕ)) → IsWritten read held kept old → (said : List ℕ) × Appends held holds said × Settled read said)
+Advances (Err e) kept holds old new =
+    (read : List ℕ) (held : Option (List ℕ)) → IsWritten read held kept old
+    → (rest : List ℕ) → TakesFront held holds (meaning (read ++ rest)).text
+
+-- all lines that were read are executed, and what they say is written but for the text
+abbrev pub IsLast : (read : List ℕ) → (held holds : Option (List ℕ)) → Stand → Type 0
+IsLast read held holds s =
+    (said : List ℕ) × Appends held holds said × (meaning read ≡ after_text (said ++ s.text) (end_outcome s.script.block))
+
+-- the script ends, and what the bytes read mean by themselves is written, or a beginning of it
+abbrev pub Ends : Result Ending ServeError → (kept holds : Option (List ℕ)) → (old : Stand) → Type 0
+Ends (Ok ending) kept holds old =
+    (read : List ℕ) (held : Option (List ℕ)) → IsLast read held kept old
+    → (said : List ℕ) × Appends held holds said × (meaning read ≡ record { text = said; ending = ending })
+Ends (Err e) kept holds old =
+    (read : List ℕ) (held : Option (List ℕ)) → IsLast read held kept old → TakesFront held holds (meaning read).text
+
+-- nothing more is read, and what the bytes read mean by themselves is written, or a beginning of it
+abbrev pub Concludes : Result Ending ServeError → (kept holds : Option (List ℕ)) → (old : Stand) → Type 0
+Concludes (Ok ending) kept holds old =
+    (read : List ℕ) (held : Option (List ℕ)) → IsWritten read held kept old
+    → (said : List ℕ) × Appends held holds said × (meaning read ≡ record { text = said; ending = ending })
+Concludes (Err e) kept holds old =
+    (read : List ℕ) (held : Option (List ℕ)) → IsWritten read held kept old → TakesFront held holds (meaning read).text
 
 -- more is read, and what it leads to is written
 abbrev pub Turns : Result (Option Ending) ServeError → (was has kept holds : Option (List ℕ)) → (old new : Stand) → Type 0

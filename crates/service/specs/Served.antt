@@ -1,6 +1,7 @@
 -- How far a script has come, against its meaning.
 use Rattle.std.specs.Prelude.{◌≡◌, ◌+◌, ◌<◌, ◌≤◌, ℕ, false, length, take, drop, List, ◌∷◌, ◌++◌, Result, Ok, Err, ⊤}
-use Rattle.std.specs.List.{AllByRecursion}
+use Rattle.std.specs.List.{AllByRecursion, flat_map}
+use Rattle.bpf_model.specs.declared.listed_edge.ListedEdge.{ListedEdge}
 use Rattle.service.specs.declared.lines.FirstLine.{FirstLine}
 use Rattle.service.specs.declared.lines.FirstLine.TheVariants as first_lines
 use Rattle.service.specs.declared.lines.Progress.{Progress}
@@ -11,6 +12,7 @@ use Rattle.script_model.specs.declared.ending.Ending.TheVariants as endings
 use Rattle.script_model.specs.declared.limits.TheConstants.{MOST_LINE_BYTES}
 use Rattle.script_model.specs.Lexing.{is_newline, script_lines}
 use Rattle.script_model.specs.State.{Script}
+use Rattle.script_model.specs.Texts.{edge_text}
 use Rattle.script_model.specs.Script.{after_text, outcome_from, meaning}
 
 -- however the script goes on, it means what was said so far, and then what the bytes that are left mean
@@ -41,29 +43,35 @@ abbrev pub Settling : Script → (bytes text said : List ℕ) → Type 0
 Settling old bytes text said =
     (read before : List ℕ) → Served read before old bytes → (t : List ℕ) × (said ≡ text ++ t) × Settled read (before ++ t)
 
--- what comes of the first line of some bytes: it is less than a line, it is executed, or the script is settled
+-- what is served with so much of some bytes executed but for the lines of some edges, and the text that this adds
+abbrev pub Listing : (old new : Script) → (bytes left text said : List ℕ) → List ListedEdge → Type 0
+Listing old new bytes left text said edges =
+    (read before : List ℕ) → Served read before old bytes
+    → (t : List ℕ) × (said ≡ text ++ t) × Served read (before ++ (t ++ flat_map edge_text edges)) new left
+
+-- what comes of the first line of some bytes: it is less than a line, it is executed, all of it or but for the lines
+-- of edges, or the script is settled
 abbrev pub TakesLine : Result FirstLine ScriptError → List ℕ → (old new : Script) → (text said : List ℕ) → Type 0
 TakesLine (Ok first_lines.Partial) bytes old new text said = IsOneLine bytes × (new ≡ old) × (said ≡ text)
 TakesLine (Ok (first_lines.Executed count)) bytes old new text said =
     (count ≤ length bytes) × (0 < count) × Serving old new bytes (drop count bytes) text said
+TakesLine (Ok (first_lines.Lists count edges)) bytes old new text said =
+    (count ≤ length bytes) × (0 < count) × Listing old new bytes (drop count bytes) text said edges
 TakesLine (Ok first_lines.Stopped) bytes old new text said = Settling old bytes text said
 TakesLine (Err e) bytes old new text said = ⊤
 
--- what is left of some bytes after all their whole lines, or a script that is settled
+-- what is left of some bytes after all their whole lines, or after one that lists edges, or a script that is settled
 abbrev pub TakesLines : Result Progress ScriptError → List ℕ → (old new : Script) → (text said : List ℕ) → Type 0
 TakesLines (Ok (progress.Left from)) bytes old new text said =
     (from ≤ length bytes) × IsOneLine (drop from bytes) × Serving old new bytes (drop from bytes) text said
+TakesLines (Ok (progress.Lists from edges)) bytes old new text said =
+    (from ≤ length bytes) × (0 < from) × Listing old new bytes (drop from bytes) text said edges
 TakesLines (Ok progress.Settled) bytes old new text said = Settling old bytes text said
 TakesLines (Err e) bytes old new text said = ⊤
 
 -- less than a line is left, and no more bytes than a line may have
 abbrev pub LeavesFew : Result Progress ScriptError → List ℕ → Type 0
 LeavesFew (Ok (progress.Left from)) bytes = length bytes ≤ from + MOST_LINE_BYTES
+LeavesFew (Ok (progress.Lists from edges)) bytes = ⊤
 LeavesFew (Ok progress.Settled) bytes = ⊤
 LeavesFew (Err e) bytes = ⊤
-
--- the end of a script whose last bytes end no line
-abbrev pub Finishes : Result Ending ScriptError → List ℕ → Script → (text said : List ℕ) → Type 0
-Finishes (Ok ending) rest old text said =
-    (read before : List ℕ) → Served read before old rest → (t : List ℕ) × (said ≡ text ++ t) × (meaning read ≡ record { text = before ++ t; ending = ending })
-Finishes (Err e) rest old text said = ⊤

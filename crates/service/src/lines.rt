@@ -1,20 +1,22 @@
 //! The lines of what was read.
 
 ghost use Rattle.std.specs.Prelude.{◌≡◌, ◌≤◌, MatchOption};
-ghost use Rattle.service.specs.Served.{IsOneLine, IsLine, TakesLine, TakesLines, LeavesFew, Finishes};
+ghost use Rattle.service.specs.Served.{IsOneLine, IsLine, TakesLine, TakesLines, LeavesFew};
 
 use memchr::memchr;
-use script::{Crew, Ending, Gate, MOST_LINE_BYTES, Script, ScriptError, Step};
+use script::{Crew, Gate, Listing, MOST_LINE_BYTES, Script, ScriptError, Step};
 use std::sync::Wait;
 use std::thread::Threads;
 
 /// What came of the first line of some bytes.
-#[derive(Clone, Copy, Debug, PartialEq, Eq)]
+#[derive(Drop)]
 pub enum FirstLine {
     /// Its end is not among them.
     Partial,
     /// It was executed; with its end it has so many bytes.
     Executed(usize),
+    /// It was executed, but for the lines of these edges; with its end it has so many bytes.
+    Lists(usize, Listing),
     /// It has a fault, which is said.
     Stopped,
 }
@@ -40,20 +42,23 @@ fn execute_first<Ga: Gate, R: Threads + Wait>(
     };
     match script.execute(crew, text, &bytes[..end])? {
         Step::Executed => Ok(FirstLine::Executed(end + 1)),
+        Step::Lists(listing) => Ok(FirstLine::Lists(end + 1, listing)),
         Step::Stopped => Ok(FirstLine::Stopped),
     }
 }
 
 /// How far some bytes of a script led.
-#[derive(Clone, Copy, Debug, PartialEq, Eq)]
+#[derive(Drop)]
 pub enum Progress {
     /// All whole lines were executed, and the next one begins at this place.
     Left(usize),
+    /// The lines before this place were executed, but for the lines of the edges that the last of them lists.
+    Lists(usize, Listing),
     /// A line has a fault, which is said.
     Settled,
 }
 
-/// Executes the whole lines of some bytes.
+/// Executes the whole lines of some bytes, up to the first that lists edges.
 fn execute_lines<Ga: Gate, R: Threads + Wait>(
     crew: &Crew<'_, R, Ga>,
     script: &mut Script,
@@ -68,11 +73,15 @@ fn execute_lines<Ga: Gate, R: Threads + Wait>(
             FirstLine::Partial => return Ok(Progress::Left(from)),
             FirstLine::Stopped => return Ok(Progress::Settled),
             FirstLine::Executed(count) => from += count,
+            FirstLine::Lists(count, listing) => {
+                return Ok(Progress::Lists(from + count, listing));
+            }
         }
     }
 }
 
-/// Executes the whole lines of what was read. A line that is too long is a fault before its end comes.
+/// Executes the whole lines of what was read, up to the first that lists edges. A line that is too long is a fault
+/// before its end comes.
 pub fn execute_read<Ga: Gate, R: Threads + Wait>(
     crew: &Crew<'_, R, Ga>,
     script: &mut Script,
@@ -90,23 +99,4 @@ pub fn execute_read<Ga: Gate, R: Threads + Wait>(
         return Ok(Progress::Settled);
     }
     Ok(progress)
-}
-
-/// Executes the last line of a script, if that lacks its end, and ends the script.
-pub fn finish<Ga: Gate, R: Threads + Wait>(
-    crew: &Crew<'_, R, Ga>,
-    script: &mut Script,
-    text: &mut Vec<u8>,
-    rest: &[u8],
-) -> Result<Ending, ScriptError>
-    requires { IsOneLine rest.now }
-    ensures { Finishes result rest.now script.old text.old.items text.new.items }
-{
-    if rest.is_empty() {
-        return script.finish(text);
-    }
-    match script.execute(crew, text, rest)? {
-        Step::Executed => script.finish(text),
-        Step::Stopped => Ok(Ending::Fault),
-    }
 }

@@ -1,16 +1,16 @@
 //! A script that is read, executed and written block by block.
 
-ghost use Rattle.std.specs.Prelude.{◌≡◌, ◌<◌, ℕ, List, [], Option, length};
+ghost use Rattle.std.specs.Prelude.{◌≡◌, ◌<◌, ◌≤◌, ℕ, List, [], Option, OnOk, length, drop};
 ghost use Rattle.service.specs.Served.{IsOneLine};
 ghost use Rattle.service.specs.Serves.{Serves, CountsReads, CountsWrites};
-ghost use Rattle.service.specs.Rounds.{Advances, Rounds, Turns, IsServed, IsNoWrite};
+ghost use Rattle.service.specs.Rounds.{Advances, Concludes, Ends, Turns, IsServed, IsNoRead};
 
 use crate::ends::{Input, Output};
-use crate::lines::{Progress, execute_read, finish};
+use crate::lines::{Progress, execute_read};
 use crate::serve_error::ServeError;
-use crate::writing::write_all;
-use script::{Crew, Ending, Gate, Script, ScriptError, Workers};
-use std::alloc::Global;
+use crate::writing::{write_edges, write_text};
+use script::{Crew, Ending, Gate, Script, Step, Workers};
+use std::alloc::{AllocError, Global};
 use std::marker::Model;
 use std::sync::Wait;
 use std::thread::Threads;
@@ -35,51 +35,91 @@ impl Model for Serving {
 }
 
 impl Serving {
-    /// Executes the whole lines among what was read.
-    fn advance<Ga: Gate, R: Threads + Wait>(
+    /// Lets go of the first bytes that were read, which are executed.
+    fn drop_first(&mut self, alloc: Global, count: usize) -> Result<(), AllocError>
+        requires { count ≤ length self.old.pending }
+        ensures script { self.new.script ≡ self.old.script }
+        ensures text { self.new.text ≡ self.old.text }
+        ensures pending { OnOk result (self.new.pending ≡ drop count self.old.pending) }
+    {
+        self.pending = Vec::from_slice(alloc, &self.pending[count..])?;
+        Ok(())
+    }
+
+    /// Executes the whole lines among what was read, and writes what they say.
+    fn advance<O: Output, Ga: Gate, R: Threads + Wait>(
         &mut self,
         crew: &Crew<'_, R, Ga>,
         alloc: Global,
-    ) -> Result<Option<Ending>, ScriptError>
-        ensures { Advances result self.old self.new }
+        output: &mut O,
+    ) -> Result<Option<Ending>, ServeError>
+        requires written { self.old.text ≡ [] }
+        ensures advance { Advances result (O.contents output.old) (O.contents output.new) self.old self.new }
+        ensures no_read { IsNoRead result }
+        ensures writes { CountsWrites result (O.failures output.old) (O.failures output.new) }
     {
-        match execute_read(crew, &mut self.script, &mut self.text, &self.pending)? {
-            Progress::Settled => Ok(Some(Ending::Fault)),
-            Progress::Left(from) => {
-                self.pending = Vec::from_slice(alloc, &self.pending[from..])?;
-                Ok(None)
+        loop {
+            match execute_read(crew, &mut self.script, &mut self.text, &self.pending)? {
+                Progress::Left(from) => {
+                    self.drop_first(alloc, from)?;
+                    write_text(output, &mut self.text)?;
+                    return Ok(None);
+                }
+                Progress::Lists(from, listing) => {
+                    self.drop_first(alloc, from)?;
+                    write_edges(output, alloc, &mut self.text, &listing)?;
+                }
+                Progress::Settled => {
+                    write_text(output, &mut self.text)?;
+                    return Ok(Some(Ending::Fault));
+                }
             }
         }
     }
 
-    /// Reads some bytes and executes the lines that they end. At the end of the input it ends the script.
-    fn round<I: Input, Ga: Gate, R: Threads + Wait>(
+    /// Ends a script all of whose lines are executed, and writes the text that is left.
+    fn end<O: Output>(&mut self, output: &mut O) -> Result<Ending, ServeError>
+        ensures ended { Ends result (O.contents output.old) (O.contents output.new) self.old }
+        ensures no_read { IsNoRead result }
+        ensures writes { CountsWrites result (O.failures output.old) (O.failures output.new) }
+    {
+        let ending = self.script.finish(&mut self.text)?;
+        write_text(output, &mut self.text)?;
+        Ok(ending)
+    }
+
+    /// Executes the last line of a script, if that lacks its end, ends the script, and writes what it says.
+    fn conclude<O: Output, Ga: Gate, R: Threads + Wait>(
         &mut self,
         crew: &Crew<'_, R, Ga>,
         alloc: Global,
-        input: &mut I,
-        block: &mut [u8],
-    ) -> Result<Option<Ending>, ServeError>
-        requires room { 0 < length block.old }
+        output: &mut O,
+    ) -> Result<Ending, ServeError>
         requires one { IsOneLine self.old.pending }
-        ensures same { length block.new ≡ length block.old }
-        ensures round { Rounds result (I.remaining input.old) (I.remaining input.new) self.old self.new }
-        ensures reads { CountsReads result (I.failures input.old) (I.failures input.new) }
-        ensures no_write { IsNoWrite result }
+        requires written { self.old.text ≡ [] }
+        ensures concluded { Concludes result (O.contents output.old) (O.contents output.new) self.old }
+        ensures no_read { IsNoRead result }
+        ensures writes { CountsWrites result (O.failures output.old) (O.failures output.new) }
     {
-        let Ok(count) = input.read(block) else {
-            return Err(ServeError::Read);
-        };
-        if count == 0 {
-            let ending = finish(crew, &mut self.script, &mut self.text, &self.pending)?;
-            return Ok(Some(ending));
+        let rest = self.pending.as_slice();
+        if rest.is_empty() {
+            return self.end(output);
         }
-        self.pending.extend_from_slice(&block[..count])?;
-        let ended = self.advance(crew, alloc)?;
-        Ok(ended)
+        match self.script.execute(crew, &mut self.text, rest)? {
+            Step::Executed => self.end(output),
+            Step::Lists(listing) => {
+                write_edges(output, alloc, &mut self.text, &listing)?;
+                self.end(output)
+            }
+            Step::Stopped => {
+                write_text(output, &mut self.text)?;
+                Ok(Ending::Fault)
+            }
+        }
     }
 
-    /// Reads some bytes, executes the lines that they end, and writes what they say.
+    /// Reads some bytes, executes the lines that they end, and writes what they say. At the end of the input it ends
+    /// the script.
     fn turn<I: Input, O: Output, Ga: Gate, R: Threads + Wait>(
         &mut self,
         crew: &Crew<'_, R, Ga>,
@@ -97,12 +137,15 @@ impl Serving {
         ensures reads { CountsReads result (I.failures input.old) (I.failures input.new) }
         ensures writes { CountsWrites result (O.failures output.old) (O.failures output.new) }
     {
-        let ended = self.round(crew, alloc, input, block)?;
-        if write_all(output, &self.text).is_err() {
-            return Err(ServeError::Write);
+        let Ok(count) = input.read(block) else {
+            return Err(ServeError::Read);
+        };
+        if count == 0 {
+            let ending = self.conclude(crew, alloc, output)?;
+            return Ok(Some(ending));
         }
-        self.text.clear();
-        Ok(ended)
+        self.pending.extend_from_slice(&block[..count])?;
+        self.advance(crew, alloc, output)
     }
 
     /// Reads, executes and writes until the script ends.
@@ -148,8 +191,8 @@ impl Serving {
 /// `Complete`: the input is at its end, and every line was executed. `Fault`: a line has a fault, and
 /// what was written ends with it. After an error, what was written begins what the script writes, and
 /// `Read` and `Write` come only where a read or a write failed, which is not tried again. Bytes are read
-/// and written in blocks; a line is executed once all of it was read, and one without end is a fault
-/// once it is too long. Batches and runs are done by workers, and neither their number, nor their gate, nor the order
+/// and written in blocks, and so are the edges that a line lists, with the text of a block of them at once; a line is
+/// executed once all of it was read, and one without end is a fault once it is too long. Batches and runs are done by workers, and neither their number, nor their gate, nor the order
 /// in which threads run changes what is written; a piece of a batch is a range of 256 vertices, one of a run 64 places
 /// of its frontier. `WorkerRefused` comes where a thread could not be started; one worker needs none.
 pub fn serve<I: Input, O: Output, Ga: Gate, R: Threads + Wait>(

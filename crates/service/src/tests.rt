@@ -13,6 +13,7 @@ mod edits;
 mod ends;
 mod helpers;
 mod homes;
+mod lists;
 mod programs;
 mod standard;
 mod workers;
@@ -142,8 +143,10 @@ fn faults(rt: HostRuntime) -> Result<(), Fail> {
         ("graph 4\nbatch A\n- 0", 2, 3),
         ("graph 4\nbatch B\n- 0 4", 4, 3),
         ("graph 4\nend", 2, 2),
-        // A command that is not there yet is unknown before the graph is missed.
-        ("list t a -", 2, 1),
+        // A command that is not there is unknown before the graph is missed.
+        ("lists t a -", 2, 1),
+        ("list t a", 2, 1),
+        ("list t a -", 3, 1),
         ("home", 2, 1),
         ("home 0 0", 2, 1),
         ("home x", 2, 1),

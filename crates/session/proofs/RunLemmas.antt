@@ -18,7 +18,7 @@ use Rattle.session_model.specs.declared.fault.Fault.TheVariants as faults
 use Rattle.session_model.specs.Commands.{Answer, EdgesMapped}
 use Rattle.session_model.specs.Faults.{argument_fault, is_ascending}
 use Rattle.session_model.specs.Session.{Session, program_named, pin_named}
-use Rattle.session_model.specs.Responses.{Response, Answers, Fails, run_response, found_response, map_response, map_answer, frontier_of}
+use Rattle.session_model.specs.Responses.{Response, Answers, Fails, run_response, found_response, map_response, map_answer, frontier_of, list_response, listed_response}
 use Rattle.session.specs.declared.answer.Answer.{Answer as GivenAnswer}
 use Rattle.session.specs.declared.error.CommandError.{CommandError}
 use Rattle.session.specs.Kept.{answer_of}
@@ -31,6 +31,10 @@ run_outside program pin r argument frontier s last past-is below = rw (past-is, 
 
 pub run_inside : (program pin : List ℕ) (r : Reduction) (argument frontier : List ℕ) (s : Session) (last : Past) → s.past ≡ Some last → list_all (λ v. nat_lt v last.vertex_count) frontier ≡ true → found_response program pin r argument frontier (program_named program s.programs) (pin_named pin s.pins) s ≡ run_response program pin r argument frontier s
 run_inside program pin r argument frontier s last past-is below = rw (past-is, below) refl
+
+-- a list of a graph's edges
+pub list_inside : (program pin argument : List ℕ) (s : Session) (last : Past) → s.past ≡ Some last → listed_response program pin argument (program_named program s.programs) (pin_named pin s.pins) s ≡ list_response program pin argument s
+list_inside program pin argument s last past-is = rw past-is refl
 
 -- an argument that fits, and vertices that ascend
 no_fault : (argument frontier : List ℕ) (length_of : ℕ) → length argument + EDGE_BYTES ≡ length_of → is_ascending frontier ≡ true → argument_fault argument length_of frontier ≡ None

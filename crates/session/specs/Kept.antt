@@ -1,11 +1,16 @@
 -- What a session keeps, and what commands and answers stand for.
-use Rattle.std.specs.Prelude.{List, map, Option, option_map}
+use Rattle.std.specs.Prelude.{List, map, Option, Some, None, option_map}
 use Rattle.std.specs.Borrow.{Bor}
 use Rattle.std.specs.Option.{option_copied}
+use Rattle.std.specs.declared.sync.Arc.{Arc}
+use Rattle.std.specs.declared.alloc.Global.{Global}
+use Rattle.std.specs.Arc.{arc_value}
+use Rattle.bpf_image.specs.Program.{Program}
+use Rattle.bpf_model.specs.declared.listed_edge.ListedEdge.{ListedEdge}
 use Rattle.graph_model.specs.Past.{Past}
 use Rattle.history.specs.Moment.{Moment}
 use Rattle.session_model.specs.Session.{KeptProgram, KeptPin, Session}
-use Rattle.session_model.specs.Commands.{Command, MakeGraph, PublishBatch, LoadProgram, TakePin, RunProgram, TellHome, Answer, GraphMade, BatchPublished, ProgramAccepted, ProgramRefused, NoImage, PinTaken, EdgesMapped, HomeTold}
+use Rattle.session_model.specs.Commands.{Command, MakeGraph, PublishBatch, LoadProgram, TakePin, RunProgram, TellHome, ListEdges, Answer, GraphMade, BatchPublished, ProgramAccepted, ProgramRefused, NoImage, PinTaken, EdgesMapped, HomeTold, EdgesListed}
 use Rattle.session.specs.declared.kept.NamedProgram.{NamedProgram}
 use Rattle.session.specs.declared.kept.NamedPin.{NamedPin}
 use Rattle.session.specs.declared.command.Command.{Command as GivenCommand}
@@ -14,10 +19,14 @@ use Rattle.session.specs.declared.answer.Answer.{Answer as GivenAnswer}
 use Rattle.session.specs.declared.answer.Answer.TheVariants as answers
 
 abbrev pub kept_program : NamedProgram → KeptProgram
-kept_program p = record { name = p.name.items; program = p.program }
+kept_program p = record { name = p.name.items; program = arc_value p.program }
 
 abbrev pub kept_pin : NamedPin → KeptPin
 kept_pin p = record { name = p.name.items; past = p.pin.past }
+
+-- a program, where there is one
+abbrev pub program_of : Option (Bor (Arc Program Global)) → Option Program
+program_of program = option_map (λ (p : Arc Program Global). arc_value p) (option_copied program)
 
 -- what the version of a pin is the replay of, where there is a pin
 abbrev pub past_of : Option (Bor Moment) → Option Past
@@ -36,6 +45,7 @@ command_of (commands.TakePin name) = TakePin name.now
 command_of (commands.RunProgram program pin reduction argument frontier) =
     RunProgram program.now pin.now reduction argument.now frontier.now
 command_of (commands.TellHome vertex) = TellHome vertex
+command_of (commands.ListEdges program pin argument) = ListEdges program.now pin.now argument.items
 
 abbrev pub answer_of : GivenAnswer → Answer
 answer_of (answers.GraphMade vertices) = GraphMade vertices
@@ -46,3 +56,16 @@ answer_of (answers.NoImage name) = NoImage name.now
 answer_of (answers.PinTaken name number edges) = PinTaken name.now number edges
 answer_of (answers.EdgesMapped program pin edges total rows) = EdgesMapped program.now pin.now edges total rows.items
 answer_of (answers.HomeTold vertex home degree) = HomeTold vertex home degree
+answer_of (answers.EdgesListed program pin edges listing) = EdgesListed program.now pin.now edges listing
+
+-- the edges that an answer lists, if it does
+abbrev pub listing_of : GivenAnswer → Option (List ListedEdge)
+listing_of (answers.EdgesListed program pin edges listing) = Some listing
+listing_of (answers.GraphMade vertices) = None
+listing_of (answers.BatchPublished feed number added removed) = None
+listing_of (answers.ProgramAccepted name bound frames) = None
+listing_of (answers.ProgramRefused name refusal) = None
+listing_of (answers.NoImage name) = None
+listing_of (answers.PinTaken name number edges) = None
+listing_of (answers.EdgesMapped program pin edges total rows) = None
+listing_of (answers.HomeTold vertex home degree) = None

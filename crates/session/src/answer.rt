@@ -1,11 +1,15 @@
 //! What a session can answer.
 
+ghost use Rattle.std.specs.Prelude.{◌≡◌};
+ghost use Rattle.session.specs.Kept.{listing_of};
+
+use crate::listing::Listing;
 use bpf_model::Row;
 use graph_model::Home;
 use verifier::Refusal;
 
 /// The answer to a command, with the names that the command gave.
-#[derive(Debug, Drop)]
+#[derive(Drop)]
 pub enum Answer<'a> {
     /// There is a graph of so many vertices now.
     GraphMade {
@@ -55,4 +59,28 @@ pub enum Answer<'a> {
         home: Home,
         degree: u32,
     },
+    /// How many edges a pin has, and each of them with its number, which is run when it is asked for.
+    EdgesListed {
+        program: &'a [u8],
+        pin: &'a [u8],
+        edges: u64,
+        listing: Listing,
+    },
+}
+
+impl<'a> Answer<'a> {
+    /// The edges that it lists, if it does.
+    pub fn into_listing(self) -> Option<Listing>
+        ensures { result ≡ listing_of self.entry }
+    {
+        match self {
+            Answer::EdgesListed {
+                program: _program,
+                pin: _pin,
+                edges: _edges,
+                listing,
+            } => Some(listing),
+            _other => None,
+        }
+    }
 }

@@ -38,4 +38,11 @@ pub enum Command<'a> {
     TellHome {
         vertex: u64,
     },
+    /// All edges of a pin, each with the number that a program exits with for it, both by their names, with the
+    /// argument's bytes.
+    ListEdges {
+        program: &'a [u8],
+        pin: &'a [u8],
+        argument: Vec<u8>,
+    },
 }

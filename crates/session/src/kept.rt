@@ -1,11 +1,11 @@
 //! Programs and pins under their names.
 
 ghost use Rattle.std.specs.Prelude.{◌≡◌, map};
-ghost use Rattle.std.specs.Option.{option_copied};
 ghost use Rattle.bpf_asm.specs.Lexing.{same_bytes};
 ghost use Rattle.session_model.specs.Session.{program_named, pin_named};
-ghost use Rattle.session.specs.Kept.{kept_program, kept_pin, past_of};
+ghost use Rattle.session.specs.Kept.{kept_program, kept_pin, program_of, past_of};
 
+use std::sync::Arc;
 use verifier::Verified;
 use versions::Pin;
 
@@ -13,7 +13,7 @@ use versions::Pin;
 #[derive(Drop)]
 pub struct NamedProgram {
     pub name: Vec<u8>,
-    pub program: Verified,
+    pub program: Arc<Verified>,
 }
 
 /// A version that was pinned, under its name.
@@ -31,8 +31,11 @@ fn is_same(a: &[u8], b: &[u8]) -> bool
 }
 
 /// The program of this name.
-pub(crate) fn find_program<'a>(programs: &'a [NamedProgram], name: &[u8]) -> Option<&'a Verified>
-    ensures { option_copied result ≡ program_named name.now (map kept_program programs.now) }
+pub(crate) fn find_program<'a>(
+    programs: &'a [NamedProgram],
+    name: &[u8],
+) -> Option<&'a Arc<Verified>>
+    ensures { program_of result ≡ program_named name.now (map kept_program programs.now) }
 {
     for kept in programs {
         if is_same(&kept.name, name) {

@@ -13,6 +13,7 @@ use crate::kept::{NamedProgram, find_program};
 use crate::session::Session;
 use bpf_image::{Image, LEAST_RECORD_LENGTH, MOST_RECORD_LENGTH};
 use session_model::{Fault, MOST_KEPT};
+use std::sync::Arc;
 use verifier::{Cause, verify};
 
 impl Session {
@@ -74,6 +75,7 @@ impl Session {
                 let bound = program.bound();
                 let frames = program.frames();
                 let name_kept = Vec::from_slice(self.alloc, name)?;
+                let program = Arc::new(self.alloc, program)?;
                 self.programs.push(NamedProgram {
                     name: name_kept,
                     program,

@@ -1,12 +1,11 @@
 //! The runs of a session: a program mapped over the edges of a pin.
 
 ghost use Rattle.std.specs.Prelude.{◌≡◌, nat_lt, true, IfOk};
-ghost use Rattle.std.specs.Option.{option_copied};
 ghost use Rattle.std.specs.List.{list_all};
 ghost use Rattle.graph_model.specs.Past.{graph_of};
 ghost use Rattle.session_model.specs.Session.{Session as SessionState};
 ghost use Rattle.session_model.specs.Responses.{run_response, found_response, map_response, frontier_of};
-ghost use Rattle.session.specs.Kept.{past_of};
+ghost use Rattle.session.specs.Kept.{program_of, past_of};
 ghost use Rattle.session.specs.Performs.{Performs};
 ghost use Rattle.session.specs.Runs.{IsToldOf};
 
@@ -20,7 +19,7 @@ use edge_map::{MapError, MapOutcome, map_edges};
 use gates::{Crew, Gate};
 use session_model::Fault;
 use std::alloc::{AllocError, Global};
-use std::sync::Wait;
+use std::sync::{Arc, Wait};
 use std::thread::Threads;
 use verifier::Verified;
 use versions::{Pin, Version};
@@ -108,13 +107,12 @@ fn map_found<'a, Ga: Gate, R: Threads + Wait>(
     alloc: Global,
     run: &Run<'a>,
     vertices: u32,
-    program: Option<&Verified>,
+    program: Option<&Arc<Verified>>,
     pin: Option<&Pin>,
 ) -> Result<Answer<'a>, CommandError>
     requires { list_all (λ v. nat_lt v vertices) run.now.frontier.now ≡ true }
     ensures { (s : SessionState) → Performs (found_response run.now.program.now run.now.pin.now run.now.reduction
-        run.now.argument.now run.now.frontier.now (option_copied program.entry)
-        (past_of pin.entry) s) result s s }
+        run.now.argument.now run.now.frontier.now (program_of program.entry) (past_of pin.entry) s) result s s }
 {
     let (Some(program), Some(pin)) = (program, pin) else {
         return Err(CommandError::Fault(Fault::Name));

@@ -11,6 +11,7 @@ use crate::command::Command;
 use crate::error::CommandError;
 use crate::handles::Handles;
 use crate::kept::{NamedPin, NamedProgram};
+use crate::lists::Names;
 use crate::runs::Run;
 use gates::{Crew, Gate};
 use std::alloc::Global;
@@ -87,6 +88,11 @@ impl Session {
                 },
             ),
             Command::TellHome { vertex } => self.tell_home(vertex),
+            Command::ListEdges {
+                program,
+                pin,
+                argument,
+            } => self.list_program(&Names { program, pin }, argument),
         }
     }
 

@@ -3,6 +3,7 @@ use Rattle.std.specs.Prelude.{ℕ, List}
 use Rattle.bpf_image.specs.Program.{Program}
 use Rattle.bpf_model.specs.declared.reduction.Reduction.{Reduction}
 use Rattle.bpf_model.specs.declared.row.Row.{Row}
+use Rattle.bpf_model.specs.declared.listed_edge.ListedEdge.{ListedEdge}
 use Rattle.graph_model.specs.declared.edit.Edit.{Edit}
 use Rattle.graph_model.specs.declared.home.Home.{Home}
 use Rattle.verifier.specs.declared.refusal.Refusal.{Refusal}
@@ -20,6 +21,8 @@ pub data Command : Type 0 where
   RunProgram : (program pin : List ℕ) (reduction : Reduction) (argument frontier : List ℕ) → Command
   -- where the last version keeps a vertex's neighbours
   TellHome : (vertex : ℕ) → Command
+  -- all edges of a pin, each with the number that a program exits with for it
+  ListEdges : (program pin argument : List ℕ) → Command
 
 pub data Answer : Type 0 where
   GraphMade : (vertices : ℕ) → Answer
@@ -31,3 +34,5 @@ pub data Answer : Type 0 where
   PinTaken : (name : List ℕ) (number edges : ℕ) → Answer
   EdgesMapped : (program pin : List ℕ) (edges total : ℕ) → List Row → Answer
   HomeTold : (vertex : ℕ) → Home → (degree : ℕ) → Answer
+  -- how many edges there are, and then each with its number
+  EdgesListed : (program pin : List ℕ) (edges : ℕ) → List ListedEdge → Answer

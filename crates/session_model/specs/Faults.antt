@@ -76,3 +76,8 @@ home_fault v past = first_fault ((not (nat_lt v past.vertex_count), faults.Range
 abbrev pub argument_fault : List ℕ → ℕ → List ℕ → Option Fault
 argument_fault argument record_length frontier =
     first_fault ((not (length argument + EDGE_BYTES == record_length), faults.ArgumentLength) ∷ (not (is_ascending frontier), faults.Frontier) ∷ [])
+
+-- an argument for a record of this length
+abbrev pub length_fault : List ℕ → ℕ → Option Fault
+length_fault argument record_length =
+    first_fault ((not (length argument + EDGE_BYTES == record_length), faults.ArgumentLength) ∷ [])

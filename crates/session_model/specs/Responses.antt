@@ -9,14 +9,14 @@ use Rattle.graph_model.specs.Past.{Past, opening, longer, graph_of, number_of}
 use Rattle.graph_model.specs.Homes.{home_of}
 use Rattle.bpf_image.specs.Program.{Program, units}
 use Rattle.bpf_model.specs.declared.reduction.Reduction.{Reduction}
-use Rattle.bpf_model.specs.EdgeMap.{all_numbers, rows_of, reduction_of_numbers}
+use Rattle.bpf_model.specs.EdgeMap.{all_numbers, rows_of, reduction_of_numbers, listed_edges}
 use Rattle.verifier.specs.Walks.{longest}
 use Rattle.verifier.specs.Verdict.{Verdict, Accepted, Refused, verdict}
 use Rattle.session_model.specs.declared.fault.Fault.{Fault}
 use Rattle.session_model.specs.declared.fault.Fault.TheVariants as faults
 use Rattle.session_model.specs.Session.{Session, program_named, pin_named}
-use Rattle.session_model.specs.Commands.{Command, MakeGraph, PublishBatch, LoadProgram, TakePin, RunProgram, TellHome, Answer, GraphMade, BatchPublished, ProgramAccepted, ProgramRefused, NoImage, PinTaken, EdgesMapped, HomeTold}
-use Rattle.session_model.specs.Faults.{graph_fault, batch_fault, program_fault, pin_fault, vertices_fault, home_fault, argument_fault}
+use Rattle.session_model.specs.Commands.{Command, MakeGraph, PublishBatch, LoadProgram, TakePin, RunProgram, TellHome, ListEdges, Answer, GraphMade, BatchPublished, ProgramAccepted, ProgramRefused, NoImage, PinTaken, EdgesMapped, HomeTold, EdgesListed}
+use Rattle.session_model.specs.Faults.{graph_fault, batch_fault, program_fault, pin_fault, vertices_fault, home_fault, argument_fault, length_fault}
 
 -- an answer with the session after it, or a fault
 pub data Response : Type 0 where
@@ -109,6 +109,23 @@ abbrev pub home_response : ℕ → Session → Response
 home_response v s =
     needing s.past faults.Order (λ past. unless_fault (home_fault v past) (Answers (home_answer v past) s))
 
+-- all edges of a graph with the numbers of a program: how many there are, and each
+abbrev pub list_answer : List ℕ → List ℕ → Program → Graph → List ℕ → Answer
+list_answer program pin p g argument = EdgesListed program pin (edge_count g) (listed_edges p (longest p) g argument)
+
+-- the edges of a pin with the numbers of a program, where both are there
+abbrev pub listed_response : List ℕ → List ℕ → List ℕ → Option Program → Option Past → Session → Response
+listed_response program pin argument found kept s =
+    needing found faults.Name (λ p.
+    needing kept faults.Name (λ past.
+    unless_fault (length_fault argument p.record_length)
+    (Answers (list_answer program pin p (graph_of past) argument) s)))
+
+abbrev pub list_response : List ℕ → List ℕ → List ℕ → Session → Response
+list_response program pin argument s =
+    needing s.past faults.Order (λ last.
+    listed_response program pin argument (program_named program s.programs) (pin_named pin s.pins) s)
+
 abbrev pub response : Command → Session → Response
 response (MakeGraph n) s = graph_response n s
 response (PublishBatch feed edits) s = publish_response feed edits s
@@ -117,3 +134,4 @@ response (TakePin name) s = pin_response name s
 response (RunProgram program pin reduction argument frontier) s =
     run_response program pin reduction argument frontier s
 response (TellHome v) s = home_response v s
+response (ListEdges program pin argument) s = list_response program pin argument s

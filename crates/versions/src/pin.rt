@@ -1,7 +1,8 @@
 //! A hold on a version.
-ghost use Rattle.std.specs.Prelude.{◌≡◌};
+ghost use Rattle.std.specs.Prelude.{◌≡◌, IfOk};
 ghost use Rattle.std.specs.Arc.{arc_value};
 
+use std::alloc::AllocError;
 use std::marker::Model;
 use std::sync::Arc;
 use version::Version;
@@ -35,5 +36,13 @@ impl Pin {
         ensures { result.now ≡ self.now }
     {
         &self.version
+    }
+
+    /// Another hold on the same version. `AllocError` where the version cannot have one owner more.
+    pub fn share(&self) -> Result<Pin, AllocError>
+        ensures { IfOk result (λ pin. pin ≡ self.now) }
+    {
+        let version = Arc::try_clone(&self.version)?;
+        Ok(Pin { version })
     }
 }

@@ -50,7 +50,7 @@ pub struct Written {
     pub bytes: Vec<u8>,
     most: usize,
     failing: Option<u64>,
-    writes: u64,
+    pub writes: u64,
     failures: u64,
 }
 

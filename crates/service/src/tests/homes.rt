@@ -25,6 +25,15 @@ fn push_batch(
     Ok(())
 }
 
+/// The lines of a list of the edges from vertex 0 to the first vertices, each with 0.
+fn push_edges(alloc: Global, text: &mut String, degree: u32) -> Result<(), Fail> {
+    for target in 0..degree {
+        let line = format!(in alloc; "edge 0 {target} 0\n")?;
+        text.push_str(line.as_str())?;
+    }
+    Ok(())
+}
+
 #[test]
 fn block_and_array(rt: HostRuntime) -> Result<(), Fail> {
     let alloc = rt.alloc();
@@ -55,16 +64,17 @@ fn array_and_tree(rt: HostRuntime) -> Result<(), Fail> {
         (4, "-", 768, 769, "added 0 removed 1", "gapped", 768),
     ] {
         push_batch(alloc, &mut script, sign, from, below)?;
-        let run = format!(in alloc; "pin p{number}\nrun t p{number} sum -\n")?;
+        let run = format!(in alloc; "pin p{number}\nrun t p{number} sum -\nlist t p{number} -\n")?;
         script.push_str(run.as_str())?;
         let told = format!(in alloc;
             "batch A version {number} {changes}\nhome 0 {home} degree {degree}\n"
         )?;
         wanted.push_str(told.as_str())?;
         let rows = format!(in alloc;
-            "pin p{number} version {number} edges {degree}\nrun t p{number} edges {degree} total 0\nrow 0 0\n"
+            "pin p{number} version {number} edges {degree}\nrun t p{number} edges {degree} total 0\nrow 0 0\nlist t p{number} edges {degree}\n"
         )?;
         wanted.push_str(rows.as_str())?;
+        push_edges(alloc, &mut wanted, degree)?;
     }
     let (text, ending) = served(&rt, alloc, script.as_bytes())?;
     assert_eq!(rt; text.as_slice(), wanted.as_bytes());
@@ -79,10 +89,13 @@ fn block_to_tree_and_back(rt: HostRuntime) -> Result<(), Fail> {
     push_batch(alloc, &mut script, "+", 0, 1025)?;
     script.push_str("pin a\n")?;
     push_batch(alloc, &mut script, "-", 8, 1025)?;
-    script.push_str("run t a sum -\n")?;
+    script.push_str("run t a sum -\nlist t a -\n")?;
     let (text, _) = served(&rt, alloc, script.as_bytes())?;
-    let wanted =
-        b"batch A version 1 added 1025 removed 0\nhome 0 tree degree 1025\npin a version 1 edges 1025\nbatch A version 2 added 0 removed 1017\nhome 0 block degree 8\nrun t a edges 1025 total 0\nrow 0 0\n";
-    assert!(rt; text.ends_with(wanted.as_slice()));
+    let mut wanted = String::new(alloc);
+    wanted.push_str(
+        "batch A version 1 added 1025 removed 0\nhome 0 tree degree 1025\npin a version 1 edges 1025\nbatch A version 2 added 0 removed 1017\nhome 0 block degree 8\nrun t a edges 1025 total 0\nrow 0 0\nlist t a edges 1025\n",
+    )?;
+    push_edges(alloc, &mut wanted, 1025)?;
+    assert!(rt; text.ends_with(wanted.as_bytes()));
     Ok(())
 }

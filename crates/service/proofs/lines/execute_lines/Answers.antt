@@ -1,6 +1,7 @@
-use Rattle.std.proofs.Common.{◌≡◌, ℕ, List, ◌-◌, ◌++◌, length, take, drop, sym, ap, subst, ◌∙◌, append_assoc, arith, length-drop}
-use Rattle.std.proofs.lemmas.List.{take_all}
-use Rattle.service.specs.Served.{Served, Settled}
+use Rattle.std.proofs.Common.{◌≡◌, ℕ, List, ◌+◌, ◌-◌, ◌++◌, length, take, drop, sym, ap, subst, ◌∙◌, append_assoc, arith, length-drop}
+use Rattle.std.proofs.lemmas.List.{take_all, drop-drop}
+use Rattle.service.specs.Served.{Served, Settled, Listing}
+use Rattle.service.proofs.RoundLemmas.{lists_after}
 use Rattle.service.proofs.lines.execute_lines.Goals as goal
 
 pub returns-in-Stopped : goal.returns-in-Stopped
@@ -12,3 +13,16 @@ returns-in-Stopped g c read before h =
     let next = told read (before ++ so_far.0) left in
     let said = next.1 ∙ ap (λ (x : List ℕ). x ++ next.0) so_far.1 ∙ append_assoc c.args.text.now.items so_far.0 next.0 in
     (so_far.0 ++ next.0, said, subst (λ (x : List ℕ). Settled read x) (append_assoc before so_far.0 next.0) next.2)
+
+pub returns-in-Lists : goal.returns-in-Lists
+returns-in-Lists g c =
+    let bytes = c.args.bytes.now in
+    let from = c.loop-count.from in
+    let count = c.in-Lists.count in
+    let told = (rw c.in-Lists.is at c.in_ok-execute_first.ensures) in
+    let rest : take (length bytes - from) (drop from bytes) ≡ drop from bytes = take_all _ _ (omega (arith, length-drop from bytes)) in
+    let here = subst (λ (l : List ℕ). Listing c.loop-count.script c.execute_first.new.script l (drop count l) c.loop-count.text.items c.execute_first.new.text.items c.in-Lists.listing) rest told.2 in (
+      omega (arith, told.0, ap length rest, length-drop from bytes),
+      omega (arith, told.1),
+      lists_after c.args.script.now c.loop-count.script c.execute_first.new.script bytes (drop from bytes) (drop count (drop from bytes)) (drop (from + count) bytes) c.args.text.now.items c.loop-count.text.items c.execute_first.new.text.items c.in-Lists.listing c.loop-count.invariant.1 here (sym (drop-drop count from bytes)),
+    )

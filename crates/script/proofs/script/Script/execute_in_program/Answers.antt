@@ -7,7 +7,7 @@ use Rattle.script_model.specs.Execution.{inside_program}
 use Rattle.script.specs.Executes.{Executes}
 use Rattle.script.specs.Kept.{open_program, script_of}
 use Rattle.script.specs.declared.block.Block.TheVariants as blocks
-use Rattle.script.proofs.ProgramLemmas.{program_line, failed}
+use Rattle.script.proofs.ProgramLemmas.{program_line}
 use Rattle.script.proofs.script.Script.execute_in_program.Goals as goal
 
 pub returns-in-Ok-clause-executed : goal.returns-in-Ok-clause-executed
@@ -21,5 +21,4 @@ returns-in-Ok-clause-executed g c =
 pub returns-in-Err-clause-executed : goal.returns-in-Err-clause-executed
 returns-in-Err-clause-executed g c =
     let other : is_end (words c.args.bytes.now) ≡ false = sym c.is_end.ensures ∙ c.if-is_end.false in
-    let told = program_line c.args.bytes.now c.args.text.now.items (open_program c.args.begun) c.args.self.now _ (Err c.in-Err.error) other (c.in-Err.ensures.answer c.args.self.now) in
-    failed _ _ _ _ _ _ told
+    program_line c.args.bytes.now c.args.text.now.items (open_program c.args.begun) c.args.self.now c.args.self.now (Err c.in-Err.error) other (c.in-Err.ensures.answer c.args.self.now)

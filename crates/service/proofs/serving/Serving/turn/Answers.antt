@@ -1,39 +1,33 @@
-use Rattle.std.proofs.Common.{◌≡◌, true, false, sym, ap, ◌∙◌}
-use Rattle.std.specs.Prelude.{Result, Ok, Err, OnOk, OnErr, IsErrAnd, is_err}
-use Rattle.service.specs.declared.serve_error.ServeError.{ServeError}
+use Rattle.std.proofs.Common.{◌≡◌, ◌++◌, ◌<◌, List, ℕ, length, take, sym, ap, ◌∙◌, arith}
+use Rattle.std.specs.Prelude.{Err}
+use Rattle.service.specs.declared.serve_error.ServeError.TheVariants as errors
 use Rattle.service.specs.Stand.{Stand}
-use Rattle.service.proofs.RoundLemmas.{turn_fails, turn_unwritten, turn_written}
+use Rattle.service.proofs.KnownLemmas.{unread}
+use Rattle.service.proofs.RoundLemmas.{turn_stops, turn_unread, turn_fails, turn_advances, turn_concludes, turn_unended}
 use Rattle.service.proofs.serving.Serving.turn.Goals as goal
 
-is_that : {A E : Type 0} (r : Result A E) (e : E) → IsErrAnd r (λ (x : E). x ≡ e) → r ≡ Err e
-is_that (Ok x) e h = absurd h
-is_that (Err x) e h = ap Err h
+pub returns-in_default-clause-turn : goal.returns-in_default-clause-turn
+returns-in_default-clause-turn g c =
+    turn_unread (g.I.Input.remaining c.args.input.now) (g.I.Input.remaining c.read.new.self) (g.O.Output.contents c.args.output.now) c.args.self.now c.args.self.now errors.Read (unread (g.I.Input.remaining c.args.input.now) (g.I.Input.remaining c.read.new.self) c.read.result c.read.new.buffer c.in_default.not-Ok c.read.ensures.bytes)
 
-failed : {A E P : Type 0} (r : Result A E) → is_err r ≡ true → OnErr r P → P
-failed (Ok x) is h = absurd cc
-failed (Err e) is h = h
+pub returns-in_err-ending-clause-turn : goal.returns-in_err-ending-clause-turn
+returns-in_err-ending-clause-turn g c =
+    let none = c.if-count-eq0.true in
+    let some : 0 < length c.read.new.buffer = omega (arith, c.requires.room, c.read.auto.buffer) in
+    turn_stops c.from_residual.result _ (g.I.Input.remaining c.args.input.now) (g.I.Input.remaining c.read.new.self) (g.O.Output.contents c.args.output.now) (g.O.Output.contents c.conclude.new.output) c.args.self.now c.conclude.new.self c.from_residual.ensures.1 (λ e.
+    turn_unended (g.I.Input.remaining c.args.input.now) (g.I.Input.remaining c.read.new.self) (g.O.Output.contents c.args.output.now) (g.O.Output.contents c.conclude.new.output) c.in-Ok.count c.read.new.buffer c.args.self.now c.conclude.new.self e none some c.in-Ok.ensures.bytes c.in_err-ending.ensures.concluded)
 
-done : {A E P : Type 0} (r : Result A E) → is_err r ≡ false → OnOk r P → P
-done (Ok x) is h = h
-done (Err e) is h = absurd cc
+pub returns-then-count-eq0-clause-turn : goal.returns-then-count-eq0-clause-turn
+returns-then-count-eq0-clause-turn g c =
+    turn_concludes (g.I.Input.remaining c.args.input.now) (g.I.Input.remaining c.read.new.self) (g.O.Output.contents c.args.output.now) (g.O.Output.contents c.conclude.new.output) c.in-Ok.count c.read.new.buffer c.args.self.now c.conclude.new.self c.in_ok-ending.ending c.if-count-eq0.true (omega (arith, c.requires.room, c.read.auto.buffer)) c.in-Ok.ensures.bytes c.in_ok-ending.ensures.concluded
 
-pub returns-in_err-ended-clause-turn : goal.returns-in_err-ended-clause-turn
-returns-in_err-ended-clause-turn g c =
-    let is : IsErrAnd c.from_residual.result (λ (e : ServeError). e ≡ c.in_err-ended.field-0.0) = c.from_residual.ensures.1 in
-    let same = is_that c.from_residual.result c.in_err-ended.field-0.0 is in
-    rw same (turn_fails _ _ _ c.args.self.now c.round.new.self c.in_err-ended.field-0.0 c.in_err-ended.ensures.round)
-
-pub returns-then-is_err-clause-turn : goal.returns-then-is_err-clause-turn
-returns-then-is_err-clause-turn g c =
-    let wrong : is_err c.write_all.result ≡ true = sym c.is_err.ensures.value ∙ c.if-is_err.true in
-    let took = failed c.write_all.result wrong c.write_all.ensures.err in
-    let text : c.deref.result.now ≡ c.round.new.self.text = c.deref.ensures.value ∙ ap (λ (s : Stand). s.text) c.self.view_is in
-    turn_unwritten _ _ _ _ c.args.self.now c.round.new.self c.in_ok-ended.ended c.requires.written c.in_ok-ended.ensures.round (rw text at took)
+pub returns-in_err-extend_from_slice-clause-turn : goal.returns-in_err-extend_from_slice-clause-turn
+returns-in_err-extend_from_slice-clause-turn g c =
+    turn_stops c.from_residual-in_err-extend_from_slice.result _ (g.I.Input.remaining c.args.input.now) (g.I.Input.remaining c.read.new.self) (g.O.Output.contents c.args.output.now) (g.O.Output.contents c.args.output.now) c.args.self.now _ c.from_residual-in_err-extend_from_slice.ensures.1 (λ e.
+    turn_fails (g.I.Input.remaining c.args.input.now) (g.I.Input.remaining c.read.new.self) (g.O.Output.contents c.args.output.now) c.args.self.now c.args.self.now e (take c.in-Ok.count c.read.new.buffer, c.in-Ok.ensures.bytes.0))
 
 pub returns-clause-turn : goal.returns-clause-turn
 returns-clause-turn g c =
-    let right : is_err c.write_all.result ≡ false = sym c.is_err.ensures.value ∙ c.if-is_err.false in
-    let wrote = done c.write_all.result right c.write_all.ensures.ok in
-    let text : c.deref.result.now ≡ c.round.new.self.text = c.deref.ensures.value ∙ ap (λ (s : Stand). s.text) c.self.view_is in
-    let last : Stand = record { script = c.self.inside.script; pending = c.self.inside.pending.items; text = c.clear.new.self.items } in
-    turn_written _ _ _ _ c.args.self.now c.round.new.self last c.in_ok-ended.ended (ap (λ (s : Stand). s.script) c.self.view_is) (ap (λ (s : Stand). s.pending) c.self.view_is) c.clear.ensures.items c.requires.written c.in_ok-ended.ensures.round (rw text at wrote)
+    let more = take c.in-Ok.count c.read.new.buffer in
+    let mid : Stand = record { script = c.self.inside.script; pending = c.extend_from_slice.new.self.items; text = c.self.inside.text.items } in
+    turn_advances (g.I.Input.remaining c.args.input.now) (g.I.Input.remaining c.read.new.self) (g.O.Output.contents c.args.output.now) (g.O.Output.contents c.advance.new.output) more c.args.self.now mid c.advance.new.self c.advance.result (ap (λ (s : Stand). s.script) c.self.view_is) (c.in_ok-extend_from_slice.ensures.items ∙ ap (λ (s : Stand). s.pending ++ more) c.self.view_is) c.in-Ok.ensures.bytes.0 c.advance.ensures.advance
