@@ -76,7 +76,7 @@ def main():
                          + "/".join(run[0] for run in runs) + "|" + "".join(run[1] for run in runs))
         for name, (length, cause, pc) in REFUSED.items():
             lines.append(f"{name}|code {name} {length} {code(name).hex()}|refused {name} cause {cause} pc {pc}||")
-    vectors = here.parent / "crates/service/src/tests/compiled/vectors.rt"
+    vectors = here.parent / "crates/service_tests/src/scripts/compiled/vectors.rt"
     vectors.write_text(HEAD + "\n".join(lines) + '";\n')
 
 

@@ -41,7 +41,7 @@ def of_examples():
 
 def of_compiled():
     """A line for each accepted program that clang compiled."""
-    vectors = Path("crates/service/src/tests/compiled/vectors.rt").read_text()
+    vectors = Path("crates/service_tests/src/scripts/compiled/vectors.rt").read_text()
     for line in vectors.splitlines():
         parts = line.removesuffix('";').split("|")
         if len(parts) > 2 and parts[2].startswith("program "):
@@ -51,5 +51,5 @@ def of_compiled():
 
 if __name__ == "__main__":
     programs = list(of_examples()) + list(of_compiled())
-    out = Path("crates/both_runs/src/tests/programs.rt")
+    out = Path("crates/service_tests/src/runs/programs.rt")
     out.write_text(HEAD + "\n".join(programs) + '";\n')

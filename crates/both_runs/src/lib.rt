@@ -2,8 +2,6 @@
 #![tactic(auto)]
 
 mod both;
-#[cfg(test)]
-mod tests;
 
 pub use both::run_both;
 pub use bpf_model::Outcome;

@@ -13,6 +13,3 @@ pub use fold::{combine, map_frontier, nothing, number_for_edge};
 pub use outcome::MapOutcome;
 pub use verifier::Verified;
 pub use version::Version;
-
-#[cfg(test)]
-mod tests;

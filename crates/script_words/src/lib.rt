@@ -8,8 +8,6 @@ mod line;
 mod names;
 mod numbers;
 mod statements;
-#[cfg(test)]
-mod tests;
 mod words;
 
 pub use batches::batch_line;

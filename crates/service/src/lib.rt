@@ -6,8 +6,6 @@ mod lines;
 mod reporting;
 mod serve_error;
 mod serving;
-#[cfg(test)]
-mod tests;
 mod writing;
 
 pub use ends::{Failure, Input, Output, StdInput, StdOutput};

@@ -1,7 +1,7 @@
 //! Programs whose functions call one another.
 
-use crate::Ending;
-use crate::tests::served;
+use crate::scripts::served;
+use service::Ending;
 use std::alloc::{AllocError, Global};
 use std::test::Fail;
 

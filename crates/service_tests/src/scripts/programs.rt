@@ -1,6 +1,6 @@
 //! Programs in text, and each fault of one.
-use crate::Ending;
-use crate::tests::served;
+use crate::scripts::served;
+use service::Ending;
 use std::test::Fail;
 
 /// The code of this program is that of `TARGET`.

@@ -1,7 +1,7 @@
 //! The programs of the examples and those compiled from C, run both ways.
 ghost use Rattle.std.specs.Prelude.{◌≡◌, ◌≤◌, IfOk, length as count_of};
 
-use super::*;
+use both_runs::{Verified, run_both};
 use bpf_image::Image;
 use gates::{OpenGate, Workers};
 use graph_model::{Batch, Edit, Entry};

@@ -1,8 +1,8 @@
 //! What a gate sees of a script's batches and runs.
-use crate::tests::ends::{Parts, Written};
-use crate::tests::{TARGET, workers_of};
-use crate::{Ending, serve};
+use crate::scripts::ends::{Parts, Written};
+use crate::scripts::{TARGET, workers_of};
 use gates::HoldingGate;
+use service::{Ending, serve};
 use std::alloc::Global;
 use std::sync::Wait;
 use std::test::Fail;

@@ -1,7 +1,7 @@
 //! Batches of insertions and removals, from both feeds.
 
-use crate::Ending;
-use crate::tests::{TARGET, served};
+use crate::scripts::{TARGET, served};
+use service::Ending;
 use std::test::Fail;
 
 #[test]

@@ -1,5 +1,5 @@
 //! Ends over the standard traits: a failure is told at once, and nothing is tried again.
-use crate::{Ending, OpenGate, ServeError, StdInput, StdOutput, Workers, serve};
+use service::{Ending, OpenGate, ServeError, StdInput, StdOutput, Workers, serve};
 use std::alloc::Global;
 use std::io;
 use std::io::{ErrorKind, Read, Write};

@@ -1,6 +1,6 @@
 //! Lines and what they say, by hand.
-use super::*;
 use bpf_model::Reduction;
+use script_words::{BatchLine, Line, Statement, batch_line, is_end, is_plain_line, statement_line};
 use std::test::Fail;
 
 #[test]

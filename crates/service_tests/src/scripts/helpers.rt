@@ -1,7 +1,7 @@
 //! Programs that ask the graph that they run on.
 
-use crate::Ending;
-use crate::tests::served;
+use crate::scripts::served;
+use service::Ending;
 use std::test::Fail;
 
 const THREE_EDGES: &str = "graph 4\nbatch A\n+ 0 1\n+ 0 2\n+ 1 2\nend\n";

@@ -1,8 +1,8 @@
 //! Maps over small graphs, by hand.
 ghost use Rattle.std.specs.Prelude.{◌≡◌, ◌≤◌, IfOk, length};
 
-use super::*;
 use bpf_image::Image;
+use edge_fold::{MapOutcome, Memory, Reduction, Row, Verified, Version, map_frontier};
 use gates::{OpenGate, Workers};
 use graph_model::{Batch, Edit, Entry};
 use history::Head;

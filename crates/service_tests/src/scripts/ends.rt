@@ -1,7 +1,7 @@
 //! Inputs that give few bytes or fail, and outputs that take few or fail.
 ghost use Rattle.std.specs.Prelude.{None};
 
-use crate::{Failure, Input, Output};
+use service::{Failure, Input, Output};
 use std::alloc::Global;
 
 /// An input that gives at most so many bytes at once, and fails at one of its reads.

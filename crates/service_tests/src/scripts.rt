@@ -1,6 +1,6 @@
 //! Whole scripts, and what is written for them.
-use crate::tests::ends::{Parts, Written};
-use crate::{Ending, OpenGate, ServeError, Workers, serve};
+use crate::scripts::ends::{Parts, Written};
+use service::{Ending, OpenGate, ServeError, Workers, serve};
 use std::alloc::{AllocError, Global};
 use std::sync::Wait;
 use std::test::Fail;

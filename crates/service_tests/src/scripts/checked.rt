@@ -1,6 +1,6 @@
 //! Programs of others, accepted or refused, and their bounds.
-use crate::Ending;
-use crate::tests::{served, with_line_ends};
+use crate::scripts::{served, with_line_ends};
+use service::Ending;
 use std::alloc::Global;
 use std::process::Abort;
 use std::sync::Wait;

@@ -1,8 +1,8 @@
 //! Lists of edges, and how they are written.
 
-use crate::tests::ends::{Parts, Written};
-use crate::tests::{TARGET, served, workers_of};
-use crate::{Ending, OpenGate, ServeError, serve};
+use crate::scripts::ends::{Parts, Written};
+use crate::scripts::{TARGET, served, workers_of};
+use service::{Ending, OpenGate, ServeError, serve};
 use std::test::Fail;
 
 const GRAPH: &str = "graph 4\nbatch A\n+ 0 1\n+ 0 2\n+ 1 2\nend\n";

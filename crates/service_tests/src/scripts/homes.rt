@@ -1,7 +1,7 @@
 //! Where a vertex's neighbours are kept, along batches.
 
-use crate::Ending;
-use crate::tests::served;
+use crate::scripts::served;
+use service::Ending;
 use std::alloc::Global;
 use std::test::Fail;
 
