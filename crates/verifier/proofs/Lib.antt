@@ -10,6 +10,7 @@ pub mod OneFunction
 pub mod Arrivals
 pub mod WaysAhead
 pub mod Visits
+pub mod Knowing
 pub mod Joins
 pub mod Runs
 pub mod Verdicts

@@ -31,11 +31,15 @@ known_here p pc states box lt walked here =
     let held : state_at states pc ≡ Some box.value = rw here refl in
     sym known ∙ held
 
--- a broken rule is the first
-pub fault_here : (p : Program) (pc : ℕ) (i : Instruction) (states : States) (box : Box AbstractState) (cause : Cause) → pc < units p → IsWalkedTo p pc states → get_or states pc None ≡ Some box → instruction_at p pc ≡ Some i → transfer p.record_length pc i box.value ≡ Err cause → first_fault (rule_fault p) (units p) ≡ Some (record { cause = cause; pc = pc })
-fault_here p pc i states box cause lt walked here found fails =
+-- a rule is broken here
+pub breaks_here : (p : Program) (pc : ℕ) (i : Instruction) (states : States) (box : Box AbstractState) (cause : Cause) → pc < units p → IsWalkedTo p pc states → get_or states pc None ≡ Some box → instruction_at p pc ≡ Some i → transfer p.record_length pc i box.value ≡ Err cause → rule_fault p pc ≡ Some cause
+breaks_here p pc i states box cause lt walked here found fails =
     let known : assignment_of p pc ≡ Some box.value = known_here p pc states box lt walked here in
-    let fault : rule_fault p pc ≡ Some cause = rw (found, known, fails) refl in
+    rw (found, known, fails) refl
+
+-- a broken rule is the first
+pub fault_here : (p : Program) (pc : ℕ) (states : States) (cause : Cause) → pc < units p → IsWalkedTo p pc states → rule_fault p pc ≡ Some cause → first_fault (rule_fault p) (units p) ≡ Some (record { cause = cause; pc = pc })
+fault_here p pc states cause lt walked fault =
     first_fault_at (rule_fault p) pc (units p) cause (NoFault-first (rule_fault p) pc walked.fine) fault lt
 
 -- where no rule was broken, the table has what comes by the ways too

@@ -8,4 +8,5 @@ pub mod HelperVerdicts
 pub mod Sound
 pub mod Laws
 pub mod Tables
+pub mod Known
 pub mod Actions

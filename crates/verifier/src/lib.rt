@@ -6,6 +6,7 @@
 mod actions;
 mod flow;
 mod functions;
+mod known;
 pub mod laws;
 mod listing;
 mod places;
@@ -17,6 +18,7 @@ mod weights;
 
 pub use bpf_model::Cause;
 pub use bpf_operations::Action;
+pub use known::known_states;
 pub use refusal::Refusal;
 pub use verified::{Verified, verify};
 pub use weights::MOST_COUNTED;

@@ -1,5 +1,5 @@
 //! The fifth pass: what is known at each walked pc, and whether the instructions' rules hold of it.
-ghost use Rattle.std.specs.Prelude.{◌≡◌, ◌<◌, ◌≤◌, ◌+◌, ℕ, ℤ, pos, None, Some, IfOk, MatchResult, length};
+ghost use Rattle.std.specs.Prelude.{◌≡◌, ◌<◌, ◌≤◌, ◌+◌, ℕ, ℤ, pos, None, Some, IfOk, IfErr, MatchResult, length};
 ghost use Rattle.bpf_isa.specs.declared.limits.TheConstants.{MOST_UNITS};
 ghost use Rattle.bpf_image.specs.Program.{units};
 ghost use Rattle.abstract_state.specs.declared.state.AbstractState.{AbstractState as KnownState};
@@ -111,7 +111,7 @@ fn go_on(
 }
 
 /// Goes over what is at a pc, if that is walked.
-fn visit(
+pub fn visit(
     alloc: Global,
     image: &Image,
     listing: &[Option<Instruction>],
@@ -123,8 +123,9 @@ fn visit(
     requires flow { first_fault (flow_fault image.now) (units image.now) ≡ None }
     requires inside { pc < units image.now }
     requires walked { IsWalkedTo image.now pc states.old.items }
-    ensures { MatchResult result (λ _. IsWalkedTo image.now (pc + 1) states.new.items)
+    ensures first { MatchResult result (λ _. IsWalkedTo image.now (pc + 1) states.new.items)
         (λ refusal. unless_memory refusal (first_fault (rule_fault image.now) (units image.now) ≡ Some refusal)) }
+    ensures here { IfErr result (λ refusal. unless_memory refusal (rule_fault image.now pc ≡ Some refusal.cause)) }
 {
     let Some(mut state) = states[pc].take() else {
         return Ok(());

@@ -5,8 +5,9 @@ use Rattle.verifier_rules.specs.Rules.{transfer}
 use Rattle.verifier_rules.specs.Answers.{ways_onward}
 use Rattle.verifier_rules.proofs.Parts.{ok}
 use Rattle.verifier.specs.Listing.{instruction_at}
+use Rattle.verifier.specs.Verdict.{rule_fault}
 use Rattle.verifier.proofs.Flowing.{Flows}
-use Rattle.verifier.proofs.Visits.{lead_inside, fault_here, visited}
+use Rattle.verifier.proofs.Visits.{lead_inside, breaks_here, fault_here, visited}
 use Rattle.verifier.proofs.walking.visit.Goals as goal
 
 pub go_on-requires-clause-inside : goal.go_on-requires-clause-inside
@@ -26,10 +27,11 @@ returns-in-Err c =
     let found : instruction_at c.args.image.now c.args.pc ≡ Some c.in-Some-starting_at.instruction = sym c.in-Some-starting_at.ensures.exact in
     let step = c.in-Err.ensures c.args.pc in
     let fails : transfer c.args.image.now.record_length c.args.pc c.in-Some-starting_at.instruction c.in-Some.state.value ≡ Err c.in-Err.cause = rw (← c.record_length.ensures.exact, ← c.deref_mut.ensures.value) step in
-    inr (fault_here c.args.image.now c.args.pc c.in-Some-starting_at.instruction c.args.states.now.items c.in-Some.state c.in-Err.cause c.requires.inside walked (sym here) found fails)
+    let breaks : rule_fault c.args.image.now c.args.pc ≡ Some c.in-Err.cause = breaks_here c.args.image.now c.args.pc c.in-Some-starting_at.instruction c.args.states.now.items c.in-Some.state c.in-Err.cause c.requires.inside walked (sym here) found fails in
+    record { first = inr (fault_here c.args.image.now c.args.pc c.args.states.now.items c.in-Err.cause c.requires.inside walked breaks); here = inr breaks }
 
-pub returns-in_ok-go_on-in-Ok : goal.returns-in_ok-go_on-in-Ok
-returns-in_ok-go_on-in-Ok c =
+pub returns-in_ok-go_on-in-Ok-clause-first : goal.returns-in_ok-go_on-in-Ok-clause-first
+returns-in_ok-go_on-in-Ok-clause-first c =
     let walked = c.requires.walked in
     let passed : Flows c.args.image.now = record { decodes = c.requires.decodes; flow = c.requires.flow } in
     let some : Some c.in-Some.state ≡ get_or c.args.states.now.items c.args.pc (Some c.in-Some.state) = rw (← c.in-Some.ensures.value) at c.index_mut.ensures.value in
