@@ -162,13 +162,26 @@ class Writer:
             self.pool = sorted({*ends, *self.random.sample(self.pool, 12)})
         self.hubs = self.random.sample(self.pool, min(2 if self.is_big else 3, len(self.pool)))
 
+    def spelled(self, line):
+        """The same line, perhaps with other blanks, leading zeros or digits of the other case."""
+        if self.often(0.97):
+            return line
+        words = line.split(" ")
+        kind = self.random.randrange(3)
+        if kind == 0:
+            words = [f"000{word}" if word.isdigit() and place and words[0] != "code" else word for place, word in enumerate(words)]
+        elif kind == 1 and words[0] in ("code", "list"):
+            words[-1] = words[-1].upper()
+        return self.choice(["", " ", "\t"]) + self.choice([" ", "  ", "\t "]).join(words) + self.choice(["", " ", "\t"])
+
     def script(self):
         self.choose_graph()
         if self.often(0.002):
             return at_a_limit(self.random)
         lines = [f"graph {self.vertices}"] if self.often(0.99) else [self.choice(["graph 0", "graph 1048577", "pin a"])]
         for _ in range(self.random.randrange(25 if self.is_big else 40)):
-            lines += self.command()
+            command = self.command()
+            lines += command if command[:1] and command[0].startswith("program") else map(self.spelled, command)
         script = bytearray("\n".join(lines + [""] * self.often(0.6)).encode())
         if self.often(0.2):
             place, byte = self.random.randrange(len(script)), self.choice(MUTATIONS)
