@@ -1,11 +1,12 @@
 """Scripts: what is written for a script's bytes, as docs/SCRIPT.md says."""
 import re
 import struct
+from collections import Counter
 
 from assembler import Fault as TextFault
 from assembler import assemble
 from bpf import BITS_64, Graph, run
-from verifier import Refused, verify
+from verifier import Refused, judged
 
 LONG_LINE, WORDS, ORDER, RANGE, NAME, ARGUMENT, FRONTIER, TOO_MANY, LOG_FULL, OPEN_BLOCK = range(1, 11)
 REDUCTIONS = {
@@ -76,6 +77,8 @@ class Session:
         self.programs, self.pins = {}, {}
         self.block = None
         self.said = []
+        # What was seen, for who counts.
+        self.seen = Counter()
 
     def batch_line(self, words):
         if words == ["end"]:
@@ -86,9 +89,11 @@ class Session:
             self.batches += 1
             counts = f"added {len(later - self.edges)} removed {len(self.edges - later)}"
             self.said.append(f"batch {self.block['feed']} version {self.batches} {counts}")
+            self.seen[f"batches of feed {self.block['feed']}"] += 1
+            self.seen["batches that remove an edge"] += bool(self.edges - later)
             self.edges, self.block = later, None
             for vertex in {source for source, _ in last}:
-                self.homes[vertex] = home_after(self.homes.get(vertex, "block"), self.degree(vertex))
+                self.move(vertex)
             return
         test(len(words) != 3 or words[0] not in ("+", "-") or not are_numbers(words[1:]), WORDS)
         edge = (int(words[1]), int(words[2]))
@@ -99,16 +104,25 @@ class Session:
     def degree(self, vertex):
         return sum(source == vertex for source, _ in self.edges)
 
+    def move(self, vertex):
+        """The home of a list behind a batch that edits it."""
+        before = self.homes.get(vertex, "block")
+        self.homes[vertex] = after = home_after(before, self.degree(vertex))
+        if before != after:
+            self.seen[f"lists that move from {before} to {after}"] += 1
+
     def offer(self, name, length, code):
         """Has code judged as a program."""
         if not code or len(code) % 8 or len(code) > 32768:
             self.said.append(f"image {name} error 4")
             return
-        try:
-            bound, frames = verify(code, length)
-        except Refused as refused:
-            self.said.append(f"refused {name} cause {refused.cause} pc {refused.pc}")
+        verdict = judged(code, length)
+        if isinstance(verdict, Refused):
+            self.said.append(f"refused {name} cause {verdict.cause} pc {verdict.pc}")
             return
+        bound, frames, notes = verdict
+        self.seen["programs accepted"] += 1
+        self.seen.update(f"programs accepted that {note}" for note in notes)
         self.programs[name] = (length, code, bound)
         self.said.append(f"program {name} bound {bound} frames {frames}")
 
@@ -132,18 +146,19 @@ class Session:
 
     def numbers(self, program, pin, argument, source):
         """The targets of a vertex, each with the number of its edge."""
-        length, code, bound = self.programs[program]
-        graph = Graph(self.vertices, self.pins[pin])
+        _, code, bound = self.programs[program]
+        graph, rest = self.pins[pin], hexadecimal(argument)
         targets = graph.neighbours(source)
+        self.seen["runs of a program on an edge that exited"] += len(targets)
         for place, target in enumerate(targets):
-            record = struct.pack("<IIII", source, target, place, len(targets)) + hexadecimal(argument)
+            record = struct.pack("<IIII", source, target, place, len(targets)) + rest
             yield target, run(code, record, graph, bound)
 
     def list_edges(self, program, pin, argument):
         test(program not in self.programs or pin not in self.pins, NAME)
         test(len(hexadecimal(argument)) != self.programs[program][0] - 16, ARGUMENT)
-        self.said.append(f"list {program} {pin} edges {len(self.pins[pin])}")
-        for source in range(self.vertices):
+        self.said.append(f"list {program} {pin} edges {self.pins[pin].count}")
+        for source in self.pins[pin].sources():
             self.said += [f"edge {source} {target} {number}" for target, number in self.numbers(program, pin, argument, source)]
 
     def run(self, program, pin, reducer, argument, *frontier):
@@ -153,7 +168,7 @@ class Session:
         test(len(hexadecimal(argument)) != self.programs[program][0] - 16, ARGUMENT)
         test(any(low >= high for low, high in zip(frontier, frontier[1:])), FRONTIER)
         numbers, rows = [], []
-        for source in frontier or range(self.vertices):
+        for source in frontier or self.pins[pin].sources():
             own = [number for _, number in self.numbers(program, pin, argument, source)]
             if own:
                 rows.append(f"row {source} {REDUCTIONS[reducer](own)}")
@@ -179,7 +194,7 @@ class Session:
         elif command == "pin":
             test(words[0] in self.pins, NAME)
             test(len(self.pins) >= 256, TOO_MANY)
-            self.pins[words[0]] = self.edges
+            self.pins[words[0]] = Graph(self.vertices, self.edges)
             self.said.append(f"pin {words[0]} version {self.batches} edges {len(self.edges)}")
         elif command == "home":
             vertex = int(words[0])
@@ -204,7 +219,7 @@ class Session:
 
 
 def serve(script):
-    """The text that is written, and the exit status."""
+    """The text that is written, the exit status, and what was seen."""
     session, lines = Session(), script.split(b"\n")
     if lines[-1] == b"":
         lines.pop()
@@ -218,4 +233,4 @@ def serve(script):
     except Fault as fault:
         session.said.append(f"fault {fault.args[0]} line {line_number}")
     status = int(bool(session.said) and session.said[-1].startswith("fault "))
-    return "".join(line + "\n" for line in session.said), status
+    return "".join(line + "\n" for line in session.said), status, session.seen

@@ -1,34 +1,32 @@
 """Random scripts. The same number always gives the same script."""
 import random
-import struct
 
-from assembler import KINDS, Fault, assemble, unit
-from bpf import COMPARISONS, NoInstruction, decode
-from verifier import Broken, Refused, State, verify, ways_from
+from assembler import Fault, assemble
+from limits import at_a_limit
+from programs import Programs
+from script import home_after
+from verifier import Refused, judged
 
-NUMBERS = [0, 1, 2, 3, 4, 7, 8, 15, 16, 31, 32, 63, 64, 65, 127, 255, 256, 511, 512, -1, -2, -4, -8, -16, 2**31 - 1, -(2**31), 1000]
-WIDE_NUMBERS = [0, 5, 2**31 - 1, 2**31, 2**32 - 1, 2**32, 2**32 + 5, 2**63, 2**64 - 1]
-RECORD_PLACES = [0, 1, 3, 4, 8, 12, 13, 15]
-FRAME_PLACES = [-512, -16, -16, -16, -12, -12, -9, -8, -8, -8, -7, -4, -1, 0]
-GOOD_ARGUMENTS = {
-    "r": [f"r{number}" for number in range(11)] + ["r0", "r3"],
-    "n": ["0", "1", "7", "-1", "0x10", "4", "255", "2147483647", "-2147483648", "007", "-0"],
-    "m": ["[r1+0]", "[r1]", "[r1+4]", "[r1+8]", "[r10-8]", "[r10-16]", "[r10-4]", "[r2+1]"],
-    "l": ["x", "y", "out", "r11"],
-}
-ODD_ARGUMENTS = ["2147483648", "-2147483649", "18446744073709551616", "[r1+32768]", "[r10-32769]", "???", "[r1 + 4]", "0x", ""]
-ODD_ARGUMENTS += ["+1", "-0x1", "0X1", "[r11]", "[r1+]", "[r1+0x4]", "a" * 32, "a" * 33, "r1 r2", "-", "r1:", "1x", "r01", "[r1--4]"]
-ODD_LINES = ["r1:", "r11:", "x :", "x: exit", ":", "a" * 33 + ":", "end x", "jmp x", "foo r1", "foo r1,", "12 r1", "mov! r0, 1", "#"]
-ODD_COMMANDS = ["list t a -", "list t a", "home", "home x", "home 99", "batch C", "end", "graph 4", "foo", "batch", "pin", "pin a b", "code a 16", "run a", "pin a.b"]
+ODD_COMMANDS = ["list t a -", "list t a", "list t a - 0", "list n1 n2 zz", "home", "home x", "home 99", "home 0 1", "batch C", "end", "graph 4", "foo"]
+ODD_COMMANDS += ["batch", "pin", "pin a b", "code a 16", "run a", "pin a.b", "home 18446744073709551616", "  # a comment", "\t", "#end", "batch  B x"]
 ODD_COMMANDS += ["\x7f", "a\r", "pin " + "x" * 33, "program p 15", "program p 257", "code p 16 0", "code p 16 -", "code p 16 95", "run n1 n2 avg -"]
 ODD_EDITS = ["- 0", "-0 0", "", "# c", "+ 0", "+ 0 0 0", "end x", "+ 0 99999999999999999999", "+ 00 000", "+ -1 0"]
 MUTATIONS = b" \n\t#+-09afxzAZ[];:,.\r\x00\xff"
 
 
+# How many targets a list is to have, so that it moves from home to home.
+FEW = [0, 1, 8, 9, 12, 13, 14, 40]
+MANY = [0, 8, 9, 12, 13, 700, 767, 768, 769, 800, 1024, 1025, 1026, 1030]
+# A run of a program executes no more instructions than this, and all runs of a command no more than that.
+LONG_RUN, LONG_COMMAND = 2_000, 100_000
+
+
 class Writer:
     def __init__(self, number):
-        self.random = random.Random(number)
-        self.programs, self.pins, self.count = {}, [], 0
+        self.number, self.random = number, random.Random(number)
+        self.writing = Programs(self.random)
+        self.programs, self.pins, self.count = {}, {}, 0
+        self.targets, self.homes = {}, {}
 
     def often(self, share):
         return self.random.random() < share
@@ -36,246 +34,154 @@ class Writer:
     def choice(self, values):
         return self.random.choice(values)
 
-    # Programs as bytes. What is known on the way of no branch taken steers them, so that many are accepted.
-
-    def instruction(self, state):
-        """One instruction; a jump and a branch have their distance later."""
-        of_kind = lambda *kinds: [place for place, value in enumerate(state.registers) if value[0] in kinds] or [1]
-        some = lambda: self.choice(of_kind("number")) if self.often(0.93) else self.choice(range(11))
-        any_set = self.choice(of_kind("number", "record", "stack"))
-        pointer, target, value = self.choice(of_kind("record", "stack")), self.choice(range(10)), self.choice(NUMBERS)
-        offset = self.choice(RECORD_PLACES if state.registers[pointer][0] == "record" else FRAME_PLACES)
-        kind = self.choice("mmccaaaaapplllssssbbboew")
-        width = self.choice([7, 7, 4])
-        if kind == "m":
-            return unit(0xB0 | width, target, immediate=value)
-        if kind == "c":
-            return unit(0xB8 | width, target, any_set)
-        if kind in "ap":
-            code = self.choice([0, 1]) if kind == "p" else self.choice([0, 1, 2, 3, 4, 5, 6, 7, 9, 10, 12])
-            left, width = (pointer, 7) if kind == "p" else (some(), width)
-            chosen = self.choice([0, 1]) if code in (3, 9) else 0
-            if self.often(0.5):
-                return unit(code << 4 | width, left, 0, chosen, self.choice([1, 4, 8, -4, -8, -16, 16]) if kind == "p" else value)
-            return unit(code << 4 | 8 | width, left, some(), chosen)
-        if kind == "l":
-            return unit(self.choice([0x61, 0x69, 0x71, 0x79, 0x79, 0x81, 0x89, 0x91]), target, pointer, offset)
-        if kind == "s" and self.often(0.35):
-            return unit(self.choice([0x62, 0x6A, 0x72, 0x7A]), pointer, 0, offset, value)
-        if kind == "s":
-            return unit(self.choice([0x63, 0x6B, 0x73, 0x7B, 0x7B]), pointer, any_set, offset)
-        if kind == "b":
-            opcode = self.choice(list(COMPARISONS)) << 4 | self.choice([5, 5, 6])
-            return unit(opcode, some(), 0, 0, value) if self.often(0.6) else unit(opcode | 8, some(), some())
-        if kind == "o":
-            return unit(5)
-        if kind == "e":
-            swap = unit(self.choice([0xD4, 0xDC, 0xD7]), some(), 0, 0, self.choice([16, 32, 64]))
-            extension = unit(0xBF, target, some(), self.choice([8, 16, 32]))
-            return self.choice([unit(0x87, some()), unit(0x84, some()), swap, extension, unit(0xBC, target, some(), 8)])
-        low, high = struct.unpack("<ii", struct.pack("<Q", self.choice(WIDE_NUMBERS)))
-        return unit(0x18, target, immediate=low) + unit(0, immediate=high)
-
-    def asking(self, state):
-        """The call of a helper, and the instructions that give it its arguments."""
-        helper = self.choice([1, 2, 3, 3, 4, 5, 5, 5]) if self.often(0.97) else self.choice([0, 6, -1, 7, 261])
-        items = []
-        for register in (1, 2):
-            if state.registers[register][0] != "number" or self.often(0.6):
-                items.append(self.choice([unit(0xB7, register, immediate=self.choice([0, 1, 2, 3, 4, -1])), unit(0xBF, register, self.choice([0, 3, 6, 7]))]))
-                if state.registers[1] == ("record", 0, 0) and register == 2 and self.often(0.5):
-                    items = [unit(0x61, 2, 1, self.choice([0, 4, 8])), unit(0x61, 1, 1, self.choice([0, 4]))]
-        if helper == 5:
-            base = self.choice([place for place, value in enumerate(state.registers) if value[0] in ("record", "stack")])
-            step = self.choice([0, 0, 4, 1]) if state.registers[base][0] == "record" else self.choice([-256, -64, -24, -20, -16, -16, -13, -8])
-            items = [unit(0xBF, 3, base), unit(7, 3, immediate=step)] + [item for item in items if item[1] >> 4 != 3]
-            items.append(unit(0xB7, 4, immediate=self.choice([4, 8, 8, 12, 16, 16, 24, 64, 256]) if self.often(0.95) else self.choice([0, 2, 18, 260, -4])))
-        if self.often(0.03) and items:
-            items.pop(self.random.randrange(len(items)))
-        return items + [unit(0x85, immediate=helper)]
-
-    def code(self, length):
-        if self.often(0.3):
-            items = self.with_functions(length)
-        else:
-            state = State.entry(length)
-            items = self.with_distances(self.ended(*self.steps(state, length, self.set_up(state, length), 40)))
-        code = b"".join(items)
-        if self.often(0.02):
-            place = self.random.randrange(len(code))
-            code = code[:place] + bytes([self.random.randrange(256)]) + code[place + 1 :]
-        return code
-
-    def with_functions(self, length):
-        """A program and functions behind it, each of which calls some of those behind itself."""
-        count = self.choice([2, 2, 3, 4, 9])
-        entries, parts, calls = {0: State.entry(length)}, [], []
-        for function in range(count):
-            state = entries.get(function) or State.entry(length).entered()
-            items, state = self.steps(state, length, self.set_up(state, length), 6)
-            for _ in range(self.choice([0, 1, 1, 2, 3]) if function + 1 < count else 0):
-                callee = self.random.randrange(function + 1, count)
-                calls.append((function, len(items), callee))
-                (_, entry), (_, state) = ways_from(state, length, 0, ("local", 0), 1)
-                entries[callee] = entries[callee].joined(entry) if callee in entries else entry
-                items, state = self.steps(state, length, items + [unit(0x85, 0, 1)], 6)
-            parts.append(self.with_distances(self.ended(items, state)))
-        starts = [sum(len(item) for part in parts[:function] for item in part) // 8 for function in range(count)]
-        for function, place, callee in calls:
-            pc = starts[function] + sum(len(item) for item in parts[function][:place]) // 8
-            distance = self.random.randrange(-3, 9) if self.often(0.02) else starts[callee] - pc - 1
-            parts[function][place] = unit(0x85, 0, 1, immediate=distance)
-        return [item for part in parts for item in part]
-
-    def set_up(self, state, length):
-        """Registers are set, as what is known allows."""
-        items = []
-        for register in (0, 3, 4, 5, 6, 7, 8, 9) if self.often(0.7) else ():
-            items.append(self.choice([unit(0xB7, register, immediate=self.choice(NUMBERS)), unit(0x71, register, 1, 3), unit(0x79, register, 1)]))
-            if state.registers[1] != ("record", 0, 0):
-                items[-1] = unit(0xB7, register, immediate=self.choice(NUMBERS))
-            ways_from(state, length, 0, *decode(items[-1], 0))
-        return items
-
-    def steps(self, state, length, items, most):
-        """More instructions, and what is known behind them."""
-        for _ in range(self.random.randrange(most)):
-            if self.often(0.08):
-                items, state = self.asked(state, length, items)
-                continue
-            for _ in range(8):
-                item = self.instruction(state)
-                try:
-                    ways = ways_from(state.copy(), length, 0, *decode(item, 0))
-                except (Broken, NoInstruction):
-                    if self.often(0.004):
-                        break
-                    continue
-                if ways:
-                    state = ways[-1][1]
-                    break
-            items.append(item)
-        return items, state
-
-    def asked(self, state, length, items):
-        """The call of a helper, mostly one that is accepted, and what is known behind it."""
-        for _ in range(4):
-            call, behind = self.asking(state), state.copy()
-            try:
-                for item in call:
-                    behind = ways_from(behind, length, 0, *decode(item, 0))[-1][1]
-                return items + call, behind
-            except (Broken, NoInstruction):
-                if self.often(0.03):
-                    return items + call, state
-        return items, state
-
-    def ended(self, items, state):
-        return items + [unit(0xB7, 0, immediate=3)] * (state.registers[0][0] != "number") + [unit(0x95)]
-
-    def with_distances(self, items):
-        """Jumps and branches go a few instructions on."""
-        starts = [sum(len(item) for item in items[:place]) // 8 for place in range(len(items))]
-        for place, item in enumerate(items):
-            if item[0] == 0x05 or item[0] & 7 in (5, 6) and item[0] >> 4 in COMPARISONS:
-                target = starts[min(len(items) - 1, place + 1 + self.choice([0, 1, 1, 2, 2, 3, 5]))]
-                distance = self.random.randrange(-3, 9) if self.often(0.002) else target - starts[place] - 1
-                items[place] = item[:2] + struct.pack("<h", distance) + item[4:]
-        return items
-
-    # Programs as texts.
-
-    def text_line(self):
-        if self.often(0.15):
-            return self.choice(["", "; c", " \t", "x:", "y:", " out: ; c"] if self.often(0.9) else ODD_LINES)
-        word = self.choice(sorted(KINDS))
-        arguments = [self.choice(GOOD_ARGUMENTS[kind] if self.often(0.97) else ODD_ARGUMENTS) for kind in self.choice(KINDS[word])]
-        if self.often(0.03):
-            arguments = arguments[1:] if self.often(0.5) else arguments + ["r1"]
-        statement = word + self.choice([" ", "\t", "  "]) + self.choice([", ", ",", " ,\t"]).join(arguments) if arguments else word
-        return self.choice(["", " ", "\t"]) + statement + self.choice(["", " ", " ; note", ";x"])
-
-    def text(self):
-        good = [["mov r0, 7"], ["ldxw r0, [r1+4]"], ["ldxb r3, [r1+0]", "jge r3, 4, out", "mov r0, r3", "exit", "out:", "mov r0, 1"], []]
-        lines = self.choice(good) if self.often(0.5) else [self.text_line() for _ in range(self.random.randrange(6))]
-        lines = lines + ["exit"] if self.often(0.9) else lines + [self.text_line()]
-        return [line for line in lines if line.split() != ["end"]]
-
-    # Commands.
-
     def learn(self, name, length, code):
-        """Programs that are kept, by their record lengths."""
-        try:
-            if code and len(code) % 8 == 0:
-                verify(code, length)
-                self.programs[name] = length
-        except Refused:
-            pass
+        """Programs that are kept, by their record lengths and bounds."""
+        if code and len(code) % 8 == 0 and len(code) <= 32768:
+            verdict = judged(code, length)
+            if not isinstance(verdict, Refused) and name not in self.programs and verdict[0] <= LONG_RUN:
+                self.programs[name] = (length, verdict[0])
 
     def name(self):
         self.count += 1
         return f"n{self.count}" if self.often(0.995) else "n1"
 
-    def command(self, vertices):
-        kind = self.choice("tttccccppprrrrrllbbbh")
+    def vertex(self):
+        return self.choice(self.pool)
+
+    def command(self):
+        kind = self.choice(self.kinds)
         if self.often(0.005):
             return [self.choice(ODD_COMMANDS)]
         name, length = self.name(), self.choice([16, 16, 17, 20, 32, 256])
         if kind == "t":
-            lines = self.text()
-            try:
-                self.learn(name, length, assemble("\n".join(lines)))
-            except Fault:
-                pass
-            return [f"program {name} {length}", *lines, "end"]
+            return self.text(name, length)
         if kind == "c":
-            code = self.code(length)
+            code = self.writing.code(length)
             self.learn(name, length, code)
             return [f"code {name} {length} {code.hex()}"]
         if kind == "p":
-            self.pins.append(name)
+            self.pins[name] = {source: len(targets) for source, targets in self.targets.items()}
             return [f"pin {name}"]
-        if kind == "r" and self.programs and self.pins:
-            return [self.run(vertices)]
-        if kind == "l" and self.programs and self.pins:
-            return [self.list_edges()]
+        if kind in "rl" and self.programs and self.pins:
+            return self.run() if kind == "r" else self.list_edges()
         if kind == "h":
-            return [f"home {self.random.randrange(vertices)}"]
-        if vertices > 12 and self.often(0.6):
-            return [*self.burst(vertices), "home 1"]
-        edits = [f"{self.choice('+++-')} {self.random.randrange(vertices)} {self.random.randrange(vertices)}" for _ in range(self.random.randrange(6))]
-        return [f"batch {self.choice('AAB')}", *edits, *([self.choice(ODD_EDITS)] if self.often(0.01) else []), "end"]
+            return [f"home {self.vertex()}"]
+        if self.vertices > 12 and self.often(0.8 if self.is_big else 0.4):
+            return self.burst()
+        return self.batch([self.edit() for _ in range(self.random.randrange(9))])
 
-    def burst(self, vertices):
-        """A batch of many edges of one vertex, for lists that move from home to home."""
-        first = self.random.randrange(vertices)
-        last = self.random.randrange(first, vertices)
-        sign = self.choice("++-")
-        return ["batch A", *[f"{sign} 1 {target}" for target in range(first, last + 1)], "end"]
+    def text(self, name, length):
+        lines = self.writing.text(length)
+        try:
+            self.learn(name, length, assemble("\n".join(lines)))
+        except Fault:
+            pass
+        return [f"program {name} {length}", *lines, "end"]
 
-    def run(self, vertices):
-        program = self.choice(sorted(self.programs))
-        argument = self.random.randbytes(self.programs[program] - 16).hex() or "-"
-        frontier = sorted(self.random.sample(range(vertices), self.random.randrange(vertices + 1)))
+    def edit(self):
+        """An edge that comes or goes, which often is there."""
+        source = self.vertex()
+        there = self.targets.get(source)
+        if there and self.often(0.4):
+            return self.choice("---+"), source, self.choice(sorted(there))
+        return self.choice("++++-"), source, self.vertex()
+
+    def batch(self, edits):
+        """The lines of a batch, which the graph is after."""
+        for sign, source, target in edits:
+            there = self.targets.setdefault(source, set())
+            (there.add if sign == "+" else there.discard)(target)
+        for source in {source for _, source, _ in edits}:
+            self.homes[source] = home_after(self.homes.get(source, "block"), len(self.targets[source]))
+        lines = [f"{sign} {source} {target}" for sign, source, target in edits]
         if self.often(0.01):
-            argument = self.choice(["-", "00", "0g", "000"])
+            lines.insert(self.random.randrange(len(lines) + 1), self.choice(ODD_EDITS))
+        return [f"batch {self.choice('AB')}", *lines, "end"]
+
+    def burst(self):
+        """A batch by which some list has so many targets; some of its edges may come and go within it."""
+        source = self.choice(self.hubs)
+        there = self.targets.setdefault(source, set())
+        wanted = self.choice([degree for degree in (MANY if self.is_big else FEW) if degree <= self.vertices])
+        if wanted < len(there):
+            edits = [("-", source, target) for target in self.random.sample(sorted(there), len(there) - wanted)]
+        else:
+            missing = self.random.sample(sorted(set(range(min(self.vertices, 5000))) - there), wanted - len(there))
+            edits = [("+", source, target) for target in (sorted(missing) if self.often(0.5) else missing)]
+        if edits and self.often(0.2):
+            undone = [("-" if sign == "+" else "+", *edge) for sign, *edge in edits if self.often(0.3)]
+            edits = undone + edits if self.often(0.5) else edits + undone
+        if self.often(0.3):
+            edits += [self.edit() for _ in range(3)]
+        return [*self.batch(edits), f"home {source}"]
+
+    def few_enough(self, program, degrees):
+        """The vertices that a command may run over."""
+        left, kept = LONG_COMMAND // self.programs[program][1], []
+        for source, degree in sorted(degrees.items()):
+            left -= degree
+            if left >= 0:
+                kept.append(source)
+        return kept
+
+    def argument(self, program):
         if self.often(0.01):
-            frontier = [self.random.randrange(vertices + 1) for _ in range(3)]
-        words = ["run", program, self.choice(self.pins), self.choice(["min", "max", "sum"]), argument, *map(str, frontier)]
-        return " ".join(words)
+            return self.choice(["-", "00", "0g", "000", "- 0"])
+        return self.random.randbytes(self.programs[program][0] - 16).hex() or "-"
+
+    def run(self):
+        program, pin = self.choice(sorted(self.programs)), self.choice(sorted(self.pins))
+        degrees = {vertex: 0 for vertex in self.pool} | self.pins[pin]
+        kept = self.few_enough(program, degrees)
+        frontier = sorted(self.random.sample(kept, self.random.randrange(len(kept) + 1)))
+        if self.often(0.01):
+            frontier = [self.random.randrange(self.vertices + 1) for _ in range(3)]
+        if not frontier or len(kept) == len(degrees) and self.often(0.3):
+            frontier = [] if len(kept) == len(degrees) else kept[:1]
+        words = ["run", program, pin, self.choice(["min", "max", "sum"]), self.argument(program), *map(str, frontier)]
+        return [self.choice([" ", " ", " ", "  ", "\t"]).join(words)]
 
     def list_edges(self):
-        program = self.choice(sorted(self.programs))
-        argument = self.random.randbytes(self.programs[program] - 16).hex() or "-"
-        if self.often(0.01):
-            argument = self.choice(["-", "00", "0g", "000", "- 0"])
-        return f"list {program} {self.choice(self.pins)} {argument}"
+        program, pin = self.choice(sorted(self.programs)), self.choice(sorted(self.pins))
+        if len(self.few_enough(program, self.pins[pin])) < len(self.pins[pin]):
+            return []
+        return [f"list {program} {pin} {self.argument(program)}"]
+
+    def choose_graph(self):
+        """How many vertices there are, and on which of them most happens."""
+        self.is_big, self.kinds = self.often(0.02), "tttccccppprrrrrllbbbbh"
+        if self.is_big:
+            self.vertices, self.kinds = self.choice([1030, 1100, 1500]), "tccpprrlbbbbbbbbbh"
+        elif self.often(0.25):
+            self.vertices = self.choice([13, 14, 256, 257, 300, 513, 1000, 5000] if self.often(0.98) else [65537, 1048576])
+        else:
+            self.vertices = self.choice([1, 2, 4, 5, 9, 20])
+        self.pool = list(range(self.vertices))
+        if self.vertices > 20:
+            ends = [vertex for vertex in (0, 1, 255, 256, 511, 512, self.vertices - 1) if vertex < self.vertices]
+            self.pool = sorted({*ends, *self.random.sample(self.pool, 12)})
+        self.hubs = self.random.sample(self.pool, min(2 if self.is_big else 3, len(self.pool)))
+
+    def spelled(self, line):
+        """The same line, perhaps with other blanks, leading zeros or digits of the other case."""
+        if self.often(0.97):
+            return line
+        words = line.split(" ")
+        kind = self.random.randrange(3)
+        if kind == 0:
+            words = [f"000{word}" if word.isdigit() and place and words[0] != "code" else word for place, word in enumerate(words)]
+        elif kind == 1 and words[0] in ("code", "list"):
+            words[-1] = words[-1].upper()
+        return self.choice(["", " ", "\t"]) + self.choice([" ", "  ", "\t "]).join(words) + self.choice(["", " ", "\t"])
 
     def script(self):
-        vertices = self.choice([1, 2, 4, 5, 9, 20])
-        lines = [f"graph {vertices}"] if self.often(0.99) else [self.choice(["graph 0", "graph 1048577", "pin a"])]
-        for _ in range(self.random.randrange(40)):
-            lines += self.command(vertices)
+        self.choose_graph()
+        if self.often(0.002):
+            return at_a_limit(self.random)
+        lines = [f"graph {self.vertices}"] if self.often(0.99) else [self.choice(["graph 0", "graph 1048577", "pin a"])]
+        for _ in range(self.random.randrange(25 if self.is_big else 40)):
+            command = self.command()
+            lines += command if command[:1] and command[0].startswith("program") else map(self.spelled, command)
         script = bytearray("\n".join(lines + [""] * self.often(0.6)).encode())
         if self.often(0.2):
             place, byte = self.random.randrange(len(script)), self.choice(MUTATIONS)

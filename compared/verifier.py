@@ -1,5 +1,6 @@
 """The verifier: the causes by which a program is refused, and the bound and the frames of one that is accepted."""
 from bisect import bisect_right
+from functools import lru_cache
 
 from bpf import ARGUMENTS, BITS_32, BITS_64, FRAME_BYTES, MOST_FRAMES, ROOMS, NoInstruction, calculated, decode, extended, negated, signed, swapped
 
@@ -378,11 +379,35 @@ def test_flow(instructions, units_of_code):
             raise Refused(FALLS_OFF, pc)
 
 
+def noted(state, instruction, ways):
+    """What an instruction that breaks no rule shows of its program: for counting what programs are made of."""
+    kind, *parts = instruction
+    if kind == "local":
+        yield "call functions"
+    elif kind == "helper":
+        yield f"call helper {parts[0]}"
+    elif kind == "branch":
+        yield "branch"
+        if len(ways) == 1:
+            yield "have a side that no number takes"
+    elif kind in ("load", "store"):
+        size, (base, offset) = parts[0], parts[3:] if kind == "load" else parts[1:3]
+        base = state.registers[base]
+        if base[0] == "record":
+            yield "store to the record" if kind == "store" else "load from the record"
+            if base[1] < base[2]:
+                yield "access the record at a range of places"
+        elif kind == "load" and size == 8 and (FRAME_BYTES + base[1] + offset) % 8 == 0:
+            spilled = state.spilled.get((FRAME_BYTES + base[1] + offset) // 8, UNSET)
+            if spilled != UNSET:
+                yield "take back a spilled pointer" if is_pointer(spilled) else "take back a spilled number"
+
+
 def verify(code, record_length):
-    """The bound and the frames, or the refusal as an exception."""
+    """The bound, the frames and what is noted of an accepted program, or the refusal as an exception."""
     instructions = listed(code)
     test_flow(instructions, len(code) // 8)
-    counts, frames = {}, {}
+    counts, frames, notes = {}, {}, set()
     for pc, (instruction, units) in reversed(instructions.items()):
         onward, entry = next_pcs(pc, instruction, units), entry_called(instructions, pc, instruction)
         counts[pc] = 1 + counts.get(entry, 0) + max((counts[target] for target in onward), default=0)
@@ -391,14 +416,31 @@ def verify(code, record_length):
         raise Refused(TOO_DEEP, 0)
     if counts[0] > MOST_COUNTED:
         raise Refused(TOO_LONG, 0)
-    states = {0: State.entry(record_length)}
+    states, exits = {0: State.entry(record_length)}, 0
     for pc, (instruction, units) in instructions.items():
         if pc not in states:
             continue
+        state = states.pop(pc)
+        before = state.copy()
         try:
-            ways = ways_from(states.pop(pc), record_length, pc, instruction, units)
+            ways = ways_from(state, record_length, pc, instruction, units)
         except Broken as broken:
             raise Refused(broken.args[0], pc) from None
+        notes.update(noted(before, instruction, ways))
+        exits += instruction[0] == "exit"
         for target, state in ways:
+            if target in states:
+                notes.add("have two ways that meet")
             states[target] = states[target].joined(state) if target in states else state
-    return counts[0], frames[0]
+    if exits > 1:
+        notes.add("have several exits")
+    return counts[0], frames[0], frozenset(notes)
+
+
+@lru_cache(1000)
+def judged(code, record_length):
+    """What `verify` says, with a refusal as a value."""
+    try:
+        return verify(code, record_length)
+    except Refused as refused:
+        return refused

@@ -1,15 +1,23 @@
 #!/usr/bin/env python3
-"""Serves 10,000 scripts that differ from the valid ones of examples/ in one byte. See README.md."""
+"""Serves scripts that differ from the valid ones of examples/ in one byte. See README.md, and --help."""
+import argparse
+import os
 import pathlib
 import random
-import subprocess
 import sys
-from concurrent.futures import ThreadPoolExecutor
+from collections import Counter
+from concurrent.futures import ProcessPoolExecutor
+from functools import partial
 
-ROOT = pathlib.Path(__file__).parent.parent
+ROOT = pathlib.Path(__file__).resolve().parent.parent
+sys.path.insert(0, str(ROOT / "compared"))
+
+from serving import served  # noqa: E402
+
 PROGRAM = ROOT / "crates/edgebpf/out/edgebpf"
 SCRIPTS = [path.read_bytes() for path in sorted((ROOT / "examples").glob("*.script"))]
-COUNT = int(sys.argv[1]) if len(sys.argv) > 1 else 10_000
+BYTES = b" \n\t#+-09afxzAZ[];:,.\r\x00\xff"
+PIECE = 500
 
 
 def mutated(number):
@@ -23,28 +31,60 @@ def mutated(number):
     elif kind == 1:
         del script[place]
     elif kind == 2:
-        script.insert(place, choice.choice(b" \n\t#+-09afxzAZ[];:,.\r\x00\xff"))
+        script.insert(place, choice.choice(BYTES))
     else:
         script.insert(place, script[place])
     return bytes(script)
 
 
-def is_well_ended(number):
-    """Status 0 without a fault, or status 1 with a fault as the last line."""
-    ended = subprocess.run([PROGRAM], input=mutated(number), capture_output=True, timeout=60)
-    last = ended.stdout.splitlines()[-1:] or [b""]
-    told = last[0].startswith(b"fault ")
-    if ended.stderr or ended.returncode != (1 if told else 0):
-        print(f"script {number}: status {ended.returncode}, last line {last[0]!r}, said {ended.stderr!r}")
-        return False
-    return True
+def end_of(program, workers, number):
+    """How the serving of a script ended: with status 0 and no fault, with status 1 and its fault, or otherwise, which is told."""
+    ended = served(program, workers, mutated(number))
+    if ended is None:
+        print(f"script {number}, {workers} workers: it did not end", flush=True)
+        return "not well ended"
+    text, status, said = ended
+    last = text.splitlines()[-1:] or [b""]
+    fault = last[0].decode(errors="replace").split()[:2] if last[0].startswith(b"fault ") else None
+    if said or status != (1 if fault else 0):
+        print(f"script {number}, {workers} workers: status {status}, last line {last[0]!r}, said {said!r}", flush=True)
+        return "not well ended"
+    return " ".join(fault) if fault else "ended without a fault"
+
+
+def ends_of(program, workers, numbers):
+    """The ends of some scripts, each of which is served by one of these numbers of workers in turn."""
+    ends = Counter()
+    for number in numbers:
+        count = workers[number % len(workers)]
+        ends[f"{count} workers"] += 1
+        ends[end_of(program, count, number)] += 1
+    return ends
+
+
+def arguments():
+    words = argparse.ArgumentParser(description="Serves scripts that differ from those of examples/ in one byte: each has to end by itself.")
+    words.add_argument("--count", type=int, default=10_000, help="how many scripts (10,000)")
+    words.add_argument("--from", type=int, default=0, dest="first", help="the number of the first one (0)")
+    words.add_argument("--workers", type=int, nargs="+", default=[1], help="with how many workers the scripts are served, in turn (1)")
+    words.add_argument("--processes", type=int, default=os.cpu_count(), help="how many processes work side by side (as many as cores)")
+    words.add_argument("--program", type=pathlib.Path, default=PROGRAM, help="the program that serves")
+    return words.parse_args()
 
 
 def main():
-    with ThreadPoolExecutor() as pool:
-        ended = list(pool.map(is_well_ended, range(COUNT)))
-    print(f"{COUNT} scripts served, {ended.count(False)} did not end well")
-    sys.exit(0 if all(ended) else 1)
+    said = arguments()
+    if not said.program.exists():
+        sys.exit(f"serve.py: {said.program} is not there: build it by ./edgebpf < examples/first.script, or name another by --program")
+    last = said.first + said.count
+    pieces = [range(start, min(start + PIECE, last)) for start in range(said.first, last, PIECE)]
+    with ProcessPoolExecutor(said.processes) as pool:
+        ends = sum(pool.map(partial(ends_of, said.program, said.workers), pieces), Counter())
+    for kind, times in sorted(ends.items()):
+        print(f"{kind}: {times}")
+    print(f"{said.count} scripts from {said.first} on served, {ends['not well ended']} did not end well")
+    sys.exit(1 if ends["not well ended"] else 0)
 
 
-main()
+if __name__ == "__main__":
+    main()

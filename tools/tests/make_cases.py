@@ -1,17 +1,36 @@
 #!/usr/bin/python3
-"""make_cases.py FOLDER: writes the scripts of runs of programs in C, each with what edgebpf has to write, for `rt try --cases`.
-Where a package is missing it writes none, and says so."""
+"""make_cases.py FOLDER: writes scripts, each with what edgebpf has to write, for `rt try --cases`: those of the documents, and runs of
+programs in C. Of the latter it writes none where a package is missing, and says so."""
 import pathlib
 import sys
 import tempfile
 
+import documents
 from programs import GRAPH, RUNS, SOURCE
-from tools_here import MISSING, run_tool
+from tools_here import MISSING, TOOLS, run_tool
+
+sys.path.insert(0, str(TOOLS.parent / "compared"))
+
+from script import serve  # noqa: E402
 
 GRAPH_SAID = "graph 4\nbatch A version 1 added 3 removed 0\n"
 
 
-def main(folder):
+def write_case(folder, name, script, said):
+    (pathlib.Path(folder) / name).write_text(script)
+    (pathlib.Path(folder) / f"{name}.stdout").write_text(said)
+
+
+def write_documents(folder):
+    """The lines that the documents tell of are in the output; the second implementation adds those between them."""
+    for cases in documents.all_cases().values():
+        for name, case in cases.items():
+            said, _, _ = serve(case.script.encode())
+            assert documents.is_said(case, said), name
+            write_case(folder, f"document_{name}", case.script, said)
+
+
+def write_programs(folder):
     if MISSING:
         print(f"companions: runs of programs in C are skipped; not there: {MISSING}")
         return
@@ -22,8 +41,8 @@ def main(folder):
         for name, (words, said) in RUNS.items():
             run = run_tool("edgebpf-c", str(source), *words, "--on", str(graph), "--script")
             assert run.returncode == 0, run.stderr
-            (pathlib.Path(folder) / f"c_{name}").write_text(run.stdout)
-            (pathlib.Path(folder) / f"c_{name}.stdout").write_text(GRAPH_SAID + said)
+            write_case(folder, f"c_{name}", run.stdout, GRAPH_SAID + said)
 
 
-main(sys.argv[1])
+write_documents(sys.argv[1])
+write_programs(sys.argv[1])

@@ -1,33 +1,117 @@
-"""The programs in C of docs/BPF.md, as they stand there: what the document says of each comes of it."""
+"""The scripts and programs of README.md, docs/SCRIPT.md and docs/BPF.md, as they stand there: what the document says of each comes of
+it. The second implementation serves them here, and the program itself where EDGEBPF names it; `.ci/examples` serves them from source."""
 import os
 import pathlib
 import re
+import subprocess
+import sys
 import tempfile
 import unittest
 
+import documents
 from programs import GRAPH
 from tools_here import MISSING, TOOLS, run_tool
 
-TEXT = (TOOLS.parent / "docs" / "BPF.md").read_text()
-BLOCKS = re.findall(r"^```c\n(.*?)^```", TEXT, re.M | re.S)
+sys.path.insert(0, str(TOOLS.parent / "compared"))
+
+from assembler import KINDS, assemble  # noqa: E402
+from bpf import Graph, Machine, NoInstruction, Trap, decode  # noqa: E402
+from script import serve  # noqa: E402
+
+SECOND_STORE = str(TOOLS / "tests" / "second_store.py")
+BUILT = os.environ.get("EDGEBPF")
+BLOCKS = re.findall(r"^```c\n(.*?)^```", documents.BPF, re.M | re.S)
 FUNCTIONS = re.findall(r"^// (refused: cause [0-9]+|no code|accepted)\nu64 (\w+)\(", "\n".join(BLOCKS), re.M)
+# How many cases each part of the documents has: a row or a block that is not found is missed here.
+COUNTS = {"faults": 10, "assembler_faults": 6, "answers_of_code": 2, "zeros": 1, "line_tables": 3, "home_moves": 12, "readme_lines": 4}
+COUNTS |= {"helper_programs": 5, "gathering": 3, "causes": 17, "bounds": 1, "narrowing": 4, "assembler_lines": 5}
+
+
+def stop_of(code):
+    """Why the machine stops that runs a code on a record of 16 bytes, and where."""
+    machine = Machine(bytes(16), Graph(4, frozenset()))
+    while True:
+        pc = machine.pc
+        try:
+            instruction, units = decode(code, pc)
+            result = machine.leave() if instruction == ("exit",) else machine.step(instruction, units)
+        except NoInstruction:
+            return "bad instruction" if 0 <= 8 * pc < len(code) else "outside code", pc
+        except Trap as trap:
+            return str(trap), pc
+        if result is not None:
+            return "exit", pc
+
+
+class TheDocuments(unittest.TestCase):
+    def test_each_script_and_program(self):
+        parts = documents.all_cases()
+        self.assertEqual({part: len(cases) for part, cases in parts.items()}, COUNTS)
+        for cases in parts.values():
+            for name, case in cases.items():
+                with self.subTest(name):
+                    text, status, _ = serve(case.script.encode())
+                    self.assertTrue(documents.is_said(case, text), f"{name}: wanted {case.said} and last {case.last}, found {text[-500:]}")
+                    if BUILT:
+                        run = subprocess.run([BUILT], input=case.script, capture_output=True, text=True)
+                        self.assertEqual((run.stdout, run.returncode), (text, status))
+
+    def test_each_cause_fault_and_error_is_shown(self):
+        parts = documents.all_cases()
+        self.assertEqual({int(name.split("_")[1]) for name in parts["causes"]}, set(range(1, 16)))
+        self.assertEqual(list(parts["faults"]), [f"fault_{fault}" for fault in range(1, 11)])
+        self.assertEqual(list(parts["assembler_faults"]), [f"assembler_{error}" for error in range(1, 7)])
+
+    def test_what_is_shown_of_examples_stands_there(self):
+        shown = list(documents.shown_of_examples())
+        self.assertEqual(len(shown), 8)
+        for name, text, is_output in shown:
+            self.assertIn(text, (documents.ROOT / "examples" / f"{name}.{'output' if is_output else 'script'}").read_text())
+
+    def test_each_trap(self):
+        traps = list(documents.traps())
+        self.assertEqual([kind for kind, *_ in traps], list(range(1, 11)))
+        for _, name, code, pc in traps:
+            self.assertEqual(stop_of(code), (re.sub("(?<=[a-z])(?=[A-Z])", " ", name).lower(), pc), name)
+
+    def test_texts(self):
+        code, text = documents.disassembly()
+        self.assertEqual(assemble(text), code)
+        # Four statements of one unit.
+        self.assertEqual(len(assemble(documents.long_text())), 32)
+        self.assertEqual(documents.words(), set(KINDS))
 
 
 @unittest.skipIf(MISSING, f"not there: {MISSING}")
 class ProgramsOfTheDocuments(unittest.TestCase):
+    def setUp(self):
+        os.environ["EDGEBPF"] = BUILT or SECOND_STORE
+        made = tempfile.TemporaryDirectory()
+        self.addCleanup(made.cleanup)
+        self.source, self.graph = pathlib.Path(made.name) / "programs.c", pathlib.Path(made.name) / "graph.script"
+        self.graph.write_text(GRAPH)
+
+    def tearDown(self):
+        if not BUILT:
+            del os.environ["EDGEBPF"]
+
     def test_what_comes_of_each(self):
-        os.environ["EDGEBPF"] = str(TOOLS / "tests" / "second_store.py")
+        self.assertEqual(len(FUNCTIONS), len(re.findall(r"^// ", "\n".join(BLOCKS), re.M)))
         self.assertGreaterEqual(len(FUNCTIONS), 8)
-        with tempfile.TemporaryDirectory() as made:
-            source, graph = pathlib.Path(made) / "programs.c", pathlib.Path(made) / "graph.script"
-            source.write_text("#include <edgebpf.h>\n" + "\n".join(BLOCKS))
-            graph.write_text(GRAPH)
-            for said, name in FUNCTIONS:
-                run = run_tool("edgebpf-c", str(source), name, "24", "--on", str(graph))
-                if said == "no code":
-                    self.assertIn("A program has no data of its own", run.stderr, name)
-                elif said == "accepted":
-                    self.assertIn(f"program {name} bound", run.stdout, name)
-                    self.assertIn(f"run {name} last edges 3", run.stdout, name)
-                else:
-                    self.assertIn(f"refused {name} {said.removeprefix('refused: ')} pc", run.stdout, name)
+        self.source.write_text("#include <edgebpf.h>\n" + "\n".join(BLOCKS))
+        for said, name in FUNCTIONS:
+            run = run_tool("edgebpf-c", str(self.source), name, "24", "--on", str(self.graph))
+            if said == "no code":
+                self.assertIn("A program has no data of its own", run.stderr, name)
+            elif said == "accepted":
+                self.assertIn(f"program {name} bound", run.stdout, name)
+                self.assertIn(f"run {name} last edges 3", run.stdout, name)
+            else:
+                self.assertIn(f"refused {name} {said.removeprefix('refused: ')} pc", run.stdout, name)
+
+    def test_the_first_program_in_c(self):
+        source, (tool, _, *words) = documents.c_program()
+        self.source.write_text(source)
+        run = run_tool(tool.removeprefix("tools/"), str(self.source), *words, "--on", str(self.graph))
+        # Twice the source, exclusive or twice the degree of the target: 0 ^ 2, 0 ^ 0 and 2 ^ 0.
+        self.assertIn("run t last edges 3 total 4\nrow 0 2\nrow 1 2\n", run.stdout)
