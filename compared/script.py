@@ -92,8 +92,9 @@ class Session:
             self.seen[f"batches of feed {self.block['feed']}"] += 1
             self.seen["batches that remove an edge"] += bool(self.edges - later)
             self.edges, self.block = later, None
+            degrees = Counter(source for source, _ in later)
             for vertex in {source for source, _ in last}:
-                self.move(vertex)
+                self.move(vertex, degrees[vertex])
             return
         test(len(words) != 3 or words[0] not in ("+", "-") or not are_numbers(words[1:]), WORDS)
         edge = (int(words[1]), int(words[2]))
@@ -104,10 +105,10 @@ class Session:
     def degree(self, vertex):
         return sum(source == vertex for source, _ in self.edges)
 
-    def move(self, vertex):
-        """The home of a list behind a batch that edits it."""
+    def move(self, vertex, degree):
+        """The home of a list behind a batch that edits it, by its number of targets."""
         before = self.homes.get(vertex, "block")
-        self.homes[vertex] = after = home_after(before, self.degree(vertex))
+        self.homes[vertex] = after = home_after(before, degree)
         if before != after:
             self.seen[f"lists that move from {before} to {after}"] += 1
 
