@@ -73,7 +73,7 @@ class Session:
         self.vertices = None
         self.homes = {}
         self.batches = 0
-        self.edges = frozenset()
+        self.targets, self.edge_count = {}, 0
         self.programs, self.pins = {}, {}
         self.block = None
         self.said = []
@@ -84,26 +84,30 @@ class Session:
         if words == ["end"]:
             test(self.batches >= 4096, LOG_FULL)
             # The last edit that names an edge decides.
-            last = dict(self.block["edits"])
-            later = (self.edges | {edge for edge, stays in last.items() if stays}) - {edge for edge, stays in last.items() if not stays}
-            self.batches += 1
-            counts = f"added {len(later - self.edges)} removed {len(self.edges - later)}"
-            self.said.append(f"batch {self.block['feed']} version {self.batches} {counts}")
+            last = {}
+            for (source, target), stays in self.block["edits"]:
+                last.setdefault(source, {})[target] = stays
+            added = removed = 0
+            # A pin has the mapping of before, and its sets, which are never changed.
+            self.targets = dict(self.targets)
+            for source, edits in last.items():
+                before = self.targets.get(source, frozenset())
+                kept = {target for target, stays in edits.items() if stays}
+                after = (before | kept) - (set(edits) - kept)
+                added, removed = added + len(after - before), removed + len(before - after)
+                self.targets[source] = after
+                self.move(source, len(after))
+            self.batches, self.edge_count = self.batches + 1, self.edge_count + added - removed
+            self.said.append(f"batch {self.block['feed']} version {self.batches} added {added} removed {removed}")
             self.seen[f"batches of feed {self.block['feed']}"] += 1
-            self.seen["batches that remove an edge"] += bool(self.edges - later)
-            self.edges, self.block = later, None
-            degrees = Counter(source for source, _ in later)
-            for vertex in {source for source, _ in last}:
-                self.move(vertex, degrees[vertex])
+            self.seen["batches that remove an edge"] += bool(removed)
+            self.block = None
             return
         test(len(words) != 3 or words[0] not in ("+", "-") or not are_numbers(words[1:]), WORDS)
         edge = (int(words[1]), int(words[2]))
         test(max(edge) >= self.vertices, RANGE)
         test(len(self.block["edits"]) >= 65536, TOO_MANY)
         self.block["edits"].append((edge, words[0] == "+"))
-
-    def degree(self, vertex):
-        return sum(source == vertex for source, _ in self.edges)
 
     def move(self, vertex, degree):
         """The home of a list behind a batch that edits it, by its number of targets."""
@@ -195,12 +199,12 @@ class Session:
         elif command == "pin":
             test(words[0] in self.pins, NAME)
             test(len(self.pins) >= 256, TOO_MANY)
-            self.pins[words[0]] = Graph(self.vertices, self.edges)
-            self.said.append(f"pin {words[0]} version {self.batches} edges {len(self.edges)}")
+            self.pins[words[0]] = Graph(self.vertices, self.targets, self.edge_count)
+            self.said.append(f"pin {words[0]} version {self.batches} edges {self.edge_count}")
         elif command == "home":
             vertex = int(words[0])
             test(vertex >= self.vertices, RANGE)
-            self.said.append(f"home {vertex} {self.homes.get(vertex, 'block')} degree {self.degree(vertex)}")
+            self.said.append(f"home {vertex} {self.homes.get(vertex, 'block')} degree {len(self.targets.get(vertex, ()))}")
         elif command == "list":
             self.list_edges(*words)
         else:

@@ -29,7 +29,7 @@ COUNTS |= {"helper_programs": 5, "gathering": 3, "causes": 17, "bounds": 1, "nar
 
 def stop_of(code):
     """Why the machine stops that runs a code on a record of 16 bytes, and where."""
-    machine = Machine(bytes(16), Graph(4, frozenset()))
+    machine = Machine(bytes(16), Graph(4, {}, 0))
     while True:
         pc = machine.pc
         try:

@@ -1,0 +1,128 @@
+//! Scripts, made of lines that each stand for one line or for many.
+use itoa::Buffer;
+use std::alloc::{AllocError, Global};
+
+/// The numbers that one steps through from the first one on, below another number and round to its front.
+#[derive(Clone, Copy)]
+struct Steps {
+    first: u64,
+    step: u64,
+    below: u64,
+}
+
+impl Steps {
+    /// The number behind so many steps.
+    fn at(self, steps: u64) -> u64 {
+        let far = self.first.wrapping_add(self.step.wrapping_mul(steps));
+        far.checked_rem(self.below).unwrap_or(0)
+    }
+}
+
+fn push_number(script: &mut String, number: u64) -> Result<(), AllocError> {
+    let mut buffer = Buffer::new();
+    script.push_str(" ")?;
+    script.push_str(buffer.format(number))
+}
+
+fn push_line(script: &mut String, line: &str) -> Result<(), AllocError> {
+    script.push_str("\n")?;
+    script.push_str(line)
+}
+
+/// So many edits of one sign, with the sources and the targets that these steps go to.
+fn push_edits(
+    script: &mut String,
+    sign: &str,
+    count: u64,
+    sources: Steps,
+    targets: Steps,
+) -> Result<(), AllocError> {
+    for steps in 0..count {
+        push_line(script, sign)?;
+        push_number(script, sources.at(steps))?;
+        push_number(script, targets.at(steps))?;
+    }
+    Ok(())
+}
+
+/// So many numbers at the end of the last line.
+fn push_words(script: &mut String, count: u64, numbers: Steps) -> Result<(), AllocError> {
+    for steps in 0..count {
+        push_number(script, numbers.at(steps))?;
+    }
+    Ok(())
+}
+
+/// So many batches without an edit.
+fn push_batches(script: &mut String, count: u64) -> Result<(), AllocError> {
+    for _ in 0..count {
+        push_line(script, "batch B")?;
+        push_line(script, "end")?;
+    }
+    Ok(())
+}
+
+/// The numbers that words say; another word is 0.
+fn numbers_of(alloc: Global, words: &str) -> Result<Vec<u64>, AllocError> {
+    let mut numbers = Vec::new(alloc);
+    for word in words.split(' ') {
+        numbers.push(word.parse::<u64>().unwrap_or(0))?;
+    }
+    Ok(numbers)
+}
+
+/// The steps that these numbers say.
+fn steps_of(numbers: &[u64]) -> Steps {
+    match numbers {
+        [first, step, below] => Steps {
+            first: *first,
+            step: *step,
+            below: *below,
+        },
+        _ => Steps {
+            first: 0,
+            step: 0,
+            below: 0,
+        },
+    }
+}
+
+/// Writes what a line stands for at the end of a script. `insert` and `remove` have a count of edits, and the first number, the
+/// step and the limit of their sources and of their targets; `words` the same of numbers at the end of the line before;
+/// `batches` a count of batches without an edit. Any other line is itself.
+fn push_what_is_meant(alloc: Global, script: &mut String, line: &str) -> Result<(), AllocError> {
+    let (word, rest) = line.split_once(' ').unwrap_or((line, ""));
+    let numbers = numbers_of(alloc, rest)?;
+    match (word, numbers.as_slice()) {
+        ("insert", [count, steps @ ..]) if steps.len() == 6 => {
+            push_edits(
+                script,
+                "+",
+                *count,
+                steps_of(&steps[..3]),
+                steps_of(&steps[3..]),
+            )
+        }
+        ("remove", [count, steps @ ..]) if steps.len() == 6 => {
+            push_edits(
+                script,
+                "-",
+                *count,
+                steps_of(&steps[..3]),
+                steps_of(&steps[3..]),
+            )
+        }
+        ("words", [count, steps @ ..]) => push_words(script, *count, steps_of(steps)),
+        ("batches", [count]) => push_batches(script, *count),
+        _ => push_line(script, line),
+    }
+}
+
+/// The script that lines stand for. It begins with an empty line.
+pub fn script_of(alloc: Global, lines: &str) -> Result<String, AllocError> {
+    let mut script = String::new(alloc);
+    for line in lines.lines() {
+        push_what_is_meant(alloc, &mut script, line)?;
+    }
+    Ok(script)
+}

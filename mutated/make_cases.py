@@ -1,0 +1,107 @@
+#!/usr/bin/env python3
+"""Writes scripts of changed programs, each with what is to be written: make_cases.py FOLDER [COUNT]
+
+COUNT programs, 10,000 without it, differ from the valid ones of examples/ and compiled/ in one byte of their code or of their text. Each
+that is accepted is run. What is to be written comes from the second implementation, compared/. The same place always has the
+same program. See README.md.
+"""
+import pathlib
+import random
+import re
+import sys
+
+ROOT = pathlib.Path(__file__).parent.parent
+sys.path.insert(0, str(ROOT / "compared"))
+from script import Session  # noqa: E402
+
+# Programs of one script: no more are kept.
+IN_ONE = 250
+OPENING = ["graph 5", "batch A", "+ 0 1", "+ 0 2", "+ 1 2", "+ 2 2", "+ 2 4", "+ 4 0", "end", "pin a"]
+ALLOWED = [9, *range(32, 127)]
+
+
+def valid_programs():
+    """The codes and the texts of the examples, each with the length of its record."""
+    codes, texts = [], []
+    for path in sorted((ROOT / "examples").glob("*.script")):
+        script = path.read_text()
+        codes += [(int(length), bytes.fromhex(code)) for length, code in re.findall(r"^code \S+ (\d+) ([0-9a-fA-F]+)$", script, re.M)]
+        blocks = re.findall(r"^program \S+ (\d+)\n(.*?)^end$", script, re.M | re.S)
+        texts += [(int(length), text.encode()) for length, text in blocks]
+    vectors = (ROOT / "crates/service_tests/src/scripts/compiled/vectors.rt").read_text()
+    codes += [(int(length), bytes.fromhex(code)) for length, code in re.findall(r"\|code \S+ (\d+) ([0-9a-fA-F]+)\|", vectors)]
+    return codes, texts
+
+
+def changed(choice, valid, allowed):
+    """The bytes with one of them changed, and sometimes one left out, put in or doubled."""
+    program = bytearray(valid)
+    place = choice.randrange(len(program))
+    kind = choice.randrange(10)
+    if kind < 5:
+        program[place] = choice.choice(allowed)
+    elif kind < 7:
+        program[place] = program[place] ^ 1 << choice.randrange(8)
+    elif kind == 7:
+        del program[place]
+    elif kind == 8:
+        program.insert(place, choice.choice(allowed))
+    else:
+        program.insert(place, program[place])
+    return bytes(program)
+
+
+class Script:
+    """A script that grows, and what the second implementation says of it so far."""
+
+    def __init__(self):
+        self.session, self.lines = Session(), []
+        self.add(*OPENING)
+
+    def add(self, *lines):
+        for line in lines:
+            self.lines.append(line)
+            self.session.line(line.encode(), len(self.lines))
+
+    def program(self, name, length, lines):
+        """A program, and a run of it where it is accepted."""
+        self.add(*lines)
+        if name in self.session.programs:
+            argument = bytes(range(1, length - 15)).hex() or "-"
+            self.add(f"run {name} a sum {argument}")
+
+    def write(self, path):
+        path.write_text("".join(f"{line}\n" for line in self.lines))
+        path.with_suffix(".stdout").write_text("".join(f"{line}\n" for line in self.session.said))
+
+
+def is_one_block(text):
+    """Whether the text has no byte that is a fault, and no line that ends the block."""
+    lines = text.split(b"\n")
+    return all(byte in ALLOWED or byte == 10 for byte in text) and not any(line.split() == [b"end"] for line in lines)
+
+
+def main():
+    folder, count = pathlib.Path(sys.argv[1]), int(sys.argv[2]) if len(sys.argv) > 2 else 10_000
+    codes, texts = valid_programs()
+    choice, script = random.Random(1), None
+    for number in range(count):
+        if number % IN_ONE == 0:
+            script = Script()
+        name = f"p{number % IN_ONE}"
+        if number % 2:
+            length, valid = choice.choice(codes)
+            lines = [f"code {name} {length} {changed(choice, valid, range(256)).hex()}"]
+        else:
+            length, valid = choice.choice(texts)
+            text = changed(choice, valid, ALLOWED + [10])
+            while not is_one_block(text):
+                text = changed(choice, valid, ALLOWED + [10])
+            lines = [f"program {name} {length}", *text.decode().removesuffix("\n").split("\n"), "end"]
+        script.program(name, length, lines)
+        if number % IN_ONE == IN_ONE - 1 or number == count - 1:
+            script.write(folder / f"changed_{number // IN_ONE:02}")
+
+
+if __name__ == "__main__":
+    main()
