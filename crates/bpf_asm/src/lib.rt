@@ -9,3 +9,5 @@ mod writing;
 pub use errors::{AssembleError, DisassembleError, TextCause};
 pub use reading::assembler::assemble;
 pub use writing::disassembler::disassemble;
+pub use writing::placed::{Placed, Target};
+pub use writing::statement_texts::put_statement;

@@ -266,8 +266,9 @@ fn put_operands(
     }
 }
 
-/// Writes the statement of an instruction.
-pub(crate) fn put_statement(text: &mut String, placed: Placed) -> Result<(), AllocError>
+/// Writes the statement of an instruction at the end of a text, as `disassemble` has it. A jump names the label of the
+/// unit to which it goes, also where no instruction starts there.
+pub fn put_statement(text: &mut String, placed: Placed) -> Result<(), AllocError>
     ensures { OnOk result (string_bytes text.new ≡ string_bytes text.old
         ++ statement_text placed.pc placed.instruction) }
 {
