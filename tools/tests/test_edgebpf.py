@@ -26,6 +26,8 @@ class Edgebpf(unittest.TestCase):
             (self.top / "crates" / crate / "src").mkdir(parents=True)
         (self.top / "crates.txt").write_text("# all\nlow:\nmiddle: low kit\nother: low\nedgebpf: middle other\nunused: low\n")
         shutil.copy(TOOLS.parent / "edgebpf", self.top)
+        (self.top / "tools").mkdir()
+        shutil.copy(TOOLS / "proved_program", self.top / "tools")
         self.commands = self.top.parent / "commands"
         self.commands.mkdir()
         (self.commands / "rt").write_text(PROVER)

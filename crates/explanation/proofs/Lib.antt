@@ -1,0 +1,3 @@
+pub mod Inside
+pub mod Written
+pub mod Starts

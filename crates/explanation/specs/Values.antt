@@ -1,0 +1,81 @@
+-- What is known at a place, as text. Each thing that is known stands behind two blanks.
+use Rattle.std.specs.Prelude.{ℕ, ◌+◌, ◌-◌, ◌*◌, ◌^◌, ◌==◌, ◌&&◌, not, if◌then◌else◌, Bool, true, false, List, [], ◌++◌, codes, slice_index_or}
+use Rattle.std.specs.Fmt.{decimal}
+use Rattle.bpf_isa.specs.declared.register.Register.{Register}
+use Rattle.bpf_isa.specs.Encoding.{number_of}
+use Rattle.bpf_asm.specs.Writing.{offset_text}
+use Rattle.abstract_values.specs.declared.value.AbstractValue.{AbstractValue}
+use Rattle.abstract_values.specs.declared.value.AbstractValue.TheVariants.{Unset, Number, Record, Stack}
+use Rattle.abstract_state.specs.declared.state.AbstractState.{AbstractState}
+use Rattle.abstract_state.specs.States.{register}
+use Rattle.explanation.specs.Pieces.{newline, pieces_to}
+
+abbrev pub range_text : ℕ → ℕ → List ℕ
+range_text lo hi = if lo == hi then decimal lo else decimal lo ++ codes " to " ++ decimal hi
+
+-- a number of which nothing else is known
+abbrev pub number_text : ℕ → ℕ → List ℕ
+number_text lo hi = if (lo == 0) && (hi == 2 ^ 64 - 1) then codes "any number" else range_text lo hi
+
+abbrev pub value_text : AbstractValue → List ℕ
+value_text Unset = codes "nothing"
+value_text (Number lo hi) = number_text lo hi
+value_text (Record lo hi) = codes "record+" ++ range_text lo hi
+value_text (Stack offset) = codes "stack" ++ offset_text offset
+
+abbrev pub is_known : AbstractValue → Bool
+is_known Unset = false
+is_known (Number lo hi) = true
+is_known (Record lo hi) = true
+is_known (Stack offset) = true
+
+-- something of which a value is known; it is left out where nothing is
+abbrev pub known_text : List ℕ → AbstractValue → List ℕ
+known_text name v = if is_known v then codes "  " ++ name ++ codes " " ++ value_text v else []
+
+-- ---- registers
+
+abbrev pub register_piece : AbstractState → ℕ → List ℕ
+register_piece s r = known_text (codes "r" ++ decimal r) (slice_index_or s.registers r Unset)
+
+abbrev pub registers_text : AbstractState → List ℕ
+registers_text s = pieces_to (register_piece s) 11
+
+-- ---- the frame
+
+abbrev pub is_set : AbstractState → ℕ → Bool
+is_set s byte = slice_index_or s.bytes_set byte false
+
+-- it is set, and the byte before it is not
+abbrev pub begins_row : AbstractState → ℕ → Bool
+begins_row s byte = if byte == 0 then is_set s byte else is_set s byte && not (is_set s (byte - 1))
+
+-- it is set, and the byte behind it is not
+abbrev pub ends_row : AbstractState → ℕ → Bool
+ends_row s byte = is_set s byte && not (is_set s (byte + 1))
+
+-- bytes that are set stand as rows: the first byte of a row begins it, and the last one ends it. A byte is told by how
+-- far it is below the frame's top
+abbrev pub row_text : (begins ends : Bool) → (below : ℕ) → List ℕ
+row_text true true below = codes "  byte -" ++ decimal below
+row_text true false below = codes "  bytes -" ++ decimal below
+row_text false true below = codes " to -" ++ decimal below
+row_text false false below = []
+
+abbrev pub byte_piece : AbstractState → ℕ → List ℕ
+byte_piece s byte = row_text (begins_row s byte) (ends_row s byte) (512 - byte)
+
+abbrev pub slot_piece : AbstractState → ℕ → List ℕ
+slot_piece s slot = known_text (codes "slot -" ++ decimal (512 - 8 * slot)) (slice_index_or s.slots slot Unset)
+
+-- which bytes are set, and what was spilled
+abbrev pub frame_text : AbstractState → List ℕ
+frame_text s = pieces_to (byte_piece s) 512 ++ pieces_to (slot_piece s) 64
+
+-- all that is known at a place
+abbrev pub state_text : AbstractState → List ℕ
+state_text s = codes "  " ++ registers_text s ++ frame_text s ++ newline
+
+-- what is known of a register, on a line of its own
+abbrev pub register_line : AbstractState → Register → List ℕ
+register_line s r = codes "known of r" ++ decimal (number_of r) ++ codes ": " ++ value_text (register s r) ++ newline

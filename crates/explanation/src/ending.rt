@@ -1,0 +1,291 @@
+//! What is said of a program in the end: why it is refused, or how long its runs are.
+ghost use Rattle.std.specs.Prelude.{◌≡◌, ◌<◌, ◌++◌, OnOk, string_bytes, option_map};
+ghost use Rattle.bpf_image.specs.Program.{units};
+ghost use Rattle.std.specs.List.{list_any};
+ghost use Rattle.explanation.specs.Judging.{StandsInside};
+ghost use Rattle.explanation.specs.Starts.{starts_below};
+ghost use Rattle.explanation.specs.Advice.{advice_for};
+ghost use Rattle.explanation.specs.Explanation.{
+  left_lines,
+  operand_lines,
+  argument_lines,
+  read_lines,
+  set_bytes_line,
+  frame_lines,
+  broken_lines,
+  refused_line,
+  rule_line,
+  advice_line,
+  refused_text,
+  accepted_text,
+  end_text,
+};
+
+use crate::advice::{Advice, advice_at};
+use crate::cursor::Cursor;
+use crate::instructions::{decoded, put_instruction};
+use crate::labels::{Label, words_of_label};
+use crate::listing::known_at;
+use crate::outcome::{Outcome, is_of_the_whole};
+use crate::source::SourceLine;
+use crate::values::{put, put_field, put_frame, put_register_line};
+use crate::words::{words_of_advice, words_of_cause};
+use abstract_state::AbstractState;
+use bpf_image::Image;
+use bpf_isa::{Instruction, Operand, Operation, Register};
+use bpf_model::{Cause, Helper};
+use std::alloc::AllocError;
+use verifier::Refusal;
+
+/// Which instruction it is that starts at a pc, from 0.
+#[tactic(auto, using(crate::proofs::Starts::at_first))]
+fn ordinal_of(image: &Image, pc: usize) -> usize
+    requires { pc < units image.now }
+    ensures { result ≡ starts_below image.now pc }
+{
+    let mut cursor = Cursor::first();
+    for before in 0..pc {
+        cursor = cursor.past(image, before);
+    }
+    cursor.ordinal
+}
+
+/// Writes what is known of the left side of an operation, unless it is not read.
+fn put_left(
+    text: &mut String,
+    state: &AbstractState,
+    operation: Operation,
+    left: Register,
+) -> Result<(), AllocError>
+    ensures { OnOk result (string_bytes text.new ≡ string_bytes text.old ++ left_lines operation state.now left) }
+{
+    match operation {
+        Operation::Move => Ok(()),
+        _ => put_register_line(text, state, left),
+    }
+}
+
+/// Writes what is known of an operand, if it is a register.
+fn put_operand(text: &mut String, state: &AbstractState, operand: Operand) -> Result<(), AllocError>
+    ensures { OnOk result (string_bytes text.new ≡ string_bytes text.old ++ operand_lines state.now operand) }
+{
+    match operand {
+        Operand::Immediate(_) => Ok(()),
+        Operand::Source(register) => put_register_line(text, state, register),
+    }
+}
+
+/// Writes what is known of the arguments of a helper.
+fn put_arguments(
+    text: &mut String,
+    state: &AbstractState,
+    helper: Option<Helper>,
+) -> Result<(), AllocError>
+    ensures { OnOk result (string_bytes text.new ≡ string_bytes text.old ++ argument_lines state.now helper) }
+{
+    match helper {
+        None | Some(Helper::VertexCount) => Ok(()),
+        Some(Helper::Degree) => put_register_line(text, state, Register::R1),
+        Some(Helper::HasEdge | Helper::Neighbour) => {
+            put_register_line(text, state, Register::R1)?;
+            put_register_line(text, state, Register::R2)
+        }
+        Some(Helper::Gather) => {
+            put_register_line(text, state, Register::R1)?;
+            put_register_line(text, state, Register::R2)?;
+            put_register_line(text, state, Register::R3)?;
+            put_register_line(text, state, Register::R4)
+        }
+    }
+}
+
+/// Writes what is known of the values that an instruction reads.
+fn put_read(
+    text: &mut String,
+    state: &AbstractState,
+    instruction: Instruction,
+) -> Result<(), AllocError>
+    ensures { OnOk result (string_bytes text.new ≡ string_bytes text.old ++ read_lines state.now instruction) }
+{
+    match instruction {
+        Instruction::Alu {
+            operation,
+            destination,
+            operand,
+            ..
+        } => {
+            put_left(text, state, operation, destination)?;
+            put_operand(text, state, operand)
+        }
+        Instruction::Branch { left, right, .. } => {
+            put_register_line(text, state, left)?;
+            put_operand(text, state, right)
+        }
+        Instruction::MoveSigned { source, .. } => put_register_line(text, state, source),
+        Instruction::Negate { destination, .. } | Instruction::Swap { destination, .. } => {
+            put_register_line(text, state, destination)
+        }
+        Instruction::CallHelper { number } => put_arguments(text, state, Helper::of(number)),
+        Instruction::Exit => put_register_line(text, state, Register::R0),
+        Instruction::Load { base, .. }
+        | Instruction::LoadSigned { base, .. }
+        | Instruction::Store { base, .. } => put_register_line(text, state, base),
+        Instruction::StoreRegister { base, source, .. } => {
+            put_register_line(text, state, base)?;
+            put_register_line(text, state, source)
+        }
+        Instruction::Jump { .. } | Instruction::CallLocal { .. } | Instruction::Wide { .. } => {
+            Ok(())
+        }
+    }
+}
+
+/// Whether a byte of the frame is set.
+fn has_set_bytes(state: &AbstractState) -> bool
+    ensures { result ≡ list_any (λ is_set. is_set) state.now.bytes_set }
+{
+    state.bytes_set.iter().any(|is_set| *is_set)
+}
+
+/// Writes which bytes of the frame are set, or that none is.
+fn put_set_bytes(text: &mut String, state: &AbstractState) -> Result<(), AllocError>
+    ensures { OnOk result (string_bytes text.new ≡ string_bytes text.old ++ set_bytes_line state.now) }
+{
+    put(text, words_of_label(Label::Frame))?;
+    if has_set_bytes(state) {
+        put_frame(text, state)?;
+    } else {
+        put(text, words_of_label(Label::NoByte))?;
+    }
+    put(text, "\n")
+}
+
+/// Writes what is known of the frame, where it is asked which bytes are set.
+fn put_asked_frame(text: &mut String, state: &AbstractState, cause: Cause) -> Result<(), AllocError>
+    ensures { OnOk result (string_bytes text.new ≡ string_bytes text.old ++ frame_lines cause state.now) }
+{
+    match cause {
+        Cause::UnsetStackByte => put_set_bytes(text, state),
+        _ => Ok(()),
+    }
+}
+
+/// Writes what is known of all that a broken rule looks at.
+fn put_broken(
+    text: &mut String,
+    cause: Cause,
+    instruction: Option<Instruction>,
+    state: Option<&AbstractState>,
+) -> Result<(), AllocError>
+    ensures { OnOk result (string_bytes text.new ≡ string_bytes text.old
+        ++ broken_lines cause instruction (option_map (λ s. s.now) state.entry)) }
+{
+    match (instruction, state) {
+        (Some(instruction), Some(state)) => {
+            put_read(text, state, instruction)?;
+            put_asked_frame(text, state, cause)
+        }
+        _ => Ok(()),
+    }
+}
+
+/// What usually helps, where an instruction may be missing or nothing be known of its values.
+fn advice(cause: Cause, instruction: Option<Instruction>, state: Option<&AbstractState>) -> Advice
+    ensures { result ≡ advice_for cause instruction (option_map (λ s. s.now) state.entry) }
+{
+    match (instruction, state) {
+        (Some(instruction), Some(state)) => advice_at(cause, instruction, state),
+        (Some(instruction), None) => advice_at(cause, instruction, &AbstractState::entry(16)),
+        (None, _) => advice_at(cause, Instruction::Exit, &AbstractState::entry(16)),
+    }
+}
+
+/// Writes where a program is refused.
+fn put_refused_place(
+    text: &mut String,
+    image: &Image,
+    source: &[SourceLine<'_>],
+    refusal: Refusal,
+) -> Result<(), AllocError>
+    requires { refusal.pc < units image.now }
+    ensures { OnOk result (string_bytes text.new
+        ≡ string_bytes text.old ++ refused_line image.now source.now refusal) }
+{
+    if is_of_the_whole(refusal.cause) {
+        return put(text, "refused as a whole\n");
+    }
+    put(text, "refused at ")?;
+    put_instruction(
+        text,
+        image,
+        source,
+        refusal.pc,
+        ordinal_of(image, refusal.pc),
+    )
+}
+
+/// Writes the rule in words.
+fn put_rule(text: &mut String, cause: Cause) -> Result<(), AllocError>
+    ensures { OnOk result (string_bytes text.new ≡ string_bytes text.old ++ rule_line cause) }
+{
+    put_field(text, "rule ", cause as u64)?;
+    put(text, ": ")?;
+    put(text, words_of_cause(cause))?;
+    put(text, "\n")
+}
+
+/// Writes what usually helps.
+fn put_advice(text: &mut String, advice: Advice) -> Result<(), AllocError>
+    ensures { OnOk result (string_bytes text.new ≡ string_bytes text.old ++ advice_line advice) }
+{
+    put(text, words_of_label(Label::Help))?;
+    put(text, words_of_advice(advice))?;
+    put(text, "\n")
+}
+
+/// Writes why a program is refused.
+fn put_refusal(
+    text: &mut String,
+    image: &Image,
+    source: &[SourceLine<'_>],
+    states: &[Option<Box<AbstractState>>],
+    refusal: Refusal,
+) -> Result<(), AllocError>
+    requires { refusal.pc < units image.now }
+    ensures { OnOk result (string_bytes text.new
+        ≡ string_bytes text.old ++ refused_text image.now source.now states.now refusal) }
+{
+    let instruction = decoded(image, refusal.pc);
+    let state = known_at(states, refusal.pc);
+    put_refused_place(text, image, source, refusal)?;
+    put_rule(text, refusal.cause)?;
+    put_broken(text, refusal.cause, instruction, state)?;
+    put_advice(text, advice(refusal.cause, instruction, state))
+}
+
+/// Writes that a program is accepted.
+fn put_accepted(text: &mut String, bound: u32, frames: u8) -> Result<(), AllocError>
+    ensures { OnOk result (string_bytes text.new ≡ string_bytes text.old ++ accepted_text bound frames) }
+{
+    put_field(text, words_of_label(Label::Accepted), u64::from(bound))?;
+    put_field(text, words_of_label(Label::Frames), u64::from(frames))?;
+    put(text, "\n")
+}
+
+/// Writes what is said of a program in the end.
+pub(crate) fn put_end(
+    text: &mut String,
+    image: &Image,
+    source: &[SourceLine<'_>],
+    states: &[Option<Box<AbstractState>>],
+    outcome: Outcome,
+) -> Result<(), AllocError>
+    requires { StandsInside (units image.now) outcome }
+    ensures { OnOk result (string_bytes text.new
+        ≡ string_bytes text.old ++ end_text image.now source.now states.now outcome) }
+{
+    match outcome {
+        Outcome::Accepted { bound, frames } => put_accepted(text, bound, frames),
+        Outcome::Refused(refusal) => put_refusal(text, image, source, states, refusal),
+    }
+}

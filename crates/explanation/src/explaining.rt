@@ -1,0 +1,105 @@
+//! The whole text.
+ghost use Rattle.std.specs.Prelude.{◌≡◌, ◌≢◌, ◌++◌, IfOk, OnOk, string_bytes};
+ghost use Rattle.bpf_image.specs.Program.{units};
+ghost use Rattle.verifier.specs.Verdict.{no_memory};
+ghost use Rattle.explanation.specs.Judging.{StandsInside};
+ghost use Rattle.explanation.specs.Explanation.{head_text, explanation_text, Explains};
+
+use crate::ending::put_end;
+use crate::labels::{Label, words_of_label};
+use crate::listing::put_listing;
+use crate::outcome::Outcome;
+use crate::source::SourceLine;
+use crate::values::{put, put_field};
+use abstract_state::AbstractState;
+use bpf_image::Image;
+use bpf_model::Cause;
+use std::alloc::{AllocError, Global};
+use verifier::{Refusal, known_states, verify};
+
+/// A refusal for want of memory is an error here. Any other is none: it says something of the program.
+fn rule_or_memory(refusal: Refusal) -> Result<(), AllocError>
+    ensures { IfOk result (λ _. refusal ≢ no_memory) }
+{
+    match refusal.cause {
+        Cause::OutOfMemory => Err(AllocError),
+        _ => Ok(()),
+    }
+}
+
+/// How many units a program has.
+fn units_of(image: &Image) -> u64
+    ensures { result ≡ units image.now }
+{
+    (image.code().len() / 8) as u64
+}
+
+/// Writes how long a program is.
+fn put_head(text: &mut String, image: &Image) -> Result<(), AllocError>
+    ensures { OnOk result (string_bytes text.new ≡ string_bytes text.old ++ head_text image.now) }
+{
+    put_field(text, words_of_label(Label::Program), units_of(image))?;
+    put_field(
+        text,
+        words_of_label(Label::Records),
+        u64::from(image.record_length()),
+    )?;
+    put(text, words_of_label(Label::Bytes))
+}
+
+/// The text of what is known of a program and of what the verifier answers.
+fn write_all(
+    alloc: Global,
+    image: &Image,
+    source: &[SourceLine<'_>],
+    states: &[Option<Box<AbstractState>>],
+    outcome: Outcome,
+) -> Result<String, AllocError>
+    requires { StandsInside (units image.now) outcome }
+    ensures { IfOk result (λ text. string_bytes text
+        ≡ explanation_text image.now source.now states.now outcome) }
+{
+    let mut text = String::new(alloc);
+    put_head(&mut text, image)?;
+    put_listing(&mut text, image, source, outcome, states)?;
+    put_end(&mut text, image, source, states, outcome)?;
+    Ok(text)
+}
+
+/// What is told of a program.
+#[derive(Debug, Drop)]
+pub struct Explanation {
+    /// The text for a person.
+    pub text: String,
+    /// What the verifier answers.
+    pub outcome: Outcome,
+}
+
+/// The instructions of a program, what is known before each of them, and what the verifier answers: the bound and the
+/// frames, or the first broken rule in words, with what was known of the values that broke it and with what usually
+/// helps. `source` has the lines of the text from which the code was assembled, one an instruction, or none.
+pub fn explain(
+    alloc: Global,
+    image: Image,
+    source: &[SourceLine<'_>],
+) -> Result<Explanation, AllocError>
+    ensures { IfOk result (λ told. Explains image source.now (string_bytes told.text) told.outcome) }
+{
+    let states = known_states(alloc, &image)?;
+    match verify(alloc, image) {
+        Ok(verified) => {
+            let outcome = Outcome::Accepted {
+                bound: verified.bound(),
+                frames: verified.frames(),
+            };
+            let text = write_all(alloc, verified.image(), source, &states, outcome)?;
+            Ok(Explanation { text, outcome })
+        }
+        Err((image, refusal)) => {
+            rule_or_memory(refusal)?;
+            let outcome = Outcome::Refused(refusal);
+            let text = write_all(alloc, &image, source, &states, outcome)?;
+            Ok(Explanation { text, outcome })
+        }
+    }
+}

@@ -1,0 +1,22 @@
+//! Why a program is refused, or what is known of an accepted one, as a text for a person.
+#![tactic(auto)]
+
+mod advice;
+mod cursor;
+mod ending;
+mod explaining;
+mod instructions;
+mod labels;
+mod listing;
+mod outcome;
+mod source;
+#[cfg(test)]
+mod tests;
+mod values;
+mod words;
+
+pub use advice::Advice;
+pub use explaining::{Explanation, explain};
+pub use outcome::Outcome;
+pub use source::{SourceLine, source_lines};
+pub use words::{words_of_advice, words_of_cause};

@@ -1,0 +1,260 @@
+//! What is known at a place, as text.
+ghost use Rattle.std.specs.Prelude.{◌≡◌, ◌<◌, ◌++◌, OnOk, string_bytes};
+ghost use Rattle.std.specs.Fmt.{decimal};
+ghost use Rattle.bpf_asm.specs.Writing.{offset_text};
+ghost use Rattle.explanation.specs.Pieces.{pieces_to};
+ghost use Rattle.explanation.specs.Values.{
+  range_text,
+  number_text,
+  value_text,
+  known_text,
+  register_piece,
+  registers_text,
+  is_known as is_known_value,
+  is_set as is_set_at,
+  begins_row as begins_row_at,
+  ends_row as ends_row_at,
+  byte_piece,
+  slot_piece,
+  frame_text,
+  state_text,
+  register_line,
+};
+
+use abstract_state::AbstractState;
+use abstract_values::AbstractValue;
+use bpf_isa::Register;
+use bpf_model::FRAME_BYTES;
+use itoa::Buffer;
+use std::alloc::AllocError;
+
+/// Writes a part at the end of a text.
+pub(crate) fn put(text: &mut String, part: &str) -> Result<(), AllocError>
+    ensures { OnOk result (string_bytes text.new ≡ string_bytes text.old ++ part.now) }
+{
+    text.push_str(part)
+}
+
+/// Writes a number in decimal digits.
+pub(crate) fn put_number(text: &mut String, number: u64) -> Result<(), AllocError>
+    ensures { OnOk result (string_bytes text.new ≡ string_bytes text.old ++ decimal number) }
+{
+    let mut buffer = Buffer::new();
+    put(text, buffer.format(number))
+}
+
+/// Writes a number behind a label.
+pub(crate) fn put_field(text: &mut String, label: &str, number: u64) -> Result<(), AllocError>
+    ensures { OnOk result (string_bytes text.new ≡ string_bytes text.old ++ (label.now ++ decimal number)) }
+{
+    put(text, label)?;
+    put_number(text, number)
+}
+
+/// Writes a range, or the one number that is in it.
+fn put_range(text: &mut String, lo: u64, hi: u64) -> Result<(), AllocError>
+    ensures { OnOk result (string_bytes text.new ≡ string_bytes text.old ++ range_text lo hi) }
+{
+    put_number(text, lo)?;
+    if lo != hi {
+        put_field(text, " to ", hi)?;
+    }
+    Ok(())
+}
+
+/// Writes what is known of a number.
+fn put_known_number(text: &mut String, lo: u64, hi: u64) -> Result<(), AllocError>
+    ensures { OnOk result (string_bytes text.new ≡ string_bytes text.old ++ number_text lo hi) }
+{
+    if lo == 0 && hi == u64::MAX {
+        put(text, "any number")
+    } else {
+        put_range(text, lo, hi)
+    }
+}
+
+/// Writes an offset with its sign.
+fn put_offset(text: &mut String, offset: i16) -> Result<(), AllocError>
+    ensures { OnOk result (string_bytes text.new ≡ string_bytes text.old ++ offset_text offset) }
+{
+    if offset < 0 {
+        put(text, "-")?;
+    } else {
+        put(text, "+")?;
+    }
+    put_number(text, u64::from(offset.unsigned_abs()))
+}
+
+/// Writes what is known of a value.
+fn put_value(text: &mut String, value: AbstractValue) -> Result<(), AllocError>
+    ensures { OnOk result (string_bytes text.new ≡ string_bytes text.old ++ value_text value) }
+{
+    match value {
+        AbstractValue::Unset => put(text, "nothing"),
+        AbstractValue::Number { lo, hi } => put_known_number(text, lo, hi),
+        AbstractValue::Record { lo, hi } => {
+            put(text, "record+")?;
+            put_range(text, u64::from(lo), u64::from(hi))
+        }
+        AbstractValue::Stack { offset } => {
+            put(text, "stack")?;
+            put_offset(text, offset)
+        }
+    }
+}
+
+/// Whether anything is known of a value.
+fn is_known(value: AbstractValue) -> bool
+    ensures { result ≡ is_known_value value }
+{
+    match value {
+        AbstractValue::Unset => false,
+        AbstractValue::Number { .. } | AbstractValue::Record { .. } | AbstractValue::Stack { .. } =>
+            true,
+    }
+}
+
+/// Writes what is known of a register or of a slot, unless it is nothing.
+fn put_known(
+    text: &mut String,
+    name: &str,
+    number: u64,
+    value: AbstractValue,
+) -> Result<(), AllocError>
+    ensures { OnOk result (string_bytes text.new
+        ≡ string_bytes text.old ++ known_text (name.now ++ decimal number) value) }
+{
+    if !is_known(value) {
+        return Ok(());
+    }
+    put(text, "  ")?;
+    put_field(text, name, number)?;
+    put(text, " ")?;
+    put_value(text, value)
+}
+
+/// Writes what is known of a register.
+fn put_register(text: &mut String, state: &AbstractState, register: usize) -> Result<(), AllocError>
+    requires { register < 11 }
+    ensures { OnOk result (string_bytes text.new ≡ string_bytes text.old ++ register_piece state.now register) }
+{
+    put_known(text, "r", register as u64, state.registers[register])
+}
+
+/// Writes what is known of each register.
+#[tactic(auto, using(crate::proofs::Written::pieces_none, crate::proofs::Written::written_more))]
+fn put_registers(text: &mut String, state: &AbstractState) -> Result<(), AllocError>
+    ensures { OnOk result (string_bytes text.new ≡ string_bytes text.old ++ registers_text state.now) }
+{
+    for register in 0..state.registers.len() {
+        put_register(text, state, register)?;
+    }
+    Ok(())
+}
+
+/// Whether a byte of the frame is set.
+fn is_set(state: &AbstractState, byte: usize) -> bool
+    ensures { result ≡ is_set_at state.now byte }
+{
+    byte < FRAME_BYTES && state.bytes_set[byte]
+}
+
+/// Whether a byte is set, and the byte before it is not.
+fn begins_row(state: &AbstractState, byte: usize) -> bool
+    ensures { result ≡ begins_row_at state.now byte }
+{
+    if byte == 0 {
+        is_set(state, byte)
+    } else {
+        is_set(state, byte) && !is_set(state, byte - 1)
+    }
+}
+
+/// Whether a byte is set, and the byte behind it is not.
+fn ends_row(state: &AbstractState, byte: usize) -> bool
+    requires { byte < 512 }
+    ensures { result ≡ ends_row_at state.now byte }
+{
+    is_set(state, byte) && !is_set(state, byte + 1)
+}
+
+/// Writes a byte of the frame where a row of bytes that are set begins or ends.
+fn put_byte(text: &mut String, state: &AbstractState, byte: usize) -> Result<(), AllocError>
+    requires { byte < 512 }
+    ensures { OnOk result (string_bytes text.new ≡ string_bytes text.old ++ byte_piece state.now byte) }
+{
+    let label = match (begins_row(state, byte), ends_row(state, byte)) {
+        (true, true) => "  byte -",
+        (true, false) => "  bytes -",
+        (false, true) => " to -",
+        (false, false) => return Ok(()),
+    };
+    put_field(text, label, (FRAME_BYTES - byte) as u64)
+}
+
+/// Writes which bytes of the frame are set.
+#[tactic(auto, using(crate::proofs::Written::pieces_none, crate::proofs::Written::written_more))]
+fn put_bytes(text: &mut String, state: &AbstractState) -> Result<(), AllocError>
+    ensures { OnOk result (string_bytes text.new ≡ string_bytes text.old ++ pieces_to (byte_piece state.now) 512) }
+{
+    for byte in 0..FRAME_BYTES {
+        put_byte(text, state, byte)?;
+    }
+    Ok(())
+}
+
+/// Writes what is known of a slot of the frame.
+fn put_slot(text: &mut String, state: &AbstractState, slot: usize) -> Result<(), AllocError>
+    requires { slot < 64 }
+    ensures { OnOk result (string_bytes text.new ≡ string_bytes text.old ++ slot_piece state.now slot) }
+{
+    put_known(
+        text,
+        "slot -",
+        (FRAME_BYTES - 8 * slot) as u64,
+        state.slots[slot],
+    )
+}
+
+/// Writes what was spilled to the slots of the frame.
+#[tactic(auto, using(crate::proofs::Written::pieces_none, crate::proofs::Written::written_more))]
+fn put_slots(text: &mut String, state: &AbstractState) -> Result<(), AllocError>
+    ensures { OnOk result (string_bytes text.new ≡ string_bytes text.old ++ pieces_to (slot_piece state.now) 64) }
+{
+    for slot in 0..state.slots.len() {
+        put_slot(text, state, slot)?;
+    }
+    Ok(())
+}
+
+/// Writes which bytes of the frame are set, and what was spilled to its slots.
+pub(crate) fn put_frame(text: &mut String, state: &AbstractState) -> Result<(), AllocError>
+    ensures { OnOk result (string_bytes text.new ≡ string_bytes text.old ++ frame_text state.now) }
+{
+    put_bytes(text, state)?;
+    put_slots(text, state)
+}
+
+/// Writes all that is known at a place.
+pub(crate) fn put_state(text: &mut String, state: &AbstractState) -> Result<(), AllocError>
+    ensures { OnOk result (string_bytes text.new ≡ string_bytes text.old ++ state_text state.now) }
+{
+    put(text, "  ")?;
+    put_registers(text, state)?;
+    put_frame(text, state)?;
+    put(text, "\n")
+}
+
+/// Writes what is known of a register, on a line of its own.
+pub(crate) fn put_register_line(
+    text: &mut String,
+    state: &AbstractState,
+    register: Register,
+) -> Result<(), AllocError>
+    ensures { OnOk result (string_bytes text.new ≡ string_bytes text.old ++ register_line state.now register) }
+{
+    put_field(text, "known of r", u64::from(register.number()))?;
+    put(text, ": ")?;
+    put_value(text, state.register(register))?;
+    put(text, "\n")
+}
