@@ -208,6 +208,9 @@ fn a_batch_that_is_not_split(rt: HostRuntime) -> Result<(), Fail> {
 fn the_most_edits_and_none(rt: HostRuntime) -> Result<(), Fail> {
     let alloc = rt.alloc();
     let most = alternating(alloc, 65_536)?;
+    let table = Table::empty(alloc, 512)?;
+    let (_, counts) = apply_batch(&rt, alloc, &table, &most, Workers::one(), &OpenGate)?;
+    assert_eq!(rt; [counts.added, counts.removed], [0, 0]);
     let pieces = split(&rt, alloc, &most)?;
     assert_eq!(rt; pieces.len(), 1);
     let last = batch_of(alloc, &[Edit::Remove(1_048_575, 0)])?;

@@ -108,6 +108,15 @@ fn image_faults(rt: HostRuntime) -> Result<(), Fail> {
             "{place} {byte}"
         );
     }
+
+    // One unit more than a code may have.
+    let mut longest = STORED;
+    longest[6] = 1;
+    longest[7] = 0x10;
+    assert_eq!(rt;
+        load_error(rt.alloc(), &longest),
+        Some(ImageError::CodeLength)
+    );
     Ok(())
 }
 
