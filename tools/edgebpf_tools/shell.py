@@ -5,7 +5,7 @@ import subprocess
 import sys
 import time
 
-from edgebpf_tools import store
+from edgebpf_tools import explain, store
 from edgebpf_tools.language import FORMS, Complaint, Language
 from edgebpf_tools.refusal import Refusal
 from edgebpf_tools.words import in_words
@@ -15,6 +15,7 @@ DOTS = {
     ".help": ".help [COMMAND]: what there is, or how a command goes",
     ".import": ".import FILE: makes the graph of a file of edges, by edgebpf-import",
     ".load": ".load FILE.c [FUNCTION] LENGTH: compiles a function, by edgebpf-c, and sends its code line",
+    ".explain": ".explain NAME: what is known at each place of a program that was sent, and why it is refused, by edgebpf-explain",
     ".read": ".read FILE: takes the lines of a script",
     ".script": ".script: all lines that were sent",
     ".cancel": ".cancel: drops the batch or program that was begun",
@@ -151,6 +152,22 @@ class Shell:
     def _load(self, words):
         self._wants(words, len(words) in (3, 4))
         self.lines(self._companion("edgebpf-c", *words[1:]))
+
+    def _program(self, name):
+        """The length of a program's records, its code and its text, of which one is None: the last that was sent by this name."""
+        for number in range(len(self.sent) - 1, -1, -1):
+            words = self.sent[number].split()
+            if words[:2] == ["code", name]:
+                return words[2], words[3].replace("-", ""), None
+            if words[:2] == ["program", name]:
+                end = next(at for at in range(number, len(self.sent)) if self.sent[at].split() == ["end"])
+                return words[2], None, "\n".join(self.sent[number + 1 : end]) + "\n"
+        raise Complaint("no program of this name was sent", 1)
+
+    def _explain(self, words):
+        self._wants(words, len(words) == 2)
+        told, _ = explain.explain(*self._program(words[1]))
+        self.say(told.rstrip("\n") or "there is nothing to explain")
 
     def _read(self, words):
         self._wants(words, len(words) == 2)

@@ -1,23 +1,34 @@
 """What edgebpf's numbers mean, and what to do about them: docs/BPF.md and docs/SCRIPT.md say it at length."""
+import pathlib
+import re
 
-CAUSES = {
-    1: "no instruction stands there",
-    2: "a jump leads where no instruction starts, or out of its function",
-    3: "a jump leads back: there are no loops. Have the compiler unroll it, or ask for neighbours by gather",
-    4: "a call leads where no instruction starts, or not behind itself: functions stand behind all that call them, without recursion",
-    5: "a function ends neither in an exit nor in a jump",
-    6: "more than eight functions may be live at once",
-    7: "more than 1,000,000 instructions may run",
-    8: "a register is read that may be unset; an exit reads r0. A call leaves r1 to r5 unset: keep what is needed in r6 to r9",
-    9: "r10 is written, which only points to the frame",
-    10: "a pointer stands where only a number may, or a number where only a pointer may. Put the pointer first, pointer + number, "
-    "and compare numbers alone",
-    11: "bytes may lie outside the record or the frame. Compare the index with a constant first, and use what was compared",
-    12: "bytes of the frame are read that may be unset",
-    13: "an argument of a helper is no number, or the room of gather is no constant multiple of 4 from 4 to 256",
-    14: "there is no helper of this number: 1 degree, 2 has_edge, 3 neighbour, 4 vertex_count, 5 gather",
-    15: "a function answers a pointer",
-    16: "there was no memory to verify it",
+WORDS = pathlib.Path(__file__).resolve().parent.parent.parent / "crates" / "explanation" / "src" / "words.rt"
+
+
+def words_of(kind):
+    """The words of the rules, or of what helps, by their names: the source of the program that explains has them."""
+    return dict(re.findall(rf'{kind}::(\w+) => (?:{{\s*)?"([^"]*)"', WORDS.read_text()))
+
+
+CAUSES = dict(enumerate(words_of("Cause").values(), 1))
+# What helps most often. edgebpf-explain looks at the values, and knows better.
+HELP = {
+    1: "KnownInstructions",
+    2: "LandInside",
+    3: "Unroll",
+    4: "ForwardCalls",
+    5: "EndFunctions",
+    6: "FewerFrames",
+    7: "ShorterRuns",
+    8: "SetRegister",
+    9: "CopyFrameRegister",
+    10: "SwapOperands",
+    11: "TestFirst",
+    12: "SetBytes",
+    13: "HelperArguments",
+    14: "KnownHelpers",
+    15: "AnswerNumber",
+    16: "MoreMemory",
 }
 TEXT_ERRORS = {
     1: "it is no statement and no label, or these are not the arguments of its word",
@@ -34,7 +45,8 @@ def in_words(reply):
     """What a line that edgebpf wrote means, where that needs saying."""
     words = reply.split()
     if words[0] == "refused":
-        return f"refused at unit {words[5]}: {CAUSES[int(words[3])]}"
+        cause = int(words[3])
+        return f"refused at unit {words[5]}: {CAUSES[cause]}. What often helps: {words_of('Advice')[HELP[cause]]}"
     if words[0] == "assembler":
         return f"line {words[5]} of the program: {TEXT_ERRORS[int(words[3])]}"
     if words[0] == "image":

@@ -1,0 +1,68 @@
+//! The program: it tells what is known at each place of a BPF program, and why one is refused.
+#![tactic(auto)]
+
+mod telling;
+mod words;
+
+use explanation::{Explanation, Outcome};
+use std::alloc::Global;
+use std::io::ErrorKind;
+use std::process::ExitCode;
+use std::{env, io};
+use telling::{Failure, told_of_digits, told_of_text};
+use words::{Asked, options};
+
+/// The status where nothing can be told: what is asked for is not allowed, or help is.
+const WRONG_WORDS: u8 = 2;
+
+/// What is told of what the words hand in.
+fn told(rt: &HostRuntime, alloc: Global, asked: &Asked) -> Result<Explanation, Failure> {
+    match &asked.code {
+        Some(digits) => told_of_digits(alloc, asked.record_length, digits),
+        None => {
+            let Ok(text) = io::read_to_string(alloc, rt.stdin()) else {
+                return Err(Failure::Input);
+            };
+            told_of_text(alloc, asked.record_length, &text)
+        }
+    }
+}
+
+fn main(rt: HostRuntime) -> ExitCode {
+    let alloc = rt.alloc();
+    let given: io::Result<Vec<String>> = env::args(&rt).and_then(|words| Ok(words.collect(alloc)?));
+    let words = match given {
+        Ok(words) => words,
+        Err(error) if error.kind() == ErrorKind::InvalidData => {
+            let _ = eprintln!(rt; "edgebpf-explain: a word is not UTF-8");
+            return ExitCode::from(WRONG_WORDS);
+        }
+        Err(_) => {
+            let _ = eprintln!(rt; "edgebpf-explain: memory");
+            return ExitCode::from(WRONG_WORDS);
+        }
+    };
+    let asked = match options(alloc, &words) {
+        Ok(asked) => asked,
+        Err(error) => {
+            let _ = eprint!(rt; "{error}");
+            return ExitCode::from(WRONG_WORDS);
+        }
+    };
+    match told(&rt, alloc, &asked) {
+        Ok(explanation) => {
+            if print!(rt; "{}", explanation.text).is_err() {
+                let _ = eprintln!(rt; "edgebpf-explain: write");
+                return ExitCode::from(WRONG_WORDS);
+            }
+            match explanation.outcome {
+                Outcome::Accepted { .. } => ExitCode::from(0),
+                Outcome::Refused(_) => ExitCode::from(1),
+            }
+        }
+        Err(failure) => {
+            let _ = eprintln!(rt; "edgebpf-explain: {failure}");
+            ExitCode::from(WRONG_WORDS)
+        }
+    }
+}

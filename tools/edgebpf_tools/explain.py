@@ -1,0 +1,66 @@
+"""Asks the proved program of this checkout why a program is refused, and what is known at each place of it."""
+import argparse
+import os
+import pathlib
+import subprocess
+import sys
+
+from edgebpf_tools.explain_page import page
+from edgebpf_tools.refusal import Refusal
+
+TOOLS = pathlib.Path(__file__).resolve().parent.parent
+
+
+def command():
+    """How the program is started: EDGEBPF_EXPLAIN in the environment, or the checkout's own, which is built where needed."""
+    given = os.environ.get("EDGEBPF_EXPLAIN")
+    return [given] if given else [TOOLS / "proved_program", "edgebpf_explain"]
+
+
+def explain(length, code=None, text=None):
+    """What is told of code in hexadecimal digits or of assembler text, and the status: 1 of a refused program. Of what is no
+    program nothing is told; the program's standard error, which says why, is passed on."""
+    words = [str(length)] + ([] if code is None else [code])
+    try:
+        run = subprocess.run([*command(), *words], input=text or "", stdout=subprocess.PIPE, text=True)
+    except OSError as error:
+        raise Refusal(f"{error.filename}: {error.strerror}") from None
+    return run.stdout, run.returncode
+
+
+def arguments(words):
+    parser = argparse.ArgumentParser(
+        prog="edgebpf-explain",
+        description="Tells what is known before each instruction of a program, and why it is refused or how long its runs are. "
+        "Without HEX it reads assembler text from standard input. The status is 1 where the program is refused, and 2 where "
+        "there is none.",
+    )
+    parser.add_argument("length", metavar="LENGTH", help="how many bytes a record has, from 16 to 256; of an edge it is 16 and "
+                        "what the run's argument has")
+    parser.add_argument("code", metavar="HEX", nargs="?", help="the code in hexadecimal digits, as a script's code line has it")
+    parser.add_argument("--html", metavar="FILE", help="write a page, with the ways drawn and what is known at the place under "
+                        "the pointer")
+    return parser.parse_args(words)
+
+
+def perform(words):
+    options = arguments(words)
+    text = sys.stdin.read() if options.code is None else None
+    told, status = explain(options.length, options.code, text)
+    print(told, end="")
+    if options.html and told:
+        try:
+            pathlib.Path(options.html).write_text(page(told, text))
+        except OSError as error:
+            raise Refusal(f"{error.filename}: {error.strerror}") from None
+    return status
+
+
+def main():
+    try:
+        sys.exit(perform(sys.argv[1:]))
+    except Refusal as refusal:
+        print(f"edgebpf-explain: {refusal}", file=sys.stderr)
+        sys.exit(2)
+    except KeyboardInterrupt:
+        sys.exit(130)

@@ -1,0 +1,179 @@
+"""edgebpf-explain: what it hands to the program, the page that it makes of what that tells, and the shell's .explain. Where
+EDGEBPF_EXPLAIN names a built program, real refusals are tried too."""
+import html.parser
+import os
+import pathlib
+import stat
+import tempfile
+import unittest
+
+from tools_here import TOOLS, run_tool
+
+from edgebpf_tools.explain_page import labels, page, read, ways
+from edgebpf_tools.words import CAUSES, HELP, in_words, words_of
+
+# A program that answers what it was asked, and with this text.
+STAND_IN = """#!/bin/sh
+echo "program of 5 units, records of $1 bytes"
+echo "0, line 1: lddw r6, 7"
+echo "    r1 record+0  r10 stack+0"
+echo "2, line 2: calllocal f"
+echo "    r1 record+0  r6 7  r10 stack+0  bytes -8 to -5  byte -1  slot -16 stack-8"
+echo "3, line 4: exit"
+echo "    no run comes here"
+echo "4, line 6: jlt r1, 2 < 3"
+echo "refused at 2, line 2: calllocal f"
+echo "rule 4: asked with $# words, $2, and the text $(tr '\\n' '/')"
+echo "what helps: a & b"
+exit 1
+"""
+SOURCE = "lddw r6, 7\ncalllocal f  ; a call\n\nexit\nf:\njlt r1, 2 < 3\n"
+
+
+class Tags(html.parser.HTMLParser):
+    """Sees that each element is closed where it has to be."""
+
+    EMPTY = {"meta", "path", "br"}
+
+    def __init__(self):
+        super().__init__()
+        self.open, self.pcs, self.paths, self.faults = [], [], [], []
+
+    def handle_starttag(self, tag, attributes):
+        attributes = dict(attributes)
+        if "data-pc" in attributes:
+            self.pcs.append(int(attributes["data-pc"]))
+        if tag == "path":
+            self.paths.append(attributes["class"])
+        if tag not in self.EMPTY:
+            self.open.append(tag)
+
+    def handle_startendtag(self, tag, attributes):
+        if tag == "path":
+            self.paths.append(dict(attributes)["class"])
+
+    def handle_endtag(self, tag):
+        if not self.open or self.open.pop() != tag:
+            self.faults.append(tag)
+
+
+class Explain(unittest.TestCase):
+    def setUp(self):
+        folder = tempfile.TemporaryDirectory()
+        self.addCleanup(folder.cleanup)
+        self.folder = pathlib.Path(folder.name)
+        self.given = os.environ.get("EDGEBPF_EXPLAIN")
+        self.addCleanup(self.restore)
+        stand_in = self.folder / "program"
+        stand_in.write_text(STAND_IN)
+        stand_in.chmod(stand_in.stat().st_mode | stat.S_IXUSR)
+        os.environ["EDGEBPF_EXPLAIN"] = str(stand_in)
+        os.environ["EDGEBPF"] = str(TOOLS / "tests" / "second_store.py")
+
+    def restore(self):
+        os.environ.pop("EDGEBPF_EXPLAIN", None)
+        if self.given:
+            os.environ["EDGEBPF_EXPLAIN"] = self.given
+
+    def test_what_is_handed_on(self):
+        code = run_tool("edgebpf-explain", "20", "9500000000000000")
+        self.assertEqual((code.stderr, code.returncode), ("", 1))
+        self.assertIn("records of 20 bytes\n", code.stdout)
+        self.assertIn("asked with 2 words, 9500000000000000, and the text \n", code.stdout)
+        text = run_tool("edgebpf-explain", "16", text=SOURCE)
+        self.assertIn("asked with 1 words, , and the text lddw r6, 7/calllocal f  ; a call//exit/f:/jlt r1, 2 < 3/\n", text.stdout)
+
+    def test_there_is_no_program(self):
+        os.environ["EDGEBPF_EXPLAIN"] = str(self.folder / "nothing")
+        run = run_tool("edgebpf-explain", "16", "95")
+        self.assertEqual((run.stdout, run.returncode), ("", 2))
+        self.assertIn("No such file", run.stderr)
+        self.assertEqual(run_tool("edgebpf-explain").returncode, 2)
+
+    def told(self):
+        return run_tool("edgebpf-explain", "16", text=SOURCE).stdout
+
+    def test_what_is_read(self):
+        told = read(self.told())
+        self.assertEqual([one.pc for one in told.listing], [0, 2, 3, 4])
+        self.assertEqual([one.line for one in told.listing], [1, 2, 4, 6])
+        known = [("r1", "record+0"), ("r6", "7"), ("r10", "stack+0"), ("bytes", "-8 to -5"), ("byte", "-1"), ("slot -16", "stack-8")]
+        self.assertEqual(told.listing[1].known, known)
+        self.assertFalse(told.listing[2].is_reached)
+        self.assertIsNone(told.listing[3].known)
+        self.assertEqual(len(told.end), 3)
+
+    def test_the_ways(self):
+        """Of a source text by its labels, of code by the units that the disassembler names."""
+        listing = read(self.told()).listing
+        self.assertEqual(labels(listing, SOURCE), {"f": 3})
+        found = [(way.kind, way.start, way.end) for way in ways(listing, SOURCE)]
+        self.assertEqual(found, [("next", 0, 1), ("call", 1, 3), ("next", 1, 2)])
+        text = "program of 4 units, records of 16 bytes\n0: jeq32 r1, r2, L3\n1: ja L3\n2: mov r0, 1\n3: exit\naccepted, bound 3, frames 1\n"
+        found = [(way.kind, way.start, way.end) for way in ways(read(text).listing, None)]
+        self.assertEqual(found, [("jump", 0, 3), ("next", 0, 1), ("jump", 1, 3), ("next", 2, 3)])
+
+    def test_the_page(self):
+        path = self.folder / "page.html"
+        run = run_tool("edgebpf-explain", "16", "--html", str(path), text=SOURCE)
+        self.assertEqual((run.stderr, run.returncode), ("", 1))
+        written = path.read_text()
+        tags = Tags()
+        tags.feed(written)
+        tags.close()
+        self.assertEqual((tags.open, tags.faults), ([], []))
+        self.assertEqual(tags.pcs, [0, 2, 3, 4])
+        self.assertEqual(sorted(tags.paths), ["call", "head-call", "next", "next"])
+        self.assertIn("jlt r1, 2 &lt; 3", written)
+        self.assertIn("<p>what helps: a &amp; b</p>", written)
+        self.assertIn('<li id="pc-2" data-pc="2" tabindex="0" class="refused">', written)
+        self.assertNotRegex(written, r"(src|href)=")
+
+    def test_from_the_shell(self):
+        """The last program of a name, refused or not, by its code or its text."""
+        sent = "graph 4\ncode c 16 61100d00000000009500000000000000\nprogram p 17\nmov r0, 7\nexit\nend\n"
+        run = run_tool("edgebpf-shell", text=sent + ".explain c\n.explain p\n.explain q\n.explain\n")
+        self.assertEqual((run.stderr, run.returncode), ("", 0))
+        self.assertIn("asked with 2 words, 61100d00000000009500000000000000, and the text \n", run.stdout)
+        self.assertIn("records of 17 bytes\n", run.stdout)
+        self.assertIn("asked with 1 words, , and the text mov r0, 7/exit/\n", run.stdout)
+        self.assertIn("^ no program of this name was sent", run.stdout)
+        self.assertTrue(run.stdout.rstrip().endswith("by edgebpf-explain"), run.stdout)
+
+
+@unittest.skipUnless(os.environ.get("EDGEBPF_EXPLAIN"), "real refusals are tried where EDGEBPF_EXPLAIN names a built program")
+class RealRefusals(unittest.TestCase):
+    def test_of_code_and_of_text(self):
+        """A load across the record's end, as docs/BPF.md has it for cause 11."""
+        for words, text, place in ((["61100d00000000009500000000000000"], None, "0"), ([], "ldxw r0, [r1+13]\nexit\n", "0, line 1")):
+            run = run_tool("edgebpf-explain", "16", *words, text=text)
+            self.assertEqual((run.stderr, run.returncode), ("", 1))
+            self.assertIn(f"\nrefused at {place}: ldxw r0, [r1+13]\nrule 11: ", run.stdout)
+            self.assertIn("\nknown of r1: record+0\nwhat helps: ", run.stdout)
+
+    def test_no_program(self):
+        for words, text, said in (
+            (["16", "9"], None, "hexadecimal"),
+            (["16", "95"], None, "whole units"),
+            (["16"], "mov r11, 1\n", "line 1: "),
+            (["15", "9500000000000000"], None, "15"),
+        ):
+            run = run_tool("edgebpf-explain", *words, text=text)
+            self.assertEqual((run.stdout, run.returncode), ("", 2))
+            self.assertIn(said, run.stderr)
+
+
+class OneSourceOfWords(unittest.TestCase):
+    def test_the_words_are_those_of_the_crate(self):
+        """All sixteen rules are found in the source, in the order of their numbers, and each has words that help."""
+        self.assertEqual(len(CAUSES), 16)
+        self.assertEqual(CAUSES[11], "bytes may lie outside the record or the frame, or a pointer may leave them")
+        self.assertEqual(CAUSES[15], "a function answers a pointer")
+        self.assertEqual((sorted(HELP), set(HELP.values()) - set(words_of("Advice"))), (sorted(CAUSES), set()))
+        told = in_words("refused t cause 4 pc 7")
+        self.assertTrue(told.startswith("refused at unit 7: a call leads where no instruction starts"), told)
+        self.assertTrue(told.endswith("put each function behind all that call it, and use no recursion"), told)
+
+
+if __name__ == "__main__":
+    unittest.main()
