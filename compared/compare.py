@@ -39,14 +39,14 @@ def case_of(number):
     return script, text, status, seen + lines
 
 
-def is_same(program, number, workers, case):
+def is_same(program, seconds, number, workers, case):
     """Whether the program writes what the second implementation writes; it tells where not."""
     script, text, status, _ = case
-    ended = served(program, workers, script)
+    ended = served(program, workers, script, seconds)
     if ended == (text.encode(), status, b""):
         return True
     if ended is None:
-        print(f"script {number}, {workers} workers: it did not end", flush=True)
+        print(f"script {number}, {workers} workers: it did not end in {seconds} seconds", flush=True)
         return False
     wanted, found = text.splitlines(), ended[0].decode(errors="replace").splitlines()
     differing = next((pair for pair in zip(wanted + [None], found + [None]) if pair[0] != pair[1]), None)
@@ -68,12 +68,12 @@ def cases_of(numbers, folder):
     return cases
 
 
-def compared(program, workers, folder, numbers):
+def compared(program, seconds, workers, folder, numbers):
     """What was counted of some scripts, and how many were served otherwise."""
     counts = Counter()
     for number, case in zip(numbers, cases_of(numbers, folder)):
         counts += case[3]
-        counts["another output"] += not all([is_same(program, number, count, case) for count in workers])
+        counts["another output"] += not all([is_same(program, seconds, number, count, case) for count in workers])
     return counts
 
 
@@ -96,6 +96,7 @@ def arguments():
     words.add_argument("--from", type=int, default=0, dest="first", help="the number of the first one (0)")
     words.add_argument("--workers", type=int, nargs="+", default=[1], help="with how many workers each script is served, in turn (1)")
     words.add_argument("--processes", type=int, default=os.cpu_count(), help="how many processes work side by side (as many as cores)")
+    words.add_argument("--seconds", type=int, default=120, help="how long a serving may take by the clock; more on a busy machine (120)")
     words.add_argument("--program", type=pathlib.Path, default=PROGRAM, help="the program that serves")
     words.add_argument("--keep", type=pathlib.Path, metavar="FOLDER", help="keep what the second implementation writes there, and take it from there next time")
     words.add_argument("--only-keep", action="store_true", help="fill the folder of --keep, and serve nothing")
@@ -112,7 +113,7 @@ def job_of(said):
         return partial(kept, said.keep)
     if not said.program.exists():
         sys.exit(f"compare.py: {said.program} is not there: build it by ./edgebpf < examples/first.script, or name another by --program")
-    return partial(compared, said.program, said.workers, said.keep)
+    return partial(compared, said.program, said.seconds, said.workers, said.keep)
 
 
 def main():

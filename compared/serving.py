@@ -22,7 +22,7 @@ def content_of(end):
         return file.read()
 
 
-def served(program, workers, script, seconds=120):
+def served(program, workers, script, seconds):
     """What is written, the status (of a signal its number, negative) and what is said on standard error; or None after so many seconds."""
     ends = [given("script", script), given("output", b""), given("error", b"")]
     actions = [(os.POSIX_SPAWN_DUP2, end, place) for place, end in enumerate(ends)]

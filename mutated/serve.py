@@ -37,11 +37,11 @@ def mutated(number):
     return bytes(script)
 
 
-def end_of(program, workers, number):
+def end_of(program, seconds, workers, number):
     """How the serving of a script ended: with status 0 and no fault, with status 1 and its fault, or otherwise, which is told."""
-    ended = served(program, workers, mutated(number))
+    ended = served(program, workers, mutated(number), seconds)
     if ended is None:
-        print(f"script {number}, {workers} workers: it did not end", flush=True)
+        print(f"script {number}, {workers} workers: it did not end in {seconds} seconds", flush=True)
         return "not well ended"
     text, status, said = ended
     last = text.splitlines()[-1:] or [b""]
@@ -52,13 +52,13 @@ def end_of(program, workers, number):
     return " ".join(fault) if fault else "ended without a fault"
 
 
-def ends_of(program, workers, numbers):
+def ends_of(program, seconds, workers, numbers):
     """The ends of some scripts, each of which is served by one of these numbers of workers in turn."""
     ends = Counter()
     for number in numbers:
         count = workers[number % len(workers)]
         ends[f"{count} workers"] += 1
-        ends[end_of(program, count, number)] += 1
+        ends[end_of(program, seconds, count, number)] += 1
     return ends
 
 
@@ -68,6 +68,7 @@ def arguments():
     words.add_argument("--from", type=int, default=0, dest="first", help="the number of the first one (0)")
     words.add_argument("--workers", type=int, nargs="+", default=[1], help="with how many workers the scripts are served, in turn (1)")
     words.add_argument("--processes", type=int, default=os.cpu_count(), help="how many processes work side by side (as many as cores)")
+    words.add_argument("--seconds", type=int, default=120, help="how long a serving may take by the clock; more on a busy machine (120)")
     words.add_argument("--program", type=pathlib.Path, default=PROGRAM, help="the program that serves")
     return words.parse_args()
 
@@ -79,7 +80,7 @@ def main():
     last = said.first + said.count
     pieces = [range(start, min(start + PIECE, last)) for start in range(said.first, last, PIECE)]
     with ProcessPoolExecutor(said.processes) as pool:
-        ends = sum(pool.map(partial(ends_of, said.program, said.workers), pieces), Counter())
+        ends = sum(pool.map(partial(ends_of, said.program, said.seconds, said.workers), pieces), Counter())
     for kind, times in sorted(ends.items()):
         print(f"{kind}: {times}")
     print(f"{said.count} scripts from {said.first} on served, {ends['not well ended']} did not end well")

@@ -8,6 +8,7 @@ import tempfile
 from edgebpf_tools import clang, store
 from edgebpf_tools.link import ObjectFile, link
 from edgebpf_tools.refusal import Refusal
+from edgebpf_tools.words import in_words
 
 LEAST_LENGTH, MOST_LENGTH = 16, 256
 NAME = re.compile(r"[A-Za-z0-9_-]{1,32}")
@@ -93,7 +94,14 @@ def run_on(graph_file, line, name, options):
     if status != 0:
         raise Refusal(f"{graph_file} is no graph that edgebpf reads: {before.splitlines()[-1] if before else 'no output'}")
     after, status = store.serve(run_script(graph, line, name, options))
-    sys.stdout.write(after[len(before) :])
+    said = after[len(before) :]
+    verdict = said.partition("\n")[0]
+    meaning = in_words(verdict) if verdict else None
+    if meaning is not None:
+        # What follows is a fault alone: a program that is not kept cannot be run.
+        print(verdict, flush=True)
+        raise Refusal(f"{name} is {meaning}")
+    sys.stdout.write(said)
     return status
 
 

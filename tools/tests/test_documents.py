@@ -107,7 +107,8 @@ class ProgramsOfTheDocuments(unittest.TestCase):
                 self.assertIn(f"program {name} bound", run.stdout, name)
                 self.assertIn(f"run {name} last edges 3", run.stdout, name)
             else:
-                self.assertIn(f"refused {name} {said.removeprefix('refused: ')} pc", run.stdout, name)
+                self.assertRegex(run.stdout, f"^refused {name} {said.removeprefix('refused: ')} pc [0-9]+\n$")
+                self.assertRegex(run.stderr, f"^edgebpf-c: {name} is refused at unit [0-9]+: ")
 
     def test_the_first_program_in_c(self):
         source, (tool, _, *words) = documents.c_program()
