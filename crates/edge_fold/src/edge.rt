@@ -1,5 +1,6 @@
 //! An edge, and its record's first bytes.
-ghost use Rattle.std.specs.Prelude.{◌≡◌, ◌+◌, length};
+ghost use Rattle.std.specs.Prelude.{◌≡◌, ◌+◌, ◌≤◌, ◌++◌, length, take, drop};
+ghost use Rattle.std.specs.Int.{w32, to_le_bytes as bytes_of};
 ghost use Rattle.bpf_model.specs.declared.limits.TheConstants.{EDGE_BYTES};
 
 use bpf_model::EDGE_BYTES;
@@ -31,5 +32,14 @@ impl Edge {
         if !argument.is_empty() {
             bytes[EDGE_BYTES..].copy_from_slice(argument);
         }
+    }
+
+    /// Writes of the record what differs from that of another edge from the same source: the target and its place.
+    pub fn write_target(&self, bytes: &mut [u8])
+        requires { EDGE_BYTES ≤ length bytes.old }
+        ensures { bytes.new ≡ take 4 bytes.old ++ bytes_of w32 self.now.target ++ bytes_of w32 self.now.place ++ drop 12 bytes.old }
+    {
+        bytes[4..8].copy_from_slice(&self.target.to_le_bytes());
+        bytes[8..12].copy_from_slice(&self.place.to_le_bytes());
     }
 }

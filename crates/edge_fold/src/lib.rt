@@ -5,6 +5,7 @@
 mod edge;
 mod fold;
 mod outcome;
+mod span;
 
 pub use bpf_model::{EDGE_BYTES, Reduction, Row};
 pub use bpf_runs::Memory;

@@ -15,3 +15,4 @@ pub mod Joins
 pub mod Runs
 pub mod Verdicts
 pub mod Forward
+pub mod Keeping

@@ -10,3 +10,4 @@ pub mod Laws
 pub mod Tables
 pub mod Known
 pub mod Actions
+pub mod Writing

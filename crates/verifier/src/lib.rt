@@ -15,6 +15,7 @@ mod states;
 mod verified;
 mod walking;
 mod weights;
+mod writing;
 
 pub use bpf_model::Cause;
 pub use bpf_operations::Action;

@@ -1,28 +1,22 @@
-use Rattle.std.proofs.Common.{◌≡◌, Option, Some, None, MatchOption, ◌+◌, ◌<◌, ◌≤◌, ◌++◌, [], length, drop, get_or, refl, sym, ap, subst, ◌∙◌, arith}
-use Rattle.graph_model.specs.Graph.{neighbours}
+use Rattle.std.proofs.Common.{◌≡◌, Option, Some, None, MatchOption, ◌++◌, [], length, drop, refl, sym, ap, ◌∙◌, arith}
+use Rattle.graph_model.specs.Graph.{neighbours, degree}
 use Rattle.graph_model.specs.Past.{graph_of}
-use Rattle.edge_fold.proofs.Numbers.{IsFolded, none_folded, one_folded, all_folded, next_target}
+use Rattle.edge_fold.proofs.Numbers.{none_folded, all_folded, none_left, row_behind, few_in_row, row_folded}
 use Rattle.edge_fold.proofs.fold.fold_vertex.Goals as goal
 
 pub slices-init : goal.slices-init
 slices-init c = record {
   rest = sym c.cursor-cursor.ensures;
-  folded = none_folded c.args.reduction c.args.program.now (graph_of c.args.version.now.past) c.args.argument.now c.args.source (neighbours (graph_of c.args.version.now.past) c.args.source) c.nothing-so_far.result c.nothing-so_far.ensures;
+  folded = none_folded c.args.reduction c.args.program.now (graph_of c.args.version.now.past) c.args.argument.now c.args.source 0 (neighbours (graph_of c.args.version.now.past) c.args.source) c.nothing-so_far.result c.nothing-so_far.ensures;
 }
 
-pub targets-init : goal.targets-init
-targets-init c = record {
-  rest = c.slices.invariant.rest ∙ c.in-Some.ensures.lent.1;
-  folded = c.slices.invariant.folded;
-}
-
-pub targets-preserved : goal.targets-preserved
-targets-preserved c =
+pub slices-preserved : goal.slices-preserved
+slices-preserved c =
     let all = neighbours (graph_of c.args.version.now.past) c.args.source in
-    let next = next_target all c.in-Some.targets.now c.next_slice.new.self c.targets.place c.targets.target-index c.targets.invariant.rest c.targets-test.true c.targets.invariant.folded.within in
+    let ahead = c.slices.invariant.rest ∙ c.in-Some.ensures.lent.1 in
     record {
-      rest = next.2;
-      folded = one_folded c.args.reduction c.args.program.now (graph_of c.args.version.now.past) c.args.argument.now c.args.source all c.targets.place c.targets.so_far _ c.number_for_edge-number.result c.combine-so_far.result c.targets.invariant.folded next.0 (sym next.1) c.number_for_edge-number.ensures c.number_for_edge-number.type_inv c.combine-so_far.ensures;
+      rest = (row_behind all c.in-Some.targets.now c.next_slice.new.self c.slices.place ahead c.slices.invariant.folded.within).1;
+      folded = row_folded c.args.reduction c.args.program.now (graph_of c.args.version.now.past) c.args.argument.now c.args.source all c.in-Some.targets.now c.next_slice.new.self c.slices.place c.slices.so_far c.fold_span-value.result c.combine-so_far.result c.slices.invariant.folded ahead c.fold_span-value.ensures.value c.fold_span-value.ensures.count c.combine-so_far.ensures;
     }
 
 nothing_left : {X : Type 0} (o : Option X) (P : Type 0) (Q : X → Type 0) → MatchOption o P Q → ((x : X) → o ≡ Some x → ⊥) → P
@@ -31,8 +25,20 @@ nothing_left (Some x) P Q h none = absurd (none x refl)
 
 pub returns-clause-value : goal.returns-clause-value
 returns-clause-value c =
-    (all_folded c.args.reduction c.args.program.now (graph_of c.args.version.now.past) c.args.argument.now c.args.source (neighbours (graph_of c.args.version.now.past) c.args.source) c.slices.place c.slices.so_far c.slices.invariant.folded (c.slices.invariant.rest ∙ (nothing_left c.next_slice.result _ _ c.next_slice.ensures.lent c.in_default.not-Some).0)).0
+    (all_folded c.args.reduction c.args.program.now (graph_of c.args.version.now.past) c.args.argument.now c.args.source 0 (neighbours (graph_of c.args.version.now.past) c.args.source) c.slices.place c.slices.so_far c.slices.invariant.folded (none_left _ _ (c.slices.invariant.rest ∙ (nothing_left c.next_slice.result _ _ c.next_slice.ensures.lent c.in_default.not-Some).0))).0
 
 pub returns-clause-count : goal.returns-clause-count
 returns-clause-count c =
-    (all_folded c.args.reduction c.args.program.now (graph_of c.args.version.now.past) c.args.argument.now c.args.source (neighbours (graph_of c.args.version.now.past) c.args.source) c.slices.place c.slices.so_far c.slices.invariant.folded (c.slices.invariant.rest ∙ (nothing_left c.next_slice.result _ _ c.next_slice.ensures.lent c.in_default.not-Some).0)).1
+    (all_folded c.args.reduction c.args.program.now (graph_of c.args.version.now.past) c.args.argument.now c.args.source 0 (neighbours (graph_of c.args.version.now.past) c.args.source) c.slices.place c.slices.so_far c.slices.invariant.folded (none_left _ _ (c.slices.invariant.rest ∙ (nothing_left c.next_slice.result _ _ c.next_slice.ensures.lent c.in_default.not-Some).0))).1
+
+pub fold_span-value-requires-clause-few : goal.fold_span-value-requires-clause-few
+fold_span-value-requires-clause-few c =
+    omega (arith, few_in_row (neighbours (graph_of c.args.version.now.past) c.args.source) c.in-Some.targets.now c.next_slice.new.self c.slices.place c.degree-degree.result (c.slices.invariant.rest ∙ c.in-Some.ensures.lent.1) c.slices.invariant.folded.within (c.degree-degree.ensures.value ∙ ap (degree (graph_of c.args.version.now.past)) c.from.ensures) c.degree-degree.ensures.small)
+
+pub overflow_cast-place : goal.overflow_cast-place
+overflow_cast-place c =
+    omega (arith, few_in_row (neighbours (graph_of c.args.version.now.past) c.args.source) c.in-Some.targets.now c.next_slice.new.self c.slices.place c.degree-degree.result (c.slices.invariant.rest ∙ c.in-Some.ensures.lent.1) c.slices.invariant.folded.within (c.degree-degree.ensures.value ∙ ap (degree (graph_of c.args.version.now.past)) c.from.ensures) c.degree-degree.ensures.small)
+
+pub overflow_add-place : goal.overflow_add-place
+overflow_add-place c =
+    omega (arith, few_in_row (neighbours (graph_of c.args.version.now.past) c.args.source) c.in-Some.targets.now c.next_slice.new.self c.slices.place c.degree-degree.result (c.slices.invariant.rest ∙ c.in-Some.ensures.lent.1) c.slices.invariant.folded.within (c.degree-degree.ensures.value ∙ ap (degree (graph_of c.args.version.now.past)) c.from.ensures) c.degree-degree.ensures.small)
