@@ -1,9 +1,10 @@
 //! The state of a script, and its lines one by one.
 
-ghost use Rattle.std.specs.Prelude.{◌≡◌, ◌++◌, OnOk, IfOk, true, false};
+ghost use Rattle.std.specs.Prelude.{◌≡◌, ◌≤◌, ◌++◌, OnOk, IfOk, true, false, length};
 ghost use Rattle.std.specs.List.{list_all};
 ghost use Rattle.script_model.specs.Lexing.{is_plain};
 ghost use Rattle.script_model.specs.State.{new_script};
+ghost use Rattle.script_model.specs.declared.limits.TheConstants.{MOST_LINE_BYTES};
 ghost use Rattle.script_model.specs.Execution.{execution, block_execution};
 ghost use Rattle.script_model.specs.Script.{end_outcome, next_line};
 ghost use Rattle.script_model.specs.Texts.{fault_text};
@@ -176,23 +177,20 @@ impl Script {
         }
     }
 
-    /// Executes a line whose bytes are allowed, inside a block or outside. An open batch stays where it is, as it
-    /// may have many lines.
-    fn execute_plain<Ga: Gate, R: Threads + Wait>(
+    /// Executes a line where a batch is open, which stays where it is, as it may have many lines. Its bytes are not tested: what a
+    /// line of a batch says has allowed bytes alone, and a line that says nothing has the same fault.
+    fn execute_batch_line<Ga: Gate, R: Threads + Wait>(
         &mut self,
         crew: &Crew<'_, R, Ga>,
         text: &mut Vec<u8>,
         bytes: &[u8],
     ) -> Result<Option<Listing>, LineError>
-        requires { list_all is_plain bytes.now ≡ true }
-        ensures executed { Tells (block_execution self.old.block bytes.now self.old) result text.old.items
-            text.new.items self.new }
+        requires open { HasBatch self.old }
+        requires short { length bytes.now ≤ MOST_LINE_BYTES }
+        ensures executed { Tells (execution self.old bytes.now) result text.old.items text.new.items self.new }
         ensures line { self.new.line ≡ self.old.line }
     {
-        if self.has_batch() {
-            return self.execute_in_batch(crew, text, batch_line(bytes));
-        }
-        self.execute_outside_batch(crew, text, bytes)
+        self.execute_in_batch(crew, text, batch_line(bytes))
     }
 
     /// Executes the line of the present number.
@@ -209,9 +207,12 @@ impl Script {
         if bytes.len() > MOST_LINE_BYTES {
             return Err(LineError::Fault(LineFault::LongLine));
         }
+        if self.has_batch() {
+            return self.execute_batch_line(crew, text, bytes);
+        }
         if !is_plain_line(bytes) {
             return Err(LineError::Fault(LineFault::Words));
         }
-        self.execute_plain(crew, text, bytes)
+        self.execute_outside_batch(crew, text, bytes)
     }
 }
