@@ -1,5 +1,5 @@
 #!/usr/bin/env python3
-"""Compiles programs.c to BPF, and natively, and writes the vectors of the tests. See README.md."""
+"""Compiles programs.c to BPF, and natively, and writes the rows of script_rows that serve them. See README.md."""
 import pathlib
 import subprocess
 import tempfile
@@ -17,14 +17,30 @@ REFUSED = {
     "any_byte": (24, 11, 1), "stack_table": (16, 10, 12), "loop": (20, 3, 10), "lent_stack": (16, 8, 6),
     "chosen_room": (16, 13, 9), "pointer_vertex": (16, 13, 0), "wide_gather": (20, 11, 5), "sixth_helper": (16, 14, 1),
 }
-HEAD = '''\
-//! Vectors from outside, which `compiled/make.py` wrote. Clang 19 made the bytes of each program out of
-//! `compiled/programs.c`, and the numbers are those of the same C as native code.
-
-/// Of each program: its name, its `code` line and what that writes, and then its runs and what they write, with
-/// a bar between. A stroke stands for a line end.
-pub const LINES: &str = "\\
+# The section of script_rows that has them, over the graph over which the native code runs.
+SECTION = "compiled by clang"
+HEAD = f'''\
+%^ {SECTION}
+graph 70000
+batch A
++ 0 1
++ 0 255
++ 0 65535
++ 0 69999
++ 255 0
++ 255 4660
++ 255 65535
++ 4660 255
++ 69999 1
++ 69999 69999
+end
+pin a
+%=
+graph 70000
+batch A version 1 added 10 removed 0
+pin a version 1 edges 10
 '''
+
 
 
 def extent(code):
@@ -68,16 +84,20 @@ def main():
             subprocess.run(["llvm-objcopy-19", "-O", "binary", f"--only-section=.text.{name}", compiled, part], check=True)
             return pathlib.Path(part).read_bytes()
 
-        lines = []
+        rows = []
         for name, length in LENGTHS.items():
             program = code(name)
             runs = [line.split("|")[1:] for line in written.splitlines() if line.split("|")[0] == name]
-            lines.append(f"{name}|code {name} {length} {program.hex()}|program {name} {extent(program)}|"
-                         + "/".join(run[0] for run in runs) + "|" + "".join(run[1] for run in runs))
+            rows.append((name, [f"code {name} {length} {program.hex()}", *(run[0] for run in runs)],
+                         f"program {name} {extent(program)}\n" + "".join(run[1] for run in runs).replace("/", "\n")))
         for name, (length, cause, pc) in REFUSED.items():
-            lines.append(f"{name}|code {name} {length} {code(name).hex()}|refused {name} cause {cause} pc {pc}||")
-    vectors = here.parent / "crates/service_tests/src/scripts/compiled/vectors.rt"
-    vectors.write_text(HEAD + "\n".join(lines) + '";\n')
+            rows.append((name, [f"code {name} {length} {code(name).hex()}"], f"refused {name} cause {cause} pc {pc}\n"))
+    crate = here.parent / "crates/script_rows"
+    before = (crate / "stdin").read_text().partition(f"%^ {SECTION}\n")[0]
+    (crate / "stdin").write_text(before + HEAD + "".join(
+        "\n".join([f"%% {name}", *script, "%=", text]) for name, script, text in rows))
+    before = (crate / "stdout").read_text().partition(f"ok {SECTION}: ")[0]
+    (crate / "stdout").write_text(before + "".join(f"ok {SECTION}: {name}\n" for name, _, _ in rows))
 
 
 main()

@@ -28,8 +28,8 @@ def valid_programs():
         codes += [(int(length), bytes.fromhex(code)) for length, code in re.findall(r"^code \S+ (\d+) ([0-9a-fA-F]+)$", script, re.M)]
         blocks = re.findall(r"^program \S+ (\d+)\n(.*?)^end$", script, re.M | re.S)
         texts += [(int(length), text.encode()) for length, text in blocks]
-    vectors = (ROOT / "crates/service_tests/src/scripts/compiled/vectors.rt").read_text()
-    codes += [(int(length), bytes.fromhex(code)) for length, code in re.findall(r"\|code \S+ (\d+) ([0-9a-fA-F]+)\|", vectors)]
+    rows = (ROOT / "crates/script_rows/stdin").read_text().partition("%^ compiled by clang\n")[2]
+    codes += [(int(length), bytes.fromhex(code)) for length, code in re.findall(r"^code \S+ (\d+) ([0-9a-fA-F]+)$", rows, re.M)]
     return codes, texts
 
 

@@ -41,11 +41,10 @@ def of_examples():
 
 def of_compiled():
     """A line for each accepted program that clang compiled."""
-    vectors = Path("crates/service_tests/src/scripts/compiled/vectors.rt").read_text()
-    for line in vectors.splitlines():
-        parts = line.removesuffix('";').split("|")
-        if len(parts) > 2 and parts[2].startswith("program "):
-            _, name, length, code = parts[1].split()
+    rows = Path("crates/script_rows/stdin").read_text().partition("%^ compiled by clang\n")[2]
+    for row in rows.split("\n%% ")[1:]:
+        if "\n%=\nprogram " in row:
+            _, name, length, code = row.splitlines()[1].split()
             yield f"{name}|{length}|{code}"
 
 

@@ -13,6 +13,3 @@ pub use apply::apply_batch;
 pub use by_range::split;
 pub use edited::edit_table;
 pub use errors::ApplyError;
-
-#[cfg(test)]
-mod tests;

@@ -16,6 +16,3 @@ pub use errors::{NoPlace, PinError};
 pub use opening::open;
 pub use reader::Reader;
 pub use version::Version;
-
-#[cfg(test)]
-mod tests;

@@ -6,8 +6,6 @@ mod counter;
 mod hand;
 mod limits;
 mod rule;
-#[cfg(test)]
-mod tests;
 
 pub use claimant::Claimant;
 pub use counter::Counter;

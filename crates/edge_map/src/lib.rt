@@ -23,6 +23,3 @@ pub use limits::{BLOCK_EDGES, PIECE_VERTICES};
 pub use list::{EdgeList, list_edges};
 pub use map::map_edges;
 pub use versions::Pin;
-
-#[cfg(test)]
-mod tests;

@@ -10,8 +10,6 @@ mod labels;
 mod listing;
 mod outcome;
 mod source;
-#[cfg(test)]
-mod tests;
 mod values;
 mod words;
 

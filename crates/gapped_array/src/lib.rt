@@ -8,6 +8,3 @@ mod run;
 
 pub use array::GappedArray;
 pub use run::{SEGMENT, VERTICES};
-
-#[cfg(test)]
-mod tests;

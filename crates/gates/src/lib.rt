@@ -14,6 +14,3 @@ pub use holding::HoldingGate;
 pub use limits::MOST_WORKERS;
 pub use refusal::Refusal;
 pub use workers::Workers;
-
-#[cfg(test)]
-mod tests;

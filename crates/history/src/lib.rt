@@ -9,6 +9,3 @@ mod rule;
 
 pub use head::Head;
 pub use known::{Known, compare};
-
-#[cfg(test)]
-mod tests;

@@ -12,6 +12,3 @@ mod parcel;
 pub use intake::Intake;
 pub use opening::{Opened, open};
 pub use outlet::Outlet;
-
-#[cfg(test)]
-mod tests;

@@ -7,6 +7,3 @@ mod tree;
 
 pub use slices::Slices;
 pub use tree::NeighbourTree;
-
-#[cfg(test)]
-mod tests;

@@ -2,7 +2,7 @@
 ghost use Rattle.std.specs.Prelude.{◌≡◌, ◌≤◌, IfOk, length};
 
 use bpf_image::Image;
-use edge_fold::{MapOutcome, Memory, Reduction, Row, Verified, Version, map_frontier};
+use edge_fold::{MapOutcome, Memory, Reduction, Verified, Version, map_frontier};
 use gates::{OpenGate, Workers};
 use graph_model::{Batch, Edit, Entry};
 use history::Head;
@@ -41,6 +41,21 @@ fn map_alone(
     )
 }
 
+/// The text of what such a map gives.
+fn told(
+    alloc: Global,
+    version: &Version,
+    program: &Verified,
+    frontier: &[u32],
+    reduction: Reduction,
+) -> Result<String, AllocError>
+    requires argument { program.now.record_length ≡ 16 }
+    requires few { length frontier.now ≤ 1048576 }
+{
+    let outcome = map_alone(alloc, version, program, frontier, reduction)?;
+    format!(in alloc; "{outcome:?}")
+}
+
 /// Four vertices, and the edges 0-1, 0-2 and 1-2.
 fn three_edges<R: Threads + Wait>(rt: &R, alloc: Global) -> Result<Version, Fail> {
     let (head, known) = Head::new();
@@ -71,31 +86,26 @@ fn loader(alloc: Global, place: u8) -> Result<Verified, Fail>
     }
 }
 
-fn target(alloc: Global) -> Result<Verified, Fail>
-    ensures { IfOk result (λ program. program.record_length ≡ 16) }
-{
-    loader(alloc, 4)
-}
-
-const fn row(vertex: u32, value: u64) -> Row {
-    Row { vertex, value }
-}
-
 #[test]
 fn reductions(rt: HostRuntime) -> Result<(), Fail> {
-    let alloc = rt.alloc();
-    let version = three_edges(&rt, alloc)?;
-    let program = target(alloc)?;
-    let wanted = [
-        (Reduction::Sum, 5, [row(0, 3), row(1, 2)]),
-        (Reduction::Min, 1, [row(0, 1), row(1, 2)]),
-        (Reduction::Max, 2, [row(0, 2), row(1, 2)]),
-    ];
-    for (reduction, total, rows) in wanted {
-        let out = map_alone(alloc, &version, &program, &[0, 1, 2, 3], reduction)?;
-        assert_eq!(rt; out.edges, 3);
-        assert_eq!(rt; out.total, total);
-        assert_eq!(rt; out.rows.as_slice(), rows.as_slice());
+    let version = three_edges(&rt, rt.alloc())?;
+    let program = loader(rt.alloc(), 4)?;
+    for (reduction, wanted) in [
+        (
+            Reduction::Sum,
+            "MapOutcome { edges: 3, total: 5, rows: [Row { vertex: 0, value: 3 }, Row { vertex: 1, value: 2 }] }",
+        ),
+        (
+            Reduction::Min,
+            "MapOutcome { edges: 3, total: 1, rows: [Row { vertex: 0, value: 1 }, Row { vertex: 1, value: 2 }] }",
+        ),
+        (
+            Reduction::Max,
+            "MapOutcome { edges: 3, total: 2, rows: [Row { vertex: 0, value: 2 }, Row { vertex: 1, value: 2 }] }",
+        ),
+    ] {
+        let text = told(rt.alloc(), &version, &program, &[0, 1, 2, 3], reduction)?;
+        assert_eq!(rt; text.as_str(), wanted);
     }
     Ok(())
 }
@@ -103,36 +113,49 @@ fn reductions(rt: HostRuntime) -> Result<(), Fail> {
 /// Sums the source, the target, the place and the degree of each edge.
 #[test]
 fn records(rt: HostRuntime) -> Result<(), Fail> {
-    let alloc = rt.alloc();
-    let version = three_edges(&rt, alloc)?;
+    let version = three_edges(&rt, rt.alloc())?;
     for (place, total) in [(0, 1), (4, 5), (8, 1), (12, 5)] {
-        let program = loader(alloc, place)?;
-        let out = map_alone(alloc, &version, &program, &[0, 1], Reduction::Sum)?;
-        assert_eq!(rt; out.total, total, "{place}");
+        let program = loader(rt.alloc(), place)?;
+        let outcome = map_alone(rt.alloc(), &version, &program, &[0, 1], Reduction::Sum)?;
+        assert_eq!(rt; outcome.total, total, "{place}");
+    }
+    Ok(())
+}
+
+/// What maps over no edge give by each reduction.
+const NOTHING: [(Reduction, &str); 3] = [
+    (
+        Reduction::Min,
+        "MapOutcome { edges: 0, total: 18446744073709551615, rows: [] }",
+    ),
+    (
+        Reduction::Max,
+        "MapOutcome { edges: 0, total: 0, rows: [] }",
+    ),
+    (
+        Reduction::Sum,
+        "MapOutcome { edges: 0, total: 0, rows: [] }",
+    ),
+];
+
+#[test]
+fn a_graph_without_an_edge(rt: HostRuntime) -> Result<(), Fail> {
+    let version = Version::opening(rt.alloc(), 4, Head::new().1)?;
+    let program = loader(rt.alloc(), 4)?;
+    for (reduction, wanted) in NOTHING {
+        let text = told(rt.alloc(), &version, &program, &[0, 1, 2, 3], reduction)?;
+        assert_eq!(rt; text.as_str(), wanted);
     }
     Ok(())
 }
 
 #[test]
-fn nothing_to_map(rt: HostRuntime) -> Result<(), Fail> {
-    let alloc = rt.alloc();
-    let program = target(alloc)?;
-    let edgeless = Version::opening(alloc, 4, Head::new().1)?;
-    let version = three_edges(&rt, alloc)?;
-    for (reduction, total) in [
-        (Reduction::Min, u64::MAX),
-        (Reduction::Max, 0),
-        (Reduction::Sum, 0),
-    ] {
-        let out = map_alone(alloc, &edgeless, &program, &[0, 1, 2, 3], reduction)?;
-        assert_eq!(rt; out.edges, 0);
-        assert_eq!(rt; out.total, total);
-        assert_eq!(rt; out.rows.len(), 0);
-
-        let out = map_alone(alloc, &version, &program, &[], reduction)?;
-        assert_eq!(rt; out.edges, 0);
-        assert_eq!(rt; out.total, total);
-        assert_eq!(rt; out.rows.len(), 0);
+fn no_vertex(rt: HostRuntime) -> Result<(), Fail> {
+    let version = three_edges(&rt, rt.alloc())?;
+    let program = loader(rt.alloc(), 4)?;
+    for (reduction, wanted) in NOTHING {
+        let text = told(rt.alloc(), &version, &program, &[], reduction)?;
+        assert_eq!(rt; text.as_str(), wanted);
     }
     Ok(())
 }

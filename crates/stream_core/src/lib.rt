@@ -12,8 +12,3 @@ mod world;
 pub use execution::{run, shards, step};
 pub use store_model::{Event, Reply};
 pub use world::World;
-
-#[cfg(test)]
-mod home_tests;
-#[cfg(test)]
-mod tests;

@@ -10,6 +10,3 @@ pub use self::version::Version;
 pub use cursors::Cursor;
 pub use draft::Draft;
 pub use migration::Counts;
-
-#[cfg(test)]
-mod tests;

@@ -25,6 +25,3 @@ pub use reader::Reader;
 pub use receipt::Receipt;
 pub use store::Store;
 pub use version::{Cursor, Version};
-
-#[cfg(test)]
-mod tests;

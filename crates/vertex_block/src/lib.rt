@@ -4,6 +4,3 @@
 mod block;
 
 pub use block::{PLACES, VertexBlock};
-
-#[cfg(test)]
-mod tests;

@@ -1,8 +1,7 @@
 //! What a gate sees of a script's batches and runs.
 use crate::scripts::ends::{Parts, Written};
-use crate::scripts::{TARGET, workers_of};
 use gates::HoldingGate;
-use service::{Ending, serve};
+use service::{Ending, Workers, serve};
 use std::alloc::Global;
 use std::sync::Wait;
 use std::test::Fail;
@@ -19,10 +18,10 @@ fn counts_of<R: Threads + Wait>(
     let mut input = Parts::of(script.as_bytes(), usize::MAX, None);
     let mut output = Written::new(alloc, usize::MAX, None);
     let gate = HoldingGate::until(u64::from(count));
-    let workers = workers_of(count)?;
-    let ending = serve(&mut input, &mut output, rt, alloc, workers, &gate)?;
-    if ending != Ending::Complete {
-        return Err(Fail::new("the script has a fault"));
+    let workers = Workers::new(count).ok_or("so many workers are not allowed")?;
+    let answer = serve(&mut input, &mut output, rt, alloc, workers, &gate);
+    if answer != Ok(Ending::Complete) {
+        return Err(Fail::new("the script did not come to its end"));
     }
     Ok([gate.entered(), gate.left(), gate.in_vain()])
 }
@@ -30,24 +29,19 @@ fn counts_of<R: Threads + Wait>(
 // A batch that edits as many ranges of 256 vertices as there are workers: each worker is inside at once.
 #[test]
 fn workers_share_a_batch(rt: HostRuntime) -> Result<(), Fail> {
-    for (count, edits, digits) in [
-        (2, "+ 0 1\n+ 300 1\n", 0x11),
-        (4, "+ 0 1\n+ 300 1\n+ 600 1\n+ 1000 1\n", 0x1111),
-    ] {
-        let script = format!(in rt.alloc(); "graph 1024\nbatch A\n{edits}end\n")?;
-        let counts = counts_of(&rt, rt.alloc(), &script, count)?;
-        assert_eq!(rt; counts, [digits, digits, 0]);
-    }
+    let two = "graph 1024\nbatch A\n+ 0 1\n+ 300 1\nend\n";
+    assert_eq!(rt; counts_of(&rt, rt.alloc(), two, 2)?, [0x11, 0x11, 0]);
+    let four = "graph 1024\nbatch A\n+ 0 1\n+ 300 1\n+ 600 1\n+ 1000 1\nend\n";
+    assert_eq!(rt; counts_of(&rt, rt.alloc(), four, 4)?, [0x1111, 0x1111, 0]);
     Ok(())
 }
 
 // A run over a graph without an edge, of 64 vertices for each worker: each worker is inside at once.
 #[test]
 fn workers_share_a_run(rt: HostRuntime) -> Result<(), Fail> {
-    for (count, vertices, digits) in [(2, 128, 0x11), (4, 256, 0x1111)] {
-        let script = format!(in rt.alloc(); "graph {vertices}\n{TARGET}\npin a\nrun t a sum -\n")?;
-        let counts = counts_of(&rt, rt.alloc(), &script, count)?;
-        assert_eq!(rt; counts, [digits, digits, 0]);
-    }
+    let two = "graph 128\ncode t 16 61100400000000009500000000000000\npin a\nrun t a sum -\n";
+    assert_eq!(rt; counts_of(&rt, rt.alloc(), two, 2)?, [0x11, 0x11, 0]);
+    let four = "graph 256\ncode t 16 61100400000000009500000000000000\npin a\nrun t a sum -\n";
+    assert_eq!(rt; counts_of(&rt, rt.alloc(), four, 4)?, [0x1111, 0x1111, 0]);
     Ok(())
 }

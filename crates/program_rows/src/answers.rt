@@ -1,0 +1,32 @@
+//! What comes of a row, by the kind of its block.
+use crate::assembling::{assembled, assembled_often, listed};
+use crate::block::Block;
+use crate::decoding::decoded;
+use crate::images::{loaded, made};
+use crate::numbers::numbers_of;
+use crate::rules::{met, stepped};
+use crate::running::ran;
+use crate::verdicts::{explained, verified};
+use anyhow::{Result, bail};
+use std::alloc::Global;
+
+/// What comes of a row of a block.
+pub fn answer(alloc: Global, block: &Block<'_>, input: &str) -> Result<String> {
+    let number = block.number;
+    let record_length = u16::try_from(number).unwrap_or(0);
+    match block.kind {
+        "decode" => decoded(alloc, number, input),
+        "assemble" => assembled(alloc, input),
+        "assemble_behind" => assembled_often(alloc, number, input),
+        "list" => listed(alloc, input),
+        "image" => made(alloc, record_length, input),
+        "load" => loaded(alloc, input),
+        "run" => ran(alloc, number, input),
+        "verify" => verified(alloc, record_length, input),
+        "explain" => explained(alloc, record_length, input),
+        "step" => stepped(alloc, record_length, input),
+        "meet" => met(alloc, record_length, input),
+        "numbers" => numbers_of(alloc, input),
+        kind => bail!("{kind} is no kind of rows"),
+    }
+}

@@ -1,0 +1,328 @@
+//! Maps by several workers, what each gate sees, and lists of edges.
+use crate::shop::pin_of;
+use bpf_image::Image;
+use edge_map::{
+    BLOCK_EDGES, EdgeList, ListedEdge, MapError, MapOutcome, OpenGate, Pin, Reduction, Row,
+    Verified, Workers, list_edges, map_edges,
+};
+use gates::HoldingGate;
+use std::alloc::{AllocError, Global};
+use std::sync::Wait;
+use std::test::Fail;
+use std::thread::Threads;
+use verifier::verify;
+use versions::Edit;
+
+// Exits with the edge's target.
+const TARGET: [u8; 16] = [0x61, 0x10, 4, 0, 0, 0, 0, 0, 0x95, 0, 0, 0, 0, 0, 0, 0];
+
+// Loads the word behind the edge's own bytes, stores 7 there, and exits with what it loaded.
+const ARGUMENT: [u8; 24] = [
+    0x61, 0x10, 16, 0, 0, 0, 0, 0, 0x62, 1, 16, 0, 7, 0, 0, 0, 0x95, 0, 0, 0, 0, 0, 0, 0,
+];
+
+// A program over records of so many bytes.
+fn program_of(alloc: Global, record_length: u16, code: &[u8]) -> Result<Verified, Fail> {
+    let Ok(image) = Image::new(record_length, code.to_vec(alloc)?) else {
+        return Err(Fail::from("no image"));
+    };
+    match verify(alloc, image) {
+        Ok(program) => Ok(program),
+        Err(_) => Err(Fail::from("refused")),
+    }
+}
+
+fn workers_of(count: u8) -> Workers {
+    Workers::new(count).unwrap_or(Workers::one())
+}
+
+// The vertices below a number.
+fn vertices_below(alloc: Global, count: u32) -> Result<Vec<u32>, AllocError> {
+    let mut all = Vec::new(alloc);
+    for vertex in 0..count {
+        all.push(vertex)?;
+    }
+    Ok(all)
+}
+
+// The edges 0-1, 70-2, 299-3 and 299-4 of 300 vertices.
+fn four_edges<R: Threads + Wait>(rt: &R, alloc: Global) -> Result<Pin, Fail> {
+    let edits = [
+        Edit::Insert(0, 1),
+        Edit::Insert(70, 2),
+        Edit::Insert(299, 3),
+        Edit::Insert(299, 4),
+    ];
+    pin_of(rt, alloc, 300, Vec::from_slice(alloc, &edits)?)
+}
+
+// The targets of the edges of a frontier, reduced by so many workers.
+fn targets<R: Threads + Wait>(
+    rt: &R,
+    alloc: Global,
+    pin: &Pin,
+    frontier: &[u32],
+    reduction: Reduction,
+    workers: u8,
+) -> Result<MapOutcome, Fail> {
+    let program = program_of(alloc, 16, &TARGET)?;
+    let out = map_edges(
+        rt,
+        alloc,
+        pin,
+        &program,
+        &[],
+        frontier,
+        reduction,
+        workers_of(workers),
+        &OpenGate,
+    )?;
+    Ok(out)
+}
+
+// What a gate sees that holds each piece until so many workers are inside, of a map of as many pieces: how many pieces
+// waited in vain, and how often each was entered and left.
+fn gated<R: Threads + Wait>(rt: &R, alloc: Global, count: u8) -> Result<[u64; 3], Fail> {
+    let all = vertices_below(alloc, 64 * u32::from(count))?;
+    let pin = four_edges(rt, alloc)?;
+    let program = program_of(alloc, 16, &TARGET)?;
+    let gate = HoldingGate::until(u64::from(count));
+    map_edges(
+        rt,
+        alloc,
+        &pin,
+        &program,
+        &[],
+        &all,
+        Reduction::Sum,
+        workers_of(count),
+        &gate,
+    )?;
+    Ok([gate.in_vain(), gate.entered(), gate.left()])
+}
+
+#[test]
+fn pieces_of_as_many_workers_are_inside_at_once(rt: HostRuntime) -> Result<(), Fail> {
+    let two = gated(&rt, rt.alloc(), 2)?;
+    assert_eq!(rt; two, [0, 0x11, 0x11]);
+    let four = gated(&rt, rt.alloc(), 4)?;
+    assert_eq!(rt; four, [0, 0x1111, 0x1111]);
+    Ok(())
+}
+
+const fn row(vertex: u32, value: u64) -> Row {
+    Row { vertex, value }
+}
+
+#[test]
+fn every_number_of_workers_gives_the_same(rt: HostRuntime) -> Result<(), Fail> {
+    let pin = four_edges(&rt, rt.alloc())?;
+    let all = vertices_below(rt.alloc(), 300)?;
+    let wanted = [row(0, 1), row(70, 2), row(299, 7)];
+    for workers in [1, 2, 16] {
+        let out = targets(&rt, rt.alloc(), &pin, &all, Reduction::Sum, workers)?;
+        assert_eq!(rt; [out.edges, out.total], [4, 10], "by {workers}");
+        assert_eq!(rt; out.rows.as_slice(), wanted.as_slice(), "by {workers}");
+    }
+    Ok(())
+}
+
+#[test]
+fn nothing_to_map(rt: HostRuntime) -> Result<(), Fail> {
+    let pin = four_edges(&rt, rt.alloc())?;
+    for (reduction, total) in [
+        (Reduction::Min, u64::MAX),
+        (Reduction::Max, 0),
+        (Reduction::Sum, 0),
+    ] {
+        let out = targets(&rt, rt.alloc(), &pin, &[], reduction, 1)?;
+        assert_eq!(rt; [out.edges, out.total], [0, total]);
+        assert_eq!(rt; out.rows.len(), 0);
+    }
+    Ok(())
+}
+
+// An edge from each vertex n of 10,000 to 7 n + 3 modulo 10,000: each vertex is a target once.
+fn ring<R: Threads + Wait>(rt: &R, alloc: Global) -> Result<Pin, Fail> {
+    let mut edits = Vec::new(alloc);
+    for n in 0..10_000 {
+        edits.push(Edit::Insert(n, (7 * n + 3) % 10_000))?;
+    }
+    pin_of(rt, alloc, 10_000, edits)
+}
+
+#[test]
+fn a_long_frontier(rt: HostRuntime) -> Result<(), Fail> {
+    let pin = ring(&rt, rt.alloc())?;
+    let all = vertices_below(rt.alloc(), 10_000)?;
+    for (reduction, total) in [
+        (Reduction::Min, 0),
+        (Reduction::Max, 9_999),
+        (Reduction::Sum, 49_995_000),
+    ] {
+        let out = targets(&rt, rt.alloc(), &pin, &all, reduction, 4)?;
+        assert_eq!(rt; [out.edges, out.total], [10_000, total]);
+        assert_eq!(rt; out.rows.len(), 10_000);
+    }
+    Ok(())
+}
+
+// 7 n + 3 for each n below 64.
+#[test]
+fn sixteen_workers_at_one_piece(rt: HostRuntime) -> Result<(), Fail> {
+    let pin = ring(&rt, rt.alloc())?;
+    let piece = vertices_below(rt.alloc(), 64)?;
+    let out = targets(&rt, rt.alloc(), &pin, &piece, Reduction::Sum, 16)?;
+    assert_eq!(rt; [out.edges, out.total], [64, 14_304]);
+    assert_eq!(rt; out.rows.len(), 64);
+    Ok(())
+}
+
+// Why a map gives no answer.
+fn refusal<R: Threads + Wait>(
+    rt: &R,
+    alloc: Global,
+    pin: &Pin,
+    argument: &[u8],
+    frontier: &[u32],
+) -> Result<Option<MapError>, Fail> {
+    let program = program_of(alloc, 16, &TARGET)?;
+    let answer = map_edges(
+        rt,
+        alloc,
+        pin,
+        &program,
+        argument,
+        frontier,
+        Reduction::Sum,
+        Workers::one(),
+        &OpenGate,
+    );
+    Ok(answer.err())
+}
+
+#[test]
+fn the_argument_is_tested_before_the_frontier(rt: HostRuntime) -> Result<(), Fail> {
+    let pin = four_edges(&rt, rt.alloc())?;
+    let argument = refusal(&rt, rt.alloc(), &pin, &[0], &[1, 0])?;
+    assert_eq!(rt; argument, Some(MapError::ArgumentLength));
+    for frontier in [[1, 0], [7, 7], [0, 300]] {
+        let refused = refusal(&rt, rt.alloc(), &pin, &[], &frontier)?;
+        assert_eq!(rt; refused, Some(MapError::Frontier));
+    }
+    Ok(())
+}
+
+// All edges of a list, as it gives them block by block, and how long each block is.
+fn all_of(
+    alloc: Global,
+    list: &mut EdgeList<'_>,
+    lengths: &mut [usize],
+) -> Result<Vec<ListedEdge>, AllocError> {
+    let mut all = Vec::new(alloc);
+    let mut block = Vec::new(alloc);
+    for length in lengths {
+        list.next_block(&mut block)?;
+        *length = block.len();
+        all.extend_from_slice(&block)?;
+    }
+    Ok(all)
+}
+
+// All edges of a version with their numbers, by a program and its argument; and how long each block is.
+fn edges_of(
+    alloc: Global,
+    pin: &Pin,
+    code: &[u8],
+    argument: &[u8],
+    lengths: &mut [usize],
+) -> Result<Vec<ListedEdge>, Fail> {
+    let record_length = 16 + argument.len().min(4) as u16;
+    let program = program_of(alloc, record_length, code)?;
+    let mut list = list_edges(pin, &program, argument)?;
+    let all = all_of(alloc, &mut list, lengths)?;
+    Ok(all)
+}
+
+const fn listed(source: u32, target: u32, number: u64) -> ListedEdge {
+    ListedEdge {
+        source,
+        target,
+        number,
+    }
+}
+
+#[test]
+fn each_edge_is_listed_with_its_number(rt: HostRuntime) -> Result<(), Fail> {
+    let pin = four_edges(&rt, rt.alloc())?;
+    let mut lengths = [0; 2];
+    let all = edges_of(rt.alloc(), &pin, &TARGET, &[], &mut lengths)?;
+    let wanted = [
+        listed(0, 1, 1),
+        listed(70, 2, 2),
+        listed(299, 3, 3),
+        listed(299, 4, 4),
+    ];
+    assert_eq!(rt; lengths, [4, 0]);
+    assert_eq!(rt; all.as_slice(), wanted.as_slice());
+    Ok(())
+}
+
+// All 4,900 edges of 70 vertices: the n-th is from n / 70 to n modulo 70.
+fn complete<R: Threads + Wait>(rt: &R, alloc: Global) -> Result<Pin, Fail> {
+    let mut edits = Vec::new(alloc);
+    for n in 0..4_900 {
+        edits.push(Edit::Insert(n / 70, n % 70))?;
+    }
+    pin_of(rt, alloc, 70, edits)
+}
+
+// How many edges there are, if they are all of 70 vertices, in order and each with its target.
+fn in_order(edges: &[ListedEdge]) -> Option<u32> {
+    let mut n = 0u32;
+    for edge in edges {
+        if *edge != listed(n / 70, n % 70, u64::from(n % 70)) {
+            return None;
+        }
+        n = n.saturating_add(1);
+    }
+    Some(n)
+}
+
+#[test]
+fn a_list_goes_on_in_the_next_block(rt: HostRuntime) -> Result<(), Fail> {
+    let pin = complete(&rt, rt.alloc())?;
+    let mut lengths = [0; 3];
+    let all = edges_of(rt.alloc(), &pin, &TARGET, &[], &mut lengths)?;
+    assert_eq!(rt; lengths, [BLOCK_EDGES, 804, 0]);
+    assert_eq!(rt; in_order(&all), Some(4_900));
+    Ok(())
+}
+
+// Whether each edge has the number 5.
+fn are_five(edges: &[ListedEdge]) -> bool {
+    for edge in edges {
+        if edge.number != 5 {
+            return false;
+        }
+    }
+    true
+}
+
+#[test]
+fn no_edge_sees_what_another_wrote(rt: HostRuntime) -> Result<(), Fail> {
+    let pin = four_edges(&rt, rt.alloc())?;
+    let all = edges_of(rt.alloc(), &pin, &ARGUMENT, &[5, 0, 0, 0], &mut [0])?;
+    assert_eq!(rt; all.len(), 4);
+    assert!(rt; are_five(&all));
+    Ok(())
+}
+
+#[test]
+fn an_argument_that_does_not_fit_is_not_listed(rt: HostRuntime) -> Result<(), Fail> {
+    let pin = four_edges(&rt, rt.alloc())?;
+    let program = program_of(rt.alloc(), 16, &TARGET)?;
+    let refused = list_edges(&pin, &program, &[0]).err();
+    assert_eq!(rt; refused, Some(MapError::ArgumentLength));
+    Ok(())
+}

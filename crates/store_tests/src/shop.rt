@@ -1,0 +1,137 @@
+//! All ends of one store, for tests.
+ghost use Rattle.std.specs.Prelude.{◌≡◌};
+ghost use Rattle.history.specs.Moment.{OneStore};
+ghost use Rattle.intake.specs.Ends.{IsFeedOf};
+
+use std::alloc::Global;
+use std::marker::Model;
+use std::sync::Wait;
+use std::test::Fail;
+use std::thread::Threads;
+use versions::{
+    Batch, Edit, Feed, Finished, OpenGate, Pin, PinError, PublishError, Publisher, Reader, Receipt,
+    Store, StoreError, SubmitCause, SubmitError, Workers,
+};
+
+/// Whoever opens one has to close it.
+pub struct Shop {
+    pub publisher: Publisher,
+    pub first: Feed,
+    pub second: Feed,
+    pub reader: Reader,
+}
+
+impl Model for Shop {
+    ghost use Rattle.history.specs.Moment.{OneStore};
+    ghost use Rattle.intake.specs.Ends.{IsFeedOf};
+    ghost use Rattle.versions.specs.Storing.{Storing};
+
+    ghost Value = { Storing };
+
+    ghost view = { λ s. s.publisher };
+
+    ghost invariant = { λ s. IsFeedOf s.publisher.moment.past.vertex_count s.publisher.queue 0 s.first
+        × IsFeedOf s.publisher.moment.past.vertex_count s.publisher.queue 1 s.second
+        × OneStore s.publisher.moment s.reader };
+}
+
+impl Shop {
+    pub fn open<R: Wait>(rt: &R, alloc: Global, vertex_count: u32) -> Result<Shop, StoreError> {
+        let opened = Store::new(vertex_count, rt, alloc)?;
+        let feeds = opened.1;
+        let publisher = opened.0;
+        let reader = opened.2;
+        let mut each = feeds.into_iter();
+        let (Some(first), Some(second)) = (each.next(), each.next()) else {
+            unreachable!()
+        };
+        Ok(Shop {
+            publisher,
+            first,
+            second,
+            reader,
+        })
+    }
+
+    fn offer<R: Wait>(&mut self, rt: &R, feed: u8, batch: Batch) -> Result<(), SubmitError> {
+        if feed == 0 {
+            self.first.submit(batch, rt)
+        } else {
+            self.second.submit(batch, rt)
+        }
+    }
+
+    /// Why a batch is refused, and how many edits come back. `None` where it is not.
+    pub fn submit<R: Wait>(
+        &mut self,
+        rt: &R,
+        feed: u8,
+        batch: Batch,
+    ) -> Option<(SubmitCause, usize)> {
+        match self.offer(rt, feed, batch) {
+            Ok(()) => None,
+            Err(error) => Some((error.cause, error.batch.edits().len())),
+        }
+    }
+
+    pub fn step<R: Threads + Wait>(&mut self, rt: &R) -> Result<Option<Receipt>, PublishError> {
+        self.publisher.step(rt, Workers::one(), &OpenGate)
+    }
+
+    /// Submits a batch, publishes one, and learns of it.
+    pub fn publish<R: Threads + Wait>(
+        &mut self,
+        rt: &R,
+        feed: u8,
+        batch: Batch,
+    ) -> Result<Receipt, Fail> {
+        if self.submit(rt, feed, batch).is_some() {
+            return Err(Fail::new("a batch was refused"));
+        }
+        match self.publisher.step(rt, Workers::one(), &OpenGate) {
+            Ok(Some(receipt)) => {
+                self.reader.learn(&receipt);
+                Ok(receipt)
+            }
+            Ok(None) => Err(Fail::new("nothing was there")),
+            Err(error) => Err(Fail::from(error)),
+        }
+    }
+
+    pub fn pin(&mut self) -> Result<Pin, PinError> {
+        self.reader.pin()
+    }
+
+    /// Publishes a batch, and pins the version that it made.
+    pub fn pin_after<R: Threads + Wait>(&mut self, rt: &R, batch: Batch) -> Result<Pin, Fail> {
+        self.publish(rt, 0, batch)?;
+        let pin = self.pin()?;
+        Ok(pin)
+    }
+
+    /// What is left, and the reader.
+    pub fn close<R: Wait>(self, rt: &R) -> (Finished, Reader) {
+        let Shop {
+            publisher,
+            first,
+            second,
+            reader,
+        } = self;
+        let feeds = [first, second];
+        (publisher.finish(feeds, rt), reader)
+    }
+}
+
+/// A version of so many vertices, in which these edges were put in and taken out. Its store is closed.
+pub fn pin_of<R: Threads + Wait>(
+    rt: &R,
+    alloc: Global,
+    vertex_count: u32,
+    edits: Vec<Edit>,
+) -> Result<Pin, Fail> {
+    let batch = Batch::new(alloc, edits)?;
+    let mut shop = Shop::open(rt, alloc, vertex_count)?;
+    let pin = shop.pin_after(rt, batch);
+    shop.close(rt);
+    pin
+}
