@@ -2,20 +2,19 @@
 use Rattle.std.proofs.Common.{◌≡◌, ℕ, ◌<◌, ◌≤◌, Bool, true, false, ltb, leb, ◌&&◌, List, [], ◌∷◌, Option, Some, None, refl, sym, ap, ◌∙◌, arith, inl, inr}
 use Rattle.std.specs.Prelude.{map, nat_lt, option_map, is_some}
 use Rattle.std.specs.List.{list_all}
-use Rattle.std.proofs.lemmas.Bool.{cases_Bool, cases_lt, lt-ltb, le-ltb, ltb-true, leb-true, and_parts}
-use Rattle.bpf_image.specs.Program.{Program}
+use Rattle.std.proofs.lemmas.Bool.{cases_Bool, cases_lt, le-ltb, ltb-true, leb-true, and_parts}
 use Rattle.bpf_model.specs.declared.reduction.Reduction.{Reduction}
 use Rattle.graph_model.specs.Past.{Past}
 use Rattle.graph_model.specs.declared.edit.Edit.{Edit}
 use Rattle.graph_model.specs.declared.edit.Edit.TheVariants.{Insert, Remove}
 use Rattle.session_model.specs.Session.{Session}
 use Rattle.session_model.specs.Commands.{Command, MakeGraph, PublishBatch, LoadProgram, TakePin, RunProgram, TellHome, ListEdges}
-use Rattle.session_model.specs.Faults.{is_edit_of, edit_fault, is_vertex_count, is_record_length, AreFewVertices, HasFewVertices}
+use Rattle.session_model.specs.Faults.{is_edit_of, is_vertex_count, is_record_length, AreFewVertices, HasFewVertices}
 use Rattle.session_model.specs.Responses.{response, graph_response, load_response, run_response, home_response}
 use Rattle.script_model.specs.State.{OpenBatch, Script}
 use Rattle.script_model.specs.Parsing.{Statement, Asks, BeginBatch, BeginProgram, statement, BatchLine, OneEdit, EndBatch, batch_line}
-use Rattle.script_model.specs.Execution.{Execution, one_edit, inside_batch, begin_program, statement_execution, execution_of, is_comment, with_words, outside}
-use Rattle.script_words.specs.Said.{cut, cut_edit, cut_batch_line, cut_program, cut_command, cut_statement, Saying, Nothing, NoStatement, Makes, found_statement, saying, cut_saying}
+use Rattle.script_model.specs.Execution.{one_edit, inside_batch, begin_program, statement_execution, execution_of, is_comment, with_words, outside}
+use Rattle.script_words.specs.Said.{cut, cut_edit, cut_batch_line, cut_command, cut_statement, Saying, Nothing, NoStatement, Makes, found_statement, saying, cut_saying}
 use Rattle.script.specs.Executes.{line_of}
 
 -- ---- numbers

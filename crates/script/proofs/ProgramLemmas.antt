@@ -69,7 +69,7 @@ silent x (Ok _) text s h =
 silent x (Err (errors.Fault fault)) text s h = (refl, h.1)
 silent x (Err errors.OutOfMemory) text s h = tt
 silent x (Err errors.WorkerRefused) text s h = tt
-silent x (Err errors.Store) text s h = tt
+silent x (Err errors.Store) text s h = h
 
 -- a line that is no end
 pub program_line : (bytes text : List ℕ) (begun : OpenProgram) (s t : Script) (r : Result (Unit {0}) LineError) → is_end (words bytes) ≡ false → Executes (one_line bytes begun s) r [] [] t → Executes (inside_program bytes begun s) r text text t

@@ -5,15 +5,18 @@ use Rattle.bpf_model.specs.declared.listed_edge.ListedEdge.{ListedEdge}
 use Rattle.script_model.specs.declared.line_fault.LineFault.{LineFault}
 use Rattle.script_model.specs.declared.line_fault.LineFault.TheVariants as line_faults
 use Rattle.script_model.specs.State.{Script}
-use Rattle.script_model.specs.Execution.{Execution, Says, Stops, execution, statement_execution}
+use Rattle.session_model.specs.Responses.{Response}
+use Rattle.script_model.specs.Execution.{Execution, Says, Stops, execution, execution_of, statement_execution}
 use Rattle.script_words.specs.Said.{Saying, Nothing, NoStatement, Makes}
 use Rattle.script_model.specs.Script.{next_line}
 use Rattle.script_model.specs.Texts.{fault_text, edge_text}
+use Rattle.session.specs.Performs.{IsOfStore}
 use Rattle.session.specs.declared.error.CommandError.{CommandError}
 use Rattle.session.specs.declared.error.CommandError.TheVariants as command_errors
 use Rattle.script.specs.declared.error.LineError.{LineError}
 use Rattle.script.specs.declared.error.LineError.TheVariants as errors
 use Rattle.script.specs.declared.error.ScriptError.{ScriptError}
+use Rattle.script.specs.declared.error.ScriptError.TheVariants as script_errors
 use Rattle.script.specs.declared.script.Step.{Step}
 use Rattle.script.specs.declared.script.Step.TheVariants as steps
 
@@ -24,12 +27,17 @@ line_error_of command_errors.OutOfMemory = errors.OutOfMemory
 line_error_of command_errors.WorkerRefused = errors.WorkerRefused
 line_error_of command_errors.Store = errors.Store
 
--- a fault adds no text. After another error nothing is said.
+-- a line whose answer only the store gives
+abbrev pub AsksStore : Execution → Type 0
+AsksStore x = (response : Response) × (s : Script) × IsOfStore response × (x ≡ execution_of response s)
+
+-- a fault adds no text. Where the store did not answer as it should, the line is one that it is asked for. After another error
+-- nothing is said.
 abbrev pub Fails : Execution → LineError → (old new : List ℕ) → Type 0
 Fails x (errors.Fault fault) old new = (new ≡ old) × (x ≡ Stops fault)
 Fails x errors.OutOfMemory old new = ⊤
 Fails x errors.WorkerRefused old new = ⊤
-Fails x errors.Store old new = ⊤
+Fails x errors.Store old new = AsksStore x
 
 -- a line that was executed adds its text
 abbrev pub Executes : Execution → Result (Unit {0}) LineError → (old new : List ℕ) → Script → Type 0
@@ -58,6 +66,11 @@ Steps (Ok (steps.Lists edges)) bytes old new text said =
 Steps (Ok steps.Stopped) bytes old new text said =
     (fault : LineFault) × (said ≡ text ++ fault_text fault old.line) × (execution old bytes ≡ Stops fault)
 Steps (Err e) bytes old new text said = ⊤
+
+-- what holds where a script cannot go on for its store
+abbrev pub OnStore : {A : Type 0} → Result A ScriptError → Type 0 → Type 0
+OnStore (Err script_errors.Store) holds = holds
+OnStore result holds = ⊤
 
 -- what a line outside blocks does, by what it says
 abbrev pub line_of : Saying → Script → Execution

@@ -1,5 +1,5 @@
 -- The lines of a list, which are written apart from its first one.
-use Rattle.std.specs.Prelude.{ℕ, List, ◌++◌}
+use Rattle.std.specs.Prelude.{ℕ, List}
 use Rattle.session_model.specs.Commands.{Answer, GraphMade, BatchPublished, ProgramAccepted, ProgramRefused, NoImage, PinTaken, EdgesMapped, HomeTold, EdgesListed}
 use Rattle.script_model.specs.Texts.{answer_text, list_text}
 

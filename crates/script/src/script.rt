@@ -1,6 +1,6 @@
 //! The state of a script, and its lines one by one.
 
-ghost use Rattle.std.specs.Prelude.{◌≡◌, ◌≤◌, ◌++◌, OnOk, IfOk, true, false, length};
+ghost use Rattle.std.specs.Prelude.{◌≡◌, ◌≤◌, ◌++◌, OnOk, IfOk, IfErr, true, false, length};
 ghost use Rattle.std.specs.List.{list_all};
 ghost use Rattle.script_model.specs.Lexing.{is_plain};
 ghost use Rattle.script_model.specs.State.{new_script};
@@ -8,7 +8,7 @@ ghost use Rattle.script_model.specs.declared.limits.TheConstants.{MOST_LINE_BYTE
 ghost use Rattle.script_model.specs.Execution.{execution, block_execution};
 ghost use Rattle.script_model.specs.Script.{end_outcome, next_line};
 ghost use Rattle.script_model.specs.Texts.{fault_text};
-ghost use Rattle.script.specs.Executes.{Tells, Steps};
+ghost use Rattle.script.specs.Executes.{Tells, Steps, AsksStore, OnStore};
 ghost use Rattle.script.specs.Kept.{HasBatch};
 
 use crate::block::Block;
@@ -68,14 +68,16 @@ impl Script {
 
     /// Executes the next line, its end left out, by the crew's workers. What it says, or its fault, goes to the end of
     /// the text: the same for each number of workers, gate and order in which threads run. The lines of the edges that
-    /// it lists, of which there may be many, are left to the caller.
+    /// it lists, of which there may be many, are left to the caller. `Store` comes at a line alone whose answer only the
+    /// store gives: the end of a batch, a pin or a home.
     pub fn execute<Ga: Gate, R: Threads + Wait>(
         &mut self,
         crew: &Crew<'_, R, Ga>,
         text: &mut Vec<u8>,
         bytes: &[u8],
     ) -> Result<Step, ScriptError>
-        ensures { Steps result bytes.now self.old self.new text.old.items text.new.items }
+        ensures steps { Steps result bytes.now self.old self.new text.old.items text.new.items }
+        ensures store { OnStore result (AsksStore (execution self.old bytes.now)) }
     {
         match self.execute_line(crew, text, bytes) {
             Ok(None) => {
@@ -98,7 +100,8 @@ impl Script {
 
     /// Writes that the next line is too long. The script has ended.
     pub fn stop_at_long_line(&self, text: &mut Vec<u8>) -> Result<(), ScriptError>
-        ensures { OnOk result (text.new.items ≡ text.old.items ++ fault_text LineFault.LongLine self.now.line) }
+        ensures text { OnOk result (text.new.items ≡ text.old.items ++ fault_text LineFault.LongLine self.now.line) }
+        ensures error { IfErr result (λ e. e ≡ ScriptError.OutOfMemory) }
     {
         put_fault(text, LineFault::LongLine, self.line)?;
         Ok(())
@@ -109,6 +112,7 @@ impl Script {
     pub fn finish(&self, text: &mut Vec<u8>) -> Result<Ending, ScriptError>
         ensures text { OnOk result (text.new.items ≡ text.old.items ++ (end_outcome self.now.block).text) }
         ensures ending { IfOk result (λ e. e ≡ (end_outcome self.now.block).ending) }
+        ensures error { IfErr result (λ e. e ≡ ScriptError.OutOfMemory) }
     {
         match &self.block {
             None => Ok(Ending::Complete),
@@ -132,7 +136,8 @@ impl Script {
 
     /// Moves on to the next line.
     fn count_line(&mut self) -> Result<(), ScriptError>
-        ensures { OnOk result (self.new ≡ next_line self.old.line self.old) }
+        ensures next { OnOk result (self.new ≡ next_line self.old.line self.old) }
+        ensures error { IfErr result (λ e. e ≡ ScriptError.OutOfMemory) }
     {
         // No machine reads 2^64 lines.
         let Some(next) = self.line.checked_add(1) else {

@@ -10,7 +10,7 @@ use Rattle.script_model.specs.declared.line_fault.LineFault.{LineFault}
 use Rattle.script_model.specs.State.{Script}
 use Rattle.script_model.specs.Execution.{Says, Stops, execution}
 use Rattle.script_model.specs.Texts.{fault_text}
-use Rattle.script_model.specs.Script.{Outcome, after_text, fault_outcome, end_outcome, next_line, meaning}
+use Rattle.script_model.specs.Script.{Outcome, after_text, end_outcome, next_line, meaning}
 use Rattle.service.specs.declared.serve_error.ServeError.{ServeError}
 use Rattle.service.specs.Ends.{TakesFront}
 use Rattle.service.specs.Served.{Served, IsOneLine}

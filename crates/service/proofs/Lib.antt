@@ -3,3 +3,4 @@ pub mod KnownLemmas
 pub mod LineLemmas
 pub mod RoundLemmas
 pub mod EndLemmas
+pub mod AskingLemmas

@@ -10,7 +10,7 @@ use Rattle.script_model.specs.declared.ending.Ending.TheVariants as endings
 use Rattle.script_model.specs.State.{Script, new_script}
 use Rattle.script_model.specs.Lexing.{script_lines}
 use Rattle.script_model.specs.Texts.{edge_text}
-use Rattle.script_model.specs.Script.{Outcome, after_text, end_outcome, outcome_from, meaning}
+use Rattle.script_model.specs.Script.{Outcome, outcome_from, meaning}
 use Rattle.service.specs.declared.serve_error.ServeError.{ServeError}
 use Rattle.service.specs.Ends.{TakesFront}
 use Rattle.service.specs.Served.{Served, Settled, Serving, Listing, Settling}
@@ -72,6 +72,14 @@ lists_after old mid new bytes middle left last text said told edges serving list
     let joined : (before ++ a.0) ++ (b.0 ++ lines_of edges) ≡ before ++ ((a.0 ++ b.0) ++ lines_of edges) = append_assoc before a.0 (b.0 ++ lines_of edges) ∙ ap (λ (t : List ℕ). before ++ t) (sym (append_assoc a.0 b.0 (lines_of edges))) in
     let here : Served read (before ++ ((a.0 ++ b.0) ++ lines_of edges)) new left = subst (λ (t : List ℕ). Served read t new left) joined b.2 in
     (a.0 ++ b.0, b.1 ∙ ap (λ (t : List ℕ). t ++ b.0) a.1 ∙ append_assoc text a.0 b.0, subst (λ (l : List ℕ). Served read (before ++ ((a.0 ++ b.0) ++ lines_of edges)) new l) (sym same) here)
+
+-- lines that are executed after others
+pub serving_after : (old mid new : Script) (bytes middle left last text said told : List ℕ) → Serving old mid bytes middle text said → Serving mid new middle left said told → last ≡ left → Serving old new bytes last text told
+serving_after old mid new bytes middle left last text said told serving more same read before h =
+    let a = serving read before h in
+    let b = more read (before ++ a.0) a.2 in
+    let here : Served read (before ++ (a.0 ++ b.0)) new left = subst (λ (t : List ℕ). Served read t new left) (append_assoc before a.0 b.0) b.2 in
+    (a.0 ++ b.0, b.1 ∙ ap (λ (t : List ℕ). t ++ b.0) a.1 ∙ append_assoc text a.0 b.0, subst (λ (l : List ℕ). Served read (before ++ (a.0 ++ b.0)) new l) (sym same) here)
 
 -- ---- what is written
 

@@ -7,7 +7,6 @@ use Rattle.service.specs.declared.lines.FirstLine.TheVariants as first_lines
 use Rattle.service.specs.declared.lines.Progress.{Progress}
 use Rattle.service.specs.declared.lines.Progress.TheVariants as progress
 use Rattle.script.specs.declared.error.ScriptError.{ScriptError}
-use Rattle.script_model.specs.declared.ending.Ending.{Ending}
 use Rattle.script_model.specs.declared.ending.Ending.TheVariants as endings
 use Rattle.script_model.specs.declared.limits.TheConstants.{MOST_LINE_BYTES}
 use Rattle.script_model.specs.Lexing.{is_newline, script_lines}

@@ -1,6 +1,8 @@
 //! The lines of what was read.
 
 ghost use Rattle.std.specs.Prelude.{◌≡◌, ◌≤◌, MatchOption};
+ghost use Rattle.script.specs.Executes.{OnStore};
+ghost use Rattle.service.specs.Asking.{Asks};
 ghost use Rattle.service.specs.Served.{IsOneLine, IsLine, TakesLine, TakesLines, LeavesFew};
 
 use memchr::memchr;
@@ -35,7 +37,8 @@ fn execute_first<Ga: Gate, R: Threads + Wait>(
     text: &mut Vec<u8>,
     bytes: &[u8],
 ) -> Result<FirstLine, ScriptError>
-    ensures { TakesLine result bytes.now script.old script.new text.old.items text.new.items }
+    ensures taken { TakesLine result bytes.now script.old script.new text.old.items text.new.items }
+    ensures store { OnStore result (Asks script.old bytes.now) }
 {
     let Some(end) = line_end(bytes) else {
         return Ok(FirstLine::Partial);
@@ -65,7 +68,8 @@ fn execute_lines<Ga: Gate, R: Threads + Wait>(
     text: &mut Vec<u8>,
     bytes: &[u8],
 ) -> Result<Progress, ScriptError>
-    ensures { TakesLines result bytes.now script.old script.new text.old.items text.new.items }
+    ensures taken { TakesLines result bytes.now script.old script.new text.old.items text.new.items }
+    ensures store { OnStore result (Asks script.old bytes.now) }
 {
     let mut from = 0;
     loop {
@@ -90,6 +94,7 @@ pub fn execute_read<Ga: Gate, R: Threads + Wait>(
 ) -> Result<Progress, ScriptError>
     ensures taken { TakesLines result bytes.now script.old script.new text.old.items text.new.items }
     ensures few { LeavesFew result bytes.now }
+    ensures store { OnStore result (Asks script.old bytes.now) }
 {
     let progress = execute_lines(crew, script, text, bytes)?;
     if let Progress::Left(from) = progress

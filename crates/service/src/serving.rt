@@ -4,6 +4,7 @@ ghost use Rattle.std.specs.Prelude.{◌≡◌, ◌<◌, ◌≤◌, ℕ, List, []
 ghost use Rattle.service.specs.Served.{IsOneLine};
 ghost use Rattle.service.specs.Serves.{Serves, CountsReads, CountsWrites};
 ghost use Rattle.service.specs.Rounds.{Advances, Concludes, Ends, Turns, IsServed, IsNoRead};
+ghost use Rattle.service.specs.Asking.{Asks, AskedBy, AsksBy, OnStore, IsNoStore};
 
 use crate::ends::{Input, Output};
 use crate::lines::{Progress, execute_read};
@@ -55,6 +56,7 @@ impl Serving {
     ) -> Result<Option<Ending>, ServeError>
         requires written { self.old.text ≡ [] }
         ensures advance { Advances result (O.contents output.old) (O.contents output.new) self.old self.new }
+        ensures store { OnStore result (Asks self.old.script self.old.pending) }
         ensures no_read { IsNoRead result }
         ensures writes { CountsWrites result (O.failures output.old) (O.failures output.new) }
     {
@@ -81,6 +83,7 @@ impl Serving {
     fn end<O: Output>(&mut self, output: &mut O) -> Result<Ending, ServeError>
         ensures ended { Ends result (O.contents output.old) (O.contents output.new) self.old }
         ensures no_read { IsNoRead result }
+        ensures no_store { IsNoStore result }
         ensures writes { CountsWrites result (O.failures output.old) (O.failures output.new) }
     {
         let ending = self.script.finish(&mut self.text)?;
@@ -98,6 +101,7 @@ impl Serving {
         requires one { IsOneLine self.old.pending }
         requires written { self.old.text ≡ [] }
         ensures concluded { Concludes result (O.contents output.old) (O.contents output.new) self.old }
+        ensures store { OnStore result (Asks self.old.script self.old.pending) }
         ensures no_read { IsNoRead result }
         ensures writes { CountsWrites result (O.failures output.old) (O.failures output.new) }
     {
@@ -134,6 +138,8 @@ impl Serving {
         ensures same { length block.new ≡ length block.old }
         ensures turn { Turns result (I.remaining input.old) (I.remaining input.new)
             (O.contents output.old) (O.contents output.new) self.old self.new }
+        ensures store { OnStore result
+            (AsksBy (I.remaining input.old) (I.remaining input.new) (O.contents output.old) self.old) }
         ensures reads { CountsReads result (I.failures input.old) (I.failures input.new) }
         ensures writes { CountsWrites result (O.failures output.old) (O.failures output.new) }
     {
@@ -163,6 +169,8 @@ impl Serving {
         ensures served { (had held : Option (List ℕ))
             → IsServed had (I.remaining input.old) held (O.contents output.old) self.old
             → Serves result had (I.remaining input.new) held (O.contents output.new) }
+        ensures store { OnStore result
+            (AsksBy (I.remaining input.old) (I.remaining input.new) (O.contents output.old) self.old) }
         ensures reads { CountsReads result (I.failures input.old) (I.failures input.new) }
         ensures writes { CountsWrites result (O.failures output.old) (O.failures output.new) }
     {
@@ -194,7 +202,8 @@ impl Serving {
 /// and written in blocks, and so are the edges that a line lists, with the text of a block of them at once; a line is
 /// executed once all of it was read, and one without end is a fault once it is too long. Batches and runs are done by workers, and neither their number, nor their gate, nor the order
 /// in which threads run changes what is written; a piece of a batch is a range of 256 vertices, one of a run 64 places
-/// of its frontier. `WorkerRefused` comes where a thread could not be started; one worker needs none.
+/// of its frontier. `WorkerRefused` comes where a thread could not be started; one worker needs none. `Store` comes only
+/// at a line whose answer the store alone gives: the end of a batch, a pin or a home.
 pub fn serve<I: Input, O: Output, Ga: Gate, R: Threads + Wait>(
     input: &mut I,
     output: &mut O,
@@ -205,6 +214,7 @@ pub fn serve<I: Input, O: Output, Ga: Gate, R: Threads + Wait>(
 ) -> Result<Ending, ServeError>
     ensures served { Serves result (I.remaining input.old) (I.remaining input.new)
         (O.contents output.old) (O.contents output.new) }
+    ensures store { OnStore result (AskedBy (I.remaining input.old) (I.remaining input.new)) }
     ensures reads { CountsReads result (I.failures input.old) (I.failures input.new) }
     ensures writes { CountsWrites result (O.failures output.old) (O.failures output.new) }
 {

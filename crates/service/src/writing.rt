@@ -7,6 +7,7 @@ ghost use Rattle.script_model.specs.Texts.{edge_text};
 ghost use Rattle.service.specs.Ends.{CountsFailure, TakesFront};
 ghost use Rattle.service.specs.Serves.{CountsWrites};
 ghost use Rattle.service.specs.Rounds.{IsNoRead};
+ghost use Rattle.service.specs.Asking.{IsNoStore};
 
 use crate::ends::{Failure, Output};
 use crate::serve_error::ServeError;
@@ -35,6 +36,7 @@ pub fn write_text<O: Output>(output: &mut O, text: &mut Vec<u8>) -> Result<(), S
     ensures empty { OnOk result (text.new.items ≡ []) }
     ensures err { OnErr result (TakesFront (O.contents output.old) (O.contents output.new) text.old.items) }
     ensures no_read { IsNoRead result }
+    ensures no_store { IsNoStore result }
     ensures writes { CountsWrites result (O.failures output.old) (O.failures output.new) }
 {
     match write_all(output, text) {
@@ -60,6 +62,7 @@ pub fn write_edges<O: Output>(
     ensures err { OnErr result (TakesFront (O.contents output.old) (O.contents output.new)
         (text.old.items ++ flat_map edge_text listing.now)) }
     ensures no_read { IsNoRead result }
+    ensures no_store { IsNoStore result }
     ensures writes { CountsWrites result (O.failures output.old) (O.failures output.new) }
 {
     let mut lines = EdgeLines::of(alloc, listing);

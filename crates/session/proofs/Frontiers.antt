@@ -41,6 +41,14 @@ pub ascends_back : (vs : List ℕ) (g : Graph) → IsStrictlyIncreasing (frontie
 ascends_back [] g up = refl
 ascends_back (v ∷ vs) g up = ascending (v ∷ vs) up
 
+pub below_back : (vs : List ℕ) (g : Graph) → All (λ v. v < g.vertex_count) (frontier_of vs g) → list_all (λ v. nat_lt v g.vertex_count) vs ≡ true
+below_back [] g below = refl
+below_back (v ∷ vs) g below = all_below (v ∷ vs) below
+  where
+    all_below : (ws : List ℕ) → All (λ v. v < g.vertex_count) ws → list_all (λ v. nat_lt v g.vertex_count) ws ≡ true
+    all_below [] all = refl
+    all_below (w ∷ ws) all = and_from _ _ (lt-ltb _ _ (all 0 0 (omega arith))) (all_below ws (λ k d h. all (suc k) d (omega arith)))
+
 -- no frontier stands for all vertices
 pub empty_frontier : (vs : List ℕ) (g : Graph) → length vs ≡ 0 → frontier_of vs g ≡ numbers_below g.vertex_count
 empty_frontier [] g h = refl

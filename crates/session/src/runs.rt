@@ -71,7 +71,7 @@ fn answer_to<'a>(
     })
 }
 
-/// Maps a program over the edges of a pin of a graph with so many vertices, below which the frontier lies.
+/// Maps a program over the edges of a pin. The frontier lies below a number of vertices.
 fn map_pin<'a, Ga: Gate, R: Threads + Wait>(
     crew: &Crew<'_, R, Ga>,
     alloc: Global,
@@ -80,8 +80,7 @@ fn map_pin<'a, Ga: Gate, R: Threads + Wait>(
     program: &Verified,
     pin: &Pin,
 ) -> Result<Answer<'a>, CommandError>
-    requires count { vertices ≡ pin.now.past.vertex_count }
-    requires below { list_all (λ v. nat_lt v vertices) run.now.frontier.now ≡ true }
+    requires { list_all (λ v. nat_lt v vertices) run.now.frontier.now ≡ true }
     ensures { (s : SessionState) → Performs (map_response run.now.program.now run.now.pin.now run.now.reduction
         run.now.argument.now run.now.frontier.now program.now pin.now.past s) result s s }
 {
@@ -100,8 +99,7 @@ fn map_pin<'a, Ga: Gate, R: Threads + Wait>(
     answer_to(run, told)
 }
 
-/// Maps a program over the edges of a pin, where both are there. A session has one graph, so a pin has as many
-/// vertices as its last version.
+/// Maps a program over the edges of a pin, where both are there.
 fn map_found<'a, Ga: Gate, R: Threads + Wait>(
     crew: &Crew<'_, R, Ga>,
     alloc: Global,
@@ -117,9 +115,6 @@ fn map_found<'a, Ga: Gate, R: Threads + Wait>(
     let (Some(program), Some(pin)) = (program, pin) else {
         return Err(CommandError::Fault(Fault::Name));
     };
-    if pin.version().vertex_count() != vertices {
-        return Err(CommandError::Store);
-    }
     map_pin(crew, alloc, run, vertices, program, pin)
 }
 

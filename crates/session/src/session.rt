@@ -53,8 +53,8 @@ impl Session {
     /// workers, their gate and the order in which threads run. Batches and runs are in pieces: a batch's are the ranges
     /// of 256 vertices that it edits, a run's are 64 places each of its frontier. Besides it answers `OutOfMemory` for
     /// want of memory, `WorkerRefused` where a thread could not be started, of which one worker needs none, and `Store`
-    /// where its store does not answer as it should. After another error the session is as it was. After `Store` there is
-    /// no use of it but `close`.
+    /// where its store does not answer as it should, which comes only of a command that is answered by a publication, a pin
+    /// or a home. After another error the session is as it was. After `Store` there is no use of it but `close`.
     pub fn perform<'a, Ga: Gate, R: Threads + Wait>(
         &mut self,
         crew: &Crew<'_, R, Ga>,

@@ -64,7 +64,7 @@ is_ascending [] = true
 is_ascending (v ∷ []) = true
 is_ascending (v ∷ w ∷ vs) = nat_lt v w && is_ascending (w ∷ vs)
 
--- a frontier of vertices of a graph
+-- vertices of a graph
 abbrev pub vertices_fault : List ℕ → Past → Option Fault
 vertices_fault frontier past = first_fault ((not (list_all (λ v. nat_lt v past.vertex_count) frontier), faults.Range) ∷ [])
 
@@ -72,10 +72,14 @@ vertices_fault frontier past = first_fault ((not (list_all (λ v. nat_lt v past.
 abbrev pub home_fault : ℕ → Past → Option Fault
 home_fault v past = first_fault ((not (nat_lt v past.vertex_count), faults.Range) ∷ [])
 
--- an argument for a record of this length, and the order of a frontier
-abbrev pub argument_fault : List ℕ → ℕ → List ℕ → Option Fault
-argument_fault argument record_length frontier =
-    first_fault ((not (length argument + EDGE_BYTES == record_length), faults.ArgumentLength) ∷ (not (is_ascending frontier), faults.Frontier) ∷ [])
+-- a frontier of a graph with so many vertices
+abbrev pub is_frontier : ℕ → List ℕ → Bool
+is_frontier vertices frontier = is_ascending frontier && list_all (λ v. nat_lt v vertices) frontier
+
+-- an argument for a record of this length, and a frontier of a graph with so many vertices
+abbrev pub argument_fault : List ℕ → ℕ → ℕ → List ℕ → Option Fault
+argument_fault argument record_length vertices frontier =
+    first_fault ((not (length argument + EDGE_BYTES == record_length), faults.ArgumentLength) ∷ (not (is_frontier vertices frontier), faults.Frontier) ∷ [])
 
 -- an argument for a record of this length
 abbrev pub length_fault : List ℕ → ℕ → Option Fault

@@ -87,7 +87,7 @@ map_answer program pin p g reduction argument frontier =
 -- a run of a program and a pin that are there
 abbrev pub map_response : List ℕ → List ℕ → Reduction → List ℕ → List ℕ → Program → Past → Session → Response
 map_response program pin reduction argument frontier p past s =
-    unless_fault (argument_fault argument p.record_length frontier)
+    unless_fault (argument_fault argument p.record_length past.vertex_count frontier)
     (Answers (map_answer program pin p (graph_of past) reduction argument (frontier_of frontier (graph_of past))) s)
 
 -- a run of a program and a pin, where both are there

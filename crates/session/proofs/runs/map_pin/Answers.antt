@@ -1,6 +1,4 @@
-use Rattle.std.proofs.Common.{◌≡◌, ℕ, true, List, ap, subst, ◌∙◌}
-use Rattle.std.specs.Prelude.{nat_lt}
-use Rattle.std.specs.List.{list_all}
+use Rattle.std.proofs.Common.{◌≡◌, ℕ, List, ap, subst, ◌∙◌}
 use Rattle.graph_model.specs.Past.{graph_of}
 use Rattle.history.specs.Moment.{Moment}
 use Rattle.edge_map.specs.Maps.{IsMapped}
@@ -12,7 +10,6 @@ pub returns : goal.returns
 returns g c s =
     let run = c.args.run.now in
     let past = c.args.pin.now.past in
-    let below : list_all (λ v. nat_lt v past.vertex_count) run.frontier.now ≡ true = subst (λ (n : ℕ). list_all (λ v. nat_lt v n) run.frontier.now ≡ true) c.requires.count c.requires.below in
     let frontier : c.deref.result.now ≡ frontier_of run.frontier.now (graph_of past) = c.deref.ensures.value ∙ c.in_ok-frontier.ensures ∙ ap (λ (m : Moment). frontier_of run.frontier.now (graph_of m.past)) c.version.ensures in
     let mapped = subst (λ (f : List ℕ). IsMapped c.args.program.now (graph_of past) run.reduction run.argument.now f c.map_edges-told.result) frontier c.map_edges-told.ensures in
-    run_told run.program.now run.pin.now run.reduction run.argument.now run.frontier.now c.args.program.now past s c.map_edges-told.result c.answer_to.result below mapped c.answer_to.ensures
+    run_told run.program.now run.pin.now run.reduction run.argument.now run.frontier.now c.args.program.now past s c.map_edges-told.result c.answer_to.result mapped c.answer_to.ensures

@@ -1,4 +1,4 @@
-use Rattle.std.proofs.Common.{rules, ◌≡◌, Some, option_map, sym, subst}
+use Rattle.std.proofs.Common.{rules, ◌≡◌, Some, option_map, subst}
 use Rattle.script_model.specs.Parsing.{OneEdit, batch_line}
 use Rattle.script_model.specs.Execution.{Execution, one_edit}
 use Rattle.graph_model.specs.declared.edit.Edit.TheVariants.{Insert, Remove}

@@ -1,6 +1,6 @@
 use Rattle.std.proofs.Common.{rules, ◌≡◌, Option, Some, sym, ap, ◌∙◌}
 use Rattle.std.specs.Prelude.{option_map}
-use Rattle.script_model.specs.State.{Script, BatchBlock}
+use Rattle.script_model.specs.State.{Script}
 use Rattle.script.specs.declared.block.Block.{Block as BegunBlock}
 use Rattle.script.specs.declared.block.Block.TheVariants as blocks
 use Rattle.script.specs.Kept.{block_of, open_batch}

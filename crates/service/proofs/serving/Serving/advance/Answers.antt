@@ -1,4 +1,4 @@
-use Rattle.std.proofs.Common.{◌≡◌, ◌++◌, List, ℕ, drop, length, refl, sym, ap, subst, ◌∙◌, arith, length-drop}
+use Rattle.std.proofs.Common.{◌++◌, List, ℕ, drop, length, refl, sym, ap, subst, subst₂, ◌∙◌, arith, length-drop}
 use Rattle.std.specs.List.{flat_map}
 use Rattle.std.specs.Io.KnownBytes.{Appends}
 use Rattle.script_model.specs.Texts.{edge_text}
@@ -6,6 +6,8 @@ use Rattle.service.specs.Ends.{TakesFront}
 use Rattle.service.specs.Served.{IsOneLine}
 use Rattle.service.specs.Stand.{Stand}
 use Rattle.service.proofs.RoundLemmas.{advance_fails, written_begins, serving_adds, listing_adds, adds_at, adds_written, adds_begins, settled_written, settled_begins}
+use Rattle.service.specs.Asking.{Asks}
+use Rattle.service.proofs.AskingLemmas.{asks_written, served_passed}
 use Rattle.service.proofs.serving.Serving.advance.Goals as goal
 
 pub returns-in_err-from-clause-advance : goal.returns-in_err-from-clause-advance
@@ -114,3 +116,10 @@ returns-in-Settled-clause-advance g c =
     let none = ap (λ (s : Stand). s.text) c.self.view_is ∙ c.loop-from.invariant.0 in
     let settling = (rw c.in-Settled.is at c.in_ok-from.ensures.taken) in
     (refl, λ read held wrote. settled_written read held mid (g.O.Output.contents c.write_text-in-Settled.new.output) c.loop-from.self c.deref.result.now c.self.inside.text.items c.execute_read.new.text.items c.self.inside.script b x none settling c.in_ok-write_text-in-Settled.ensures.ok (c.loop-from.invariant.1 read held wrote))
+
+pub returns-in_err-from-clause-store : goal.returns-in_err-from-clause-store
+returns-in_err-from-clause-store g c =
+    let b = c.deref.ensures.value ∙ ap (λ (s : Stand). s.pending) c.self.view_is in
+    let x = ap (λ (s : Stand). s.script) c.self.view_is in
+    served_passed c.execute_read.result c.from_residual.result c.in_err-from.field-0.0 _ _ c.in_err-from.was c.from_residual.ensures.1 (λ asks.
+    asks_written c.args.self.now c.loop-from.self (g.O.Output.contents c.args.output.now) (g.O.Output.contents c.loop-from.output) c.loop-from.invariant.1 (subst₂ Asks x b asks)) c.execute_read.ensures.store

@@ -1,6 +1,5 @@
-use Rattle.std.proofs.Common.{ap}
-use Rattle.std.specs.Prelude.{Result, Ok, Err, IsErrAnd}
-use Rattle.std.proofs.Common.{◌≡◌, subst}
+use Rattle.std.specs.Prelude.{Err}
+use Rattle.std.proofs.Common.{subst}
 use Rattle.service.specs.Stand.{Stand}
 use Rattle.service.specs.Rounds.{Ends}
 use Rattle.service.proofs.EndLemmas.{end_begins}
