@@ -1,9 +1,6 @@
-//! Scripts by example: the words of their lines, maps over small graphs, programs that are run both ways, and whole
-//! scripts with what is written for them.
+//! Scripts by example: the words of their lines, programs that are run both ways, and scripts whose ends fail.
 #![tactic(auto)]
 
-#[cfg(test)]
-mod maps;
 #[cfg(test)]
 mod runs;
 #[cfg(test)]

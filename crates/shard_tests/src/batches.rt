@@ -119,38 +119,6 @@ fn the_most_edits_on_the_greatest_graph(rt: HostRuntime) -> Result<(), Fail> {
     Ok(())
 }
 
-// Why a batch is not applied to 300 vertices.
-fn refusal<R: Threads + Wait>(
-    rt: &R,
-    alloc: Global,
-    batch: &Batch,
-) -> Result<Option<ApplyError>, AllocError> {
-    let table = Table::empty(alloc, 300)?;
-    let answer = apply_batch(rt, alloc, &table, batch, Workers::one(), &OpenGate);
-    Ok(answer.err())
-}
-
-#[test]
-fn too_many_edits_come_before_a_vertex_outside(rt: HostRuntime) -> Result<(), Fail> {
-    let many = Batch::new(
-        rt.alloc(),
-        vec![in rt.alloc(); Edit::Insert(300, 0); 65_537]?,
-    )?;
-    let refused = refusal(&rt, rt.alloc(), &many)?;
-    assert_eq!(rt; refused, Some(ApplyError::TooManyEdits));
-    Ok(())
-}
-
-#[test]
-fn vertices_outside_are_refused(rt: HostRuntime) -> Result<(), Fail> {
-    for (target, error) in [(299, None), (300, Some(ApplyError::VertexRange))] {
-        let batch = batch_of(rt.alloc(), &[Edit::Insert(0, target)])?;
-        let refused = refusal(&rt, rt.alloc(), &batch)?;
-        assert_eq!(rt; refused, error);
-    }
-    Ok(())
-}
-
 // The range of the piece at a place.
 fn range_at(pieces: &[(u32, Vec<Edit>)], place: usize) -> Option<u32> {
     let (range, _) = pieces.get(place)?;
@@ -236,16 +204,5 @@ fn no_edits_and_the_most(rt: HostRuntime) -> Result<(), Fail> {
     assert_eq!(rt; most, Ok((4_096, Some(4_095))));
     let many = pieces_of(&rt, rt.alloc(), &alternating(rt.alloc(), 65_537)?);
     assert_eq!(rt; many, Err(ApplyError::TooManyEdits));
-    Ok(())
-}
-
-#[test]
-fn the_last_vertex_and_one_outside(rt: HostRuntime) -> Result<(), Fail> {
-    let last = batch_of(rt.alloc(), &[Edit::Remove(1_048_575, 0)])?;
-    let pieces = pieces_of(&rt, rt.alloc(), &last);
-    assert_eq!(rt; pieces, Ok((1, Some(4_095))));
-    let outside = batch_of(rt.alloc(), &[Edit::Insert(0, 1_048_576)])?;
-    let pieces = pieces_of(&rt, rt.alloc(), &outside);
-    assert_eq!(rt; pieces, Err(ApplyError::VertexRange));
     Ok(())
 }

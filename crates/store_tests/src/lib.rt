@@ -2,8 +2,6 @@
 #![tactic(auto)]
 
 #[cfg(test)]
-mod drafts;
-#[cfg(test)]
 mod edits;
 #[cfg(test)]
 mod maps;

@@ -2,8 +2,8 @@
 use crate::shop::pin_of;
 use bpf_image::Image;
 use edge_map::{
-    BLOCK_EDGES, EdgeList, ListedEdge, MapError, MapOutcome, OpenGate, Pin, Reduction, Row,
-    Verified, Workers, list_edges, map_edges,
+    BLOCK_EDGES, EdgeList, ListedEdge, MapOutcome, OpenGate, Pin, Reduction, Row, Verified,
+    Workers, list_edges, map_edges,
 };
 use gates::HoldingGate;
 use std::alloc::{AllocError, Global};
@@ -178,41 +178,6 @@ fn sixteen_workers_at_one_piece(rt: HostRuntime) -> Result<(), Fail> {
     Ok(())
 }
 
-// Why a map gives no answer.
-fn refusal<R: Threads + Wait>(
-    rt: &R,
-    alloc: Global,
-    pin: &Pin,
-    argument: &[u8],
-    frontier: &[u32],
-) -> Result<Option<MapError>, Fail> {
-    let program = program_of(alloc, 16, &TARGET)?;
-    let answer = map_edges(
-        rt,
-        alloc,
-        pin,
-        &program,
-        argument,
-        frontier,
-        Reduction::Sum,
-        Workers::one(),
-        &OpenGate,
-    );
-    Ok(answer.err())
-}
-
-#[test]
-fn the_argument_is_tested_before_the_frontier(rt: HostRuntime) -> Result<(), Fail> {
-    let pin = four_edges(&rt, rt.alloc())?;
-    let argument = refusal(&rt, rt.alloc(), &pin, &[0], &[1, 0])?;
-    assert_eq!(rt; argument, Some(MapError::ArgumentLength));
-    for frontier in [[1, 0], [7, 7], [0, 300]] {
-        let refused = refusal(&rt, rt.alloc(), &pin, &[], &frontier)?;
-        assert_eq!(rt; refused, Some(MapError::Frontier));
-    }
-    Ok(())
-}
-
 // All edges of a list, as it gives them block by block, and how long each block is.
 fn all_of(
     alloc: Global,
@@ -315,14 +280,5 @@ fn no_edge_sees_what_another_wrote(rt: HostRuntime) -> Result<(), Fail> {
     let all = edges_of(rt.alloc(), &pin, &ARGUMENT, &[5, 0, 0, 0], &mut [0])?;
     assert_eq!(rt; all.len(), 4);
     assert!(rt; are_five(&all));
-    Ok(())
-}
-
-#[test]
-fn an_argument_that_does_not_fit_is_not_listed(rt: HostRuntime) -> Result<(), Fail> {
-    let pin = four_edges(&rt, rt.alloc())?;
-    let program = program_of(rt.alloc(), 16, &TARGET)?;
-    let refused = list_edges(&pin, &program, &[0]).err();
-    assert_eq!(rt; refused, Some(MapError::ArgumentLength));
     Ok(())
 }

@@ -5,9 +5,7 @@ use std::alloc::{AllocError, Global};
 use std::sync::Wait;
 use std::test::Fail;
 use std::thread::Threads;
-use versions::{
-    Batch, Edit, Pin, PinError, PublishError, Reader, Receipt, StoreError, SubmitCause, Version,
-};
+use versions::{Batch, Edit, Pin, PinError, PublishError, Reader, Receipt, SubmitCause, Version};
 
 mod threads;
 
@@ -155,50 +153,6 @@ fn neighbours_are_listed(rt: HostRuntime) -> Result<(), Fail> {
     Ok(())
 }
 
-#[test]
-fn single_questions_are_answered(rt: HostRuntime) -> Result<(), Fail> {
-    let pins = two_ranges(&rt, rt.alloc())?;
-    let version = pins.first.version();
-    let degrees = [version.degree(299), version.degree(0x1_0000_012b)];
-    assert_eq!(rt; degrees, [2, 0]);
-    let neighbours = [
-        version.neighbour(299, 1),
-        version.neighbour(299, 2),
-        version.neighbour(299, 0x1_0000_0000),
-    ];
-    assert_eq!(rt; neighbours, [Some(4), None, None]);
-    let edges = [
-        version.has_edge(70, 2),
-        version.has_edge(70, 0x1_0000_0002),
-        version.has_edge(2, 70),
-    ];
-    assert_eq!(rt; edges, [true, false, false]);
-    Ok(())
-}
-
-// How many neighbours are gathered into twelve bytes, and the bytes.
-fn gathered(version: &Version, vertex: u64, first: u64) -> (u32, [u8; 12]) {
-    let mut out = [255; 12];
-    let count = version.gather(vertex, first, &mut out);
-    (count, out)
-}
-
-// Vertex 299 has the neighbours 3 and 4.
-#[test]
-fn neighbours_are_gathered(rt: HostRuntime) -> Result<(), Fail> {
-    let pins = two_ranges(&rt, rt.alloc())?;
-    let version = pins.first.version();
-    let both = [3, 0, 0, 0, 4, 0, 0, 0, 255, 255, 255, 255];
-    assert_eq!(rt; gathered(version, 299, 0), (2, both));
-    let second = [4, 0, 0, 0, 255, 255, 255, 255, 255, 255, 255, 255];
-    assert_eq!(rt; gathered(version, 299, 1), (1, second));
-    let none = (0, [255; 12]);
-    assert_eq!(rt; gathered(version, 299, 2), none);
-    assert_eq!(rt; gathered(version, 299, 0x1_0000_0000), none);
-    assert_eq!(rt; gathered(version, 0x1_0000_012b, 0), none);
-    Ok(())
-}
-
 // A version that was pinned before removals lists what it listed.
 #[test]
 fn pins_stay(rt: HostRuntime) -> Result<(), Fail> {
@@ -214,31 +168,6 @@ fn pins_stay(rt: HostRuntime) -> Result<(), Fail> {
     assert!(rt; lists(versions[1], 299, &[3, 4]));
     assert!(rt; lists(versions[2], 299, &[4]));
     Ok(())
-}
-
-// Why a store of so many vertices is not made.
-fn refusal<R: Wait>(rt: &R, alloc: Global, vertex_count: u32) -> Option<StoreError> {
-    match Shop::open(rt, alloc, vertex_count) {
-        Ok(shop) => {
-            shop.close(rt);
-            None
-        }
-        Err(error) => Some(error),
-    }
-}
-
-#[test]
-fn vertex_counts_are_tested(rt: HostRuntime) {
-    for (vertex_count, error) in [
-        (0, Some(StoreError::VertexCount)),
-        (1, None),
-        (1_048_576, None),
-        (1_048_577, Some(StoreError::VertexCount)),
-        (u32::MAX, Some(StoreError::VertexCount)),
-    ] {
-        let refused = refusal(&rt, rt.alloc(), vertex_count);
-        assert_eq!(rt; refused, error, "at {vertex_count}");
-    }
 }
 
 // Publishes batches until one is not. The number of the last one, and why it is the last.
@@ -289,34 +218,6 @@ fn a_full_queue_refuses(rt: HostRuntime) -> Result<(), Fail> {
     assert_eq!(rt; filled, (64, Some(SubmitCause::Full)));
     assert_eq!(rt; refused, Some((SubmitCause::Full, 1)));
     assert_eq!(rt; finished.left.len(), 64);
-    Ok(())
-}
-
-// Why a batch is refused in a store of four vertices, and how many edits come back.
-fn cause<R: Wait>(
-    rt: &R,
-    alloc: Global,
-    batch: Batch,
-) -> Result<Option<(SubmitCause, usize)>, StoreError> {
-    let mut shop = Shop::open(rt, alloc, 4)?;
-    let told = shop.submit(rt, 1, batch);
-    shop.close(rt);
-    Ok(told)
-}
-
-#[test]
-fn too_many_edits_come_before_a_vertex_outside(rt: HostRuntime) -> Result<(), Fail> {
-    let edits = vec![in rt.alloc(); Edit::Insert(9, 9); 65_537]?;
-    let told = cause(&rt, rt.alloc(), Batch::new(rt.alloc(), edits)?)?;
-    assert_eq!(rt; told, Some((SubmitCause::TooManyEdits, 65_537)));
-    Ok(())
-}
-
-#[test]
-fn vertices_outside_are_refused(rt: HostRuntime) -> Result<(), Fail> {
-    let edits = [Edit::Insert(0, 1), Edit::Insert(4, 0)];
-    let told = cause(&rt, rt.alloc(), batch_of(rt.alloc(), &edits)?)?;
-    assert_eq!(rt; told, Some((SubmitCause::VertexRange, 2)));
     Ok(())
 }
 
