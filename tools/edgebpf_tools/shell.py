@@ -33,16 +33,16 @@ class Store:
 
     def ask(self, lines):
         """What is written for the lines of one command."""
-        is_run = lines[0].split()[0] == "run"
-        # A run ends with as many rows as it has: the answer to one question more says that they have ended.
-        sent = lines + ["home 0"] if is_run else lines
+        goes_on = lines[0].split()[0] in ("run", "list")
+        # A run ends with as many rows as it has, and a list with its edges: the answer to one question more says that they have ended.
+        sent = lines + ["home 0"] if goes_on else lines
         try:
             self.process.stdin.write("\n".join(sent) + "\n")
             self.process.stdin.flush()
         except BrokenPipeError:
             raise Refusal("edgebpf has ended") from None
         said = [self._line()]
-        while is_run:
+        while goes_on:
             line = self._line()
             if line.startswith("home "):
                 break

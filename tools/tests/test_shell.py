@@ -54,6 +54,13 @@ class EdgebpfShell(unittest.TestCase):
             self.assertIn(f"{line}\n{told}", said)
         self.assertTrue(said.endswith("run t a edges 3 total 5\nrow 0 3\nrow 1 2\n"), said)
 
+    def test_answers_of_many_lines(self):
+        """What stands behind a run or a list is answered with its own line."""
+        said = self.said(BEGUN + TARGET + "run t a sum -\nhome 1\nlist t a -\nhome 0\n")
+        rows = "run t a edges 3 total 5\nrow 0 3\nrow 1 2\nhome 1 block degree 1\n"
+        edges = "list t a edges 3\nedge 0 1 1\nedge 0 2 2\nedge 1 2 2\nhome 0 block degree 2\n"
+        self.assertEqual(said, BEGUN_SAID + TARGET_SAID + rows + edges)
+
     def test_blocks(self):
         """A wrong edit is not part of its batch, and a block that is dropped is not sent."""
         text = "graph 4\nbatch A\n+ 0 1\n+ 0 9\n* 0 1\n.cancel\nbatch A\n+ 0 2\nend\nprogram p 16\nmov r0, 7\nexit\nend\n.script\n"
