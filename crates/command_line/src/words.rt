@@ -1,7 +1,10 @@
 //! The words of the command line.
-ghost use Rattle.std.specs.Prelude.{◌≤◌, IfOk};
+ghost use Rattle.std.specs.Prelude.{◌≡◌, ◌≤◌, ◌<◌, ◌⊎◌, ℕ, [], IfOk, IfErr, IsErrAnd};
+ghost use Rattle.clap.specs.Words.{kind_of};
+ghost use Rattle.command_line.specs.Asked.{AsksFor, AsksForAllowed, arguments};
 ghost use Rattle.gates.specs.declared.limits.TheConstants.{MOST_WORKERS};
 
+use clap::error::ErrorKind;
 use clap::{Arg, ArgAction, Command, Error};
 use gates::MOST_WORKERS;
 use std::alloc::Global;
@@ -12,6 +15,13 @@ use std::alloc::Global;
 pub fn options(alloc: Global, words: &[String]) -> Result<u8, Error>
     ensures some { IfOk result (λ workers. 1 ≤ workers) }
     ensures most { IfOk result (λ workers. workers ≤ MOST_WORKERS) }
+    ensures alone { arguments words.now ≡ [] → IfOk result (λ workers. workers ≡ 1) }
+    ensures asked { (n : ℕ) → AsksFor n words.now → IfOk result (λ workers. workers ≡ n) }
+
+    // What is allowed fails only for want of memory, and a number that is not allowed always fails.
+    ensures allowed { AsksForAllowed words.now → IfErr result (λ error. kind_of error ≡ ErrorKind.OutOfMemory) }
+    ensures refused { (n : ℕ) → AsksFor n words.now → (n ≡ 0) ⊎ (MOST_WORKERS < n) → IsErrAnd result (λ error.
+        (kind_of error ≡ ErrorKind.ValueValidation) ⊎ (kind_of error ≡ ErrorKind.OutOfMemory)) }
 {
     let workers = Arg::new(alloc, "workers")
         .long("workers")

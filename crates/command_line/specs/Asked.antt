@@ -1,0 +1,18 @@
+-- What the words of a command line ask for.
+use Rattle.std.specs.Prelude.{◌≡◌, ◌≤◌, ◌⊎◌, ℕ, List, ◌∷◌, [], drop, map, codes, String, string_bytes}
+use Rattle.std.specs.Str.Parse.{IsNumeral, digits_value}
+use Rattle.std.specs.declared.alloc.Global.{Global}
+use Rattle.gates.specs.declared.limits.TheConstants.{MOST_WORKERS}
+
+-- the texts of the words behind the program's name
+abbrev pub arguments : List (String Global) → List (List ℕ)
+arguments words = drop 1 (map string_bytes words)
+
+-- those words are `--workers` and decimal digits that write n
+abbrev pub AsksFor : ℕ → List (String Global) → Type 0
+AsksFor n words =
+    (digits : List ℕ) × (arguments words ≡ codes "--workers" ∷ digits ∷ []) × IsNumeral 10 digits × (digits_value 10 digits ≡ n)
+
+-- there are no such words, or they ask for 1 to 16 workers
+abbrev pub AsksForAllowed : List (String Global) → Type 0
+AsksForAllowed words = (arguments words ≡ []) ⊎ ((n : ℕ) × AsksFor n words × (1 ≤ n) × (n ≤ MOST_WORKERS))
