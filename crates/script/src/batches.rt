@@ -21,9 +21,6 @@ use session_model::Fault;
 use std::sync::Wait;
 use std::thread::Threads;
 
-/// How many edits there is room for from the beginning.
-const FEW_EDITS: usize = 16;
-
 impl BegunBatch {
     /// Adds an edit to a session's batch. A fault adds nothing.
     fn add(&mut self, session: &Session, edit: GivenEdit) -> Result<(), LineError>
@@ -46,11 +43,10 @@ impl Script {
         if self.session.vertex_count().is_none() {
             return Err(LineError::Fault(LineFault::Command(Fault::Order)));
         }
-        let edits = Vec::with_capacity(self.alloc, FEW_EDITS)?;
         self.block = Some(Block::Batch(BegunBatch {
             line: self.line,
             feed,
-            edits,
+            edits: Vec::new(self.alloc),
         }));
         Ok(())
     }

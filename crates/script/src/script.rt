@@ -160,7 +160,6 @@ impl Script {
     }
 
     /// Executes a line whose bytes are allowed, inside a program or outside blocks.
-    #[inline(always)]
     fn execute_outside_batch<Ga: Gate, R: Threads + Wait>(
         &mut self,
         crew: &Crew<'_, R, Ga>,
