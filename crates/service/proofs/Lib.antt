@@ -1,4 +1,5 @@
 pub mod Following
+pub mod FirstLines
 pub mod KnownLemmas
 pub mod LineLemmas
 pub mod RoundLemmas

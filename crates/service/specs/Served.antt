@@ -2,8 +2,6 @@
 use Rattle.std.specs.Prelude.{◌≡◌, ◌+◌, ◌<◌, ◌≤◌, ℕ, false, length, take, drop, List, ◌∷◌, ◌++◌, Result, Ok, Err, ⊤}
 use Rattle.std.specs.List.{AllByRecursion, flat_map}
 use Rattle.bpf_model.specs.declared.listed_edge.ListedEdge.{ListedEdge}
-use Rattle.service.specs.declared.lines.FirstLine.{FirstLine}
-use Rattle.service.specs.declared.lines.FirstLine.TheVariants as first_lines
 use Rattle.service.specs.declared.lines.Progress.{Progress}
 use Rattle.service.specs.declared.lines.Progress.TheVariants as progress
 use Rattle.script.specs.declared.error.ScriptError.{ScriptError}
@@ -47,17 +45,6 @@ abbrev pub Listing : (old new : Script) → (bytes left text said : List ℕ) �
 Listing old new bytes left text said edges =
     (read before : List ℕ) → Served read before old bytes
     → (t : List ℕ) × (said ≡ text ++ t) × Served read (before ++ (t ++ flat_map edge_text edges)) new left
-
--- what comes of the first line of some bytes: it is less than a line, it is executed, all of it or but for the lines
--- of edges, or the script is settled
-abbrev pub TakesLine : Result FirstLine ScriptError → List ℕ → (old new : Script) → (text said : List ℕ) → Type 0
-TakesLine (Ok first_lines.Partial) bytes old new text said = IsOneLine bytes × (new ≡ old) × (said ≡ text)
-TakesLine (Ok (first_lines.Executed count)) bytes old new text said =
-    (count ≤ length bytes) × (0 < count) × Serving old new bytes (drop count bytes) text said
-TakesLine (Ok (first_lines.Lists count edges)) bytes old new text said =
-    (count ≤ length bytes) × (0 < count) × Listing old new bytes (drop count bytes) text said edges
-TakesLine (Ok first_lines.Stopped) bytes old new text said = Settling old bytes text said
-TakesLine (Err e) bytes old new text said = ⊤
 
 -- what is left of some bytes after all their whole lines, or after one that lists edges, or a script that is settled
 abbrev pub TakesLines : Result Progress ScriptError → List ℕ → (old new : Script) → (text said : List ℕ) → Type 0

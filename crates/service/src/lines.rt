@@ -3,51 +3,18 @@
 ghost use Rattle.std.specs.Prelude.{◌≡◌, ◌≤◌, MatchOption};
 ghost use Rattle.script.specs.Executes.{OnStore};
 ghost use Rattle.service.specs.Asking.{Asks};
-ghost use Rattle.service.specs.Served.{IsOneLine, IsLine, TakesLine, TakesLines, LeavesFew};
+ghost use Rattle.service.specs.Served.{IsOneLine, IsLine, TakesLines, LeavesFew};
 
 use memchr::memchr;
 use script::{Crew, Gate, Listing, MOST_LINE_BYTES, Script, ScriptError, Step};
 use std::sync::Wait;
 use std::thread::Threads;
 
-/// What came of the first line of some bytes.
-#[derive(Drop)]
-pub enum FirstLine {
-    /// Its end is not among them.
-    Partial,
-    /// It was executed; with its end it has so many bytes.
-    Executed(usize),
-    /// It was executed, but for the lines of these edges; with its end it has so many bytes.
-    Lists(usize, Listing),
-    /// It has a fault, which is said.
-    Stopped,
-}
-
 /// Where the first line ends, if it does.
 fn line_end(bytes: &[u8]) -> Option<usize>
     ensures { MatchOption result (IsOneLine bytes.now) (λ k. IsLine bytes.now k) }
 {
     memchr(b'\n', bytes)
-}
-
-/// Executes the first line of some bytes, if it is whole.
-fn execute_first<Ga: Gate, R: Threads + Wait>(
-    crew: &Crew<'_, R, Ga>,
-    script: &mut Script,
-    text: &mut Vec<u8>,
-    bytes: &[u8],
-) -> Result<FirstLine, ScriptError>
-    ensures taken { TakesLine result bytes.now script.old script.new text.old.items text.new.items }
-    ensures store { OnStore result (Asks script.old bytes.now) }
-{
-    let Some(end) = line_end(bytes) else {
-        return Ok(FirstLine::Partial);
-    };
-    match script.execute(crew, text, &bytes[..end])? {
-        Step::Executed => Ok(FirstLine::Executed(end + 1)),
-        Step::Lists(listing) => Ok(FirstLine::Lists(end + 1, listing)),
-        Step::Stopped => Ok(FirstLine::Stopped),
-    }
 }
 
 /// How far some bytes of a script led.
@@ -73,13 +40,13 @@ fn execute_lines<Ga: Gate, R: Threads + Wait>(
 {
     let mut from = 0;
     loop {
-        match execute_first(crew, script, text, &bytes[from..])? {
-            FirstLine::Partial => return Ok(Progress::Left(from)),
-            FirstLine::Stopped => return Ok(Progress::Settled),
-            FirstLine::Executed(count) => from += count,
-            FirstLine::Lists(count, listing) => {
-                return Ok(Progress::Lists(from + count, listing));
-            }
+        let Some(end) = line_end(&bytes[from..]) else {
+            return Ok(Progress::Left(from));
+        };
+        match script.execute(crew, text, &bytes[from..from + end])? {
+            Step::Executed => from += end + 1,
+            Step::Lists(listing) => return Ok(Progress::Lists(from + end + 1, listing)),
+            Step::Stopped => return Ok(Progress::Settled),
         }
     }
 }

@@ -1,58 +1,61 @@
 use Rattle.std.proofs.Common.{◌≡◌, ℕ, List, ◌+◌, ◌-◌, ◌++◌, length, take, drop, sym, ap, subst, ◌∙◌, append_assoc, arith, length-drop}
 use Rattle.std.proofs.lemmas.List.{take_all, drop-drop}
-use Rattle.service.specs.Served.{Served, Settled, Serving, Listing, IsOneLine}
-use Rattle.service.specs.Asking.{Asks}
+use Rattle.script_model.specs.Execution.{execution}
+use Rattle.script.specs.Executes.{AsksStore}
+use Rattle.service.specs.Served.{Settled, IsLine}
+use Rattle.service.proofs.FirstLines.{executed_line, listed_line, stopped_line}
 use Rattle.service.proofs.RoundLemmas.{lists_after, serving_after}
-use Rattle.service.proofs.AskingLemmas.{asks_after, script_passed}
+use Rattle.service.proofs.AskingLemmas.{asks_first, asks_after, script_passed}
 use Rattle.service.proofs.lines.execute_lines.Goals as goal
 
-pub returns-in-Stopped-clause-taken : goal.returns-in-Stopped-clause-taken
-returns-in-Stopped-clause-taken g c read before h =
-    let so_far = c.loop-count.invariant.1 read before h in
-    let told = (rw c.in-Stopped.is at c.in_ok-execute_first.ensures.taken) in
-    let rest : take (length c.args.bytes.now - c.loop-count.from) (drop c.loop-count.from c.args.bytes.now) ≡ drop c.loop-count.from c.args.bytes.now = take_all _ _ (omega (arith, length-drop c.loop-count.from c.args.bytes.now)) in
-    let left = subst (λ (b : List ℕ). Served read (before ++ so_far.0) c.loop-count.script b) (sym rest) so_far.2 in
-    let next = told read (before ++ so_far.0) left in
-    let said = next.1 ∙ ap (λ (x : List ℕ). x ++ next.0) so_far.1 ∙ append_assoc c.args.text.now.items so_far.0 next.0 in
-    (so_far.0 ++ next.0, said, subst (λ (x : List ℕ). Settled read x) (append_assoc before so_far.0 next.0) next.2)
+pub loop-end-preserved : goal.loop-end-preserved
+loop-end-preserved g c =
+    let bytes = c.args.bytes.now in
+    let from = c.loop-end.from in
+    let k = c.in-Some.end in
+    let rest : take (length bytes - from) (drop from bytes) ≡ drop from bytes = take_all _ _ (omega (arith, length-drop from bytes)) in
+    let found = subst (λ (l : List ℕ). IsLine l k) rest c.in-Some.ensures in
+    let line : take (from + k - from) (drop from bytes) ≡ take k (drop from bytes) = ap (λ (n : ℕ). take n (drop from bytes)) (omega arith) in
+    let here = executed_line (drop from bytes) _ k c.loop-end.script c.execute.new.self c.loop-end.text.items c.execute.new.text.items found line (rw c.in-Executed.is at c.in_ok-execute.ensures.steps) in (
+      omega (arith, found.2, length-drop from bytes),
+      serving_after c.args.script.now c.loop-end.script c.execute.new.self bytes (drop from bytes) (drop (k + 1) (drop from bytes)) (drop (from + (k + 1)) bytes) c.args.text.now.items c.loop-end.text.items c.execute.new.text.items c.loop-end.invariant.1 here (sym (drop-drop (k + 1) from bytes)),
+    )
 
 pub returns-in-Lists-clause-taken : goal.returns-in-Lists-clause-taken
 returns-in-Lists-clause-taken g c =
     let bytes = c.args.bytes.now in
-    let from = c.loop-count.from in
-    let count = c.in-Lists.count in
-    let told = (rw c.in-Lists.is at c.in_ok-execute_first.ensures.taken) in
+    let from = c.loop-end.from in
+    let k = c.in-Some.end in
     let rest : take (length bytes - from) (drop from bytes) ≡ drop from bytes = take_all _ _ (omega (arith, length-drop from bytes)) in
-    let here = subst (λ (l : List ℕ). Listing c.loop-count.script c.execute_first.new.script l (drop count l) c.loop-count.text.items c.execute_first.new.text.items c.in-Lists.listing) rest told.2 in (
-      omega (arith, told.0, ap length rest, length-drop from bytes),
-      omega (arith, told.1),
-      lists_after c.args.script.now c.loop-count.script c.execute_first.new.script bytes (drop from bytes) (drop count (drop from bytes)) (drop (from + count) bytes) c.args.text.now.items c.loop-count.text.items c.execute_first.new.text.items c.in-Lists.listing c.loop-count.invariant.1 here (sym (drop-drop count from bytes)),
+    let found = subst (λ (l : List ℕ). IsLine l k) rest c.in-Some.ensures in
+    let line : take (from + k - from) (drop from bytes) ≡ take k (drop from bytes) = ap (λ (n : ℕ). take n (drop from bytes)) (omega arith) in
+    let here = listed_line (drop from bytes) _ k c.loop-end.script c.execute.new.self c.loop-end.text.items c.execute.new.text.items c.in-Lists.listing found line (rw c.in-Lists.is at c.in_ok-execute.ensures.steps) in
+    let behind : drop (from + k + 1) bytes ≡ drop (k + 1) (drop from bytes) = ap (λ (n : ℕ). drop n bytes) (omega arith) ∙ sym (drop-drop (k + 1) from bytes) in (
+      omega (arith, found.2, length-drop from bytes),
+      omega arith,
+      lists_after c.args.script.now c.loop-end.script c.execute.new.self bytes (drop from bytes) (drop (k + 1) (drop from bytes)) (drop (from + k + 1) bytes) c.args.text.now.items c.loop-end.text.items c.execute.new.text.items c.in-Lists.listing c.loop-end.invariant.1 here behind,
     )
 
-pub returns-in-Partial-clause-taken : goal.returns-in-Partial-clause-taken
-returns-in-Partial-clause-taken g c =
+pub returns-in-Stopped-clause-taken : goal.returns-in-Stopped-clause-taken
+returns-in-Stopped-clause-taken g c read before h =
     let bytes = c.args.bytes.now in
-    let from = c.loop-count.from in
-    let told = (rw c.in-Partial.is at c.in_ok-execute_first.ensures.taken) in
+    let from = c.loop-end.from in
+    let k = c.in-Some.end in
     let rest : take (length bytes - from) (drop from bytes) ≡ drop from bytes = take_all _ _ (omega (arith, length-drop from bytes)) in
-    (c.loop-count.invariant.0, subst IsOneLine rest told.0, rw (told.1, told.2) c.loop-count.invariant.1)
+    let found = subst (λ (l : List ℕ). IsLine l k) rest c.in-Some.ensures in
+    let line : take (from + k - from) (drop from bytes) ≡ take k (drop from bytes) = ap (λ (n : ℕ). take n (drop from bytes)) (omega arith) in
+    let so_far = c.loop-end.invariant.1 read before h in
+    let next = stopped_line (drop from bytes) _ k c.loop-end.script c.execute.new.self c.loop-end.text.items c.execute.new.text.items found line (rw c.in-Stopped.is at c.in_ok-execute.ensures.steps) read (before ++ so_far.0) so_far.2 in
+    let said = next.1 ∙ ap (λ (x : List ℕ). x ++ next.0) so_far.1 ∙ append_assoc c.args.text.now.items so_far.0 next.0 in
+    (so_far.0 ++ next.0, said, subst (λ (x : List ℕ). Settled read x) (append_assoc before so_far.0 next.0) next.2)
 
-pub loop-count-preserved : goal.loop-count-preserved
-loop-count-preserved g c =
+pub returns-in_err-execute-clause-store : goal.returns-in_err-execute-clause-store
+returns-in_err-execute-clause-store g c =
     let bytes = c.args.bytes.now in
-    let from = c.loop-count.from in
-    let count = c.in-Executed.count in
-    let told = (rw c.in-Executed.is at c.in_ok-execute_first.ensures.taken) in
+    let from = c.loop-end.from in
+    let k = c.in-Some.end in
     let rest : take (length bytes - from) (drop from bytes) ≡ drop from bytes = take_all _ _ (omega (arith, length-drop from bytes)) in
-    let here = subst (λ (l : List ℕ). Serving c.loop-count.script c.execute_first.new.script l (drop count l) c.loop-count.text.items c.execute_first.new.text.items) rest told.2 in (
-      omega (arith, told.0, ap length rest, length-drop from bytes),
-      serving_after c.args.script.now c.loop-count.script c.execute_first.new.script bytes (drop from bytes) (drop count (drop from bytes)) (drop (from + count) bytes) c.args.text.now.items c.loop-count.text.items c.execute_first.new.text.items c.loop-count.invariant.1 here (sym (drop-drop count from bytes)),
-    )
-
-pub returns-in_err-execute_first-clause-store : goal.returns-in_err-execute_first-clause-store
-returns-in_err-execute_first-clause-store g c =
-    let bytes = c.args.bytes.now in
-    let from = c.loop-count.from in
-    let rest : take (length bytes - from) (drop from bytes) ≡ drop from bytes = take_all _ _ (omega (arith, length-drop from bytes)) in
-    script_passed c.execute_first.result c.from_residual.result c.in_err-execute_first.field-0.0 _ _ c.in_err-execute_first.was c.from_residual.ensures.1 (λ asks.
-    asks_after c.args.script.now c.loop-count.script bytes (drop from bytes) c.args.text.now.items c.loop-count.text.items c.loop-count.invariant.1 (subst (λ (l : List ℕ). Asks c.loop-count.script l) rest asks)) c.execute_first.ensures.store
+    let found = subst (λ (l : List ℕ). IsLine l k) rest c.in-Some.ensures in
+    let line : take (from + k - from) (drop from bytes) ≡ take k (drop from bytes) = ap (λ (n : ℕ). take n (drop from bytes)) (omega arith) in
+    script_passed c.execute.result c.from_residual.result c.in_err-execute.field-0.0 _ _ c.in_err-execute.was c.from_residual.ensures.1 (λ asks.
+    asks_after c.args.script.now c.loop-end.script bytes (drop from bytes) c.args.text.now.items c.loop-end.text.items c.loop-end.invariant.1 (asks_first c.loop-end.script (drop from bytes) k found (subst (λ (l : List ℕ). AsksStore (execution c.loop-end.script l)) line asks))) c.execute.ensures.store
