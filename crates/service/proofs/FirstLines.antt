@@ -1,5 +1,6 @@
 -- What comes of executing the first line of some bytes.
-use Rattle.std.proofs.Common.{◌≡◌, ℕ, ◌+◌, List, ◌++◌, take, drop, Ok, subst}
+use Rattle.std.proofs.Common.{◌≡◌, ℕ, ◌+◌, ◌-◌, List, ◌++◌, length, take, drop, Ok, ap, subst, arith, length-drop}
+use Rattle.std.proofs.lemmas.List.{take_all}
 use Rattle.std.specs.List.{flat_map}
 use Rattle.bpf_model.specs.declared.listed_edge.ListedEdge.{ListedEdge}
 use Rattle.script_model.specs.State.{Script}
@@ -8,6 +9,15 @@ use Rattle.script.specs.declared.script.Step.TheVariants as steps
 use Rattle.script.specs.Executes.{Steps}
 use Rattle.service.specs.Served.{Served, Serving, Listing, Settling, IsLine}
 use Rattle.service.proofs.Following.{served_step, served_fault}
+
+-- the first line of what stands from a place on
+pub found_at : (bytes : List ℕ) (from k : ℕ) → IsLine (take (length bytes - from) (drop from bytes)) k → IsLine (drop from bytes) k
+found_at bytes from k found =
+    let rest : take (length bytes - from) (drop from bytes) ≡ drop from bytes = take_all _ _ (omega (arith, length-drop from bytes)) in
+    subst (λ (l : List ℕ). IsLine l k) rest found
+
+pub line_at : (bytes : List ℕ) (from k : ℕ) → take (from + k - from) (drop from bytes) ≡ take k (drop from bytes)
+line_at bytes from k = ap (λ (n : ℕ). take n (drop from bytes)) (omega arith)
 
 pub executed_line : (bytes line : List ℕ) (k : ℕ) (old new : Script) (text said : List ℕ) → IsLine bytes k → line ≡ take k bytes → Steps (Ok steps.Executed) line old new text said → Serving old new bytes (drop (k + 1) bytes) text said
 executed_line bytes line k old new text said found is done read before h =
