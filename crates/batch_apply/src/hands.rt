@@ -6,7 +6,7 @@ ghost use Rattle.batch_apply.specs.Dealt.{IsReady, IsDealt, AreDealt};
 
 use gates::{Gate, Refusal};
 use graph_model::Edit;
-use migration::{EditedShard, Table};
+use migration::{EditedShard, Scratch, Table};
 use std::alloc::{AllocError, Global};
 use std::thread::{Promise, Scope, Threads};
 
@@ -41,11 +41,12 @@ pub(crate) fn work<Ga: Gate>(
     ensures { IfOk result (λ made. IsDealt table.now pieces.now first step made.items) }
 {
     let mut made = Vec::new(alloc);
+    let mut scratch = Scratch::new(alloc);
     let mut next = first;
     'pieces: while next < pieces.len() {
         let (range, edits) = &pieces[next];
         gate.enter(*range);
-        let edited = table.edit(alloc, *range as usize, edits);
+        let edited = table.edit(alloc, *range as usize, edits, &mut scratch);
         gate.leave(*range);
         made.push(edited?)?;
         next += step;

@@ -5,6 +5,7 @@ ghost use Rattle.migration.specs.Edited.{IsMadeOf, IsEdited};
 ghost use Rattle.migration.specs.Part.{AreEditsOf};
 
 use crate::counts::Counts;
+use crate::scratch::Scratch;
 use crate::shard::Shard;
 use graph_model::Edit;
 use std::alloc::{AllocError, Global};
@@ -19,12 +20,18 @@ pub struct EditedShard {
 }
 
 impl EditedShard {
-    /// A shard after a list of edits of its vertices, to vertices that a graph may have. The shard stays.
-    pub fn of(alloc: Global, shard: &Shard, edits: &[Edit]) -> Result<EditedShard, AllocError>
+    /// A shard after a list of edits of its vertices, to vertices that a graph may have, made in space that is lent. The shard
+    /// stays.
+    pub fn of(
+        alloc: Global,
+        shard: &Shard,
+        edits: &[Edit],
+        scratch: &mut Scratch,
+    ) -> Result<EditedShard, AllocError>
         requires { AreEditsOf shard.now edits.now }
         ensures { IfOk result (λ made. IsMadeOf shard.now edits.now (arc_value made.shard) made.counts) }
     {
-        let (next, counts) = shard.apply(alloc, edits)?;
+        let (next, counts) = shard.apply_in(alloc, edits, scratch)?;
         let shard = Arc::new(alloc, next)?;
         Ok(EditedShard { shard, counts })
     }

@@ -22,6 +22,7 @@ mod table;
 pub use counts::Counts;
 pub use edited_shard::EditedShard;
 pub use groups::{Grouping, Groups};
+pub use scratch::Scratch;
 pub use shard::Shard;
 pub use shards::{empty_shards, shard_of, share_shards};
 pub use table::Table;

@@ -1,6 +1,6 @@
 //! The lists of a range's vertices, each in its home.
 ghost use Rattle.std.specs.Prelude.{◌≡◌, ◌<◌, ◌≤◌, [], length, replicate, slice_index_or, IfOk};
-ghost use Rattle.graph_model.specs.declared.limits.TheConstants.{RANGE_VERTICES};
+ghost use Rattle.migration.specs.declared.pages.TheConstants.{PAGE_VERTICES};
 ghost use Rattle.graph_model.specs.declared.home.Home.TheVariants.{Block, Gapped, Tree};
 ghost use Rattle.graph_model.specs.Homes.{IsHomeOf};
 ghost use Rattle.word_sets.specs.Words.{IsSet, has_word};
@@ -10,7 +10,9 @@ ghost use Rattle.migration.specs.Lists.{AreKept, AreSame, IsThere, IsPushed, lis
 ghost use Rattle.migration.specs.Lent.{IsLentAt};
 ghost use Rattle.word_sets.specs.declared.places.TheConstants.{WORD_LIMIT};
 
+use crate::pages::PAGE_VERTICES;
 use crate::short_blocks::{SHORT_PLACES, ShortBlocks};
+use arrayvec::ArrayVec;
 use gapped_array::GappedArray;
 use graph_model::Home;
 use neighbour_btree::NeighbourTree;
@@ -20,9 +22,10 @@ use vertex_block::VertexBlock;
 use word_sets::place;
 
 /// Where a vertex's list stands.
-#[derive(Clone, Copy)]
+#[derive(Clone, Copy, Default)]
 pub(crate) enum Place {
     /// Nowhere: its home is a block, and it is empty.
+    #[default]
     Nowhere,
     /// In the short block of this number.
     InShort(u8),
@@ -38,7 +41,7 @@ pub(crate) enum Place {
 #[derive(Drop)]
 pub(crate) struct Lists {
     /// Where each vertex's list stands.
-    pub places: Vec<Place>,
+    pub places: ArrayVec<Place, PAGE_VERTICES>,
     /// The blocks of lists of few words.
     pub shorts: ShortBlocks,
     /// The blocks of the other lists at home in theirs.
@@ -60,32 +63,33 @@ fn rest_from(words: &[u32], place: u32) -> &[u32]
 }
 
 impl Lists {
-    /// No list, with room for so many.
-    pub fn new(alloc: Global, vertices: usize) -> Result<Lists, AllocError>
-        ensures kept { IfOk result (λ lists. AreKept lists) }
-        ensures rows { IfOk result (λ lists. rows_of lists ≡ []) }
-        ensures homes { IfOk result (λ lists. homes_of lists ≡ []) }
+    /// No list. It takes no memory.
+    pub fn new(alloc: Global) -> Lists
+        ensures kept { AreKept result }
+        ensures rows { rows_of result ≡ [] }
+        ensures homes { homes_of result ≡ [] }
     {
-        Ok(Lists {
-            places: Vec::with_capacity(alloc, vertices)?,
-            shorts: ShortBlocks::new(alloc, vertices)?,
+        Lists {
+            places: ArrayVec::new(),
+            shorts: ShortBlocks::new(alloc),
             blocks: Vec::new(alloc),
             array: GappedArray::empty(alloc),
             trees: Vec::new(alloc),
-        })
+        }
     }
 
-    /// Lists of so many vertices, all of them empty.
-    pub fn empty(alloc: Global, vertices: usize) -> Result<Lists, AllocError>
-        ensures kept { IfOk result (λ lists. AreKept lists) }
-        ensures rows { IfOk result (λ lists. rows_of lists ≡ replicate vertices []) }
-        ensures homes { IfOk result (λ lists. homes_of lists ≡ replicate vertices Block) }
+    /// Lists of so many vertices, all of them empty. They take no memory.
+    pub fn empty(alloc: Global, vertices: usize) -> Lists
+        requires few { vertices ≤ PAGE_VERTICES }
+        ensures kept { AreKept result }
+        ensures rows { rows_of result ≡ replicate vertices [] }
+        ensures homes { homes_of result ≡ replicate vertices Block }
     {
-        let mut lists = Lists::new(alloc, vertices)?;
+        let mut lists = Lists::new(alloc);
         for _ in 0..vertices {
-            lists.push_nowhere()?;
+            lists.push_nowhere();
         }
-        Ok(lists)
+        lists
     }
 
     /// Takes all lists away, and keeps their room.
@@ -200,6 +204,7 @@ impl Lists {
     pub fn count(&self) -> usize
         ensures rows { result ≡ length (rows_of self.now) }
         ensures homes { result ≡ length (homes_of self.now) }
+        ensures few { result ≤ PAGE_VERTICES }
     {
         self.places.len()
     }
@@ -241,69 +246,69 @@ impl Lists {
     }
 
     // A list of no word in its block. It takes no block.
-    fn push_nowhere(&mut self) -> Result<(), AllocError>
+    fn push_nowhere(&mut self)
         requires kept { AreKept self.old }
-        ensures { IfOk result (λ _. IsPushed self.old self.new [] Block) }
+        requires room { length (rows_of self.old) < PAGE_VERTICES }
+        ensures { IsPushed self.old self.new [] Block }
     {
-        self.places.push(Place::Nowhere)?;
-        Ok(())
+        self.places.push(Place::Nowhere);
     }
 
     // A list in a short block.
     fn push_short(&mut self, words: &[u32]) -> Result<(), AllocError>
         requires kept { AreKept self.old }
-        requires room { length (rows_of self.old) < RANGE_VERTICES }
+        requires room { length (rows_of self.old) < PAGE_VERTICES }
         requires set { IsSet words.now }
         requires short { length words.now ≤ SHORT_PLACES }
         ensures { IfOk result (λ _. IsPushed self.old self.new words.now Block) }
     {
         let number = self.shorts.ends.len() as u8;
         self.shorts.push(words)?;
-        self.places.push(Place::InShort(number))?;
+        self.places.push(Place::InShort(number));
         Ok(())
     }
 
     // A list in a block.
     fn push_block(&mut self, block: VertexBlock) -> Result<(), AllocError>
         requires kept { AreKept self.old }
-        requires room { length (rows_of self.old) < RANGE_VERTICES }
+        requires room { length (rows_of self.old) < PAGE_VERTICES }
         ensures { IfOk result (λ _. IsPushed self.old self.new block Block) }
     {
         let number = self.blocks.len() as u8;
         self.blocks.push(block)?;
-        self.places.push(Place::InBlock(number))?;
+        self.places.push(Place::InBlock(number));
         Ok(())
     }
 
     // A list in the array.
     fn push_run(&mut self, words: &[u32]) -> Result<(), AllocError>
         requires kept { AreKept self.old }
-        requires room { length (rows_of self.old) < RANGE_VERTICES }
+        requires room { length (rows_of self.old) < PAGE_VERTICES }
         requires set { IsSet words.now }
         ensures { IfOk result (λ _. IsPushed self.old self.new words.now Gapped) }
     {
         let number = self.array.vertex_count() as u8;
         self.array.push(words)?;
-        self.places.push(Place::InArray(number))?;
+        self.places.push(Place::InArray(number));
         Ok(())
     }
 
     // A list in a tree.
     fn push_tree(&mut self, tree: NeighbourTree) -> Result<(), AllocError>
         requires kept { AreKept self.old }
-        requires room { length (rows_of self.old) < RANGE_VERTICES }
+        requires room { length (rows_of self.old) < PAGE_VERTICES }
         ensures { IfOk result (λ _. IsPushed self.old self.new tree Tree) }
     {
         let number = self.trees.len() as u8;
         self.trees.push(tree)?;
-        self.places.push(Place::InTree(number))?;
+        self.places.push(Place::InTree(number));
         Ok(())
     }
 
     /// Puts a list behind the others, in this home.
     pub fn push(&mut self, alloc: Global, home: Home, words: &[u32]) -> Result<(), AllocError>
         requires kept { AreKept self.old }
-        requires room { length (rows_of self.old) < RANGE_VERTICES }
+        requires room { length (rows_of self.old) < PAGE_VERTICES }
         requires set { IsSet words.now }
         requires fits { IsHomeOf home (length words.now) }
         ensures { IfOk result (λ _. IsPushed self.old self.new words.now home) }
@@ -311,7 +316,8 @@ impl Lists {
         match home {
             Home::Block => {
                 if words.is_empty() {
-                    return self.push_nowhere();
+                    self.push_nowhere();
+                    return Ok(());
                 }
                 if words.len() <= SHORT_PLACES {
                     return self.push_short(words);
@@ -327,14 +333,17 @@ impl Lists {
     /// shared.
     pub fn push_kept(&mut self, old: &Lists, vertex: usize) -> Result<(), AllocError>
         requires kept { AreKept self.old }
-        requires room { length (rows_of self.old) < RANGE_VERTICES }
+        requires room { length (rows_of self.old) < PAGE_VERTICES }
         requires others { AreKept old.now }
         requires inside { vertex < length (rows_of old.now) }
         ensures { IfOk result (λ _. IsPushed self.old self.new (slice_index_or (rows_of old.now) vertex [])
             (slice_index_or (homes_of old.now) vertex Block)) }
     {
         match old.place(vertex) {
-            Place::Nowhere => self.push_nowhere(),
+            Place::Nowhere => {
+                self.push_nowhere();
+                Ok(())
+            }
             Place::InShort(number) => self.push_short(old.short(number)),
             Place::InBlock(number) => self.push_block(old.blocks[usize::from(number)]),
             Place::InArray(number) => self.push_run(old.run(number)),
@@ -342,13 +351,13 @@ impl Lists {
         }
     }
 
-    /// The same lists in no more room than they need. These keep theirs, but no tree.
+    /// The same lists in no more room than they need. These keep theirs, and are to be cleared.
     pub fn taken(&mut self, alloc: Global) -> Result<Lists, AllocError>
         requires { AreKept self.old }
         ensures { IfOk result (λ lists. AreSame self.old lists) }
     {
-        let places = Vec::from_slice(alloc, &self.places)?;
-        let shorts = self.shorts.copy(alloc)?;
+        let places = mem::replace(&mut self.places, ArrayVec::new());
+        let shorts = self.shorts.taken(alloc)?;
         let blocks = Vec::from_slice(alloc, &self.blocks)?;
         let array = self.array.copy(alloc)?;
         let trees = mem::replace(&mut self.trees, Vec::new(alloc));

@@ -24,7 +24,7 @@ pub(crate) fn empty_pages(alloc: Global, vertices: u16) -> Result<Vec<Arc<Lists>
     let mut pages = Vec::with_capacity(alloc, count)?;
     for number in 0..count {
         let left = vertices - PAGE_VERTICES * number;
-        let page = Lists::empty(alloc, left.min(PAGE_VERTICES))?;
+        let page = Lists::empty(alloc, left.min(PAGE_VERTICES));
         pages.push(Arc::new(alloc, page)?)?;
     }
     Ok(pages)

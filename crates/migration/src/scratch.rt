@@ -1,31 +1,32 @@
-//! The space in which a shard's pages are made.
+//! The space in which the pages of shards are made.
 
 use crate::buffer::Buffer;
 use crate::lists::Lists;
 use graph_model::Edit;
-use std::alloc::{AllocError, Global};
+use std::alloc::Global;
 
-/// Space for pages that are made one after another, so that each takes just the memory that it needs.
+/// Space for the pages of shards that are made one after another, so that each takes just the memory that it needs. What it
+/// holds between two shards means nothing.
 #[derive(Drop)]
-pub(crate) struct Scratch {
+pub struct Scratch {
     /// The lists of a page.
-    pub lists: Lists,
+    pub(crate) lists: Lists,
     /// The edits of a vertex.
-    pub own: Vec<Edit>,
+    pub(crate) own: Vec<Edit>,
     /// The words of a list that lies in more than one slice.
-    pub gathered: Vec<u32>,
+    pub(crate) gathered: Vec<u32>,
     /// The words of a list after its edits.
-    pub merged: Buffer,
+    pub(crate) merged: Buffer,
 }
 
 impl Scratch {
-    /// Space for pages of so many vertices, of which none has more edits than these.
-    pub fn new(alloc: Global, vertices: usize, edits: usize) -> Result<Scratch, AllocError> {
-        Ok(Scratch {
-            lists: Lists::new(alloc, vertices)?,
-            own: Vec::with_capacity(alloc, edits)?,
+    /// Space that takes no memory yet: each part grows where a list needs it.
+    pub fn new(alloc: Global) -> Scratch {
+        Scratch {
+            lists: Lists::new(alloc),
+            own: Vec::new(alloc),
             gathered: Vec::new(alloc),
             merged: Buffer::new(alloc),
-        })
+        }
     }
 }

@@ -70,9 +70,23 @@ impl Shard {
         ensures counts { IfOk result (λ next. AreCounts edits.now self.now next.1) }
         ensures homes { IfOk result (λ next. AreHomesAfter self.now next.0) }
     {
+        self.apply_in(alloc, edits, &mut Scratch::new(alloc))
+    }
+
+    /// The same, in space that is lent.
+    pub(crate) fn apply_in(
+        &self,
+        alloc: Global,
+        edits: &[Edit],
+        scratch: &mut Scratch,
+    ) -> Result<(Shard, Counts), AllocError>
+        requires { AreEditsOf self.now edits.now }
+        ensures after { IfOk result (λ next. IsPartAfter edits.now self.now next.0) }
+        ensures counts { IfOk result (λ next. AreCounts edits.now self.now next.1) }
+        ensures homes { IfOk result (λ next. AreHomesAfter self.now next.0) }
+    {
         let vertices = self.vertices;
         let groups = Groups::of(alloc, Grouping::ByVertex, usize::from(vertices), edits)?;
-        let mut scratch = Scratch::new(alloc, PAGE_VERTICES, edits.len())?;
         let mut pages = Vec::with_capacity(alloc, self.pages.len())?;
         let mut counts = Counts::NONE;
         for (number, page) in self.pages.iter().enumerate() {
@@ -81,7 +95,7 @@ impl Shard {
                 pages.push(Arc::try_clone(page)?)?;
                 continue;
             }
-            let (next, done) = edited_page(alloc, page, first, &groups, counts, &mut scratch)?;
+            let (next, done) = edited_page(alloc, page, first, &groups, counts, scratch)?;
             pages.push(Arc::new(alloc, next)?)?;
             counts = done;
         }

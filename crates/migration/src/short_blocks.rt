@@ -1,11 +1,14 @@
 //! The blocks of lists of few words, which take no more room than these.
 ghost use Rattle.std.specs.Prelude.{◌≡◌, ◌+◌, ◌<◌, ◌≤◌, ◌++◌, ◌∷◌, [], length, IfOk};
-ghost use Rattle.graph_model.specs.declared.limits.TheConstants.{RANGE_VERTICES};
+ghost use Rattle.migration.specs.declared.pages.TheConstants.{PAGE_VERTICES};
 ghost use Rattle.word_sets.specs.Words.{IsSet};
 ghost use Rattle.migration.specs.ShortBlocks.{ArePacked, set_at};
 
 use crate::nearby::push_words;
+use crate::pages::PAGE_VERTICES;
+use arrayvec::ArrayVec;
 use std::alloc::{AllocError, Global};
+use std::mem;
 
 /// The most words of a short block.
 pub(crate) const SHORT_PLACES: usize = 6;
@@ -16,18 +19,19 @@ pub(crate) struct ShortBlocks {
     /// The words of all sets.
     pub words: Vec<u32>,
     /// Where each set's words end.
-    pub ends: Vec<u16>,
+    pub ends: ArrayVec<u16, PAGE_VERTICES>,
 }
 
 impl ShortBlocks {
-    /// No set, with room for so many.
-    pub fn new(alloc: Global, count: usize) -> Result<ShortBlocks, AllocError>
-        ensures { IfOk result (λ blocks. blocks.words.items ≡ [] × blocks.ends.items ≡ []) }
+    /// No set.
+    pub fn new(alloc: Global) -> ShortBlocks
+        ensures words { result.words.items ≡ [] }
+        ensures ends { result.ends.items ≡ [] }
     {
-        Ok(ShortBlocks {
-            words: Vec::with_capacity(alloc, count.saturating_mul(SHORT_PLACES))?,
-            ends: Vec::with_capacity(alloc, count)?,
-        })
+        ShortBlocks {
+            words: Vec::new(alloc),
+            ends: ArrayVec::new(),
+        }
     }
 
     /// Takes all sets away, and keeps their room.
@@ -39,14 +43,14 @@ impl ShortBlocks {
         self.ends.clear();
     }
 
-    /// The same sets, in no more room than they need.
-    pub fn copy(&self, alloc: Global) -> Result<ShortBlocks, AllocError>
-        ensures words { IfOk result (λ copy. copy.words.items ≡ self.now.words.items) }
-        ensures ends { IfOk result (λ copy. copy.ends.items ≡ self.now.ends.items) }
+    /// The same sets, in no more room than they need. What is left is to be cleared.
+    pub fn taken(&mut self, alloc: Global) -> Result<ShortBlocks, AllocError>
+        ensures words { IfOk result (λ taken. taken.words.items ≡ self.old.words.items) }
+        ensures ends { IfOk result (λ taken. taken.ends.items ≡ self.old.ends.items) }
     {
         Ok(ShortBlocks {
             words: Vec::from_slice(alloc, &self.words)?,
-            ends: Vec::from_slice(alloc, &self.ends)?,
+            ends: mem::replace(&mut self.ends, ArrayVec::new()),
         })
     }
 
@@ -69,14 +73,14 @@ impl ShortBlocks {
     /// Puts a set behind the others.
     pub fn push(&mut self, words: &[u32]) -> Result<(), AllocError>
         requires packed { ArePacked self.old }
-        requires room { length self.old.ends.items < RANGE_VERTICES }
+        requires room { length self.old.ends.items < PAGE_VERTICES }
         requires short { length words.now ≤ SHORT_PLACES }
         ensures words { IfOk result (λ _. self.new.words.items ≡ self.old.words.items ++ words.now) }
         ensures ends { IfOk result (λ _. self.new.ends.items
             ≡ self.old.ends.items ++ (length self.old.words.items + length words.now) ∷ []) }
     {
         push_words(&mut self.words, words)?;
-        self.ends.push(self.words.len() as u16)?;
+        self.ends.push(self.words.len() as u16);
         Ok(())
     }
 }

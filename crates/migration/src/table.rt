@@ -12,6 +12,7 @@ use crate::block::{BLOCK_SHARDS, Block};
 use crate::counts::Counts;
 use crate::edited_shard::EditedShard;
 use crate::groups::Groups;
+use crate::scratch::Scratch;
 use crate::shard::Shard;
 use crate::shards::{empty_shards, share_shards};
 use graph_model::{Edit, Home, RANGE_VERTICES};
@@ -125,12 +126,14 @@ impl Table {
         RANGE_VERTICES * last as u32 + u32::from(shard.vertex_count())
     }
 
-    /// The shard of a range after edits of its vertices, to vertices that a graph may have. The table stays.
+    /// The shard of a range after edits of its vertices, to vertices that a graph may have, made in space that is lent. The
+    /// table stays.
     pub fn edit(
         &self,
         alloc: Global,
         range: usize,
         edits: &[Edit],
+        scratch: &mut Scratch,
     ) -> Result<EditedShard, AllocError>
         requires range { range < length self.now }
         requires edits { AreEditsOf (part_at self.now range) edits.now }
@@ -139,7 +142,7 @@ impl Table {
         let Some(shard) = self.shard_at(range) else {
             unreachable!()
         };
-        let made = EditedShard::of(alloc, shard, edits)?;
+        let made = EditedShard::of(alloc, shard, edits, scratch)?;
         Ok(made)
     }
 

@@ -16,9 +16,9 @@ loop-number-preserved c =
     let some : 64 * number < n = (let test = c.loop-number-test.true in let count = c.div_ceil-count.ensures in omega arith) in
     let size : c.min.result ≡ min 64 (n - 64 * number) = (let is = c.min.ensures in omega arith) in
     subst (AreEmpty n (number + 1)) (sym c.in_ok-push.ensures.items)
-    (one_empty n number c.loop-number.pages.items page some c.loop-number.invariant (subst AreKept (sym made) c.in_ok-page.ensures.kept)
-    (ap rows_of made ∙ c.in_ok-page.ensures.rows ∙ ap (λ k. replicate k []) size)
-    (ap homes_of made ∙ c.in_ok-page.ensures.homes ∙ ap (λ k. replicate k Block) size))
+    (one_empty n number c.loop-number.pages.items page some c.loop-number.invariant (subst AreKept (sym made) c.empty-page.ensures.kept)
+    (ap rows_of made ∙ c.empty-page.ensures.rows ∙ ap (λ k. replicate k []) size)
+    (ap homes_of made ∙ c.empty-page.ensures.homes ∙ ap (λ k. replicate k Block) size))
 
 pub returns : goal.returns
 returns c =

@@ -3,7 +3,7 @@ use Rattle.std.specs.List.{AllByRecursion}
 use Rattle.migration.specs.Begun.{AreBegun}
 use Rattle.migration.specs.Pages.{rows_in, homes_in, sizes_in, part_in}
 use Rattle.migration.proofs.PageLemmas.{IsKept}
-use Rattle.migration.proofs.shard.Shard.apply.Given as goal
+use Rattle.migration.proofs.shard.Shard.apply_in.Given as goal
 
 abbrev pub invariant-loop-number : goal.invariant-loop-number
 invariant-loop-number l = record {

@@ -13,7 +13,7 @@ use Rattle.migration.proofs.PageLemmas.{IsKept, page_inside, page_kept, sizes_ne
 use Rattle.migration.proofs.BegunLemmas.{none_begun, page_begun, page_of_shard, more_begun}
 use Rattle.migration.proofs.HomeLemmas.{all_moved}
 use Rattle.migration.proofs.PartLemmas.{own_edits, rows_done, next_shard}
-use Rattle.migration.proofs.shard.Shard.apply.Goals as goal
+use Rattle.migration.proofs.shard.Shard.apply_in.Goals as goal
 
 pub loop-number-init : goal.loop-number-init
 loop-number-init c =
