@@ -6,6 +6,7 @@ mod answers;
 mod batches;
 mod block;
 mod error;
+mod line;
 mod listed;
 mod programs;
 mod script;

@@ -22,6 +22,7 @@ ghost use Rattle.script_model.specs.Texts.{
   fault_text,
 };
 
+use crate::line::Line;
 use bpf_asm::AssembleError;
 use bpf_model::{ListedEdge, Row};
 use graph_model::Home;
@@ -184,9 +185,12 @@ pub fn put_run(
 fn put_row(text: &mut Vec<u8>, row: Row) -> Result<(), AllocError>
     ensures { OnOk result (text.new.items ≡ text.old.items ++ row_text row) }
 {
-    put_field(text, b"row ", u64::from(row.vertex))?;
-    put_field(text, b" ", row.value)?;
-    put(text, b"\n")
+    let mut line = Line::end();
+    line.put_number(row.value);
+    line.put_word(b" ");
+    line.put_number(u64::from(row.vertex));
+    line.put_word(b"row ");
+    put(text, line.as_slice())
 }
 
 /// The lines of the vertices that have a neighbour.
@@ -239,10 +243,14 @@ pub fn put_list(
 fn put_edge(text: &mut Vec<u8>, edge: ListedEdge) -> Result<(), AllocError>
     ensures { OnOk result (text.new.items ≡ text.old.items ++ edge_text edge) }
 {
-    put_field(text, b"edge ", u64::from(edge.source))?;
-    put_field(text, b" ", u64::from(edge.target))?;
-    put_field(text, b" ", edge.number)?;
-    put(text, b"\n")
+    let mut line = Line::end();
+    line.put_number(edge.number);
+    line.put_word(b" ");
+    line.put_number(u64::from(edge.target));
+    line.put_word(b" ");
+    line.put_number(u64::from(edge.source));
+    line.put_word(b"edge ");
+    put(text, line.as_slice())
 }
 
 /// The lines of some edges of a list.
