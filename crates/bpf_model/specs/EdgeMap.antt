@@ -1,5 +1,5 @@
 -- A program mapped over edges: one run for each edge, each on a record of its own.
-use Rattle.std.specs.Prelude.{ℕ, ◌+◌, ◌-◌, ◌^◌, ◌%◌, ◌==◌, min, max, if◌then◌else◌, List, [], ◌∷◌, ◌++◌, sum, Option, Some, None}
+use Rattle.std.specs.Prelude.{ℕ, ◌+◌, ◌-◌, ◌^◌, ◌%◌, min, max, List, [], ◌∷◌, ◌++◌, map, sum, Option, Some, None}
 use Rattle.std.specs.List.{flat_map, filter_map}
 use Rattle.std.specs.Int.{w32, to_le_bytes}
 use Rattle.bpf_image.specs.Program.{Program}
@@ -60,15 +60,14 @@ exit_numbers p steps g argument source = filter_map (λ number. number) (numbers
 abbrev pub all_numbers : Program → ℕ → Graph → List ℕ → List ℕ → List ℕ
 all_numbers p steps g argument frontier = flat_map (exit_numbers p steps g argument) frontier
 
--- what a vertex's edges reduce to, where it has a neighbour
-abbrev pub row_of : Program → ℕ → Graph → Reduction → List ℕ → ℕ → List Row
+-- what a vertex's edges reduce to
+abbrev pub row_of : Program → ℕ → Graph → Reduction → List ℕ → ℕ → Row
 row_of p steps g reduction argument v =
-    let value = reduction_of_numbers reduction (exit_numbers p steps g argument v) in
-    if degree g v == 0 then [] else record { vertex = v; value = value } ∷ []
+    record { vertex = v; value = reduction_of_numbers reduction (exit_numbers p steps g argument v) }
 
--- one row for each vertex of the frontier that has a neighbour, in the frontier's order
+-- one row for each vertex of the frontier, in the frontier's order
 abbrev pub rows_of : Program → ℕ → Graph → Reduction → List ℕ → List ℕ → List Row
-rows_of p steps g reduction argument frontier = flat_map (row_of p steps g reduction argument) frontier
+rows_of p steps g reduction argument frontier = map (row_of p steps g reduction argument) frontier
 
 -- an edge with its exit number, if there is one
 abbrev pub numbered : ℕ → ℕ → Option ℕ → Option ListedEdge

@@ -5,6 +5,7 @@
 mod edge;
 mod fold;
 mod outcome;
+mod rows;
 mod span;
 
 pub use bpf_model::{EDGE_BYTES, Reduction, Row};
@@ -12,5 +13,6 @@ pub use bpf_runs::Memory;
 pub use edge::Edge;
 pub use fold::{combine, map_frontier, nothing, number_for_edge};
 pub use outcome::MapOutcome;
+pub use rows::Rows;
 pub use verifier::Verified;
 pub use version::Version;

@@ -1,19 +1,22 @@
 -- The maps of pieces, as one.
-use Rattle.std.proofs.Common.{◌≡◌, ℕ, ◌+◌, ◌*◌, ◌++◌, length, take, length-append, sym, ap, subst, ◌∙◌, arith}
+use Rattle.std.proofs.Common.{◌≡◌, ℕ, ◌+◌, ◌*◌, ◌++◌, List, length, take, length-append, sym, ap, subst, ◌∙◌, arith}
 use Rattle.std.proofs.Math.Seq.{take-add}
-use Rattle.std.proofs.lemmas.List.{take_all}
+use Rattle.std.proofs.lemmas.List.{take_all, map-append}
 use Rattle.std.proofs.lemmas.Grind.{flat_map-append}
 use Rattle.bpf_model.specs.EdgeMap.{exit_numbers, all_numbers, row_of, rows_of}
 use Rattle.verifier.specs.Walks.{longest}
 use Rattle.edge_fold.specs.declared.outcome.MapOutcome.{MapOutcome}
 use Rattle.edge_fold.specs.Numbers.{combination}
+use Rattle.edge_fold.specs.Rows.{told_rows}
 use Rattle.edge_fold.proofs.Reductions.{total_more}
+use Rattle.edge_fold.proofs.RowFacts.{told_append}
+use Rattle.bpf_model.specs.declared.row.Row.{Row}
 use Rattle.edge_map.specs.Maps.{IsMap}
 use Rattle.edge_map.specs.Pieces.{Task, IsPart, piece_count, piece_of}
 
 -- the map of the first pieces
 abbrev pub IsBegun : Task → ℕ → MapOutcome → Type 0
-IsBegun t k out = IsMap t.program t.graph t.reduction t.argument (take (64 * k) t.frontier) out
+IsBegun t k out = IsMap t.rows t.program t.graph t.reduction t.argument (take (64 * k) t.frontier) out
 
 -- one piece more
 pub begun_more : (t : Task) (k : ℕ) (out part next : MapOutcome) → IsBegun t k out → IsPart t k part
@@ -27,16 +30,18 @@ begun_more t k out part next begun is edges total rows =
     let more : take (64 * (k + 1)) t.frontier ≡ early ++ own = ap (λ n. take n t.frontier) (omega arith) ∙ take-add (64 * k) 64 t.frontier in
     let numbers : all_numbers p (longest p) g t.argument (take (64 * (k + 1)) t.frontier) ≡ all_numbers p (longest p) g t.argument early ++ all_numbers p (longest p) g t.argument own =
     ap (all_numbers p (longest p) g t.argument) more ∙ flat_map-append (exit_numbers p (longest p) g t.argument) early own in
-    let listed : rows_of p (longest p) g t.reduction t.argument (take (64 * (k + 1)) t.frontier) ≡ rows_of p (longest p) g t.reduction t.argument early ++ rows_of p (longest p) g t.reduction t.argument own =
-    ap (rows_of p (longest p) g t.reduction t.argument) more ∙ flat_map-append (row_of p (longest p) g t.reduction t.argument) early own in
+    let told : List ℕ → List Row = (λ frontier. told_rows t.rows g (rows_of p (longest p) g t.reduction t.argument frontier)) in
+    let listed : told (take (64 * (k + 1)) t.frontier) ≡ told early ++ told own =
+    ap told more ∙ ap (told_rows t.rows g) (map-append (row_of p (longest p) g t.reduction t.argument) early own)
+    ∙ told_append t.rows g (rows_of p (longest p) g t.reduction t.argument early) (rows_of p (longest p) g t.reduction t.argument own) in
     record {
       edges = edges ∙ omega (arith, begun.edges, is.right.edges, ap length numbers, length-append (all_numbers p (longest p) g t.argument early) (all_numbers p (longest p) g t.argument own));
       total = total_more t.reduction out.total part.total next.total (all_numbers p (longest p) g t.argument early) (all_numbers p (longest p) g t.argument own) _ begun.total is.right.total numbers total;
-      rows = rows ∙ ap (λ l. l ++ part.rows.items) begun.rows ∙ ap (λ l. rows_of p (longest p) g t.reduction t.argument early ++ l) is.right.rows ∙ sym listed;
+      told = rows ∙ ap (λ l. l ++ part.rows.items) begun.told ∙ ap (λ l. told early ++ l) is.right.told ∙ sym listed;
     }
 
 -- all pieces are the whole
-pub begun_all : (t : Task) (out : MapOutcome) → IsBegun t (piece_count t.frontier) out → IsMap t.program t.graph t.reduction t.argument t.frontier out
+pub begun_all : (t : Task) (out : MapOutcome) → IsBegun t (piece_count t.frontier) out → IsMap t.rows t.program t.graph t.reduction t.argument t.frontier out
 begun_all t out begun =
     let whole : take (64 * piece_count t.frontier) t.frontier ≡ t.frontier = take_all _ t.frontier (omega arith) in
-    subst (λ f. IsMap t.program t.graph t.reduction t.argument f out) whole begun
+    subst (λ f. IsMap t.rows t.program t.graph t.reduction t.argument f out) whole begun

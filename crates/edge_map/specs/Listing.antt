@@ -1,5 +1,5 @@
 -- All edges of a graph, and the number that a program exits with for each.
-use Rattle.std.specs.Prelude.{◌≡◌, ℕ, ◌+◌, List, [], ◌∷◌, Option, Some, None, Result, Ok, Err}
+use Rattle.std.specs.Prelude.{◌≡◌, ℕ, ◌+◌, List, [], ◌∷◌, Option, Result, Ok, Err}
 use Rattle.std.specs.List.{flat_map, filter_map}
 use Rattle.bpf_image.specs.Program.{Program}
 use Rattle.bpf_model.specs.EdgeMap.{edge_record, number_for, numbered, listed_edges}

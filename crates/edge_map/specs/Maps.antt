@@ -8,14 +8,16 @@ use Rattle.graph_model.specs.Graph.{Graph}
 use Rattle.bpf_model.specs.declared.limits.TheConstants.{EDGE_BYTES}
 use Rattle.verifier.specs.Walks.{longest}
 use Rattle.edge_fold.specs.declared.outcome.MapOutcome.{MapOutcome}
+use Rattle.edge_fold.specs.declared.rows.Rows.{Rows}
+use Rattle.edge_fold.specs.Rows.{told_rows}
 use Rattle.edge_map.specs.declared.errors.MapError.{MapError}
 use Rattle.edge_map.specs.declared.errors.MapError.TheVariants.{ArgumentLength, Frontier, OutOfMemory, WorkerRefused}
 
--- how many exit numbers there are, what all of them reduce to, and the rows
-pub record IsMap (p : Program) (g : Graph) (r : Reduction) (argument frontier : List ℕ) (out : MapOutcome) : Type 0 where
+-- how many exit numbers there are, what all of them reduce to, and the rows that are told
+pub record IsMap (rows : Rows) (p : Program) (g : Graph) (r : Reduction) (argument frontier : List ℕ) (out : MapOutcome) : Type 0 where
   pub edges : out.edges ≡ length (all_numbers p (longest p) g argument frontier)
   pub total : out.total ≡ reduction_of_numbers r (all_numbers p (longest p) g argument frontier)
-  pub rows : out.rows.items ≡ rows_of p (longest p) g r argument frontier
+  pub told : out.rows.items ≡ told_rows rows g (rows_of p (longest p) g r argument frontier)
 
 -- vertices of a graph with so many, each below the next one
 abbrev pub IsFrontier : ℕ → List ℕ → Type 0
@@ -29,10 +31,10 @@ abbrev pub IsAllowed : Program → Graph → List ℕ → List ℕ → Type 0
 IsAllowed p g argument frontier = FitsRecord p argument × IsFrontier g.vertex_count frontier
 
 -- the map, or the first test that fails; for want of memory or of a worker neither fails
-abbrev pub IsMapped : Program → Graph → Reduction → List ℕ → List ℕ → Result MapOutcome MapError → Type 0
-IsMapped p g r argument frontier (Ok out) = IsAllowed p g argument frontier × IsMap p g r argument frontier out
-IsMapped p g r argument frontier (Err ArgumentLength) = FitsRecord p argument → ⊥
-IsMapped p g r argument frontier (Err Frontier) =
+abbrev pub IsMapped : Rows → Program → Graph → Reduction → List ℕ → List ℕ → Result MapOutcome MapError → Type 0
+IsMapped rows p g r argument frontier (Ok out) = IsAllowed p g argument frontier × IsMap rows p g r argument frontier out
+IsMapped rows p g r argument frontier (Err ArgumentLength) = FitsRecord p argument → ⊥
+IsMapped rows p g r argument frontier (Err Frontier) =
     FitsRecord p argument × (IsFrontier g.vertex_count frontier → ⊥)
-IsMapped p g r argument frontier (Err OutOfMemory) = IsAllowed p g argument frontier
-IsMapped p g r argument frontier (Err WorkerRefused) = IsAllowed p g argument frontier
+IsMapped rows p g r argument frontier (Err OutOfMemory) = IsAllowed p g argument frontier
+IsMapped rows p g r argument frontier (Err WorkerRefused) = IsAllowed p g argument frontier

@@ -7,6 +7,7 @@ use Rattle.graph_model.specs.Graph.{Graph}
 use Rattle.atomic_table.specs.Seated.{TableId}
 use Rattle.claims.specs.Claims.{Claiming, times}
 use Rattle.edge_fold.specs.declared.outcome.MapOutcome.{MapOutcome}
+use Rattle.edge_fold.specs.declared.rows.Rows.{Rows}
 use Rattle.edge_map.specs.declared.limits.TheConstants.{PIECE_VERTICES}
 use Rattle.edge_map.specs.declared.piece.Piece.{Piece}
 use Rattle.edge_map.specs.Maps.{IsMap}
@@ -18,11 +19,12 @@ pub record Task : Type 0 where
   pub argument : List ℕ
   pub frontier : List ℕ
   pub reduction : Reduction
+  pub rows : Rows
   pub counter : TableId
 
-abbrev pub task : Program → Graph → List ℕ → List ℕ → Reduction → TableId → Task
-task p g argument frontier r counter =
-    record { program = p; graph = g; argument = argument; frontier = frontier; reduction = r; counter = counter }
+abbrev pub task : Program → Graph → List ℕ → List ℕ → Reduction → Rows → TableId → Task
+task p g argument frontier r rows counter =
+    record { program = p; graph = g; argument = argument; frontier = frontier; reduction = r; rows = rows; counter = counter }
 
 -- how many pieces a frontier has
 abbrev pub piece_count : List ℕ → ℕ
@@ -34,7 +36,7 @@ piece_of frontier number = take PIECE_VERTICES (drop (PIECE_VERTICES * number) f
 
 -- the map of a piece
 pub record IsPart (t : Task) (number : ℕ) (out : MapOutcome) : Type 0 where
-  pub right : IsMap t.program t.graph t.reduction t.argument (piece_of t.frontier number) out
+  pub right : IsMap t.rows t.program t.graph t.reduction t.argument (piece_of t.frontier number) out
   pub most : out.edges ≤ PIECE_VERTICES * MOST_VERTICES
 
 abbrev pub IsPiece : Task → Piece → Type 0

@@ -42,7 +42,7 @@ pub(crate) fn joined(
     requires count { count ≡ piece_count plan.now.frontier.now }
     requires all { IsWorkDone (task_of plan.now) pieces.items }
     ensures { IfOk result (λ out. let t = task_of plan.now in
-        IsMap t.program t.graph t.reduction t.argument t.frontier out) }
+        IsMap t.rows t.program t.graph t.reduction t.argument t.frontier out) }
 {
     let places = placed(alloc, plan, pieces, count)?;
     let mut out = MapOutcome {

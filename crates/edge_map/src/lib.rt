@@ -21,5 +21,5 @@ pub use errors::MapError;
 pub use gates::{Gate, OpenGate, Workers};
 pub use limits::{BLOCK_EDGES, PIECE_VERTICES};
 pub use list::{EdgeList, list_edges};
-pub use map::map_edges;
+pub use map::{map_edges, map_sources};
 pub use versions::Pin;

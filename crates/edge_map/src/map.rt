@@ -5,6 +5,7 @@ ghost use Rattle.graph_model.specs.Past.{graph_of};
 ghost use Rattle.bpf_model.specs.declared.limits.TheConstants.{EDGE_BYTES};
 ghost use Rattle.gates.specs.declared.limits.TheConstants.{MOST_WORKERS};
 ghost use Rattle.claims.specs.declared.limits.TheConstants.{PARTS};
+ghost use Rattle.edge_fold.specs.declared.rows.Rows.TheVariants.{OfEach, OfSources};
 ghost use Rattle.edge_map.specs.Maps.{IsMap, IsMapped};
 ghost use Rattle.edge_map.specs.Pieces.{IsWork, task};
 ghost use Rattle.edge_map.specs.Plans.{task_of};
@@ -18,7 +19,7 @@ use crate::plan::Plan;
 use crate::work::{spread, work};
 use bpf_model::{EDGE_BYTES, Reduction};
 use claims::{Claimant, Counter};
-use edge_fold::MapOutcome;
+use edge_fold::{MapOutcome, Rows};
 use gates::{Gate, Refusal, Workers};
 use std::alloc::{AllocError, Global};
 use std::sync::Wait;
@@ -52,6 +53,7 @@ fn done_by<Ga: Gate, R: Threads + Wait>(
         argument,
         frontier,
         reduction,
+        rows,
         counter,
     } = plan;
     thread::scope(
@@ -62,7 +64,7 @@ fn done_by<Ga: Gate, R: Threads + Wait>(
                 × (length argument.now + EDGE_BYTES ≡ program.now.record_length)
                 × (length frontier.now ≤ MOST_VERTICES) }
             ensures { IfOk result (λ done. IsWork (task program.entry.now (graph_of version.entry.now.past)
-                argument.entry.now frontier.entry.now reduction counter.entry.now) me.parts
+                argument.entry.now frontier.entry.now reduction rows counter.entry.now) me.parts
                 done.claimant done.pieces.items) }
         {
             let plan = Plan {
@@ -71,6 +73,7 @@ fn done_by<Ga: Gate, R: Threads + Wait>(
                 argument,
                 frontier,
                 reduction,
+                rows,
                 counter,
             };
             spread(rt, alloc, scope, plan, gate, me, more)
@@ -94,13 +97,14 @@ fn map_allowed<Ga: Gate, R: Threads + Wait>(
     argument: &[u8],
     frontier: &[u32],
     reduction: Reduction,
+    rows: Rows,
     workers: Workers,
     gate: &Ga,
 ) -> Result<MapOutcome, Refusal>
     requires argument { length argument.now + EDGE_BYTES ≡ program.now.record_length }
     requires few { length frontier.now ≤ MOST_VERTICES }
     ensures { IfOk result (λ out.
-        IsMap program.now (graph_of version.now.past) reduction argument.now frontier.now out) }
+        IsMap rows program.now (graph_of version.now.past) reduction argument.now frontier.now out) }
 {
     let (counter, me) = Counter::new(alloc)?;
     let plan = Plan {
@@ -109,6 +113,7 @@ fn map_allowed<Ga: Gate, R: Threads + Wait>(
         argument,
         frontier,
         reduction,
+        rows,
         counter: &counter,
     };
     let count = count_pieces(&plan);
@@ -119,7 +124,7 @@ fn map_allowed<Ga: Gate, R: Threads + Wait>(
     Ok(out)
 }
 
-/// What `map_edges` says, of a version.
+/// What `map_edges` and `map_sources` say, of a version.
 pub(crate) fn map_version<Ga: Gate, R: Threads + Wait>(
     rt: &R,
     alloc: Global,
@@ -128,10 +133,11 @@ pub(crate) fn map_version<Ga: Gate, R: Threads + Wait>(
     argument: &[u8],
     frontier: &[u32],
     reduction: Reduction,
+    rows: Rows,
     workers: Workers,
     gate: &Ga,
 ) -> Result<MapOutcome, MapError>
-    ensures { IsMapped program.now (graph_of version.now.past) reduction argument.now frontier.now result }
+    ensures { IsMapped rows program.now (graph_of version.now.past) reduction argument.now frontier.now result }
 {
     if argument.len() + EDGE_BYTES != usize::from(program.image().record_length()) {
         return Err(MapError::ArgumentLength);
@@ -140,13 +146,13 @@ pub(crate) fn map_version<Ga: Gate, R: Threads + Wait>(
         return Err(MapError::Frontier);
     }
     let out = map_allowed(
-        rt, alloc, version, program, argument, frontier, reduction, workers, gate,
+        rt, alloc, version, program, argument, frontier, reduction, rows, workers, gate,
     )?;
     Ok(out)
 }
 
 /// Runs a verified program on each edge of the frontier's vertices, on a record of the edge's own, and reduces the
-/// numbers that it exits with: those of each vertex, and all together. The graph is that of the pin's version.
+/// numbers that it exits with: those of each vertex, which has a row, and all together. The graph is that of the pin's version.
 /// `ArgumentLength` exactly where the argument does not have the record's length less 16 bytes; else `Frontier` exactly
 /// where the frontier does not strictly ascend or has a vertex outside; then `OutOfMemory` where there is no memory,
 /// and `WorkerRefused` where a thread could not be started. The answer does not depend on the workers, the gate or the
@@ -164,7 +170,7 @@ pub fn map_edges<Ga: Gate, R: Threads + Wait>(
     workers: Workers,
     gate: &Ga,
 ) -> Result<MapOutcome, MapError>
-    ensures { IsMapped program.now (graph_of pin.now.past) reduction argument.now frontier.now result }
+    ensures { IsMapped OfEach program.now (graph_of pin.now.past) reduction argument.now frontier.now result }
 {
     map_version(
         rt,
@@ -174,6 +180,35 @@ pub fn map_edges<Ga: Gate, R: Threads + Wait>(
         argument,
         frontier,
         reduction,
+        Rows::OfEach,
+        workers,
+        gate,
+    )
+}
+
+/// What `map_edges` does, with rows of those vertices alone that have a neighbour.
+pub fn map_sources<Ga: Gate, R: Threads + Wait>(
+    rt: &R,
+    alloc: Global,
+    pin: &Pin,
+    program: &Verified,
+    argument: &[u8],
+    frontier: &[u32],
+    reduction: Reduction,
+    workers: Workers,
+    gate: &Ga,
+) -> Result<MapOutcome, MapError>
+    ensures { IsMapped OfSources program.now (graph_of pin.now.past) reduction argument.now frontier.now result }
+{
+    map_version(
+        rt,
+        alloc,
+        pin.version(),
+        program,
+        argument,
+        frontier,
+        reduction,
+        Rows::OfSources,
         workers,
         gate,
     )

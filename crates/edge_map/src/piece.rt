@@ -46,6 +46,7 @@ pub(crate) fn map_piece(
         plan.argument,
         part,
         plan.reduction,
+        plan.rows,
     )?;
     Ok(outcome)
 }

@@ -5,6 +5,7 @@ ghost use Rattle.bpf_model.specs.declared.limits.TheConstants.{EDGE_BYTES};
 
 use bpf_model::Reduction;
 use claims::Counter;
+use edge_fold::Rows;
 use verifier::Verified;
 use version::Version;
 
@@ -16,6 +17,7 @@ pub(crate) struct Plan<'a> {
     pub argument: &'a [u8],
     pub frontier: &'a [u32],
     pub reduction: Reduction,
+    pub rows: Rows,
     pub counter: &'a Counter,
     ghost argued: { length argument.now + EDGE_BYTES ≡ program.now.record_length },
     ghost few: { length frontier.now ≤ MOST_VERTICES },

@@ -89,6 +89,7 @@ pub(crate) fn spread<'s, E, Ga: Gate, R: Threads>(
         argument,
         frontier,
         reduction,
+        rows,
         counter,
     } = plan;
     let worker = move || -> Result<Done, AllocError>
@@ -96,7 +97,7 @@ pub(crate) fn spread<'s, E, Ga: Gate, R: Threads>(
             × (length argument.now + EDGE_BYTES ≡ program.now.record_length)
             × (length frontier.now ≤ MOST_VERTICES) }
         ensures { IfOk result (λ done. IsWork (task program.entry.now (graph_of version.entry.now.past)
-            argument.entry.now frontier.entry.now reduction counter.entry.now) 1 done.claimant done.pieces.items) }
+            argument.entry.now frontier.entry.now reduction rows counter.entry.now) 1 done.claimant done.pieces.items) }
     {
         let plan = Plan {
             version,
@@ -104,6 +105,7 @@ pub(crate) fn spread<'s, E, Ga: Gate, R: Threads>(
             argument,
             frontier,
             reduction,
+            rows,
             counter,
         };
         work(alloc, plan, gate, theirs)

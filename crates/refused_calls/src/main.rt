@@ -152,7 +152,7 @@ fn map<R: Threads + Wait>(
         &OpenGate,
     );
     match mapped {
-        Ok(out) if out.edges == 2 && out.total == 3 && out.rows.len() == 2 => Ok(()),
+        Ok(out) if out.edges == 2 && out.total == 3 && out.rows.len() == MAPPED as usize => Ok(()),
         Err(MapError::OutOfMemory | MapError::WorkerRefused) => Err(Stop::NotMapped),
         _ => Err(Stop::Wrong),
     }

@@ -118,11 +118,32 @@ const fn row(vertex: u32, value: u64) -> Row {
 fn every_number_of_workers_gives_the_same(rt: HostRuntime) -> Result<(), Fail> {
     let pin = four_edges(&rt, rt.alloc())?;
     let all = vertices_below(rt.alloc(), 300)?;
-    let wanted = [row(0, 1), row(70, 2), row(299, 7)];
     for workers in [1, 2, 16] {
         let out = targets(&rt, rt.alloc(), &pin, &all, Reduction::Sum, workers)?;
         assert_eq!(rt; [out.edges, out.total], [4, 10], "by {workers}");
-        assert_eq!(rt; out.rows.as_slice(), wanted.as_slice(), "by {workers}");
+        assert_eq!(rt; out.rows.len(), 300, "by {workers}");
+        for (vertex, value) in [(0, 1), (1, 0), (69, 0), (70, 2), (298, 0), (299, 7)] {
+            assert_eq!(rt;
+                out.rows[vertex as usize],
+                row(vertex, value),
+                "by {workers}"
+            );
+        }
+    }
+    Ok(())
+}
+
+#[test]
+fn a_vertex_without_a_neighbour_has_a_row(rt: HostRuntime) -> Result<(), Fail> {
+    let pin = four_edges(&rt, rt.alloc())?;
+    for (reduction, of_none, of_last) in [
+        (Reduction::Min, u64::MAX, 3),
+        (Reduction::Max, 0, 4),
+        (Reduction::Sum, 0, 7),
+    ] {
+        let out = targets(&rt, rt.alloc(), &pin, &[1, 70, 299], reduction, 2)?;
+        let wanted = [row(1, of_none), row(70, 2), row(299, of_last)];
+        assert_eq!(rt; out.rows.as_slice(), wanted.as_slice());
     }
     Ok(())
 }

@@ -1,5 +1,5 @@
-use Rattle.std.proofs.Common.{◌≡◌, Option, Some, None, MatchOption, ◌++◌, [], length, drop, refl, sym, ap, ◌∙◌, arith}
-use Rattle.graph_model.specs.Graph.{neighbours, degree}
+use Rattle.std.proofs.Common.{◌≡◌, ◌≤◌, Option, Some, None, MatchOption, length, refl, sym, ◌∙◌, arith}
+use Rattle.graph_model.specs.Graph.{neighbours}
 use Rattle.graph_model.specs.Past.{graph_of}
 use Rattle.edge_fold.proofs.Numbers.{none_folded, all_folded, none_left, row_behind, few_in_row, row_folded}
 use Rattle.edge_fold.proofs.fold.fold_vertex.Goals as goal
@@ -25,20 +25,29 @@ nothing_left (Some x) P Q h none = absurd (none x refl)
 
 pub returns-clause-value : goal.returns-clause-value
 returns-clause-value c =
-    (all_folded c.args.reduction c.args.program.now (graph_of c.args.version.now.past) c.args.argument.now c.args.source 0 (neighbours (graph_of c.args.version.now.past) c.args.source) c.slices.place c.slices.so_far c.slices.invariant.folded (none_left _ _ (c.slices.invariant.rest ∙ (nothing_left c.next_slice.result _ _ c.next_slice.ensures.lent c.in_default.not-Some).0))).0
+    let past : length (neighbours (graph_of c.args.version.now.past) c.args.source) ≤ c.slices.place = (let test = c.slices-test.false in omega (arith, test, c.requires.count)) in
+    (all_folded c.args.reduction c.args.program.now (graph_of c.args.version.now.past) c.args.argument.now c.args.source 0 (neighbours (graph_of c.args.version.now.past) c.args.source) c.slices.place c.slices.so_far c.slices.invariant.folded past).0
 
 pub returns-clause-count : goal.returns-clause-count
 returns-clause-count c =
-    (all_folded c.args.reduction c.args.program.now (graph_of c.args.version.now.past) c.args.argument.now c.args.source 0 (neighbours (graph_of c.args.version.now.past) c.args.source) c.slices.place c.slices.so_far c.slices.invariant.folded (none_left _ _ (c.slices.invariant.rest ∙ (nothing_left c.next_slice.result _ _ c.next_slice.ensures.lent c.in_default.not-Some).0))).1
+    let past : length (neighbours (graph_of c.args.version.now.past) c.args.source) ≤ c.slices.place = (let test = c.slices-test.false in omega (arith, test, c.requires.count)) in
+    (all_folded c.args.reduction c.args.program.now (graph_of c.args.version.now.past) c.args.argument.now c.args.source 0 (neighbours (graph_of c.args.version.now.past) c.args.source) c.slices.place c.slices.so_far c.slices.invariant.folded past).1
+
+pub unreachable-requires : goal.unreachable-requires
+unreachable-requires c =
+    let ended = (nothing_left c.next_slice.result _ _ c.next_slice.ensures.lent c.in_default.not-Some).0 in
+    let past : length (neighbours (graph_of c.args.version.now.past) c.args.source) ≤ c.slices.place = none_left _ _ (c.slices.invariant.rest ∙ ended) in
+    let test = c.slices-test.true in
+    omega (arith, past, test, c.requires.count)
 
 pub fold_span-value-requires-clause-few : goal.fold_span-value-requires-clause-few
 fold_span-value-requires-clause-few c =
-    omega (arith, few_in_row (neighbours (graph_of c.args.version.now.past) c.args.source) c.in-Some.targets.now c.next_slice.new.self c.slices.place c.degree-degree.result (c.slices.invariant.rest ∙ c.in-Some.ensures.lent.1) c.slices.invariant.folded.within (c.degree-degree.ensures.value ∙ ap (degree (graph_of c.args.version.now.past)) c.from.ensures) c.degree-degree.ensures.small)
+    omega (arith, few_in_row (neighbours (graph_of c.args.version.now.past) c.args.source) c.in-Some.targets.now c.next_slice.new.self c.slices.place c.args.neighbour_count (c.slices.invariant.rest ∙ c.in-Some.ensures.lent.1) c.slices.invariant.folded.within c.requires.count c.requires.small)
 
 pub overflow_cast-place : goal.overflow_cast-place
 overflow_cast-place c =
-    omega (arith, few_in_row (neighbours (graph_of c.args.version.now.past) c.args.source) c.in-Some.targets.now c.next_slice.new.self c.slices.place c.degree-degree.result (c.slices.invariant.rest ∙ c.in-Some.ensures.lent.1) c.slices.invariant.folded.within (c.degree-degree.ensures.value ∙ ap (degree (graph_of c.args.version.now.past)) c.from.ensures) c.degree-degree.ensures.small)
+    omega (arith, few_in_row (neighbours (graph_of c.args.version.now.past) c.args.source) c.in-Some.targets.now c.next_slice.new.self c.slices.place c.args.neighbour_count (c.slices.invariant.rest ∙ c.in-Some.ensures.lent.1) c.slices.invariant.folded.within c.requires.count c.requires.small)
 
 pub overflow_add-place : goal.overflow_add-place
 overflow_add-place c =
-    omega (arith, few_in_row (neighbours (graph_of c.args.version.now.past) c.args.source) c.in-Some.targets.now c.next_slice.new.self c.slices.place c.degree-degree.result (c.slices.invariant.rest ∙ c.in-Some.ensures.lent.1) c.slices.invariant.folded.within (c.degree-degree.ensures.value ∙ ap (degree (graph_of c.args.version.now.past)) c.from.ensures) c.degree-degree.ensures.small)
+    omega (arith, few_in_row (neighbours (graph_of c.args.version.now.past) c.args.source) c.in-Some.targets.now c.next_slice.new.self c.slices.place c.args.neighbour_count (c.slices.invariant.rest ∙ c.in-Some.ensures.lent.1) c.slices.invariant.folded.within c.requires.count c.requires.small)

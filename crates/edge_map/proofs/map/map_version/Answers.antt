@@ -23,7 +23,7 @@ returns-in_err-out g c =
     let count : c.vertex_count.result ≡ (graph_of c.args.version.now.past).vertex_count = c.vertex_count.ensures.value ∙ sym (vertex_count-graph_of c.args.version.now.past) in
     let fits : FitsRecord c.args.program.now c.args.argument.now = search rules in
     let inside = subst (λ n. IsFrontier n c.args.frontier.now) count (c.if-not-is_frontier.ensures.0 refl) in
-    refused_mapped c.args.program.now (graph_of c.args.version.now.past) c.args.reduction c.args.argument.now c.args.frontier.now c.from_residual.result c.in_err-out.field-0.0 (fits, inside) c.from_residual.ensures.1
+    refused_mapped c.args.rows c.args.program.now (graph_of c.args.version.now.past) c.args.reduction c.args.argument.now c.args.frontier.now c.from_residual.result c.in_err-out.field-0.0 (fits, inside) c.from_residual.ensures.1
 
 pub returns : goal.returns
 returns g c =
