@@ -1,15 +1,16 @@
 -- What is answered to a batch, test by test.
-use Rattle.std.proofs.Common.{◌≡◌, ◌+◌, ℕ, Bool, true, false, ltb, leb, List, [], ◌∷◌, Some, refl, ap, ◌∙◌}
+use Rattle.std.proofs.Common.{◌≡◌, ℕ, Bool, true, false, ltb, leb, List, [], ◌∷◌, None, refl, ap, ◌∙◌}
 use Rattle.std.specs.List.{list_all}
 use Rattle.std.proofs.lemmas.Bool.{and_parts, ltb-true}
 use Rattle.graph_model.specs.declared.edit.Edit.{Edit}
-use Rattle.graph_model.specs.Edits.{AreEditsBelow, added, removed}
-use Rattle.graph_model.specs.Past.{Past, opening, graph_of, longer, number_of}
+use Rattle.graph_model.specs.Edits.{AreEditsBelow}
+use Rattle.graph_model.specs.Past.{Past, opening, longer, number_of}
 use Rattle.session_model.specs.declared.fault.Fault.TheVariants as faults
 use Rattle.session_model.specs.Session.{Session}
-use Rattle.session_model.specs.Commands.{BatchPublished}
 use Rattle.session_model.specs.Faults.{is_edit_of}
-use Rattle.session_model.specs.Responses.{Answers, Fails, entry_of, publish_response}
+use Rattle.session_model.specs.Responses.{Answers, Fails, entry_of, published_answer, publish_response}
+use Rattle.session.specs.Handles.{StoreState}
+use Rattle.session.specs.Kept.{with_store}
 use Rattle.std.proofs.Common.{length}
 
 -- what a test of shown edits says of the graph's
@@ -25,18 +26,17 @@ edits_below past (e ∷ edits) all =
     let ends = and_parts _ _ parts.0 in
     ((ltb-true _ _ ends.0, ltb-true _ _ ends.1), edits_below past edits parts.1)
 
-pub batch_outside : (feed : ℕ) (edits : List Edit) (past : Past) (s : Session) → list_all (is_edit_of past) edits ≡ false → publish_response feed edits (record s { past = Some past }) ≡ Fails faults.Range
-batch_outside feed edits past s outside = rw outside refl
+pub batch_outside : (feed : ℕ) (edits : List Edit) (store : StoreState) (s : Session) → list_all (is_edit_of store.past) edits ≡ false → publish_response feed edits (with_store s store) ≡ Fails faults.Range
+batch_outside feed edits store s outside = rw outside refl
 
-pub batch_too_long : (feed : ℕ) (edits : List Edit) (past : Past) (s : Session) → list_all (is_edit_of past) edits ≡ true → ltb 65536 (length edits) ≡ true → publish_response feed edits (record s { past = Some past }) ≡ Fails faults.TooMany
-batch_too_long feed edits past s inside long = rw (inside, long) refl
+pub batch_too_long : (feed : ℕ) (edits : List Edit) (store : StoreState) (s : Session) → list_all (is_edit_of store.past) edits ≡ true → ltb 65536 (length edits) ≡ true → publish_response feed edits (with_store s store) ≡ Fails faults.TooMany
+batch_too_long feed edits store s inside long = rw (inside, long) refl
 
-pub log_full : (feed : ℕ) (edits : List Edit) (past : Past) (s : Session) → list_all (is_edit_of past) edits ≡ true → ltb 65536 (length edits) ≡ false → leb 4096 (number_of past) ≡ true → publish_response feed edits (record s { past = Some past }) ≡ Fails faults.LogFull
-log_full feed edits past s inside short full = rw (inside, short, full) refl
+pub log_full : (feed : ℕ) (edits : List Edit) (store : StoreState) (s : Session) → list_all (is_edit_of store.past) edits ≡ true → ltb 65536 (length edits) ≡ false → leb 4096 (number_of store.past) ≡ true → publish_response feed edits (with_store s store) ≡ Fails faults.LogFull
+log_full feed edits store s inside short full = rw (inside, short, full) refl
 
-pub batch_published : (feed : ℕ) (edits : List Edit) (past next : Past) (s : Session) (number gained lost : ℕ)
-    → list_all (is_edit_of past) edits ≡ true → ltb 65536 (length edits) ≡ false → leb 4096 (number_of past) ≡ false
-    → next ≡ longer past (entry_of feed edits) → number ≡ number_of past + 1 → gained ≡ added edits (graph_of past) → lost ≡ removed edits (graph_of past)
-    → publish_response feed edits (record s { past = Some past }) ≡ Answers (BatchPublished feed number gained lost) (record s { past = Some next })
-batch_published feed edits past next s number gained lost inside short room next_is number_is gained_is lost_is =
-    rw (inside, short, room, next_is, number_is, gained_is, lost_is) refl
+-- a batch that passes all tests
+pub batch_passes : (feed : ℕ) (edits : List Edit) (store : StoreState) (s : Session)
+    → list_all (is_edit_of store.past) edits ≡ true → ltb 65536 (length edits) ≡ false → leb 4096 (number_of store.past) ≡ false
+    → publish_response feed edits (with_store s store) ≡ Answers (published_answer feed edits store.past) (with_store s (record { past = longer store.past (entry_of feed edits); held = None }))
+batch_passes feed edits store s inside short room = rw (inside, short, room) refl

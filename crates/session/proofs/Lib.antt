@@ -1,3 +1,4 @@
 pub mod Frontiers
 pub mod BatchLemmas
 pub mod RunLemmas
+pub mod Unpublished

@@ -10,6 +10,7 @@ use Rattle.graph_model.specs.Graph.{Graph}
 use Rattle.graph_model.specs.Past.{Past, graph_of}
 use Rattle.graph_model.proofs.Pasts.{vertex_count-graph_of}
 use Rattle.edge_fold.specs.declared.outcome.MapOutcome.{MapOutcome}
+use Rattle.edge_fold.specs.declared.rows.Rows.TheVariants.{OfSources}
 use Rattle.edge_map.specs.declared.errors.MapError.{MapError}
 use Rattle.edge_map.specs.declared.errors.MapError.TheVariants as map
 use Rattle.edge_map.specs.Maps.{IsMap, IsFrontier, IsMapped}
@@ -60,11 +61,11 @@ frontier_fails frontier g none = elim (cases_Bool (is_frontier g.vertex_count fr
   | inr down ↦ down
 ]
 
-mapped_answer : (program pin : List ℕ) (p : Program) (g : Graph) (r : Reduction) (argument frontier : List ℕ) (out : MapOutcome) → IsMap p g r argument frontier out → map_answer program pin p g r argument frontier ≡ EdgesMapped program pin out.edges out.total out.rows.items
-mapped_answer program pin p g r argument frontier out is = rw (is.edges, is.total, is.rows) refl
+mapped_answer : (program pin : List ℕ) (p : Program) (g : Graph) (r : Reduction) (argument frontier : List ℕ) (out : MapOutcome) → IsMap OfSources p g r argument frontier out → map_answer program pin p g r argument frontier ≡ EdgesMapped program pin out.edges out.total out.rows.items
+mapped_answer program pin p g r argument frontier out is = rw (is.edges, is.total, is.told) refl
 
 -- what a map gave is the response to the run
-pub run_told : (program pin : List ℕ) (r : Reduction) (argument frontier : List ℕ) (p : Program) (past : Past) (s : Session) (told : Result MapOutcome MapError) (result : Result GivenAnswer CommandError) → IsMapped p (graph_of past) r argument (frontier_of frontier (graph_of past)) told → IsToldOf program pin told result → Performs (map_response program pin r argument frontier p past s) result s s
+pub run_told : (program pin : List ℕ) (r : Reduction) (argument frontier : List ℕ) (p : Program) (past : Past) (s : Session) (told : Result MapOutcome MapError) (result : Result GivenAnswer CommandError) → IsMapped OfSources p (graph_of past) r argument (frontier_of frontier (graph_of past)) told → IsToldOf program pin told result → Performs (map_response program pin r argument frontier p past s) result s s
 run_told program pin r argument frontier p past s (Ok out) (Ok answer) is said =
     let g = graph_of past in
     let passes : is_frontier past.vertex_count frontier ≡ true = subst (λ n. is_frontier n frontier ≡ true) (vertex_count-graph_of past) (frontier_passes frontier g is.0.1) in
@@ -78,5 +79,5 @@ run_told program pin r argument frontier p past s (Err map.ArgumentLength) (Err 
 run_told program pin r argument frontier p past s (Err map.Frontier) (Err e) is said =
     let fails : is_frontier past.vertex_count frontier ≡ false = subst (λ n. is_frontier n frontier ≡ false) (vertex_count-graph_of past) (frontier_fails frontier (graph_of past) is.1) in
     rw said (rw (no_frontier argument frontier p.record_length past.vertex_count is.0 fails) refl, refl)
-run_told program pin r argument frontier p past s (Err map.OutOfMemory) (Err e) is said = rw said refl
-run_told program pin r argument frontier p past s (Err map.WorkerRefused) (Err e) is said = rw said refl
+run_told program pin r argument frontier p past s (Err map.OutOfMemory) (Err e) is said = rw said (inl refl)
+run_told program pin r argument frontier p past s (Err map.WorkerRefused) (Err e) is said = rw said (inl refl)

@@ -1,9 +1,9 @@
 -- All ends of one store in one thread, and what comes of a batch that is handed in there.
-use Rattle.std.specs.Prelude.{◌≡◌, ◌≤◌, ℕ, Result, Ok, Err, ⊤}
+use Rattle.std.specs.Prelude.{◌≡◌, ◌≤◌, ◌⊎◌, ℕ, Option, Some, None, Result, Ok, Err}
 use Rattle.graph_model.specs.declared.entry.Entry.{Entry}
 use Rattle.graph_model.specs.declared.limits.TheConstants.{MOST_VERTICES}
 use Rattle.graph_model.specs.Edits.{added, removed}
-use Rattle.graph_model.specs.Past.{Past, graph_of, number_of, longer}
+use Rattle.graph_model.specs.Past.{Past, opening, graph_of, number_of, longer}
 use Rattle.history.specs.Moment.{Moment, Begins}
 use Rattle.intake.specs.Ends.{Feeding, IsFeedOf}
 use Rattle.versions.specs.Receipts.{Publication}
@@ -20,18 +20,30 @@ pub record AreHandles (n number : ℕ) (publisher : Storing) (first second : Fee
   pub few : n ≤ MOST_VERTICES
   pub number_is : number ≡ number_of publisher.moment.past
 
--- the publication of this batch, and of no other
-pub record IsOf (old : Past) (e : Entry) (p : Publication) (new : Past) : Type 0 where
-  pub made : new ≡ longer old e
-  pub past : p.moment.past ≡ new
-  pub gained : p.added ≡ added e.batch (graph_of old)
-  pub lost : p.removed ≡ removed e.batch (graph_of old)
+-- the last version of a store, and the batch that it took and could not publish
+pub record StoreState : Type 0 where
+  pub past : Past
+  pub held : Option Entry
 
--- the batch is published; or there is no memory or no worker, and nothing is. Where the store does not answer as it should, nothing
--- is said
-abbrev pub Publishes : Past → Entry → Result Publication CommandError → Past → Type 0
+abbrev pub new_store : ℕ → StoreState
+new_store n = record { past = opening n; held = None }
+
+-- the publication of this batch, and of no other
+pub record IsOf (old : StoreState) (e : Entry) (p : Publication) (new : StoreState) : Type 0 where
+  pub made : new ≡ record { past = longer old.past e; held = None }
+  pub past : p.moment.past ≡ new.past
+  pub gained : p.added ≡ added e.batch (graph_of old.past)
+  pub lost : p.removed ≡ removed e.batch (graph_of old.past)
+
+-- nothing is published, and a batch that was taken is held
+abbrev pub IsUnpublished : (old new : StoreState) → Type 0
+IsUnpublished old new = (new ≡ old) ⊎ ((e : Entry) × (new ≡ record old { held = Some e }))
+
+-- the batch is published; or there is no memory or no worker, and nothing is. Where the store does not answer as it should, it
+-- holds no batch: so none is held for want of memory or of a worker
+abbrev pub Publishes : StoreState → Entry → Result Publication CommandError → StoreState → Type 0
 Publishes old e (Ok p) new = IsOf old e p new
-Publishes old e (Err errors.OutOfMemory) new = new ≡ old
-Publishes old e (Err errors.WorkerRefused) new = new ≡ old
-Publishes old e (Err errors.Store) new = ⊤
+Publishes old e (Err errors.OutOfMemory) new = IsUnpublished old new
+Publishes old e (Err errors.WorkerRefused) new = IsUnpublished old new
+Publishes old e (Err errors.Store) new = new.held ≡ None
 Publishes old e (Err (errors.Fault fault)) new = ⊥

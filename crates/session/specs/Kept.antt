@@ -7,10 +7,12 @@ use Rattle.std.specs.declared.alloc.Global.{Global}
 use Rattle.std.specs.Arc.{arc_value}
 use Rattle.bpf_image.specs.Program.{Program}
 use Rattle.bpf_model.specs.declared.listed_edge.ListedEdge.{ListedEdge}
+use Rattle.graph_model.specs.declared.entry.Entry.{Entry}
 use Rattle.graph_model.specs.Past.{Past}
 use Rattle.history.specs.Moment.{Moment}
 use Rattle.session_model.specs.Session.{KeptProgram, KeptPin, Session}
 use Rattle.session_model.specs.Commands.{Command, MakeGraph, PublishBatch, LoadProgram, TakePin, RunProgram, TellHome, ListEdges, Answer, GraphMade, BatchPublished, ProgramAccepted, ProgramRefused, NoImage, PinTaken, EdgesMapped, HomeTold, EdgesListed}
+use Rattle.session.specs.Handles.{StoreState}
 use Rattle.session.specs.declared.kept.NamedProgram.{NamedProgram}
 use Rattle.session.specs.declared.kept.NamedPin.{NamedPin}
 use Rattle.session.specs.declared.command.Command.{Command as GivenCommand}
@@ -24,6 +26,10 @@ kept_program p = record { name = p.name.items; program = arc_value p.program }
 abbrev pub kept_pin : NamedPin → KeptPin
 kept_pin p = record { name = p.name.items; past = p.pin.past }
 
+-- a session with this store
+abbrev pub with_store : Session → StoreState → Session
+with_store s store = record s { past = Some store.past; held = store.held }
+
 -- a program, where there is one
 abbrev pub program_of : Option (Bor (Arc Program Global)) → Option Program
 program_of program = option_map (λ (p : Arc Program Global). arc_value p) (option_copied program)
@@ -32,9 +38,19 @@ program_of program = option_map (λ (p : Arc Program Global). arc_value p) (opti
 abbrev pub past_of : Option (Bor Moment) → Option Past
 past_of pin = option_map (λ (m : Moment). m.past) (option_copied pin)
 
-abbrev pub session_of : Option Past → List NamedProgram → List NamedPin → Session
-session_of past programs pins =
-    record { past = past; programs = map kept_program programs; pins = map kept_pin pins }
+-- the last version of a store, where there is a store
+abbrev pub past_in : Option StoreState → Option Past
+past_in None = None
+past_in (Some store) = Some store.past
+
+-- the batch that a store holds, where there is one
+abbrev pub held_in : Option StoreState → Option Entry
+held_in None = None
+held_in (Some store) = store.held
+
+abbrev pub session_of : Option StoreState → List NamedProgram → List NamedPin → Session
+session_of store programs pins =
+    record { past = past_in store; held = held_in store; programs = map kept_program programs; pins = map kept_pin pins }
 
 abbrev pub command_of : GivenCommand → Command
 command_of (commands.MakeGraph vertices) = MakeGraph vertices

@@ -1,5 +1,6 @@
 -- A command that was performed, or was not.
-use Rattle.std.specs.Prelude.{◌≡◌, Result, Ok, Err, ⊤}
+use Rattle.std.specs.Prelude.{◌≡◌, ◌⊎◌, Some, None, Result, Ok, Err, ⊤}
+use Rattle.graph_model.specs.declared.entry.Entry.{Entry}
 use Rattle.session_model.specs.Session.{Session}
 use Rattle.session_model.specs.Commands.{Answer, BatchPublished, PinTaken, HomeTold}
 use Rattle.session_model.specs.Responses.{Response, Answers, Fails}
@@ -19,12 +20,26 @@ abbrev pub IsOfStore : Response → Type 0
 IsOfStore (Answers answer s) = IsAskedOfStore answer
 IsOfStore (Fails fault) = ⊥
 
--- the answer is the response's, and leads to its session; or the fault is the response's. After a fault, and where
--- there is no memory or no worker, the session is as it was. Where the store does not answer as it should, the response
--- would have been an answer that only it gives; nothing is said of the session.
+-- the session is as it was, but that a batch may be held that its store has taken
+abbrev pub IsAsItWas : (old new : Session) → Type 0
+IsAsItWas old new = (new ≡ old) ⊎ ((e : Entry) × (new ≡ record old { held = Some e }))
+
+-- the store gave no such answer as it should: no batch is held, so none is for want of memory or of a worker; and for a pin
+-- or a home the session is as it was
+abbrev pub IsUnanswered : Answer → (old new : Session) → Type 0
+IsUnanswered (BatchPublished feed number gained lost) old new = new.held ≡ None
+IsUnanswered answer old new = new ≡ old
+
+abbrev pub IsDenied : Response → (old new : Session) → Type 0
+IsDenied (Answers answer s) old new = IsAskedOfStore answer × IsUnanswered answer old new
+IsDenied (Fails fault) old new = ⊥
+
+-- the answer is the response's, and leads to its session; or the fault is the response's, and the session is as it was. Where
+-- there is no memory or no worker, it is as it was, but that a batch may be held. Where the store does not answer as it should,
+-- the response would have been an answer that only it gives, and no batch is held that could not be published.
 abbrev pub Performs : Response → Result GivenAnswer CommandError → (old new : Session) → Type 0
 Performs response (Ok answer) old new = response ≡ Answers (answer_of answer) new
 Performs response (Err (errors.Fault fault)) old new = (response ≡ Fails fault) × (new ≡ old)
-Performs response (Err errors.OutOfMemory) old new = new ≡ old
-Performs response (Err errors.WorkerRefused) old new = new ≡ old
-Performs response (Err errors.Store) old new = IsOfStore response
+Performs response (Err errors.OutOfMemory) old new = IsAsItWas old new
+Performs response (Err errors.WorkerRefused) old new = IsAsItWas old new
+Performs response (Err errors.Store) old new = IsDenied response old new

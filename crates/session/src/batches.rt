@@ -7,6 +7,7 @@ ghost use Rattle.session_model.specs.Session.{Session as SessionState};
 ghost use Rattle.session_model.specs.Faults.{edit_fault, is_edit_of, HasFewVertices};
 ghost use Rattle.session_model.specs.Responses.{publish_response};
 ghost use Rattle.session.specs.Edits.{edit_of, AddsEdit};
+ghost use Rattle.session.specs.Kept.{with_store};
 ghost use Rattle.session.specs.Performs.{Performs};
 
 use crate::answer::Answer;
@@ -75,9 +76,8 @@ fn publish<'a, Ga: Gate, R: Threads + Wait>(
     feed: u8,
     edits: Vec<Edit>,
 ) -> Result<Answer<'a>, CommandError>
-    ensures { (s : SessionState) → Performs (publish_response feed edits.items
-        (record s { past = Some store.old })) result (record s { past = Some store.old })
-        (record s { past = Some store.new }) }
+    ensures { (s : SessionState) → Performs (publish_response feed edits.items (with_store s store.old)) result
+        (with_store s store.old) (with_store s store.new) }
 {
     if !are_below(&edits, store.vertex_count()) {
         return Err(CommandError::Fault(Fault::Range));

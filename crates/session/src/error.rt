@@ -9,19 +9,19 @@ use session_model::Fault;
 use std::alloc::{AllocError, AllocFailed};
 use thiserror::Error;
 
-/// Why a command was not performed. The session is as it was, but after `Store`.
+/// Why a command was not performed. After a fault the session is as it was.
 #[derive(Clone, Copy, Debug, PartialEq, Eq, Error)]
 pub enum CommandError {
     /// Something is wrong with the command.
     #[error("a command has a fault")]
     Fault(Fault),
-    /// There is no memory for it.
+    /// There is no memory for it. A batch may be held, to be handed in again.
     #[error("out of memory")]
     OutOfMemory,
-    /// A thread could not be started.
+    /// A thread could not be started. A batch may be held, to be handed in again.
     #[error("a worker could not be started")]
     WorkerRefused,
-    /// The store does not answer as it should.
+    /// The store does not answer as it should: it refuses a batch or a pin, has no batch, or publishes or pins another.
     #[error("the store does not answer as it should")]
     Store,
 }

@@ -1,9 +1,10 @@
 //! The graph of a session.
 
 ghost use Rattle.std.specs.Prelude.{◌≡◌, IfOk, IfErr, MatchOption, option_map, true, false};
-ghost use Rattle.graph_model.specs.Past.{Past, opening};
+ghost use Rattle.graph_model.specs.Past.{Past};
 ghost use Rattle.session_model.specs.Faults.{is_vertex_count, HasFewVertices};
 ghost use Rattle.session_model.specs.Responses.{graph_response};
+ghost use Rattle.session.specs.Handles.{new_store};
 ghost use Rattle.session.specs.Performs.{Performs};
 
 use crate::answer::Answer;
@@ -53,7 +54,7 @@ impl Session {
 /// The ends of a store of so many vertices, where a graph may have so many.
 fn store_of<R: Wait>(rt: &R, alloc: Global, vertices: u64) -> Result<Option<Handles>, CommandError>
     ensures made { IfOk result (λ made. MatchOption made (is_vertex_count vertices ≡ false)
-        (λ store. (is_vertex_count vertices ≡ true) × (store ≡ opening vertices))) }
+        (λ store. (is_vertex_count vertices ≡ true) × (store ≡ new_store vertices))) }
     ensures error { IfErr result (λ e. e ≡ CommandError.OutOfMemory) }
 {
     let Ok(vertices) = u32::try_from(vertices) else {

@@ -2,9 +2,9 @@
 
 ghost use Rattle.std.specs.Prelude.{◌≡◌, ◌<◌, ◌≤◌, ◌↔◌, ◌⊎◌, true, IfOk, IfErr, IsErrOf};
 ghost use Rattle.graph_model.specs.declared.limits.TheConstants.{MOST_BATCHES, MOST_VERTICES};
-ghost use Rattle.graph_model.specs.Past.{opening, number_of};
+ghost use Rattle.graph_model.specs.Past.{number_of};
 ghost use Rattle.session_model.specs.Responses.{entry_of};
-ghost use Rattle.session.specs.Handles.{Publishes};
+ghost use Rattle.session.specs.Handles.{Publishes, new_store};
 
 use crate::error::CommandError;
 use gates::{Crew, Gate};
@@ -15,7 +15,8 @@ use std::sync::Wait;
 use std::thread::Threads;
 use versions::{Feed, Pin, PublishError, Publisher, Reader, Receipt, Store, StoreError};
 
-/// The ends of a store. Whoever opens one has to close it. Contracts see it as what the last version is the replay of.
+/// The ends of a store. Whoever opens one has to close it. Contracts see it as what the last version is the replay of, and
+/// the batch that was taken and could not be published.
 pub struct Handles {
     vertex_count: u32,
     // How many batches are published.
@@ -27,12 +28,11 @@ pub struct Handles {
 }
 
 impl Model for Handles {
-    ghost use Rattle.graph_model.specs.Past.{Past};
-    ghost use Rattle.session.specs.Handles.{AreHandles};
+    ghost use Rattle.session.specs.Handles.{StoreState, AreHandles};
 
-    ghost Value = { Past };
+    ghost Value = { StoreState };
 
-    ghost view = { λ h. h.publisher.moment.past };
+    ghost view = { λ h. record { past = h.publisher.moment.past; held = h.publisher.held } };
 
     ghost invariant = { λ h. AreHandles h.vertex_count h.number h.publisher h.first h.second h.reader };
 }
@@ -44,7 +44,7 @@ impl Handles {
         alloc: Global,
         vertex_count: u32,
     ) -> Result<Handles, StoreError>
-        ensures opened { IfOk result (λ handles. handles ≡ opening vertex_count) }
+        ensures opened { IfOk result (λ handles. handles ≡ new_store vertex_count) }
         ensures refused { IsErrOf result StoreError.VertexCount ↔ ((vertex_count ≡ 0) ⊎ (MOST_VERTICES < vertex_count)) }
     {
         let opened = Store::new(vertex_count, rt, alloc)?;
@@ -67,7 +67,7 @@ impl Handles {
 
     /// How many vertices the graph has.
     pub(crate) fn vertex_count(&self) -> u32
-        ensures value { result ≡ self.now.vertex_count }
+        ensures value { result ≡ self.now.past.vertex_count }
         ensures few { result ≤ MOST_VERTICES }
     {
         self.vertex_count
@@ -75,30 +75,38 @@ impl Handles {
 
     /// How many batches are published.
     pub(crate) fn number(&self) -> u64
-        ensures { result ≡ number_of self.now }
+        ensures { result ≡ number_of self.now.past }
     {
         self.number
     }
 
-    /// Submits a batch and publishes it. `Store` comes where the store refuses it or has none, and where it publishes
-    /// another one.
+    /// Hands a batch in by one of the feeds. `false` where the store refuses it.
+    fn submit<R: Wait>(&mut self, rt: &R, feed: u8, batch: Batch) -> bool
+        ensures { self.new ≡ self.old }
+    {
+        if feed == 0 {
+            self.first.submit(batch, rt).is_ok()
+        } else {
+            self.second.submit(batch, rt).is_ok()
+        }
+    }
+
+    /// Submits a batch and publishes it. Where a batch is held, it goes on with that one in place of it, so that a batch that
+    /// could not be published can be handed in again. `Store` comes where the store refuses it or has none, and where it
+    /// publishes another one.
     pub(crate) fn publish<Ga: Gate, R: Threads + Wait>(
         &mut self,
         crew: &Crew<'_, R, Ga>,
         feed: u8,
         batch: Batch,
     ) -> Result<Receipt, CommandError>
-        ensures { Publishes self.old (entry_of feed batch) result self.new }
+        requires room { number_of self.old.past < MOST_BATCHES }
+        ensures published { Publishes self.old (entry_of feed batch) result self.new }
     {
         let Ok(copy) = batch.share() else {
             return Err(CommandError::OutOfMemory);
         };
-        let submitted = if feed == 0 {
-            self.first.submit(batch, crew.rt)
-        } else {
-            self.second.submit(batch, crew.rt)
-        };
-        if submitted.is_err() {
+        if self.publisher.holds().is_none() && !self.submit(crew.rt, feed, batch) {
             return Err(CommandError::Store);
         }
         match self.publisher.step(crew.rt, crew.workers, crew.gate) {
@@ -113,13 +121,14 @@ impl Handles {
             }
             Err(PublishError::OutOfMemory) => Err(CommandError::OutOfMemory),
             Err(PublishError::WorkerRefused) => Err(CommandError::WorkerRefused),
-            Ok(None) | Err(PublishError::LogFull) => Err(CommandError::Store),
+            Ok(None) => Err(CommandError::Store),
+            Err(PublishError::LogFull) => unreachable!(),
         }
     }
 
     /// A hold on the last version. `Store` comes where the reader gets none, or another one.
     pub(crate) fn pin(&mut self) -> Result<Pin, CommandError>
-        ensures pinned { IfOk result (λ pin. pin.past ≡ self.old) }
+        ensures pinned { IfOk result (λ pin. pin.past ≡ self.old.past) }
         ensures same { self.new ≡ self.old }
         ensures error { IfErr result (λ e. e ≡ CommandError.Store) }
     {

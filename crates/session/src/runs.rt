@@ -15,7 +15,7 @@ use crate::frontier::{all_vertices, are_below, narrowed};
 use crate::kept::{find_pin, find_program};
 use crate::session::Session;
 use bpf_model::Reduction;
-use edge_map::{MapError, MapOutcome, map_edges};
+use edge_map::{MapError, MapOutcome, map_sources};
 use gates::{Crew, Gate};
 use session_model::Fault;
 use std::alloc::{AllocError, Global};
@@ -85,7 +85,7 @@ fn map_pin<'a, Ga: Gate, R: Threads + Wait>(
         run.now.argument.now run.now.frontier.now program.now pin.now.past s) result s s }
 {
     let frontier = vertices_of(alloc, pin.version(), run.frontier, vertices)?;
-    let told = map_edges(
+    let told = map_sources(
         crew.rt,
         alloc,
         pin,

@@ -1,5 +1,5 @@
 -- What a session answers to a command, and the session after it.
-use Rattle.std.specs.Prelude.{ℕ, ◌+◌, ◌*◌, ◌==◌, ◌&&◌, nat_le, Bool, if◌then◌else◌, List, [], ◌∷◌, ◌++◌, length, Option, Some, None}
+use Rattle.std.specs.Prelude.{ℕ, ◌+◌, ◌*◌, ◌==◌, ◌&&◌, nat_le, nat_lt, Bool, if◌then◌else◌, List, [], ◌∷◌, ◌++◌, length, filter, Option, Some, None}
 use Rattle.bpf_isa.specs.declared.limits.TheConstants.{MOST_UNITS}
 use Rattle.graph_model.specs.declared.edit.Edit.{Edit}
 use Rattle.graph_model.specs.declared.entry.Entry.{Entry}
@@ -9,6 +9,7 @@ use Rattle.graph_model.specs.Past.{Past, opening, longer, graph_of, number_of}
 use Rattle.graph_model.specs.Homes.{home_of}
 use Rattle.bpf_image.specs.Program.{Program, units}
 use Rattle.bpf_model.specs.declared.reduction.Reduction.{Reduction}
+use Rattle.bpf_model.specs.declared.row.Row.{Row}
 use Rattle.bpf_model.specs.EdgeMap.{all_numbers, rows_of, reduction_of_numbers, listed_edges}
 use Rattle.verifier.specs.Walks.{longest}
 use Rattle.verifier.specs.Verdict.{Verdict, Accepted, Refused, verdict}
@@ -48,7 +49,7 @@ abbrev pub publish_response : ℕ → List Edit → Session → Response
 publish_response feed edits s =
     needing s.past faults.Order (λ past.
     unless_fault (batch_fault edits past)
-    (Answers (published_answer feed edits past) (record s { past = Some (longer past (entry_of feed edits)) })))
+    (Answers (published_answer feed edits past) (record s { past = Some (longer past (entry_of feed edits)); held = None })))
 
 -- code of some whole units, and of no more than there may be
 abbrev pub is_code : Program → Bool
@@ -78,11 +79,17 @@ abbrev pub frontier_of : List ℕ → Graph → List ℕ
 frontier_of [] g = numbers_below g.vertex_count
 frontier_of (v ∷ vs) g = v ∷ vs
 
--- a program mapped over the edges of a graph: how many there are, what all their numbers reduce to, and the rows
+-- whether a row is of a vertex with a neighbour
+abbrev pub has_neighbour : Graph → Row → Bool
+has_neighbour g row = nat_lt 0 (degree g row.vertex)
+
+-- a program mapped over the edges of a graph: how many there are, what all their numbers reduce to, and the rows of
+-- vertices with a neighbour
 abbrev pub map_answer : List ℕ → List ℕ → Program → Graph → Reduction → List ℕ → List ℕ → Answer
 map_answer program pin p g reduction argument frontier =
     let numbers = all_numbers p (longest p) g argument frontier in
-    EdgesMapped program pin (length numbers) (reduction_of_numbers reduction numbers) (rows_of p (longest p) g reduction argument frontier)
+    EdgesMapped program pin (length numbers) (reduction_of_numbers reduction numbers)
+    (filter (has_neighbour g) (rows_of p (longest p) g reduction argument frontier))
 
 -- a run of a program and a pin that are there
 abbrev pub map_response : List ℕ → List ℕ → Reduction → List ℕ → List ℕ → Program → Past → Session → Response

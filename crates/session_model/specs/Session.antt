@@ -2,6 +2,7 @@
 use Rattle.std.specs.Prelude.{ℕ, if◌then◌else◌, List, [], ◌∷◌, Option, Some, None}
 use Rattle.bpf_asm.specs.Lexing.{same_bytes}
 use Rattle.bpf_image.specs.Program.{Program}
+use Rattle.graph_model.specs.declared.entry.Entry.{Entry}
 use Rattle.graph_model.specs.Past.{Past}
 
 -- a program that was accepted, under its name
@@ -14,14 +15,16 @@ pub record KeptPin : Type 0 where
   pub name : List ℕ
   pub past : Past
 
--- the last version of the graph, where there is a graph; programs and pins in the order of their making
+-- the last version of the graph, where there is a graph; the batch that its store took and could not publish, for want
+-- of memory or of a worker, if there is one; programs and pins in the order of their making
 pub record Session : Type 0 where
   pub past : Option Past
+  pub held : Option Entry
   pub programs : List KeptProgram
   pub pins : List KeptPin
 
 abbrev pub new_session : Session
-new_session = record { past = None; programs = []; pins = [] }
+new_session = record { past = None; held = None; programs = []; pins = [] }
 
 abbrev pub program_named : List ℕ → List KeptProgram → Option Program
 program_named name [] = None

@@ -5,9 +5,9 @@ use Rattle.session.proofs.batches.publish.Goals as goal
 
 pub returns-then-not-are_below : goal.returns-then-not-are_below
 returns-then-not-are_below g c s =
-    (batch_outside c.args.feed c.args.edits.items c.args.store.now s (sym (same_test _ _ _ _ c.args.store.now c.are_below.ensures c.deref.ensures.value c.vertex_count.ensures.value) ∙ c.if-not-are_below.true), refl)
+    (batch_outside c.args.feed c.args.edits.items c.args.store.now s (sym (same_test _ _ _ _ c.args.store.now.past c.are_below.ensures c.deref.ensures.value c.vertex_count.ensures.value) ∙ c.if-not-are_below.true), refl)
 
 pub returns-then-len-gt-MOST_EDITS : goal.returns-then-len-gt-MOST_EDITS
 returns-then-len-gt-MOST_EDITS g c s =
     let long : ltb 65536 (length c.args.edits.items) ≡ true = lt-ltb _ _ (omega (arith, c.len.ensures, c.if-len-gt-MOST_EDITS.true)) in
-    (batch_too_long c.args.feed c.args.edits.items c.args.store.now s (sym (same_test _ _ _ _ c.args.store.now c.are_below.ensures c.deref.ensures.value c.vertex_count.ensures.value) ∙ c.if-not-are_below.false) long, refl)
+    (batch_too_long c.args.feed c.args.edits.items c.args.store.now s (sym (same_test _ _ _ _ c.args.store.now.past c.are_below.ensures c.deref.ensures.value c.vertex_count.ensures.value) ∙ c.if-not-are_below.false) long, refl)

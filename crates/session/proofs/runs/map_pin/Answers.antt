@@ -1,6 +1,7 @@
 use Rattle.std.proofs.Common.{◌≡◌, ℕ, List, ap, subst, ◌∙◌}
 use Rattle.graph_model.specs.Past.{graph_of}
 use Rattle.history.specs.Moment.{Moment}
+use Rattle.edge_fold.specs.declared.rows.Rows.TheVariants.{OfSources}
 use Rattle.edge_map.specs.Maps.{IsMapped}
 use Rattle.session_model.specs.Responses.{frontier_of}
 use Rattle.session.proofs.RunLemmas.{run_told}
@@ -11,5 +12,5 @@ returns g c s =
     let run = c.args.run.now in
     let past = c.args.pin.now.past in
     let frontier : c.deref.result.now ≡ frontier_of run.frontier.now (graph_of past) = c.deref.ensures.value ∙ c.in_ok-frontier.ensures ∙ ap (λ (m : Moment). frontier_of run.frontier.now (graph_of m.past)) c.version.ensures in
-    let mapped = subst (λ (f : List ℕ). IsMapped c.args.program.now (graph_of past) run.reduction run.argument.now f c.map_edges-told.result) frontier c.map_edges-told.ensures in
-    run_told run.program.now run.pin.now run.reduction run.argument.now run.frontier.now c.args.program.now past s c.map_edges-told.result c.answer_to.result mapped c.answer_to.ensures
+    let mapped = subst (λ (f : List ℕ). IsMapped OfSources c.args.program.now (graph_of past) run.reduction run.argument.now f c.map_sources-told.result) frontier c.map_sources-told.ensures in
+    run_told run.program.now run.pin.now run.reduction run.argument.now run.frontier.now c.args.program.now past s c.map_sources-told.result c.answer_to.result mapped c.answer_to.ensures
