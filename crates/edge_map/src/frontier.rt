@@ -7,9 +7,9 @@ ghost use Rattle.edge_map.specs.Maps.{IsFrontier};
 fn ascends(frontier: &[u32]) -> bool
     ensures { (result ≡ true) ↔ IsStrictlyIncreasing frontier.now }
 {
-    let mut place = 0usize;
-    'places: while place < frontier.len() && frontier.len() - place > 1 {
-        if frontier[place] >= frontier[place + 1] {
+    let mut place = 1usize;
+    'places: while place < frontier.len() {
+        if frontier[place - 1] >= frontier[place] {
             return false;
         }
         place += 1;

@@ -1,6 +1,10 @@
-use Rattle.std.proofs.Common.{◌≡◌, ◌≤◌, Option, Some, None, MatchOption, length, refl, sym, ◌∙◌, arith}
-use Rattle.graph_model.specs.Graph.{neighbours}
+use Rattle.std.proofs.Common.{◌≡◌, ◌≤◌, ℕ, List, [], Option, Some, None, MatchOption, length, refl, sym, ◌∙◌, arith}
+use Rattle.graph_model.specs.Graph.{Graph, neighbours, degree}
 use Rattle.graph_model.specs.Past.{graph_of}
+use Rattle.bpf_image.specs.Program.{Program}
+use Rattle.bpf_model.specs.declared.reduction.Reduction.{Reduction}
+use Rattle.bpf_model.specs.EdgeMap.{reduction_of_numbers, exit_numbers}
+use Rattle.verifier.specs.Walks.{longest}
 use Rattle.edge_fold.proofs.Numbers.{none_folded, all_folded, none_left, row_behind, few_in_row, row_folded}
 use Rattle.edge_fold.proofs.fold.fold_vertex.Goals as goal
 
@@ -18,6 +22,19 @@ slices-preserved c =
       rest = (row_behind all c.in-Some.targets.now c.next_slice.new.self c.slices.place ahead c.slices.invariant.folded.within).1;
       folded = row_folded c.args.reduction c.args.program.now (graph_of c.args.version.now.past) c.args.argument.now c.args.source all c.in-Some.targets.now c.next_slice.new.self c.slices.place c.slices.so_far c.fold_span-value.result c.combine-so_far.result c.slices.invariant.folded ahead c.fold_span-value.ensures.value c.fold_span-value.ensures.count c.combine-so_far.ensures;
     }
+
+-- no neighbour, so no edge
+no_edge : (r : Reduction) (p : Program) (g : Graph) (argument : List ℕ) (source value : ℕ) → value ≡ reduction_of_numbers r [] → degree g source ≡ 0
+    → (value ≡ reduction_of_numbers r (exit_numbers p (longest p) g argument source)) × (length (exit_numbers p (longest p) g argument source) ≡ degree g source)
+no_edge r p g argument source value is none = all_folded r p g argument source 0 (neighbours g source) 0 value (none_folded r p g argument source 0 (neighbours g source) value is) (omega (arith, none))
+
+pub returns-then-neighbour_count-eq0-clause-value : goal.returns-then-neighbour_count-eq0-clause-value
+returns-then-neighbour_count-eq0-clause-value c =
+    (no_edge c.args.reduction c.args.program.now (graph_of c.args.version.now.past) c.args.argument.now c.args.source c.nothing-so_far.result c.nothing-so_far.ensures (omega (arith, c.requires.count, c.if-neighbour_count-eq0.true))).0
+
+pub returns-then-neighbour_count-eq0-clause-count : goal.returns-then-neighbour_count-eq0-clause-count
+returns-then-neighbour_count-eq0-clause-count c =
+    (no_edge c.args.reduction c.args.program.now (graph_of c.args.version.now.past) c.args.argument.now c.args.source c.nothing-so_far.result c.nothing-so_far.ensures (omega (arith, c.requires.count, c.if-neighbour_count-eq0.true))).1
 
 nothing_left : {X : Type 0} (o : Option X) (P : Type 0) (Q : X → Type 0) → MatchOption o P Q → ((x : X) → o ≡ Some x → ⊥) → P
 nothing_left None P Q h none = h
