@@ -24,7 +24,7 @@ IsOfStore (Fails fault) = ⊥
 abbrev pub IsAsItWas : (old new : Session) → Type 0
 IsAsItWas old new = (new ≡ old) ⊎ ((e : Entry) × (new ≡ record old { held = Some e }))
 
--- the store gave no such answer as it should: no batch is held, so none is for want of memory or of a worker; and for a pin
+-- the store gave no such answer as it should: for a batch none is held, so none is for want of memory or of a worker; for a pin
 -- or a home the session is as it was
 abbrev pub IsUnanswered : Answer → (old new : Session) → Type 0
 IsUnanswered (BatchPublished feed number gained lost) old new = new.held ≡ None
@@ -36,7 +36,7 @@ IsDenied (Fails fault) old new = ⊥
 
 -- the answer is the response's, and leads to its session; or the fault is the response's, and the session is as it was. Where
 -- there is no memory or no worker, it is as it was, but that a batch may be held. Where the store does not answer as it should,
--- the response would have been an answer that only it gives, and no batch is held that could not be published.
+-- the response would have been an answer that only it gives: of a batch, and none is held; else the session is as it was.
 abbrev pub Performs : Response → Result GivenAnswer CommandError → (old new : Session) → Type 0
 Performs response (Ok answer) old new = response ≡ Answers (answer_of answer) new
 Performs response (Err (errors.Fault fault)) old new = (response ≡ Fails fault) × (new ≡ old)
