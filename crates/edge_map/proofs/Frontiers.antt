@@ -1,7 +1,9 @@
 -- A frontier's length, and its pieces.
-use Rattle.std.proofs.Common.{◌≡◌, ℕ, suc, zero, ◌+◌, ◌-◌, ◌*◌, ◌<◌, ◌≤◌, min, List, length, take, drop, slice_index, length-drop, sym, ap, ◌∙◌, inl, inr, arith, length-take}
+use Rattle.std.proofs.Common.{◌≡◌, ℕ, suc, zero, ◌+◌, ◌-◌, ◌*◌, ◌<◌, ◌≤◌, min, List, length, take, drop, slice_index, get_or, All, subst, length-drop, sym, ap, ◌∙◌, inl, inr, arith, length-take}
 use Rattle.std.specs.List.Sorted.{IsStrictlyIncreasing}
 use Rattle.std.proofs.lemmas.Bool.{cases_lt}
+use Rattle.std.proofs.lemmas.Grind.{get_or_default_zero}
+use Rattle.std.proofs.lemmas.List.Kept.{AllPairs-from_increasing}
 use Rattle.std.proofs.lemmas.List.{take_all, length-take}
 use Rattle.edge_map.specs.Maps.{IsFrontier}
 use Rattle.edge_map.specs.Pieces.{piece_of}
@@ -24,6 +26,21 @@ frontier_short n f is = elim (cases_lt n (length f)) [
       let none : ⊥ = omega (arith, at, below) in
       absurd none)
 ]
+
+-- vertices that ascend are below a number where the last one is
+pub below_the_last : (n : ℕ) (f : List ℕ) (last : ℕ) → IsStrictlyIncreasing f → last + 1 ≡ length f → slice_index f last < n → All (λ v. v < n) f
+below_the_last n f last up end below = λ k d h.
+    let here : get_or f last d ≡ slice_index f last = get_or_default_zero f last d (omega arith) in
+    elim (cases_lt k last) [
+      | inl lt ↦ (let pair : get_or f k d < get_or f last d = AllPairs-from_increasing f up k last d lt (omega arith) in omega arith)
+      | inr ge ↦ (
+          let same : k ≡ last = omega arith in
+          subst (λ i. get_or f i d < n) (sym same) (subst (λ v. v < n) (sym here) below))
+    ]
+
+-- and where all are, the last one is
+pub last_below : (n : ℕ) (f : List ℕ) (last : ℕ) → last + 1 ≡ length f → All (λ v. v < n) f → slice_index f last < n
+last_below n f last end all = all last 0 (omega arith)
 
 -- the places of a piece, up to the end of the frontier
 pub piece_places : (f : List ℕ) (number until : ℕ) → until ≡ min (length f) (number * 64 + 64) → take (until - number * 64) (drop (number * 64) f) ≡ piece_of f number

@@ -17,11 +17,15 @@ fn ascends(frontier: &[u32]) -> bool
     true
 }
 
-/// Whether each vertex is below a number of vertices.
+/// Whether each vertex, of those that ascend, is below a number of vertices: where the last one is.
 fn are_below(frontier: &[u32], vertices: u32) -> bool
+    requires { IsStrictlyIncreasing frontier.now }
     ensures { (result ≡ true) ↔ All (λ v. v < vertices) frontier.now }
 {
-    frontier.iter().all(|v| *v < vertices)
+    let Some(last) = frontier.len().checked_sub(1) else {
+        return true;
+    };
+    frontier[last] < vertices
 }
 
 /// Whether it strictly ascends, below a number of vertices.

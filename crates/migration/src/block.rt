@@ -38,14 +38,14 @@ impl Model for Block {
 
 impl Block {
     /// These shards.
-    pub fn of(shards: Vec<Arc<Shard>>) -> Block
+    pub(crate) fn of(shards: Vec<Arc<Shard>>) -> Block
         ensures { result ≡ parts_of shards.items }
     {
         Block { shards }
     }
 
     /// The shards, in order.
-    pub fn shards(&self) -> &[Arc<Shard>]
+    pub(crate) fn shards(&self) -> &[Arc<Shard>]
         ensures { parts_of result.now ≡ self.now }
     {
         &self.shards
@@ -53,7 +53,7 @@ impl Block {
 
     /// The block with edited shards put in, where its first shard is of this range, and what the edits did to its
     /// shards. A shard that no edit is of is shared. `next` counts the edited shards that were put in.
-    pub fn with(
+    pub(crate) fn with(
         &self,
         alloc: Global,
         first: usize,

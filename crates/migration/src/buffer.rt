@@ -49,7 +49,7 @@ fn widen(places: &mut Vec<u32>, count: usize) -> Result<(), AllocError>
 
 impl Buffer {
     /// The empty list.
-    pub fn new(alloc: Global) -> Buffer
+    pub(crate) fn new(alloc: Global) -> Buffer
         ensures { result ≡ [] }
     {
         Buffer {
@@ -59,14 +59,14 @@ impl Buffer {
     }
 
     /// The words.
-    pub fn words(&self) -> &[u32]
+    pub(crate) fn words(&self) -> &[u32]
         ensures { result.now ≡ self.now }
     {
         &self.places[..self.count]
     }
 
     /// Takes all words away.
-    pub fn clear(&mut self)
+    pub(crate) fn clear(&mut self)
         ensures { self.new ≡ [] }
     {
         self.count = 0;
@@ -74,7 +74,7 @@ impl Buffer {
 
     /// Puts a word behind the others.
     #[inline(always)]
-    pub fn push(&mut self, word: u32) -> Result<(), AllocError>
+    pub(crate) fn push(&mut self, word: u32) -> Result<(), AllocError>
         ensures { IfOk result (λ _. self.new ≡ self.old ++ word ∷ []) }
     {
         if self.count == self.places.len() {
@@ -87,7 +87,7 @@ impl Buffer {
 
     /// Puts words behind the others.
     #[inline(always)]
-    pub fn extend(&mut self, words: &[u32]) -> Result<(), AllocError>
+    pub(crate) fn extend(&mut self, words: &[u32]) -> Result<(), AllocError>
         ensures { IfOk result (λ _. self.new ≡ self.old ++ words.now) }
     {
         if words.len() > FEW {

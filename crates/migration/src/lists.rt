@@ -64,7 +64,7 @@ fn rest_from(words: &[u32], place: u32) -> &[u32]
 
 impl Lists {
     /// No list. It takes no memory.
-    pub fn new(alloc: Global) -> Lists
+    pub(crate) fn new(alloc: Global) -> Lists
         ensures kept { AreKept result }
         ensures rows { rows_of result ≡ [] }
         ensures homes { homes_of result ≡ [] }
@@ -79,7 +79,7 @@ impl Lists {
     }
 
     /// Lists of so many vertices, all of them empty. They take no memory.
-    pub fn empty(alloc: Global, vertices: usize) -> Lists
+    pub(crate) fn empty(alloc: Global, vertices: usize) -> Lists
         requires few { vertices ≤ PAGE_VERTICES }
         ensures kept { AreKept result }
         ensures rows { rows_of result ≡ replicate vertices [] }
@@ -93,7 +93,7 @@ impl Lists {
     }
 
     /// Takes all lists away, and keeps their room.
-    pub fn clear(&mut self)
+    pub(crate) fn clear(&mut self)
         ensures kept { AreKept self.new }
         ensures rows { rows_of self.new ≡ [] }
         ensures homes { homes_of self.new ≡ [] }
@@ -106,7 +106,7 @@ impl Lists {
     }
 
     /// Where a vertex's list stands.
-    pub fn place(&self, vertex: usize) -> Place
+    pub(crate) fn place(&self, vertex: usize) -> Place
         requires kept { AreKept self.now }
         requires inside { vertex < length (rows_of self.now) }
         ensures list { slice_index_or (rows_of self.now) vertex [] ≡ list_at self.now result }
@@ -154,7 +154,7 @@ impl Lists {
     }
 
     /// The home of a vertex's list.
-    pub fn home(&self, vertex: usize) -> Home
+    pub(crate) fn home(&self, vertex: usize) -> Home
         requires kept { AreKept self.now }
         requires inside { vertex < length (rows_of self.now) }
         ensures { result ≡ slice_index_or (homes_of self.now) vertex Block }
@@ -169,7 +169,9 @@ impl Lists {
     }
 
     /// How many words a vertex's list has.
-    pub fn degree(&self, vertex: usize) -> u32
+    // A program asks it for each edge: as a call it is some ten instructions more.
+    #[inline(always)]
+    pub(crate) fn degree(&self, vertex: usize) -> u32
         requires kept { AreKept self.now }
         requires inside { vertex < length (rows_of self.now) }
         ensures value { result ≡ length (slice_index_or (rows_of self.now) vertex []) }
@@ -185,7 +187,7 @@ impl Lists {
     }
 
     /// Whether a vertex's list has a word.
-    pub fn contains(&self, vertex: usize, word: u32) -> bool
+    pub(crate) fn contains(&self, vertex: usize, word: u32) -> bool
         requires kept { AreKept self.now }
         requires inside { vertex < length (rows_of self.now) }
         requires word { word < WORD_LIMIT }
@@ -201,7 +203,7 @@ impl Lists {
     }
 
     /// How many vertices have a list.
-    pub fn count(&self) -> usize
+    pub(crate) fn count(&self) -> usize
         ensures rows { result ≡ length (rows_of self.now) }
         ensures homes { result ≡ length (homes_of self.now) }
         ensures few { result ≤ PAGE_VERTICES }
@@ -210,7 +212,7 @@ impl Lists {
     }
 
     /// Puts a vertex's words into a list in place of what it held.
-    pub fn read(&self, vertex: usize, words: &mut Vec<u32>) -> Result<(), AllocError>
+    pub(crate) fn read(&self, vertex: usize, words: &mut Vec<u32>) -> Result<(), AllocError>
         requires kept { AreKept self.now }
         requires inside { vertex < length (rows_of self.now) }
         ensures { IfOk result (λ _. words.new.items ≡ slice_index_or (rows_of self.now) vertex []) }
@@ -224,7 +226,7 @@ impl Lists {
     }
 
     /// A vertex's words from a place on, as many as lie side by side in its home.
-    pub fn lent_at(&self, vertex: usize, place: u32) -> &[u32]
+    pub(crate) fn lent_at(&self, vertex: usize, place: u32) -> &[u32]
         requires kept { AreKept self.now }
         requires inside { vertex < length (rows_of self.now) }
         ensures { IsLentAt (slice_index_or (rows_of self.now) vertex []) place result.now }
@@ -306,7 +308,12 @@ impl Lists {
     }
 
     /// Puts a list behind the others, in this home.
-    pub fn push(&mut self, alloc: Global, home: Home, words: &[u32]) -> Result<(), AllocError>
+    pub(crate) fn push(
+        &mut self,
+        alloc: Global,
+        home: Home,
+        words: &[u32],
+    ) -> Result<(), AllocError>
         requires kept { AreKept self.old }
         requires room { length (rows_of self.old) < PAGE_VERTICES }
         requires set { IsSet words.now }
@@ -331,7 +338,7 @@ impl Lists {
 
     /// Puts a list of others behind these, in its home. A block and a run are copied as memory, a tree is
     /// shared.
-    pub fn push_kept(&mut self, old: &Lists, vertex: usize) -> Result<(), AllocError>
+    pub(crate) fn push_kept(&mut self, old: &Lists, vertex: usize) -> Result<(), AllocError>
         requires kept { AreKept self.old }
         requires room { length (rows_of self.old) < PAGE_VERTICES }
         requires others { AreKept old.now }
@@ -352,7 +359,7 @@ impl Lists {
     }
 
     /// The same lists in no more room than they need. These keep theirs, and are to be cleared.
-    pub fn taken(&mut self, alloc: Global) -> Result<Lists, AllocError>
+    pub(crate) fn taken(&mut self, alloc: Global) -> Result<Lists, AllocError>
         requires { AreKept self.old }
         ensures { IfOk result (λ lists. AreSame self.old lists) }
     {

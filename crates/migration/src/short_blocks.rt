@@ -24,7 +24,7 @@ pub(crate) struct ShortBlocks {
 
 impl ShortBlocks {
     /// No set.
-    pub fn new(alloc: Global) -> ShortBlocks
+    pub(crate) fn new(alloc: Global) -> ShortBlocks
         ensures words { result.words.items ≡ [] }
         ensures ends { result.ends.items ≡ [] }
     {
@@ -35,7 +35,7 @@ impl ShortBlocks {
     }
 
     /// Takes all sets away, and keeps their room.
-    pub fn clear(&mut self)
+    pub(crate) fn clear(&mut self)
         ensures words { self.new.words.items ≡ [] }
         ensures ends { self.new.ends.items ≡ [] }
     {
@@ -44,7 +44,7 @@ impl ShortBlocks {
     }
 
     /// The same sets, in no more room than they need. What is left is to be cleared.
-    pub fn taken(&mut self, alloc: Global) -> Result<ShortBlocks, AllocError>
+    pub(crate) fn taken(&mut self, alloc: Global) -> Result<ShortBlocks, AllocError>
         ensures words { IfOk result (λ taken. taken.words.items ≡ self.old.words.items) }
         ensures ends { IfOk result (λ taken. taken.ends.items ≡ self.old.ends.items) }
     {
@@ -55,7 +55,7 @@ impl ShortBlocks {
     }
 
     /// A set's words, ascending.
-    pub fn words(&self, number: usize) -> &[u32]
+    pub(crate) fn words(&self, number: usize) -> &[u32]
         requires packed { ArePacked self.now }
         requires inside { number < length self.now.ends.items }
         ensures words { result.now ≡ set_at self.now number }
@@ -71,7 +71,7 @@ impl ShortBlocks {
     }
 
     /// Puts a set behind the others.
-    pub fn push(&mut self, words: &[u32]) -> Result<(), AllocError>
+    pub(crate) fn push(&mut self, words: &[u32]) -> Result<(), AllocError>
         requires packed { ArePacked self.old }
         requires room { length self.old.ends.items < PAGE_VERTICES }
         requires short { length words.now ≤ SHORT_PLACES }
