@@ -169,7 +169,7 @@ impl Lists {
     }
 
     /// How many words a vertex's list has.
-    // A program asks it for each edge: as a call it is some ten instructions more.
+    // A program may ask it for each edge, where a call of its own counts.
     #[inline(always)]
     pub(crate) fn degree(&self, vertex: usize) -> u32
         requires kept { AreKept self.now }
