@@ -17,7 +17,7 @@ use Rattle.abstract_values.specs.declared.range.Range.{Range}
 use Rattle.abstract_values.specs.declared.value.AbstractValue.{AbstractValue}
 use Rattle.abstract_values.specs.declared.value.AbstractValue.TheVariants.{Unset, Number, Record, Stack}
 use Rattle.abstract_values.specs.Ranges.{range}
-use Rattle.abstract_values.specs.Narrowing.{opposite, without, differing, above, not_below, exchange_of, refinement, order_limit, is_telling, is_inhabited, if_inhabited, side, numbers, both_sides, narrowing}
+use Rattle.abstract_values.specs.Narrowing.{opposite, without, without_constant, above, not_below, exchange_of, refinement, order_limit, is_telling, is_inhabited, if_inhabited, side, numbers, both_sides, narrowing}
 use Rattle.abstract_values.specs.Described.{Describes, DescribesSide, side_of}
 use Rattle.abstract_values.proofs.Below.{either, low_same}
 use Rattle.abstract_values.proofs.Within.{Within, constant_is}
@@ -44,7 +44,7 @@ without_within : (r : Range) (n c : ℕ) → Within r n → n ≢ c → Within (
 without_within r n c h other =
     either (λ s. Within s n) (eqb r.lo c) (range (r.lo + 1) r.hi) (cond (eqb r.hi c) (range r.lo (r.hi - 1)) r) (λ is. let differs : n ≢ r.lo = (λ e. other (e ∙ eqb-true r.lo c is)) in (omega (arith, h.0, differs), h.1)) (λ not_lo. either (λ s. Within s n) (eqb r.hi c) (range r.lo (r.hi - 1)) r (λ is. let differs : n ≢ r.hi = (λ e. other (e ∙ eqb-true r.hi c is)) in (h.0, omega (arith, h.1, differs))) (λ not_hi. h))
 
-differing_within : (r s : Range) (n m : ℕ) → Within r n → Within s m → n ≢ m → Within (differing r s) n
+differing_within : (r s : Range) (n m : ℕ) → Within r n → Within s m → n ≢ m → Within (without_constant r s) n
 differing_within r s n m h k other =
     either (λ t. Within t n) (eqb s.lo s.hi) (without r s.lo) r (λ is. let same = constant_is s m k is in without_within r n s.lo h (λ e. other (e ∙ same))) (λ not_is. h)
 

@@ -9,7 +9,7 @@ use Rattle.bpf_asm.specs.declared.errors.TextCause.{TextCause}
 use Rattle.bpf_asm.specs.declared.errors.TextCause.TheVariants.{TooLong, DoubleLabel}
 use Rattle.bpf_asm.specs.Lexing.{same_bytes}
 use Rattle.bpf_asm.specs.Statements.{Item, Labelled}
-use Rattle.bpf_asm.specs.Assembly.{item_units, units, is_label, place_from, place, fitting, admission}
+use Rattle.bpf_asm.specs.Assembly.{item_units, units, is_label, place_from, place, length_admission, admission}
 use Rattle.bpf_asm.specs.Said.{IsRead}
 use Rattle.bpf_asm.proofs.Bytes.{same_bytes-pointwise}
 
@@ -87,7 +87,7 @@ ok_units n = Ok n
 abbrev no_units : TextCause → Result ℕ TextCause
 no_units cause = Err cause
 
-pub fits : (before : List Item) (i : Item) (n m : ℕ) → n ≡ units before → (if nat_lt MOST_UNITS (n + item_units i) then Err TooLong else Ok (n + item_units i)) ≡ Ok m → (fitting before i ≡ Ok i) × (m ≡ n + item_units i)
+pub fits : (before : List Item) (i : Item) (n m : ℕ) → n ≡ units before → (if nat_lt MOST_UNITS (n + item_units i) then Err TooLong else Ok (n + item_units i)) ≡ Ok m → (length_admission before i ≡ Ok i) × (m ≡ n + item_units i)
 fits before i n m total is = elim (cases_Bool (nat_lt MOST_UNITS (n + item_units i))) [
   | inl long ↦ absurd (let e : no_units TooLong ≡ ok_units m = (simp long at is) in cc)
   | inr short ↦
@@ -97,7 +97,7 @@ fits before i n m total is = elim (cases_Bool (nat_lt MOST_UNITS (n + item_units
       (simp same, more)
 ]
 
-pub fits_not : (before : List Item) (i : Item) (n : ℕ) (cause : TextCause) → n ≡ units before → (if nat_lt MOST_UNITS (n + item_units i) then Err TooLong else Ok (n + item_units i)) ≡ Err cause → (fitting before i ≡ Err cause) × (cause ≡ TooLong)
+pub fits_not : (before : List Item) (i : Item) (n : ℕ) (cause : TextCause) → n ≡ units before → (if nat_lt MOST_UNITS (n + item_units i) then Err TooLong else Ok (n + item_units i)) ≡ Err cause → (length_admission before i ≡ Err cause) × (cause ≡ TooLong)
 fits_not before i n cause total is = elim (cases_Bool (nat_lt MOST_UNITS (n + item_units i))) [
   | inl long ↦
       let e : no_units TooLong ≡ no_units cause = (simp long at is) in

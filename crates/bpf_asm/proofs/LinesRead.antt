@@ -12,7 +12,7 @@ use Rattle.bpf_asm.specs.declared.errors.AssembleError.{AssembleError}
 use Rattle.bpf_asm.specs.declared.writing.placed.Placed.{Placed}
 use Rattle.bpf_asm.specs.declared.writing.placed.Target.{Target}
 use Rattle.bpf_asm.specs.Statements.{Item, Labelled, item}
-use Rattle.bpf_asm.specs.Assembly.{item_units, units, place, fitting, admission, reading_admission, items_from}
+use Rattle.bpf_asm.specs.Assembly.{item_units, units, place, length_admission, admission, reading_admission, items_from}
 use Rattle.bpf_asm.specs.Writing.{label_text, statement_text}
 use Rattle.bpf_asm.specs.Listing.{is_target, target}
 use Rattle.bpf_asm.specs.Laws.{StandFrom}
@@ -46,12 +46,12 @@ label_unplaced before true k q small small' less none = place_other 0 (label_tex
 
 -- ---- a statement's line
 
-fitting_is : (before : List Item) (i : Item) → units before + item_units i ≤ MOST_UNITS → fitting before i ≡ Ok i
+fitting_is : (before : List Item) (i : Item) → units before + item_units i ≤ MOST_UNITS → length_admission before i ≡ Ok i
 fitting_is before i fits =
     let small : nat_lt MOST_UNITS (units before + item_units i) ≡ false = grind (arith, nat_tests) in
     simp small
 
-admitted_is : (before : List Item) (i : Instruction) (t : Target) → admission before (item_for i t) ≡ fitting before (item_for i t)
+admitted_is : (before : List Item) (i : Instruction) (t : Target) → admission before (item_for i t) ≡ length_admission before (item_for i t)
 admitted_is before (Jump (distances.Near distance)) t = refl
 admitted_is before (Jump (distances.Far distance)) t = refl
 admitted_is before (Alu width operation destination right) t = refl

@@ -9,7 +9,7 @@ use Rattle.std.proofs.Math.Seq.{take-append_seam, drop-append_seam}
 use Rattle.bpf_asm.specs.declared.reading.word.Word.{Word}
 use Rattle.bpf_asm.specs.Lexing.{is_blank, is_letter, is_word_byte, is_empty, is_word, is_name, parts, without_end, without_front, without_blanks, said_part, Argument, argument, Arguments, all_arguments, argument_list, arguments}
 use Rattle.bpf_asm.specs.Words.{word}
-use Rattle.bpf_asm.specs.Statements.{Labelled, item, said, statement, word_line, ends_in_colon, label_line}
+use Rattle.bpf_asm.specs.Statements.{Labelled, item, item_of_text, statement, word_line, ends_in_colon, label_line}
 use Rattle.bpf_asm.specs.Writing.{others_text, operands_text}
 use Rattle.bpf_asm.proofs.Solids.{is_solid, is_inner, word_solid, solid_inner, solid_not_blank, solid_no_comma, not_true, all_weaker, all_both, split_at, split_whole, position_none, position_at, last_or, last_behind, last_all, last_index}
 
@@ -163,7 +163,7 @@ line_said : (b : ℕ) (text : List ℕ) → IsLine b text → item (b ∷ text) 
 line_said b text line =
     let same = said_same b text line.inner (not_true (is_blank b) (solid_not_blank b line.first)) (not_true (is_blank (last_or b text)) (solid_not_blank (last_or b text) line.last)) in
     let colon : ends_in_colon (b ∷ text) ≡ false = colon_is b text ∙ solid_no_colon (last_or b text) line.last in
-    ap said same ∙ simp colon
+    ap item_of_text same ∙ simp colon
 
 -- a word and operands say its statement
 pub item_statement : (w : List ℕ) (k : Word) (texts : List (List ℕ)) (as' : List Argument) → is_word w ≡ true → word w ≡ Some k → AllRead texts as' → item (w ++ operands_text texts) ≡ statement k (argument_list as')
@@ -196,4 +196,4 @@ item_label (b ∷ name) is =
     let colon : ends_in_colon ((b ∷ name) ++ (58 ∷ [])) ≡ true = colon_is b (name ++ (58 ∷ [])) ∙ ap (λ (n : ℕ). n == 58) last in
     let long : length ((b ∷ name) ++ (58 ∷ [])) - 1 ≡ length (b ∷ name) = omega (arith, length-append (b ∷ name) (58 ∷ [])) in
     let front : take (length ((b ∷ name) ++ (58 ∷ [])) - 1) ((b ∷ name) ++ (58 ∷ [])) ≡ b ∷ name = ap (λ (n : ℕ). take n ((b ∷ name) ++ (58 ∷ []))) long ∙ take-append_seam (b ∷ name) (58 ∷ []) in
-    ap said same ∙ (simp colon (ap label_line front ∙ simp is))
+    ap item_of_text same ∙ (simp colon (ap label_line front ∙ simp is))

@@ -39,15 +39,15 @@ abbrev pub place : List ℕ → List Item → Option ℕ
 place name items = place_from 0 name items
 
 -- a statement behind some lines, if the code is not too long with it
-abbrev pub fitting : List Item → Item → Result Item TextCause
-fitting before i = if nat_lt MOST_UNITS (units before + item_units i) then Err TooLong else Ok i
+abbrev pub length_admission : List Item → Item → Result Item TextCause
+length_admission before i = if nat_lt MOST_UNITS (units before + item_units i) then Err TooLong else Ok i
 
 -- a line behind some lines, unless that is a fault
 abbrev pub admission : List Item → Item → Result Item TextCause
 admission before Blank = Ok Blank
 admission before (Labelled name) = if is_none (place name before) then Ok (Labelled name) else Err DoubleLabel
-admission before (Plain i) = fitting before (Plain i)
-admission before (Goes jumping name) = fitting before (Goes jumping name)
+admission before (Plain i) = length_admission before (Plain i)
+admission before (Goes jumping name) = length_admission before (Goes jumping name)
 
 abbrev pub reading_admission : List Item → Result Item TextCause → Result Item TextCause
 reading_admission before (Ok i) = admission before i

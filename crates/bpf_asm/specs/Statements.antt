@@ -197,12 +197,12 @@ label_line name = if is_name name then Ok (Labelled name) else Err Syntax
 abbrev pub ends_in_colon : List ℕ → Bool
 ends_in_colon text = slice_index text (length text - 1) == 58
 
-abbrev pub said : List ℕ → Result Item TextCause
-said text =
+abbrev pub item_of_text : List ℕ → Result Item TextCause
+item_of_text text =
     if is_empty text then Ok Blank
     else (if ends_in_colon text then label_line (take (length text - 1) text)
     else word_line (take (position_or_len is_blank text) text) (drop (position_or_len is_blank text) text))
 
 -- what a line says, or its first fault
 abbrev pub item : List ℕ → Result Item TextCause
-item line = said (said_part line)
+item line = item_of_text (said_part line)

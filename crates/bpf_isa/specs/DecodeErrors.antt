@@ -51,21 +51,21 @@ operation_choosing Xor = None
 operation_choosing ShiftRightSigned = None
 
 -- the field that says, beside the opcode, which row of the table it is
-abbrev pub choosing : Instruction → Option Field
-choosing (Alu width operation destination operand) = operation_choosing operation
-choosing (MoveSigned extension destination source) = Some OffsetField
-choosing (Swap order bits destination) = Some ImmediateField
-choosing (CallHelper number) = Some SourceField
-choosing (CallLocal distance) = Some SourceField
-choosing (Wide destination value) = Some SourceField
-choosing (Negate width destination) = None
-choosing (Jump distance) = None
-choosing (Branch width comparison left right distance) = None
-choosing Exit = None
-choosing (Load size destination base offset) = None
-choosing (LoadSigned size destination base offset) = None
-choosing (Store size base offset immediate) = None
-choosing (StoreRegister size base offset source) = None
+abbrev pub choosing_field : Instruction → Option Field
+choosing_field (Alu width operation destination operand) = operation_choosing operation
+choosing_field (MoveSigned extension destination source) = Some OffsetField
+choosing_field (Swap order bits destination) = Some ImmediateField
+choosing_field (CallHelper number) = Some SourceField
+choosing_field (CallLocal distance) = Some SourceField
+choosing_field (Wide destination value) = Some SourceField
+choosing_field (Negate width destination) = None
+choosing_field (Jump distance) = None
+choosing_field (Branch width comparison left right distance) = None
+choosing_field Exit = None
+choosing_field (Load size destination base offset) = None
+choosing_field (LoadSigned size destination base offset) = None
+choosing_field (Store size base offset immediate) = None
+choosing_field (StoreRegister size base offset source) = None
 
 -- the field of an operand that is not used
 abbrev pub operand_unused : Operand → Field
@@ -102,7 +102,7 @@ unused_fields (Wide destination value) = OffsetField ∷ []
 abbrev pub HasRow : Instruction → Fields → Type 0
 HasRow i f =
     ((fields_of i).opcode ≡ f.opcode)
-    × MatchOption (choosing i) ⊤ (λ field. value_at field (fields_of i) ≡ value_at field f)
+    × MatchOption (choosing_field i) ⊤ (λ field. value_at field (fields_of i) ≡ value_at field f)
 
 -- the code ends inside the unit, or inside the second unit of a wide instruction
 abbrev pub IsTruncated : List ℕ → ℕ → Type 0

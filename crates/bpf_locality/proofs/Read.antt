@@ -24,7 +24,7 @@ use Rattle.bpf_model.specs.State.{Partial, Saved, State, without_values, number_
 use Rattle.bpf_model.specs.Arithmetic.{move_signed_number}
 use Rattle.bpf_model.specs.Calls.{enter}
 use Rattle.bpf_model.specs.Helpers.{helper_of, helper_effect, argument, gather, is_room, with_answer, no_neighbour}
-use Rattle.bpf_model.specs.Step.{Next, Goes, reading, put, jump, load, low_bytes, store, call, leave, call_helper, effect, effect_of_reading, step_at, step, operand_of, load_extension, immediate_value}
+use Rattle.bpf_model.specs.Step.{Next, Goes, number_or_trap, next_with_result, jump, load, low_bytes, store, call, leave, call_helper, effect, effect_of_reading, step_at, step, operand_of, load_extension, immediate_value}
 use Rattle.bpf_locality.specs.Locality.{is_live, AreAlike, LeadAlike}
 use Rattle.bpf_locality.proofs.Asking.{degree_told, edge_told, edge_from, neighbour_told, neighbour_of, gather_to, gather_first, gather_of}
 use Rattle.bpf_locality.proofs.Places.{byte_is_live, stored_same, number_same}
@@ -38,11 +38,11 @@ abbrev Agrees : ℕ → State → Partial → Type 0
 Agrees l s m = (a : ℕ) → is_live l s a ≡ true → m a ≡ s.memory a
 
 reading_alike : (l : ℕ) (known : Option ℕ) (kind : TrapKind) (at : ℤ) (go other : ℕ → Next) → ((v : ℕ) → LeadAlike l (go v) (other v))
-    → LeadAlike l (reading known kind at go) (reading known kind at other)
+    → LeadAlike l (number_or_trap known kind at go) (number_or_trap known kind at other)
 reading_alike l None kind at go other alike = refl
 reading_alike l (Some v) kind at go other alike = alike v
 
-put_alike : (l : ℕ) (s : State) (m : Partial) (n : ℕ) (d : Register) (v : ℕ) → Agrees l s m → LeadAlike l (put s n d v) (put (with_memory s m) n d v)
+put_alike : (l : ℕ) (s : State) (m : Partial) (n : ℕ) (d : Register) (v : ℕ) → Agrees l s m → LeadAlike l (next_with_result s n d v) (next_with_result (with_memory s m) n d v)
 put_alike l s m n d v same =
     elim (cases_Bool (number_of d == 10)) [
       | inl frame ↦ rw frame refl
@@ -163,12 +163,12 @@ helper_call_alike l g (Some h) s m same = helper_alike l g h s m same
 
 -- the number of a register
 register_alike : (l : ℕ) (s : State) (m : Partial) (r : Register) (go other : ℕ → Next) → ((v : ℕ) → LeadAlike l (go v) (other v))
-    → LeadAlike l (reading (register_of s r) UnsetRegister s.pc go) (reading (register_of (with_memory s m) r) UnsetRegister s.pc other)
+    → LeadAlike l (number_or_trap (register_of s r) UnsetRegister s.pc go) (number_or_trap (register_of (with_memory s m) r) UnsetRegister s.pc other)
 register_alike l s m r go other alike = reading_alike l (register_of s r) UnsetRegister s.pc go other alike
 
 -- the second number of an operation
 second_alike : (l : ℕ) (s : State) (m : Partial) (y : Operand) (kind : TrapKind) (go other : ℕ → Next) → ((v : ℕ) → LeadAlike l (go v) (other v))
-    → LeadAlike l (reading (operand_of s y) kind s.pc go) (reading (operand_of (with_memory s m) y) kind s.pc other)
+    → LeadAlike l (number_or_trap (operand_of s y) kind s.pc go) (number_or_trap (operand_of (with_memory s m) y) kind s.pc other)
 second_alike l s m (Immediate n) kind go other alike = alike _
 second_alike l s m (Source r) kind go other alike = reading_alike l _ kind s.pc go other alike
 
@@ -184,15 +184,15 @@ effect_alike l g (instructions.CallLocal z) s m same = call_alike l s m z same
 effect_alike l g instructions.Exit s m same = reading_alike l _ _ _ _ _ (λ v. leave_alike l s m s.callers v refl same)
 effect_alike l g (instructions.Load size d b z) s m same =
     let t = with_memory s m in
-    register_alike l s m b (λ x. load l s (address_at x z) size (put s 1 d)) (λ x. load l t (address_at x z) size (put t 1 d))
-    (λ x. load_alike l s m (address_at x z) size (put s 1 d) (put t 1 d) same (λ v. put_alike l s m 1 d v same))
+    register_alike l s m b (λ x. load l s (address_at x z) size (next_with_result s 1 d)) (λ x. load l t (address_at x z) size (next_with_result t 1 d))
+    (λ x. load_alike l s m (address_at x z) size (next_with_result s 1 d) (next_with_result t 1 d) same (λ v. put_alike l s m 1 d v same))
 effect_alike l g (instructions.LoadSigned size d b z) s m same =
     let t = with_memory s m in
     let extended = load_extension size in
     register_alike l s m b
-    (λ x. load l s (address_at x z) (plain_size size) (λ n. put s 1 d (move_signed_number extended n)))
-    (λ x. load l t (address_at x z) (plain_size size) (λ n. put t 1 d (move_signed_number extended n)))
-    (λ x. load_alike l s m (address_at x z) (plain_size size) (λ n. put s 1 d (move_signed_number extended n)) (λ n. put t 1 d (move_signed_number extended n))
+    (λ x. load l s (address_at x z) (plain_size size) (λ n. next_with_result s 1 d (move_signed_number extended n)))
+    (λ x. load l t (address_at x z) (plain_size size) (λ n. next_with_result t 1 d (move_signed_number extended n)))
+    (λ x. load_alike l s m (address_at x z) (plain_size size) (λ n. next_with_result s 1 d (move_signed_number extended n)) (λ n. next_with_result t 1 d (move_signed_number extended n))
     same (λ v. put_alike l s m 1 d (move_signed_number extended v) same))
 effect_alike l g (instructions.Store size b z n) s m same =
     let t = with_memory s m in
@@ -201,8 +201,8 @@ effect_alike l g (instructions.Store size b z n) s m same =
 effect_alike l g (instructions.StoreRegister size b z r) s m same =
     let t = with_memory s m in
     register_alike l s m b
-    (λ x. reading (register_of s r) UnsetRegister s.pc (store l s (address_at x z) size))
-    (λ x. reading (register_of t r) UnsetRegister s.pc (store l t (address_at x z) size))
+    (λ x. number_or_trap (register_of s r) UnsetRegister s.pc (store l s (address_at x z) size))
+    (λ x. number_or_trap (register_of t r) UnsetRegister s.pc (store l t (address_at x z) size))
     (λ x. register_alike l s m r (store l s (address_at x z) size) (store l t (address_at x z) size) (λ v. store_alike l s m (address_at x z) size v same))
 effect_alike l g (instructions.Wide d v) s m same = put_alike l s m 2 d v same
 

@@ -38,7 +38,7 @@ fn first_registers(record_length: u16) -> [Option<u64>; 11]
 
 impl Machine {
     ghost use Rattle.bpf_model.specs.State.{start, live_frames, most_frames};
-    ghost use Rattle.bpf_model.specs.Step.{operand_of, put, jump};
+    ghost use Rattle.bpf_model.specs.Step.{operand_of, next_with_result, jump};
     ghost use Rattle.bpf_machine.specs.Seen.{state_of, answer};
 
     /// The machine as a run begins on a record of so many bytes.
@@ -87,7 +87,7 @@ impl Machine {
     pub fn put(&mut self, units: u8, destination: Register, value: u64) -> Turn
         requires { self.old.pc ≤ℤ pos MOST_UNITS }
         ensures { (bytes : List ℕ)
-            → put (state_of self.old bytes) units destination value ≡ answer result (state_of self.new bytes) }
+            → next_with_result (state_of self.old bytes) units destination value ≡ answer result (state_of self.new bytes) }
     {
         let number = destination.number();
         if number == 10 {

@@ -70,15 +70,15 @@ abbrev pub rows_of : Program → ℕ → Graph → Reduction → List ℕ → Li
 rows_of p steps g reduction argument frontier = map (row_of p steps g reduction argument) frontier
 
 -- an edge with its exit number, if there is one
-abbrev pub numbered : ℕ → ℕ → Option ℕ → Option ListedEdge
-numbered source target None = None
-numbered source target (Some n) = Some (record { source = source; target = target; number = n })
+abbrev pub edge_with_number : ℕ → ℕ → Option ℕ → Option ListedEdge
+edge_with_number source target None = None
+edge_with_number source target (Some n) = Some (record { source = source; target = target; number = n })
 
 -- a vertex's edges with their exit numbers, from the edge at a place on
 abbrev pub numbered_from : Program → ℕ → Graph → List ℕ → ℕ → ℕ → List ℕ → List (Option ListedEdge)
 numbered_from p steps g argument source place [] = []
 numbered_from p steps g argument source place (target ∷ targets) =
-    numbered source target (number_for p steps g (edge_record g source target place argument))
+    edge_with_number source target (number_for p steps g (edge_record g source target place argument))
     ∷ numbered_from p steps g argument source (place + 1) targets
 
 -- a vertex's edges with their exit numbers, targets ascending, as far as runs exit within so many steps

@@ -5,11 +5,11 @@ use Rattle.std.specs.List.{flat_map, filter_map}
 use Rattle.std.proofs.lemmas.List.Elements.{filter_map-append}
 use Rattle.bpf_image.specs.Program.{Program}
 use Rattle.bpf_model.specs.declared.listed_edge.ListedEdge.{ListedEdge}
-use Rattle.bpf_model.specs.EdgeMap.{edge_record, number_for, numbered, numbered_from, listed_of, listed_edges}
+use Rattle.bpf_model.specs.EdgeMap.{edge_record, number_for, edge_with_number, numbered_from, listed_of, listed_edges}
 use Rattle.graph_model.specs.Graph.{Graph, numbers_below, neighbours, degree}
 use Rattle.verifier.specs.Walks.{longest}
 use Rattle.edge_fold.specs.declared.edge.Edge.{Edge}
-use Rattle.edge_map.specs.Listing.{edges_from, edges_of, all_edges, listed, listing}
+use Rattle.edge_map.specs.Listing.{edges_from, edges_of, all_edges, listed_edge_of, listing}
 
 -- one more in front, if there is one
 one_more : {X : Type 0} (h : X → Option ListedEdge) (x : X) (o : Option ListedEdge) (xs : List X) (ys : List (Option ListedEdge)) → h x ≡ o → filter_map h xs ≡ filter_map (λ y. y) ys → filter_map h (x ∷ xs) ≡ filter_map (λ y. y) (o ∷ ys)
@@ -20,12 +20,12 @@ vertex_listed : (p : Program) (g : Graph) (argument : List ℕ) (source place : 
 vertex_listed p g argument source place [] = refl
 vertex_listed p g argument source place (target ∷ targets) =
     let e : Edge = record { source = source; target = target; place = place; degree = degree g source } in
-    one_more (listed p (longest p) g argument) e (numbered source target (number_for p (longest p) g (edge_record g source target place argument))) (edges_from g source (place + 1) targets) (numbered_from p (longest p) g argument source (place + 1) targets) refl (vertex_listed p g argument source (place + 1) targets)
+    one_more (listed_edge_of p (longest p) g argument) e (edge_with_number source target (number_for p (longest p) g (edge_record g source target place argument))) (edges_from g source (place + 1) targets) (numbered_from p (longest p) g argument source (place + 1) targets) refl (vertex_listed p g argument source (place + 1) targets)
 
 vertices_listed : (p : Program) (g : Graph) (argument sources : List ℕ) → listing p g argument (flat_map (edges_of g) sources) ≡ flat_map (listed_of p (longest p) g argument) sources
 vertices_listed p g argument [] = refl
 vertices_listed p g argument (source ∷ sources) =
-    filter_map-append (listed p (longest p) g argument) (edges_of g source) (flat_map (edges_of g) sources)
+    filter_map-append (listed_edge_of p (longest p) g argument) (edges_of g source) (flat_map (edges_of g) sources)
     ∙ ap (λ (l : List ListedEdge). l ++ listing p g argument (flat_map (edges_of g) sources)) (vertex_listed p g argument source 0 (neighbours g source))
     ∙ ap (λ (l : List ListedEdge). listed_of p (longest p) g argument source ++ l) (vertices_listed p g argument sources)
 

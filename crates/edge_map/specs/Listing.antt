@@ -2,7 +2,7 @@
 use Rattle.std.specs.Prelude.{◌≡◌, ℕ, ◌+◌, List, [], ◌∷◌, Option, Result, Ok, Err}
 use Rattle.std.specs.List.{flat_map, filter_map}
 use Rattle.bpf_image.specs.Program.{Program}
-use Rattle.bpf_model.specs.EdgeMap.{edge_record, number_for, numbered, listed_edges}
+use Rattle.bpf_model.specs.EdgeMap.{edge_record, number_for, edge_with_number, listed_edges}
 use Rattle.graph_model.specs.Graph.{Graph, numbers_below, neighbours, degree}
 use Rattle.verifier.specs.Walks.{longest}
 use Rattle.edge_fold.specs.declared.edge.Edge.{Edge}
@@ -27,13 +27,13 @@ abbrev pub all_edges : Graph → List Edge
 all_edges g = flat_map (edges_of g) (numbers_below g.vertex_count)
 
 -- an edge with its exit number, if its run exits within so many steps
-abbrev pub listed : Program → ℕ → Graph → List ℕ → Edge → Option ListedEdge
-listed p steps g argument e =
-    numbered e.source e.target (number_for p steps g (edge_record g e.source e.target e.place argument))
+abbrev pub listed_edge_of : Program → ℕ → Graph → List ℕ → Edge → Option ListedEdge
+listed_edge_of p steps g argument e =
+    edge_with_number e.source e.target (number_for p steps g (edge_record g e.source e.target e.place argument))
 
 -- some edges with their exit numbers
 abbrev pub listing : Program → Graph → List ℕ → List Edge → List ListedEdge
-listing p g argument edges = filter_map (listed p (longest p) g argument) edges
+listing p g argument edges = filter_map (listed_edge_of p (longest p) g argument) edges
 
 -- all edges of the graph with their exit numbers are still to be listed, or the argument does not fit
 abbrev pub IsListed : Program → Graph → List ℕ → Result (List ListedEdge) MapError → Type 0

@@ -11,7 +11,7 @@ use Rattle.store_model.specs.declared.event.Event.TheVariants.{Take, Part, Publi
 use Rattle.store_model.specs.declared.reply.Reply.TheVariants.{Done}
 use Rattle.store_model.specs.Core.{Core, Holding, Run, range_of, is_done}
 use Rattle.store_model.specs.Events.{Steps, Ran}
-use Rattle.handle_model.specs.Sights.{untouched}
+use Rattle.handle_model.specs.Sights.{new_holding}
 use Rattle.handle_model.specs.Calls.{AreRangesOf, are_distinct, all_done, publication}
 use Rattle.handle_model.specs.Laws.{PublicationsAre, RangesAre, TakingsAre}
 
@@ -101,7 +101,7 @@ publications_are past (Some held) e s ranges sees next are =
     let t : Core = record { past = longer past e; queue = s.queue; held = None; runs = s.runs } in (
       t,
       subst (λ x. Ran x (publication (Some held) ranges) (all_done (publication (Some held) ranges)) t)
-          (core_is s past s.queue (Some (untouched e)) sees.published refl (sees.holds ∙ ap (λ x. Some (untouched x)) next))
+          (core_is s past s.queue (Some (new_holding e)) sees.published refl (sees.holds ∙ ap (λ x. Some (new_holding x)) next))
           (edited_and_published past s.queue e s.runs ranges are),
       record { published = refl; holds = refl },
       refl,
@@ -138,8 +138,8 @@ ranges_are (e ∷ es) =
 
 pub takings_are : TakingsAre
 takings_are past e s sees (rest, next) = (
-  record { past = past; queue = rest; held = Some (untouched e); runs = s.runs },
-  subst (λ x. Steps x Take Done (record { past = past; queue = rest; held = Some (untouched e); runs = s.runs }))
+  record { past = past; queue = rest; held = Some (new_holding e); runs = s.runs },
+  subst (λ x. Steps x Take Done (record { past = past; queue = rest; held = Some (new_holding e); runs = s.runs }))
       (core_is s past (e ∷ rest) None sees.published next sees.holds) (lt-ltb 0 (length (e ∷ rest)) (omega arith), refl, refl),
   record { published = refl; holds = refl },
   ap (drop 1) (sym next),

@@ -10,13 +10,13 @@ pub record FeedSees (s : Core) (n feed : ℕ) (sent : List Entry) : Type 0 where
   pub all_sent : of_feed feed (entries s) ≡ sent
 
 -- a batch that was taken, and of which no range is done
-abbrev pub untouched : Entry → Holding
-untouched e = record { entry = e; done = [] }
+abbrev pub new_holding : Entry → Holding
+new_holding e = record { entry = e; done = [] }
 
 -- the publisher sees what is published, and the batch that it holds
 pub record PublisherSees (s : Core) (past : Past) (held : Option Entry) : Type 0 where
   pub published : s.past ≡ past
-  pub holds : s.held ≡ option_map untouched held
+  pub holds : s.held ≡ option_map new_holding held
 
 -- a cursor of a pin sees one reader's run: its version, its vertex, and what is left to be lent
 pub record CursorSees (s : Core) (reader : ℕ) (past : Past) (vertex : ℕ) (left : List ℕ) : Type 0 where

@@ -9,7 +9,7 @@ use Rattle.crossbeam_queue.specs.Fifo.{Forks, Merges}
 use Rattle.crossbeam_queue.proofs.Lists.{at_set}
 use Rattle.graph_model.specs.declared.entry.Entry.{Entry}
 use Rattle.intake.specs.declared.hand.Hand.{Hand}
-use Rattle.intake.specs.Hands.{taker, feeder, spent}
+use Rattle.intake.specs.Hands.{taker, feeder, spent_hand}
 use Rattle.intake.specs.Rule.{Facts, FitsFeed, Fits, Keeps}
 use Rattle.intake.proofs.Beginning.{begun}
 use Rattle.intake.proofs.Changes.{changed, changed_here, changed_else}
@@ -70,7 +70,7 @@ forks port v may items views keeps at =
     })
 
 pub merges : (port : ℕ) (v : Hand) (other : ℕ) (w : Hand) → v.takes ≡ true → w.feeds ≡ true → w.feed ≡ length v.ended
-    → Merges Keeps port v other w (taker v.vertex_count v.taken v.made (v.ended ++ w.sent ∷ [])) spent
+    → Merges Keeps port v other w (taker v.vertex_count v.taken v.made (v.ended ++ w.sent ∷ [])) spent_hand
 merges port v other w may feeds next items views keeps at apart at' =
     let h = begun items views port v keeps at (inl may) in
     let f = h.facts in
@@ -113,13 +113,13 @@ merges port v other w may feeds next items views keeps at apart at' =
           feed_stays f w.feed None j u (λ is. two_seats f.seat u.feed w.feed j other it.seated theirs.seated ne is) it);
       taker = λ takes. absurd (ne' (((h.fits j u e).taker takes).seated ∙ sym mine.seated));
     } in
-    let none : Fits g other spent = record { begun = (refl, refl); feed = λ (feeds : false ≡ true). absurd cc; taker = λ (takes : false ≡ true). absurd cc } in
+    let none : Fits g other spent_hand = record { begun = (refl, refl); feed = λ (feeds : false ≡ true). absurd cc; taker = λ (takes : false ≡ true). absurd cc } in
     inr (record {
       facts = g;
       delivered = h.delivered;
       below = h.below;
       bounded = h.bounded;
-      fits = all_set g vs other spent none (λ j u ne e. ⊎_elim
+      fits = all_set g vs other spent_hand none (λ j u ne e. ⊎_elim
           (λ (is : (j ≡ port) × (both ≡ u)). subst (λ (y : ℕ × Hand). Fits g y.0 y.1) (λ i. (sym is.0 i, is.1 i)) here)
           (λ (is : (j ≢ port) × (get_elem? views j ≡ some u)). others j u ne is.0 is.1)
           (at_set views port j both u e));

@@ -4,22 +4,22 @@ use Rattle.graph_model.specs.declared.entry.Entry.{Entry}
 use Rattle.intake.specs.declared.hand.Hand.{Hand}
 
 -- a pass that may do nothing
-abbrev pub spent : Hand
-spent =
+abbrev pub spent_hand : Hand
+spent_hand =
     record { opens = false; waits = false; vertex_count = 0; takes = false; taken = []; made = 0; ended = []; feeds = false; feed = 0; sent = [] }
 
 -- the only pass, before it is known how many vertices the edits are about
 abbrev pub newcomer : Hand
-newcomer = record spent { opens = true }
+newcomer = record spent_hand { opens = true }
 
 -- the only pass, which has said so
 abbrev pub opener : ℕ → Hand
-opener n = record spent { waits = true; vertex_count = n }
+opener n = record spent_hand { waits = true; vertex_count = n }
 
 -- the pass that takes: what it took, how many feeds it made, and what those put that it took in again, from feed 0 on
 abbrev pub taker : ℕ → List Entry → ℕ → List (List Entry) → Hand
-taker n taken made ended = record spent { vertex_count = n; takes = true; taken = taken; made = made; ended = ended }
+taker n taken made ended = record spent_hand { vertex_count = n; takes = true; taken = taken; made = made; ended = ended }
 
 -- a feed's pass: what it put
 abbrev pub feeder : ℕ → ℕ → List Entry → Hand
-feeder n feed sent = record spent { vertex_count = n; feeds = true; feed = feed; sent = sent }
+feeder n feed sent = record spent_hand { vertex_count = n; feeds = true; feed = feed; sent = sent }

@@ -83,11 +83,11 @@ pub struct EndFeed;
 
 impl Join<Hand> for EndFeed {
     ghost use Rattle.std.specs.Prelude.{[], ◌∷◌, ◌++◌};
-    ghost use Rattle.intake.specs.Hands.{taker, spent};
+    ghost use Rattle.intake.specs.Hands.{taker, spent_hand};
 
     ghost both = { λ v w. taker v.vertex_count v.taken v.made (v.ended ++ w.sent ∷ []) };
 
-    ghost spent = { spent };
+    ghost spent = { spent_hand };
 }
 
 /// The queue of batches.

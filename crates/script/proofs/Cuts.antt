@@ -14,27 +14,27 @@ use Rattle.session_model.specs.Responses.{response, graph_response, load_respons
 use Rattle.script_model.specs.State.{OpenBatch, Script}
 use Rattle.script_model.specs.Parsing.{Statement, Asks, BeginBatch, BeginProgram, statement, BatchLine, OneEdit, EndBatch, batch_line}
 use Rattle.script_model.specs.Execution.{one_edit, inside_batch, begin_program, statement_execution, execution_of, is_comment, with_words, outside}
-use Rattle.script_words.specs.Said.{cut, cut_edit, cut_batch_line, cut_command, cut_statement, Saying, Nothing, NoStatement, Makes, found_statement, saying, cut_saying}
+use Rattle.script_words.specs.Said.{cut_number, cut_edit, cut_batch_line, cut_command, cut_statement, Saying, Nothing, NoStatement, Makes, found_statement, saying_of, cut_saying}
 use Rattle.script.specs.Executes.{line_of}
 
 -- ---- numbers
 
 -- a limit up to 2^64 - 1 tells them apart from neither
-pub ltb-cut : (n limit : ℕ) → limit ≤ 1048576 → ltb (cut n) limit ≡ ltb n limit
+pub ltb-cut : (n limit : ℕ) → limit ≤ 1048576 → ltb (cut_number n) limit ≡ ltb n limit
 ltb-cut n limit small =
     elim (cases_lt n limit) [
       | inl below ↦
-          let same : cut n ≡ n = omega arith in
+          let same : cut_number n ≡ n = omega arith in
           rw same refl
       | inr above ↦
-          let high : limit ≤ cut n = omega arith in
+          let high : limit ≤ cut_number n = omega arith in
           le-ltb _ _ high ∙ sym (le-ltb _ _ above)
     ]
 
-cut_below : (n limit : ℕ) → limit ≤ 1048576 → n < limit → cut n ≡ n
+cut_below : (n limit : ℕ) → limit ≤ 1048576 → n < limit → cut_number n ≡ n
 cut_below n limit small below = omega arith
 
-cut_same : (n : ℕ) → n ≤ 1048576 → cut n ≡ n
+cut_same : (n : ℕ) → n ≤ 1048576 → cut_number n ≡ n
 cut_same n le = omega arith
 
 above : (a : Bool) (n limit : ℕ) → limit < n → (a && leb n limit) ≡ false
@@ -46,34 +46,34 @@ above a n limit lt =
       | inr not_is ↦ not_is
     ]
 
-below-cut : (limit : ℕ) (vs : List ℕ) → limit ≤ 1048576 → list_all (λ v. nat_lt v limit) (map cut vs) ≡ list_all (λ v. nat_lt v limit) vs
+below-cut : (limit : ℕ) (vs : List ℕ) → limit ≤ 1048576 → list_all (λ v. nat_lt v limit) (map cut_number vs) ≡ list_all (λ v. nat_lt v limit) vs
 below-cut limit [] small = refl
 below-cut limit (v ∷ vs) small = rw (ltb-cut v limit small, below-cut limit vs small) refl
 
-same-cut : (limit : ℕ) (vs : List ℕ) → limit ≤ 1048576 → list_all (λ v. nat_lt v limit) vs ≡ true → map cut vs ≡ vs
+same-cut : (limit : ℕ) (vs : List ℕ) → limit ≤ 1048576 → list_all (λ v. nat_lt v limit) vs ≡ true → map cut_number vs ≡ vs
 same-cut limit [] small all = refl
 same-cut limit (v ∷ vs) small all =
     let parts = and_parts _ _ all in
-    let first : cut v ≡ v = cut_below v limit small (ltb-true _ _ parts.0) in
+    let first : cut_number v ≡ v = cut_below v limit small (ltb-true _ _ parts.0) in
     rw (first, same-cut limit vs small parts.1) refl
 
 -- ---- commands and statements
 
-run_at : (program pin : List ℕ) (reduction : Reduction) (argument : List ℕ) (frontier : List ℕ) (s : Session) (past : Option Past) → s.past ≡ past → AreFewVertices past → run_response program pin reduction argument (map cut frontier) s ≡ run_response program pin reduction argument frontier s
+run_at : (program pin : List ℕ) (reduction : Reduction) (argument : List ℕ) (frontier : List ℕ) (s : Session) (past : Option Past) → s.past ≡ past → AreFewVertices past → run_response program pin reduction argument (map cut_number frontier) s ≡ run_response program pin reduction argument frontier s
 run_at program pin reduction argument frontier s None past-is small = rw past-is refl
 run_at program pin reduction argument frontier s (Some p) past-is small =
     elim (cases_Bool (list_all (λ v. nat_lt v p.vertex_count) frontier)) [
       | inl all ↦ rw (same-cut p.vertex_count frontier small all) refl
       | inr not_all ↦
-          let other : list_all (λ v. nat_lt v p.vertex_count) (map cut frontier) ≡ false = below-cut p.vertex_count frontier small ∙ not_all in
+          let other : list_all (λ v. nat_lt v p.vertex_count) (map cut_number frontier) ≡ false = below-cut p.vertex_count frontier small ∙ not_all in
           rw (past-is, other, not_all) refl
     ]
 
-graph-cut : (n : ℕ) (s : Session) → graph_response (cut n) s ≡ graph_response n s
+graph-cut : (n : ℕ) (s : Session) → graph_response (cut_number n) s ≡ graph_response n s
 graph-cut n s =
     elim (cases_lt 1048576 n) [
       | inl big ↦
-          let first : is_vertex_count (cut n) ≡ false = above (leb 1 (cut n)) (cut n) 1048576 (omega arith) in
+          let first : is_vertex_count (cut_number n) ≡ false = above (leb 1 (cut_number n)) (cut_number n) 1048576 (omega arith) in
           let second : is_vertex_count n ≡ false = above (leb 1 n) n 1048576 big in
           elim (cases_Bool (is_some s.past)) [
             | inl made ↦ rw made refl
@@ -82,11 +82,11 @@ graph-cut n s =
       | inr small ↦ rw (cut_same n small) refl
     ]
 
-load-cut : (name code : List ℕ) (n : ℕ) (s : Session) → load_response name (record { code = code; record_length = cut n }) s ≡ load_response name (record { code = code; record_length = n }) s
+load-cut : (name code : List ℕ) (n : ℕ) (s : Session) → load_response name (record { code = code; record_length = cut_number n }) s ≡ load_response name (record { code = code; record_length = n }) s
 load-cut name code n s =
     elim (cases_lt 256 n) [
       | inl big ↦
-          let first : is_record_length (cut n) ≡ false = above (leb 16 (cut n)) (cut n) 256 (omega arith) in
+          let first : is_record_length (cut_number n) ≡ false = above (leb 16 (cut_number n)) (cut_number n) 256 (omega arith) in
           let second : is_record_length n ≡ false = above (leb 16 n) n 256 big in
           elim (cases_Bool (is_some s.past)) [
             | inl made ↦ rw (made, first, second) refl
@@ -95,14 +95,14 @@ load-cut name code n s =
       | inr small ↦ rw (cut_same n (omega arith)) refl
     ]
 
-home_at : (v : ℕ) (s : Session) (past : Option Past) → s.past ≡ past → AreFewVertices past → home_response (cut v) s ≡ home_response v s
+home_at : (v : ℕ) (s : Session) (past : Option Past) → s.past ≡ past → AreFewVertices past → home_response (cut_number v) s ≡ home_response v s
 home_at v s None past-is small = rw past-is refl
 home_at v s (Some p) past-is small =
     elim (cases_lt v p.vertex_count) [
       | inl inside ↦ rw (cut_below v p.vertex_count small inside) refl
       | inr outside ↦
           let second : ltb v p.vertex_count ≡ false = le-ltb _ _ outside in
-          let first : ltb (cut v) p.vertex_count ≡ false = ltb-cut v p.vertex_count small ∙ second in
+          let first : ltb (cut_number v) p.vertex_count ≡ false = ltb-cut v p.vertex_count small ∙ second in
           rw (past-is, first, second) refl
     ]
 
@@ -116,11 +116,11 @@ response-cut (RunProgram program pin reduction argument frontier) s few =
 response-cut (TellHome v) s few = home_at v s s.past refl few
 response-cut (ListEdges program pin argument) s few = refl
 
-begin_program-cut : (name : List ℕ) (n : ℕ) (s : Script) → begin_program name (cut n) s ≡ begin_program name n s
+begin_program-cut : (name : List ℕ) (n : ℕ) (s : Script) → begin_program name (cut_number n) s ≡ begin_program name n s
 begin_program-cut name n s =
     elim (cases_lt 256 n) [
       | inl big ↦
-          let first : is_record_length (cut n) ≡ false = above (leb 16 (cut n)) (cut n) 256 (omega arith) in
+          let first : is_record_length (cut_number n) ≡ false = above (leb 16 (cut_number n)) (cut_number n) 256 (omega arith) in
           let second : is_record_length n ≡ false = above (leb 16 n) n 256 big in
           elim (cases_Bool (is_some s.session.past)) [
             | inl made ↦ rw (made, first, second) refl
@@ -138,7 +138,7 @@ line_of-found : (o : Option Statement) (s : Script) → line_of (found_statement
 line_of-found None s = refl
 line_of-found (Some x) s = refl
 
-line_of-saying : (words : List (List ℕ)) (s : Script) → line_of (saying words) s ≡ outside words s
+line_of-saying : (words : List (List ℕ)) (s : Script) → line_of (saying_of words) s ≡ outside words s
 line_of-saying [] s = refl
 line_of-saying (word ∷ operands) s =
     elim (cases_Bool (is_comment word)) [
@@ -152,8 +152,8 @@ line_of-cut NoStatement s few = refl
 line_of-cut (Makes x) s few = statement-cut x s few
 
 -- a line outside blocks does what it says, whether or not its numbers are cut
-pub outside-cut : (words : List (List ℕ)) (s : Script) → HasFewVertices s.session → line_of (cut_saying (saying words)) s ≡ outside words s
-outside-cut words s few = line_of-cut (saying words) s few ∙ line_of-saying words s
+pub outside-cut : (words : List (List ℕ)) (s : Script) → HasFewVertices s.session → line_of (cut_saying (saying_of words)) s ≡ outside words s
+outside-cut words s few = line_of-cut (saying_of words) s few ∙ line_of-saying words s
 
 -- ---- edits
 
@@ -164,13 +164,13 @@ edit_in-cut (Remove u v) past small = rw (ltb-cut u past.vertex_count small, ltb
 same_edit : (e : Edit) (past : Past) → past.vertex_count ≤ 1048576 → is_edit_of past e ≡ true → cut_edit e ≡ e
 same_edit (Insert u v) past small is =
     let ends = and_parts _ _ is in
-    let first : cut u ≡ u = cut_below u past.vertex_count small (ltb-true _ _ ends.0) in
-    let second : cut v ≡ v = cut_below v past.vertex_count small (ltb-true _ _ ends.1) in
+    let first : cut_number u ≡ u = cut_below u past.vertex_count small (ltb-true _ _ ends.0) in
+    let second : cut_number v ≡ v = cut_below v past.vertex_count small (ltb-true _ _ ends.1) in
     rw (first, second) refl
 same_edit (Remove u v) past small is =
     let ends = and_parts _ _ is in
-    let first : cut u ≡ u = cut_below u past.vertex_count small (ltb-true _ _ ends.0) in
-    let second : cut v ≡ v = cut_below v past.vertex_count small (ltb-true _ _ ends.1) in
+    let first : cut_number u ≡ u = cut_below u past.vertex_count small (ltb-true _ _ ends.0) in
+    let second : cut_number v ≡ v = cut_below v past.vertex_count small (ltb-true _ _ ends.1) in
     rw (first, second) refl
 
 edit_at : (e : Edit) (begun : OpenBatch) (s : Script) (past : Option Past) → s.session.past ≡ past → AreFewVertices past → one_edit (cut_edit e) begun s ≡ one_edit e begun s

@@ -16,9 +16,9 @@ pub data Statement : Type 0 where
   BeginProgram : (name : List ℕ) (record_length : ℕ) → Statement
 
 -- goes on with a value, where there is one
-abbrev pub given : {A B : Type 0} → Option A → (A → Option B) → Option B
-given None go = None
-given (Some x) go = go x
+abbrev pub option_then : {A B : Type 0} → Option A → (A → Option B) → Option B
+option_then None go = None
+option_then (Some x) go = go x
 
 abbrev pub under_name : List ℕ → Option Statement → Option Statement
 under_name name statement = if is_name name then statement else None
@@ -40,7 +40,7 @@ numbers [] = Some []
 numbers (word ∷ words) = with_number (number word) (numbers words)
 
 abbrev pub graph_statement : List (List ℕ) → Option Statement
-graph_statement (n ∷ []) = given (number n) (λ vertices. Some (Asks (MakeGraph vertices)))
+graph_statement (n ∷ []) = option_then (number n) (λ vertices. Some (Asks (MakeGraph vertices)))
 graph_statement _ = None
 
 abbrev pub batch_statement : List (List ℕ) → Option Statement
@@ -50,12 +50,12 @@ batch_statement _ = None
 
 abbrev pub code_statement : List (List ℕ) → Option Statement
 code_statement (name ∷ length ∷ digits ∷ []) =
-    under_name name (given (number length) (λ record_length. given (hex digits) (λ code. Some (Asks (LoadProgram name (record { code = code; record_length = record_length }))))))
+    under_name name (option_then (number length) (λ record_length. option_then (hex digits) (λ code. Some (Asks (LoadProgram name (record { code = code; record_length = record_length }))))))
 code_statement _ = None
 
 abbrev pub program_statement : List (List ℕ) → Option Statement
 program_statement (name ∷ length ∷ []) =
-    under_name name (given (number length) (λ record_length. Some (BeginProgram name record_length)))
+    under_name name (option_then (number length) (λ record_length. Some (BeginProgram name record_length)))
 program_statement _ = None
 
 abbrev pub pin_statement : List (List ℕ) → Option Statement
@@ -64,16 +64,16 @@ pin_statement _ = None
 
 abbrev pub run_statement : List (List ℕ) → Option Statement
 run_statement (program ∷ pin ∷ reducer ∷ digits ∷ frontier) =
-    under_name program (under_name pin (given (reduction_of reducer) (λ reduction. given (hex digits) (λ argument. given (numbers frontier) (λ vertices. Some (Asks (RunProgram program pin reduction argument vertices)))))))
+    under_name program (under_name pin (option_then (reduction_of reducer) (λ reduction. option_then (hex digits) (λ argument. option_then (numbers frontier) (λ vertices. Some (Asks (RunProgram program pin reduction argument vertices)))))))
 run_statement _ = None
 
 abbrev pub home_statement : List (List ℕ) → Option Statement
-home_statement (v ∷ []) = given (number v) (λ vertex. Some (Asks (TellHome vertex)))
+home_statement (v ∷ []) = option_then (number v) (λ vertex. Some (Asks (TellHome vertex)))
 home_statement _ = None
 
 abbrev pub list_statement : List (List ℕ) → Option Statement
 list_statement (program ∷ pin ∷ digits ∷ []) =
-    under_name program (under_name pin (given (hex digits) (λ argument. Some (Asks (ListEdges program pin argument)))))
+    under_name program (under_name pin (option_then (hex digits) (λ argument. Some (Asks (ListEdges program pin argument)))))
 list_statement _ = None
 
 -- the statement that a line's first word names, with the words behind it

@@ -6,7 +6,7 @@ use Rattle.std.proofs.lemmas.Bool.{cases_Bool, cases_lt}
 use Rattle.std.proofs.lemmas.List.{drop_more, drop_all}
 use Rattle.std.proofs.lemmas.Option.{some_pair_parts}
 use Rattle.script_model.specs.Lexing.{is_blank, is_digit, digits_from, number, words}
-use Rattle.script_words.specs.Said.{cut}
+use Rattle.script_words.specs.Said.{cut_number}
 use Rattle.script_words.specs.Reading.{cut_before, first_number}
 use Rattle.script_words.proofs.WordLemmas.{words-word, position-within}
 
@@ -22,7 +22,7 @@ cut_at most n bytes = elim (cases_lt n most) [
   | inr above ↦ omega (arith, digits_from-above n bytes, digits_from-above (min n most) bytes)
 ]
 
-cut_digits : (n : ℕ) (bytes : List ℕ) → cut (digits_from (cut n) bytes) ≡ cut (digits_from n bytes)
+cut_digits : (n : ℕ) (bytes : List ℕ) → cut_number (digits_from (cut_number n) bytes) ≡ cut_number (digits_from n bytes)
 cut_digits n bytes = cut_at (2 ^ 64 - 1) n bytes
 
 -- ---- a number and the words behind it
@@ -30,7 +30,7 @@ cut_digits n bytes = cut_at (2 ^ 64 - 1) n bytes
 -- what the bytes before the first blank spell, after a number that they go on from
 abbrev pub spelled : ℕ → List ℕ → Option (ℕ × List (List ℕ))
 spelled n [] = Some (n, [])
-spelled n (b ∷ bytes) = if is_blank b then Some (n, words bytes) else (if is_digit b then spelled (cut (10 * n + (b - 48))) bytes else None)
+spelled n (b ∷ bytes) = if is_blank b then Some (n, words bytes) else (if is_digit b then spelled (cut_number (10 * n + (b - 48))) bytes else None)
 
 abbrev pub found : ℕ → List (List ℕ) → Option (ℕ × List (List ℕ))
 found n others = Some (n, others)
@@ -51,12 +51,12 @@ spelled_all n i xs end = rw (drop_all i xs end) refl
 abbrev first_spelled : ℕ → List ℕ → List (List ℕ) → Option (ℕ × List (List ℕ))
 first_spelled n word others = option_map (cut_before others) (if list_all is_digit word then Some (digits_from n word) else None)
 
-same_spelled : (all : Bool) (m n : ℕ) (others : List (List ℕ)) → cut m ≡ cut n → option_map (cut_before others) (if all then Some m else None) ≡ option_map (cut_before others) (if all then Some n else None)
+same_spelled : (all : Bool) (m n : ℕ) (others : List (List ℕ)) → cut_number m ≡ cut_number n → option_map (cut_before others) (if all then Some m else None) ≡ option_map (cut_before others) (if all then Some n else None)
 same_spelled true m n others same = ap (λ v. found v others) same
 same_spelled false m n others same = refl
 
-not_cut : (n : ℕ) (others : List (List ℕ)) → n ≤ 2 ^ 64 - 1 → found n others ≡ found (cut n) others
-not_cut n others small = let same : n ≡ cut n = omega arith in ap (λ v. found v others) same
+not_cut : (n : ℕ) (others : List (List ℕ)) → n ≤ 2 ^ 64 - 1 → found n others ≡ found (cut_number n) others
+not_cut n others small = let same : n ≡ cut_number n = omega arith in ap (λ v. found v others) same
 
 spelled_word : (n : ℕ) (xs : List ℕ) → n ≤ 2 ^ 64 - 1 → spelled n xs ≡ first_spelled n (take (position_or_len is_blank xs) xs) (words (drop (position_or_len is_blank xs) xs))
 spelled_word n [] small = not_cut n [] small
@@ -67,8 +67,8 @@ spelled_word n (b ∷ xs) small = elim (cases_Bool (is_blank b)) [
       elim (cases_Bool (is_digit b)) [
         | inl digit ↦
             let m : ℕ = 10 * n + (b - 48) in
-            let rest = spelled_word (cut m) xs (omega arith) in
-            let same = same_spelled (list_all is_digit (take (position_or_len is_blank xs) xs)) (digits_from (cut m) (take (position_or_len is_blank xs) xs)) (digits_from m (take (position_or_len is_blank xs) xs)) (words (drop (position_or_len is_blank xs) xs)) (cut_digits m (take (position_or_len is_blank xs) xs)) in
+            let rest = spelled_word (cut_number m) xs (omega arith) in
+            let same = same_spelled (list_all is_digit (take (position_or_len is_blank xs) xs)) (digits_from (cut_number m) (take (position_or_len is_blank xs) xs)) (digits_from m (take (position_or_len is_blank xs) xs)) (words (drop (position_or_len is_blank xs) xs)) (cut_digits m (take (position_or_len is_blank xs) xs)) in
             simp (word, digit, next) (rest ∙ same)
         | inr other ↦ simp (word, other, next)
       ]
@@ -93,12 +93,12 @@ pub record First (line : List (List ℕ)) (n : ℕ) (rest : List (List ℕ)) : T
   pub value : ℕ
   pub begins : line ≡ word ∷ rest
   pub spells : number word ≡ Some value
-  pub is_cut : cut value ≡ n
+  pub is_cut : cut_number value ≡ n
 
 first_at : (word : List ℕ) (others : List (List ℕ)) (n : ℕ) (rest : List (List ℕ)) (value : Option ℕ) → number word ≡ value → option_map (cut_before others) value ≡ Some (n, rest) → First (word ∷ others) n rest
 first_at word others n rest None is first = absurd (cc)
 first_at word others n rest (Some value) is first =
-    let parts = some_pair_parts (cut value) n others rest first in
+    let parts = some_pair_parts (cut_number value) n others rest first in
     record { word = word; value = value; begins = ap (λ left. word ∷ left) parts.1; spells = is; is_cut = parts.0 }
 
 pub first_of : (line : List (List ℕ)) (n : ℕ) (rest : List (List ℕ)) → first_number line ≡ Some (n, rest) → First line n rest
@@ -109,4 +109,4 @@ first_of (word ∷ others) n rest first = first_at word others n rest (number wo
 
 -- numbers, and those behind them
 abbrev pub after : List ℕ → Option (List ℕ) → Option (List ℕ)
-after ns rest = option_map (λ others. ns ++ map cut others) rest
+after ns rest = option_map (λ others. ns ++ map cut_number others) rest

@@ -5,20 +5,20 @@ use Rattle.std.proofs.lemmas.Bool.{cases_Bool}
 use Rattle.std.proofs.lemmas.Option.{same_Some}
 use Rattle.script_model.specs.Lexing.{number, hex, is_name}
 use Rattle.session_model.specs.Commands.{LoadProgram}
-use Rattle.script_model.specs.Parsing.{Statement, Asks, given, code_statement, list_statement, statement}
+use Rattle.script_model.specs.Parsing.{Statement, Asks, option_then, code_statement, list_statement, statement}
 use Rattle.script_model.specs.Execution.{is_comment}
 use Rattle.script_words.specs.declared.line.Statement.{Statement as CodeStatement}
-use Rattle.script_words.specs.Said.{NoStatement, Makes, cut, cut_statement, cut_saying, said_statement, saying, found_statement}
+use Rattle.script_words.specs.Said.{NoStatement, Makes, cut_number, cut_statement, cut_saying, said_statement, saying_of, found_statement}
 use Rattle.script_words.specs.Reading.{first_number, load_of}
 use Rattle.script_words.proofs.NumberLemmas.{first_of}
 
 -- ---- `code`
 
-loaded_cut : (name : List ℕ) (value n : ℕ) (code : Option (List ℕ)) → cut value ≡ n → option_map cut_statement (given code (λ bytes. Some (Asks (LoadProgram name (record { code = bytes; record_length = value }))))) ≡ given code (λ bytes. Some (Asks (LoadProgram name (record { code = bytes; record_length = n }))))
+loaded_cut : (name : List ℕ) (value n : ℕ) (code : Option (List ℕ)) → cut_number value ≡ n → option_map cut_statement (option_then code (λ bytes. Some (Asks (LoadProgram name (record { code = bytes; record_length = value }))))) ≡ option_then code (λ bytes. Some (Asks (LoadProgram name (record { code = bytes; record_length = n }))))
 loaded_cut name value n None is = refl
 loaded_cut name value n (Some bytes) is = ap (λ m. Some (Asks (LoadProgram name (record { code = bytes; record_length = m })))) is
 
-code_at : (name word digits : List ℕ) (value n : ℕ) → is_name name ≡ true → number word ≡ Some value → cut value ≡ n → option_map cut_statement (code_statement (name ∷ word ∷ digits ∷ [])) ≡ load_of name n digits
+code_at : (name word digits : List ℕ) (value n : ℕ) → is_name name ≡ true → number word ≡ Some value → cut_number value ≡ n → option_map cut_statement (code_statement (name ∷ word ∷ digits ∷ [])) ≡ load_of name n digits
 code_at name word digits value n named spells is = simp (named, spells) (loaded_cut name value n (hex digits) is)
 
 pub code_statement-three : (name : List ℕ) (line : List (List ℕ)) (n : ℕ) (digits : List ℕ) (others : List (List ℕ)) → first_number line ≡ Some (n, digits ∷ others) → others ≡ [] → is_name name ≡ true → option_map cut_statement (code_statement (name ∷ line)) ≡ load_of name n digits
@@ -63,7 +63,7 @@ list_statement-long program pin digits (a ∷ others) some = refl
 
 -- ---- what a line says
 
-pub saying-statement : (word : List ℕ) (operands : List (List ℕ)) → is_comment word ≡ false → saying (word ∷ operands) ≡ found_statement (statement word operands)
+pub saying-statement : (word : List ℕ) (operands : List (List ℕ)) → is_comment word ≡ false → saying_of (word ∷ operands) ≡ found_statement (statement word operands)
 saying-statement word operands line = simp line
 
 pub said_some : (found : Option CodeStatement) (c : CodeStatement) (means : Option Statement) → found ≡ Some c → option_map said_statement found ≡ option_map cut_statement means → Makes (said_statement c) ≡ cut_saying (found_statement means)

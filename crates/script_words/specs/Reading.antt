@@ -3,11 +3,11 @@ use Rattle.std.specs.Prelude.{ℕ, List, [], ◌∷◌, Option, Some, None, opti
 use Rattle.bpf_model.specs.declared.reduction.Reduction.{Reduction}
 use Rattle.script_model.specs.Lexing.{number, hex}
 use Rattle.session_model.specs.Commands.{LoadProgram, RunProgram, ListEdges}
-use Rattle.script_model.specs.Parsing.{pair_of, Statement, Asks, given, numbers}
-use Rattle.script_words.specs.Said.{cut}
+use Rattle.script_model.specs.Parsing.{pair_of, Statement, Asks, option_then, numbers}
+use Rattle.script_words.specs.Said.{cut_number}
 
 abbrev pub cut_before : List (List ℕ) → ℕ → ℕ × List (List ℕ)
-cut_before words n = (cut n, words)
+cut_before words n = (cut_number n, words)
 
 -- the number that the first word is, with the words behind it
 abbrev pub first_number : List (List ℕ) → Option (ℕ × List (List ℕ))
@@ -20,17 +20,17 @@ pair_behind (source ∷ target ∷ []) = pair_of (number source) (number target)
 pair_behind _ = None
 
 abbrev pub cut_pair : ℕ × ℕ → ℕ × ℕ
-cut_pair pair = (cut pair.0, cut pair.1)
+cut_pair pair = (cut_number pair.0, cut_number pair.1)
 
 -- the statement to load a program whose code these digits spell
 abbrev pub load_of : List ℕ → ℕ → List ℕ → Option Statement
-load_of name record_length digits = given (hex digits) (λ code. Some (Asks (LoadProgram name (record { code = code; record_length = record_length }))))
+load_of name record_length digits = option_then (hex digits) (λ code. Some (Asks (LoadProgram name (record { code = code; record_length = record_length }))))
 
 -- the statement to run a program with the argument that these digits spell, over these vertices
 abbrev pub run_of : List ℕ → List ℕ → Reduction → List ℕ → List (List ℕ) → Option Statement
 run_of program pin reduction digits frontier =
-    given (hex digits) (λ argument. given (numbers frontier) (λ vertices. Some (Asks (RunProgram program pin reduction argument vertices))))
+    option_then (hex digits) (λ argument. option_then (numbers frontier) (λ vertices. Some (Asks (RunProgram program pin reduction argument vertices))))
 
 -- the statement to list the edges of a pin with the argument that these digits spell
 abbrev pub list_of : List ℕ → List ℕ → List ℕ → Option Statement
-list_of program pin digits = given (hex digits) (λ argument. Some (Asks (ListEdges program pin argument)))
+list_of program pin digits = option_then (hex digits) (λ argument. Some (Asks (ListEdges program pin argument)))

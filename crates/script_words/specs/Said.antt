@@ -13,35 +13,35 @@ use Rattle.script_words.specs.declared.line.Statement.TheVariants as statements
 use Rattle.script_words.specs.declared.line.Line.{Line}
 use Rattle.script_words.specs.declared.line.Line.TheVariants as lines
 
-abbrev pub cut : ℕ → ℕ
-cut n = min n (2 ^ 64 - 1)
+abbrev pub cut_number : ℕ → ℕ
+cut_number n = min n (2 ^ 64 - 1)
 
 abbrev pub cut_edit : Edit → Edit
-cut_edit (Insert u v) = Insert (cut u) (cut v)
-cut_edit (Remove u v) = Remove (cut u) (cut v)
+cut_edit (Insert u v) = Insert (cut_number u) (cut_number v)
+cut_edit (Remove u v) = Remove (cut_number u) (cut_number v)
 
 abbrev pub cut_batch_line : BatchLine → BatchLine
 cut_batch_line (OneEdit e) = OneEdit (cut_edit e)
 cut_batch_line EndBatch = EndBatch
 
 abbrev pub cut_program : Program → Program
-cut_program p = record { code = p.code; record_length = cut p.record_length }
+cut_program p = record { code = p.code; record_length = cut_number p.record_length }
 
 -- the numbers of a command that stand on its line
 abbrev pub cut_command : Command → Command
-cut_command (MakeGraph n) = MakeGraph (cut n)
+cut_command (MakeGraph n) = MakeGraph (cut_number n)
 cut_command (PublishBatch feed edits) = PublishBatch feed edits
 cut_command (LoadProgram name p) = LoadProgram name (cut_program p)
 cut_command (TakePin name) = TakePin name
 cut_command (RunProgram program pin reduction argument frontier) =
-    RunProgram program pin reduction argument (map cut frontier)
-cut_command (TellHome v) = TellHome (cut v)
+    RunProgram program pin reduction argument (map cut_number frontier)
+cut_command (TellHome v) = TellHome (cut_number v)
 cut_command (ListEdges program pin argument) = ListEdges program pin argument
 
 abbrev pub cut_statement : Statement → Statement
 cut_statement (Asks c) = Asks (cut_command c)
 cut_statement (BeginBatch feed) = BeginBatch feed
-cut_statement (BeginProgram name record_length) = BeginProgram name (cut record_length)
+cut_statement (BeginProgram name record_length) = BeginProgram name (cut_number record_length)
 
 -- the line of a batch that the code's stands for
 abbrev pub said_batch_line : CodeBatchLine → BatchLine
@@ -71,9 +71,9 @@ abbrev pub found_statement : Option Statement → Saying
 found_statement None = NoStatement
 found_statement (Some x) = Makes x
 
-abbrev pub saying : List (List ℕ) → Saying
-saying [] = Nothing
-saying (word ∷ operands) = if is_comment word then Nothing else found_statement (statement word operands)
+abbrev pub saying_of : List (List ℕ) → Saying
+saying_of [] = Nothing
+saying_of (word ∷ operands) = if is_comment word then Nothing else found_statement (statement word operands)
 
 abbrev pub cut_saying : Saying → Saying
 cut_saying Nothing = Nothing

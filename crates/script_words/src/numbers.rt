@@ -2,7 +2,7 @@
 ghost use Rattle.std.specs.Prelude.{◌≡◌, ℕ, ◌+◌, ◌*◌, ◌<◌, ◌^◌, map, length, Option, Some, None, option_map, IfOk, IfSome, MatchOption};
 ghost use Rattle.script_model.specs.Lexing.{is_digit as is_digit_byte, words};
 ghost use Rattle.script_model.specs.Parsing.{numbers};
-ghost use Rattle.script_words.specs.Said.{cut};
+ghost use Rattle.script_words.specs.Said.{cut_number};
 ghost use Rattle.script_words.specs.Reading.{first_number};
 
 use crate::words::{has_no_word, is_blank, without_blanks};
@@ -17,7 +17,7 @@ fn is_digit(byte: u8) -> bool
 
 /// The number with one digit more, at most 2^64 - 1.
 fn with_digit(number: u64, digit: u8) -> u64
-    ensures { result ≡ cut (10 * number + digit) }
+    ensures { result ≡ cut_number (10 * number + digit) }
 {
     // Ten times so small a number and a byte fit, which spares the usual number two tests.
     if number < 1 << 60 {
@@ -51,7 +51,7 @@ pub(crate) fn next_number(line: &[u8]) -> Option<(u64, &[u8])>
 
 /// The numbers of a line that has only numbers.
 pub(crate) fn all_numbers(alloc: Global, line: &[u8]) -> Result<Option<Vec<u64>>, AllocError>
-    ensures { IfOk result (λ found. option_map (λ v. v.items) found ≡ option_map (map cut) (numbers (words line.now))) }
+    ensures { IfOk result (λ found. option_map (λ v. v.items) found ≡ option_map (map cut_number) (numbers (words line.now))) }
 {
     let mut found = Vec::new(alloc);
     let mut left = line;

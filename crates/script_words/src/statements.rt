@@ -4,7 +4,7 @@ ghost use Rattle.std.specs.Prelude.{◌≡◌, List, [], ◌∷◌, Option, Some
 ghost use Rattle.script_model.specs.Lexing.{words};
 ghost use Rattle.script_model.specs.Parsing.{BeginBatch, graph_statement, batch_statement, code_statement, program_statement, pin_statement, run_statement, home_statement, list_statement, reduction_of as reduction_word, statement as statement_of};
 ghost use Rattle.script_model.specs.Execution.{is_comment as is_comment_word};
-ghost use Rattle.script_words.specs.Said.{said_statement, cut_statement, saying, said_line, cut_saying};
+ghost use Rattle.script_words.specs.Said.{said_statement, cut_statement, saying_of, said_line, cut_saying};
 ghost use Rattle.script_words.specs.Reading.{load_of, run_of, list_of};
 
 use crate::hex::hex;
@@ -283,7 +283,7 @@ fn is_comment(word: &[u8]) -> bool
 
 /// What a line outside blocks says.
 pub fn statement_line<'a>(alloc: Global, line: &'a [u8]) -> Result<Line<'a>, AllocError>
-    ensures { IfOk result (λ l. said_line l ≡ cut_saying (saying (words line.now))) }
+    ensures { IfOk result (λ l. said_line l ≡ cut_saying (saying_of (words line.now))) }
 {
     let Some((word, operands)) = next_word(line) else {
         return Ok(Line::Skipped);

@@ -30,9 +30,9 @@ unless_fault None response = response
 unless_fault (Some fault) response = Fails fault
 
 -- goes on with what is there, or has a fault
-abbrev pub needing : {A : Type 0} → Option A → Fault → (A → Response) → Response
-needing None fault go = Fails fault
-needing (Some x) fault go = go x
+abbrev pub response_with : {A : Type 0} → Option A → Fault → (A → Response) → Response
+response_with None fault go = Fails fault
+response_with (Some x) fault go = go x
 
 abbrev pub graph_response : ℕ → Session → Response
 graph_response n s = unless_fault (graph_fault n s) (Answers (GraphMade n) (record s { past = Some (opening n) }))
@@ -47,7 +47,7 @@ published_answer feed edits past =
 
 abbrev pub publish_response : ℕ → List Edit → Session → Response
 publish_response feed edits s =
-    needing s.past faults.Order (λ past.
+    response_with s.past faults.Order (λ past.
     unless_fault (batch_fault edits past)
     (Answers (published_answer feed edits past) (record s { past = Some (longer past (entry_of feed edits)); held = None })))
 
@@ -71,7 +71,7 @@ load_response name p s = unless_fault (program_fault name p.record_length s) (co
 abbrev pub pin_response : List ℕ → Session → Response
 pin_response name s =
     unless_fault (pin_fault name s)
-    (needing s.past faults.Order (λ past.
+    (response_with s.past faults.Order (λ past.
     Answers (PinTaken name (number_of past) (edge_count (graph_of past))) (record s { pins = s.pins ++ record { name = name; past = past } ∷ [] })))
 
 -- the vertices whose edges are mapped: those that are named, or all
@@ -100,11 +100,11 @@ map_response program pin reduction argument frontier p past s =
 -- a run of a program and a pin, where both are there
 abbrev pub found_response : List ℕ → List ℕ → Reduction → List ℕ → List ℕ → Option Program → Option Past → Session → Response
 found_response program pin reduction argument frontier found kept s =
-    needing found faults.Name (λ p. needing kept faults.Name (λ past. map_response program pin reduction argument frontier p past s))
+    response_with found faults.Name (λ p. response_with kept faults.Name (λ past. map_response program pin reduction argument frontier p past s))
 
 abbrev pub run_response : List ℕ → List ℕ → Reduction → List ℕ → List ℕ → Session → Response
 run_response program pin reduction argument frontier s =
-    needing s.past faults.Order (λ last.
+    response_with s.past faults.Order (λ last.
     unless_fault (vertices_fault frontier last)
     (found_response program pin reduction argument frontier (program_named program s.programs) (pin_named pin s.pins) s))
 
@@ -114,7 +114,7 @@ home_answer v past = HomeTold v (home_of past v) (degree (graph_of past) v)
 
 abbrev pub home_response : ℕ → Session → Response
 home_response v s =
-    needing s.past faults.Order (λ past. unless_fault (home_fault v past) (Answers (home_answer v past) s))
+    response_with s.past faults.Order (λ past. unless_fault (home_fault v past) (Answers (home_answer v past) s))
 
 -- all edges of a graph with the numbers of a program: how many there are, and each
 abbrev pub list_answer : List ℕ → List ℕ → Program → Graph → List ℕ → Answer
@@ -123,14 +123,14 @@ list_answer program pin p g argument = EdgesListed program pin (edge_count g) (l
 -- the edges of a pin with the numbers of a program, where both are there
 abbrev pub listed_response : List ℕ → List ℕ → List ℕ → Option Program → Option Past → Session → Response
 listed_response program pin argument found kept s =
-    needing found faults.Name (λ p.
-    needing kept faults.Name (λ past.
+    response_with found faults.Name (λ p.
+    response_with kept faults.Name (λ past.
     unless_fault (length_fault argument p.record_length)
     (Answers (list_answer program pin p (graph_of past) argument) s)))
 
 abbrev pub list_response : List ℕ → List ℕ → List ℕ → Session → Response
 list_response program pin argument s =
-    needing s.past faults.Order (λ last.
+    response_with s.past faults.Order (λ last.
     listed_response program pin argument (program_named program s.programs) (pin_named pin s.pins) s)
 
 abbrev pub response : Command → Session → Response

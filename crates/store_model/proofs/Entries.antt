@@ -12,7 +12,7 @@ use Rattle.store_model.specs.declared.event.Event.TheVariants.{Submit, Take, Par
 use Rattle.store_model.specs.declared.reply.Reply.{Reply}
 use Rattle.store_model.specs.declared.reply.Reply.TheVariants.{Done, Refused, Slice, End}
 use Rattle.store_model.specs.Core.{Core, Holding, Run, opening_core, held_entries, entries, of_feed}
-use Rattle.store_model.specs.Events.{is_edit_below, can, Answers, after_take, after_publish, after_part, after, Happens, Steps, Ran, accepted_by, accepted}
+use Rattle.store_model.specs.Events.{is_edit_below, can, Answers, after_take, after_publish, after_part, after, Happens, Steps, Ran, accepted_by, accepted_entries}
 use Rattle.store_model.specs.Laws.{NothingLost, LogIsPast}
 use Rattle.store_model.proofs.Steps.{runs_keep}
 
@@ -65,17 +65,17 @@ step_adds s t event Done h = happened_adds s t event Done h
 step_adds s t event (Slice words) h = happened_adds s t event (Slice words) h
 step_adds s t event End h = happened_adds s t event End h
 
-runs_add : (s t : Core) (events : List Event) (replies : List Reply) → Ran s events replies t → entries t ≡ entries s ++ accepted events replies
+runs_add : (s t : Core) (events : List Event) (replies : List Reply) → Ran s events replies t → entries t ≡ entries s ++ accepted_entries events replies
 runs_add s t [] [] h = ap entries h ∙ sym (append-nil (entries s))
 runs_add s t (event ∷ events) (reply ∷ replies) (mid, first, rest) =
-    runs_add mid t events replies rest ∙ ap (λ l. l ++ accepted events replies) (step_adds s mid event reply first)
-    ∙ append_assoc (entries s) (accepted_by event reply) (accepted events replies)
+    runs_add mid t events replies rest ∙ ap (λ l. l ++ accepted_entries events replies) (step_adds s mid event reply first)
+    ∙ append_assoc (entries s) (accepted_by event reply) (accepted_entries events replies)
 runs_add s t [] (reply ∷ replies) h = absurd h
 runs_add s t (event ∷ events) [] h = absurd h
 
 pub nothing_lost : NothingLost
 nothing_lost n events replies s ran =
-    let all : entries s ≡ accepted events replies = runs_add (opening_core n) s events replies ran in (
+    let all : entries s ≡ accepted_entries events replies = runs_add (opening_core n) s events replies ran in (
       all,
       λ feed. (
           let test : Entry → Bool = λ e. e.feed == feed in

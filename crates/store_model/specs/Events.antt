@@ -102,7 +102,7 @@ abbrev pub accepted_by : Event → Reply → List Entry
 accepted_by (Submit feed batch) Done = (record { feed = feed; batch = batch }) ∷ []
 accepted_by event reply = []
 
-abbrev pub accepted : List Event → List Reply → List Entry
-accepted (event ∷ events) (reply ∷ replies) = accepted_by event reply ++ accepted events replies
-accepted [] replies = []
-accepted (event ∷ events) [] = []
+abbrev pub accepted_entries : List Event → List Reply → List Entry
+accepted_entries (event ∷ events) (reply ∷ replies) = accepted_by event reply ++ accepted_entries events replies
+accepted_entries [] replies = []
+accepted_entries (event ∷ events) [] = []

@@ -8,7 +8,7 @@ use Rattle.store_model.specs.declared.event.Event.TheVariants.{Submit, Take, Par
 use Rattle.store_model.specs.declared.reply.Reply.{Reply}
 use Rattle.store_model.specs.declared.reply.Reply.TheVariants.{Done, Slice, End}
 use Rattle.store_model.specs.Core.{Core, Run, opening_core, run_of, words_of, held_entries, entries, of_feed}
-use Rattle.store_model.specs.Events.{IsBeginning, Steps, Ran, accepted}
+use Rattle.store_model.specs.Events.{IsBeginning, Steps, Ran, accepted_entries}
 
 -- what was lent is a beginning of the words, and all of them once a lend answered the end
 abbrev pub IsRight : Run → Type 0
@@ -23,9 +23,9 @@ EveryRunIsRight =
 abbrev pub NothingLost : Type 0
 NothingLost =
     (n : ℕ) (events : List Event) (replies : List Reply) (s : Core) → Ran (opening_core n) events replies s
-    → (entries s ≡ accepted events replies)
+    → (entries s ≡ accepted_entries events replies)
     × ((feed : ℕ) → of_feed feed s.past.log ++ (of_feed feed (held_entries s.held) ++ of_feed feed s.queue)
-    ≡ of_feed feed (accepted events replies))
+    ≡ of_feed feed (accepted_entries events replies))
 
 abbrev pub LogIsPast : Type 0
 LogIsPast = (n : ℕ) (events : List Event) (replies : List Reply) (s : Core) → Ran (opening_core n) events replies s → IsPast s.past

@@ -38,13 +38,13 @@ abbrev pub ways_from : Program → Assignment → ℕ → Ways
 ways_from p a pc = known_ways p pc (instruction_at p pc) (a pc)
 
 -- what comes to pc q from the entry and from the pcs below n
-abbrev pub incoming : Program → Assignment → ℕ → ℕ → Option AbstractState
-incoming p a zero q = if q == 0 then Some (entry_state p.record_length) else None
-incoming p a (suc n) q = joined_ways (incoming p a n q) (ways_from p a n) q
+abbrev pub incoming_state : Program → Assignment → ℕ → ℕ → Option AbstractState
+incoming_state p a zero q = if q == 0 then Some (entry_state p.record_length) else None
+incoming_state p a (suc n) q = joined_ways (incoming_state p a n q) (ways_from p a n) q
 
 -- the equations
 abbrev pub IsAssignment : Program → Assignment → Type 0
-IsAssignment p a = (q : ℕ) → q < units p → a q ≡ incoming p a q q
+IsAssignment p a = (q : ℕ) → q < units p → a q ≡ incoming_state p a q q
 
 -- their one solution, as all ways lead upward: what has come to each pc from the pcs below n
 abbrev pub arrivals : Program → ℕ → ℕ → Option AbstractState

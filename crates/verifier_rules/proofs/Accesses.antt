@@ -11,7 +11,7 @@ use Rattle.bpf_isa.specs.declared.instruction.SignedSize.TheVariants.{SignedByte
 use Rattle.bpf_isa.specs.declared.instruction.Extension.TheVariants.{From8To64, From16To64, From32To64}
 use Rattle.bpf_model.specs.Arithmetic.{move_signed_number}
 use Rattle.bpf_model.specs.State.{State, record_base, with_values, frame_top, frame_bytes, in_frame, may_access, address_at}
-use Rattle.bpf_model.specs.Step.{Goes, load_extension, low_bytes, load, store, put}
+use Rattle.bpf_model.specs.Step.{Goes, load_extension, low_bytes, load, store, next_with_result}
 use Rattle.bpf_isa.specs.Sizes.{size_bytes, plain_size}
 use Rattle.bpf_image.specs.declared.limits.TheConstants.{MOST_RECORD_LENGTH}
 use Rattle.bpf_model.proofs.ArithmeticFacts.{extended_fits}
@@ -47,7 +47,7 @@ apart_below l n a size k i short (inl within) low lt =
 apart_below l n a size k i short (inr inside) low lt = inl (omega (arith, inside.0, low, lt))
 
 -- a plain load
-pub load_follows : (l pc : ℕ) (i : Instruction) (b : AbstractValue) (z : ℤ) (a : AbstractState) (s : State) (d : Register) (size : Size) (x : ℕ) (ws : Ways) → l ≤ MOST_RECORD_LENGTH → FitsSigned w16 z → s.pc ≡ pos pc → DescribesState l a s → Describes l (top s) b (Some x) → write_ways (pc + 1) a d (load_result l a b z (size_bytes size)) ≡ ok ws → Follows l i a s ws (load l s (address_at x z) size (put s 1 d))
+pub load_follows : (l pc : ℕ) (i : Instruction) (b : AbstractValue) (z : ℤ) (a : AbstractState) (s : State) (d : Register) (size : Size) (x : ℕ) (ws : Ways) → l ≤ MOST_RECORD_LENGTH → FitsSigned w16 z → s.pc ≡ pos pc → DescribesState l a s → Describes l (top s) b (Some x) → write_ways (pc + 1) a d (load_result l a b z (size_bytes size)) ≡ ok ws → Follows l i a s ws (load l s (address_at x z) size (next_with_result s 1 d))
 load_follows l pc i b z a s d size x ws short fits at described base h =
     let w = writes_from (pc + 1) a d (load_result l a b z (size_bytes size)) ws h in
     let n = load_describes l (top s) a s.registers s.memory b w.value z size x (omega (arith, short)) (omega arith) (top_below l a s described) fits w.from described.parts base in
@@ -68,7 +68,7 @@ any_from : (r : Result AbstractValue Cause) (v : AbstractValue) → any_number_w
 any_from (Ok u) v h = (u, refl, cc)
 any_from (Err cause) v h = absurd cc
 
-pub load_extended_follows : (l pc : ℕ) (i : Instruction) (b : AbstractValue) (z : ℤ) (a : AbstractState) (s : State) (d : Register) (size : SignedSize) (x : ℕ) (ws : Ways) → l ≤ MOST_RECORD_LENGTH → FitsSigned w16 z → s.pc ≡ pos pc → DescribesState l a s → Describes l (top s) b (Some x) → write_ways (pc + 1) a d (load_signed_result l a b z size) ≡ ok ws → Follows l i a s ws (load l s (address_at x z) (plain_size size) (λ n. put s 1 d (move_signed_number (load_extension size) n)))
+pub load_extended_follows : (l pc : ℕ) (i : Instruction) (b : AbstractValue) (z : ℤ) (a : AbstractState) (s : State) (d : Register) (size : SignedSize) (x : ℕ) (ws : Ways) → l ≤ MOST_RECORD_LENGTH → FitsSigned w16 z → s.pc ≡ pos pc → DescribesState l a s → Describes l (top s) b (Some x) → write_ways (pc + 1) a d (load_signed_result l a b z size) ≡ ok ws → Follows l i a s ws (load l s (address_at x z) (plain_size size) (λ n. next_with_result s 1 d (move_signed_number (load_extension size) n)))
 load_extended_follows l pc i b z a s d size x ws short fits at described base h =
     let w = writes_from (pc + 1) a d (load_signed_result l a b z size) ws h in
     let u = any_from (load_result l a b z (size_bytes (plain_size size))) w.value w.from in

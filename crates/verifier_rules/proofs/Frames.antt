@@ -8,7 +8,7 @@ use Rattle.bpf_image.specs.declared.limits.TheConstants.{MOST_RECORD_LENGTH}
 use Rattle.bpf_model.specs.declared.trap.TrapKind.TheVariants.{UnsetResult}
 use Rattle.bpf_model.specs.State.{Partial, Saved, State, without_values, record_base, frame_top, frame_bytes, live_frames, most_frames}
 use Rattle.bpf_model.specs.Calls.{saved_state, enter, return_to}
-use Rattle.bpf_model.specs.Step.{Goes, reading, call, leave}
+use Rattle.bpf_model.specs.Step.{Goes, number_or_trap, call, leave}
 use Rattle.abstract_values.specs.declared.value.AbstractValue.{AbstractValue}
 use Rattle.abstract_values.specs.declared.value.AbstractValue.TheVariants.{Unset, Number, Record, Stack}
 use Rattle.abstract_values.specs.Described.{Describes}
@@ -130,10 +130,10 @@ leave_follows l a s ws (caller ∷ callers) v d same lt =
       few_callers = few;
     })
 
-number_leaves : (l : ℕ) (a : AbstractState) (s : State) (ws : Ways) (v : AbstractValue) (x : Option ℕ) (n : ℕ) → x ≡ Some n → n < 2 ^ 64 → DescribesState l a s → Follows l Exit a s ws (reading x UnsetResult s.pc (leave s s.callers))
+number_leaves : (l : ℕ) (a : AbstractState) (s : State) (ws : Ways) (v : AbstractValue) (x : Option ℕ) (n : ℕ) → x ≡ Some n → n < 2 ^ 64 → DescribesState l a s → Follows l Exit a s ws (number_or_trap x UnsetResult s.pc (leave s s.callers))
 number_leaves l a s ws v x n is lt d = rw is (leave_follows l a s ws s.callers n d refl lt)
 
-pub exit_follows : (l : ℕ) (a : AbstractState) (s : State) (ws : Ways) (v : AbstractValue) (x : Option ℕ) → DescribesState l a s → Describes l (top s) v x → exit_ways v ≡ ok ws → Follows l Exit a s ws (reading x UnsetResult s.pc (leave s s.callers))
+pub exit_follows : (l : ℕ) (a : AbstractState) (s : State) (ws : Ways) (v : AbstractValue) (x : Option ℕ) → DescribesState l a s → Describes l (top s) v x → exit_ways v ≡ ok ws → Follows l Exit a s ws (number_or_trap x UnsetResult s.pc (leave s s.callers))
 exit_follows l a s ws Unset x d q h = absurd cc
 exit_follows l a s ws (Number lo hi) x d q h = number_leaves l a s ws (Number lo hi) x q.0 q.1 q.4 d
 exit_follows l a s ws (Record lo hi) x d q h = absurd cc

@@ -6,7 +6,7 @@ use Rattle.bpf_isa.specs.declared.register.Register.{Register}
 use Rattle.bpf_isa.specs.declared.instruction.Instruction.{Instruction}
 use Rattle.bpf_isa.specs.Encoding.{number_of}
 use Rattle.bpf_model.specs.State.{Partial, State, with_value}
-use Rattle.bpf_model.specs.Step.{Goes, put}
+use Rattle.bpf_model.specs.Step.{Goes, next_with_result}
 use Rattle.bpf_model.specs.declared.cause.Cause.{Cause}
 use Rattle.abstract_values.specs.declared.value.AbstractValue.{AbstractValue}
 use Rattle.abstract_values.specs.declared.value.AbstractValue.TheVariants.{Unset}
@@ -55,7 +55,7 @@ frame_register_stays registers d n other =
     rw test refl
 
 -- a step that puts a described number into the destination
-pub put_follows : (l pc units : ℕ) (i : Instruction) (a : AbstractState) (s : State) (d : Register) (r : Result AbstractValue Cause) (n : ℕ) (ws : Ways) → s.pc ≡ pos pc → DescribesState l a s → write_ways (pc + units) a d r ≡ ok ws → ((v : AbstractValue) → r ≡ ok v → Describes l (top s) v (Some n)) → Follows l i a s ws (put s units d n)
+pub put_follows : (l pc units : ℕ) (i : Instruction) (a : AbstractState) (s : State) (d : Register) (r : Result AbstractValue Cause) (n : ℕ) (ws : Ways) → s.pc ≡ pos pc → DescribesState l a s → write_ways (pc + units) a d r ≡ ok ws → ((v : AbstractValue) → r ≡ ok v → Describes l (top s) v (Some n)) → Follows l i a s ws (next_with_result s units d n)
 put_follows l pc units i a s d r n ws at described h new =
     let w = writes_from (pc + units) a d r ws h in
     let moved : s.pc +ℤ pos units ≡ pos (pc + units) = ap (λ z. z +ℤ pos units) at in

@@ -2,7 +2,7 @@
 ghost use Rattle.std.specs.Prelude.{◌≡◌};
 ghost use Rattle.bpf_asm.specs.Lexing.{said_part as said_part_of};
 ghost use Rattle.bpf_asm.specs.Said.{said_arguments, said_line};
-ghost use Rattle.bpf_asm.specs.Statements.{item as item_of, plain as plain_of, label_line as label_line_of, said as said_of, statement as statement_of, word_line as word_line_of};
+ghost use Rattle.bpf_asm.specs.Statements.{item as item_of, plain as plain_of, label_line as label_line_of, item_of_text as item_text_of, statement as statement_of, word_line as word_line_of};
 
 use crate::errors::TextCause;
 use crate::reading::item::{Item, Jumping};
@@ -98,7 +98,7 @@ fn label_line(name: &[u8]) -> Result<Item<'_>, TextCause>
 
 /// What a line without comment and outer blanks says.
 fn said(text: &[u8]) -> Result<Item<'_>, TextCause>
-    ensures { said_line result ≡ said_of text.now }
+    ensures { said_line result ≡ item_text_of text.now }
 {
     if text.is_empty() {
         return Ok(Item::Blank);

@@ -4,7 +4,7 @@ use Rattle.session_model.specs.Faults.{HasFewVertices}
 use Rattle.script_model.specs.Lexing.{words}
 use Rattle.script_model.specs.State.{Script, Block, BatchBlock, ProgramBlock}
 use Rattle.script_model.specs.Execution.{Execution, block_execution, outside}
-use Rattle.script_words.specs.Said.{Saying, saying, cut_saying, said_line}
+use Rattle.script_words.specs.Said.{Saying, saying_of, cut_saying, said_line}
 use Rattle.script.specs.declared.block.Block.{Block as BegunBlock}
 use Rattle.script.specs.Executes.{Tells, line_of}
 use Rattle.script.specs.Kept.{block_of, open_batch, open_program, script_of}
@@ -19,7 +19,7 @@ returns-in_ok-said-in-None-clause-executed g c =
     let same : script_of c.self.inside.session c.take.new.self c.self.inside.line ≡ c.args.self.now = ap (λ (b : Option BegunBlock). script_of c.self.inside.session b c.self.inside.line) (c.take.ensures.after ∙ inner) ∙ c.self.view_is in
     let told = subst (λ (s : Script). Tells (line_of (said_line c.in_ok-said-in-None.said) s) c.execute_outside.result c.args.text.now.items c.execute_outside.new.text.items c.execute_outside.new.self) same c.execute_outside.ensures.executed in
     let few = subst (λ (s : Script). HasFewVertices s.session) same c.execute_outside.ensures.few in
-    let cut : line_of (said_line c.in_ok-said-in-None.said) c.args.self.now ≡ line_of (cut_saying (saying (words c.args.bytes.now))) c.args.self.now = ap (λ (x : Saying). line_of x c.args.self.now) c.in_ok-said-in-None.ensures in
+    let cut : line_of (said_line c.in_ok-said-in-None.said) c.args.self.now ≡ line_of (cut_saying (saying_of (words c.args.bytes.now))) c.args.self.now = ap (λ (x : Saying). line_of x c.args.self.now) c.in_ok-said-in-None.ensures in
     let whole = outside-cut (words c.args.bytes.now) c.args.self.now few in
     let here : outside (words c.args.bytes.now) c.args.self.now ≡ block_execution c.args.self.now.block c.args.bytes.now c.args.self.now = ap (λ (b : Option Block). block_execution b c.args.bytes.now c.args.self.now) (sym none) in
     subst (λ (x : Execution). Tells x c.execute_outside.result c.args.text.now.items c.execute_outside.new.text.items c.execute_outside.new.self) (cut ∙ whole ∙ here) told
