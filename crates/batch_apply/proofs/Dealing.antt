@@ -4,6 +4,7 @@ use Rattle.std.specs.declared.alloc.Global.{Global}
 use Rattle.std.proofs.lemmas.Bool.{cases_Bool, cases_lt}
 use Rattle.std.proofs.lemmas.Nat.{div-add-mod'}
 use Rattle.std.proofs.lemmas.List.{get_or_push, get_or_append_left, length_push, length-map, get_or-map}
+use Rattle.graph_model.specs.declared.limits.TheConstants.{MOST_RANGES}
 use Rattle.migration.specs.declared.edited_shard.EditedShard.{EditedShard}
 use Rattle.migration.specs.Groups.{Grouped, edits_of, is_filled, filled_below, filled_groups}
 use Rattle.migration.specs.Part.{Part, AreEditsOf}
@@ -12,7 +13,7 @@ use Rattle.migration.specs.Made.{IsBatch, IsMade, AreMade}
 use Rattle.migration.proofs.RangeLemmas.{range_edits, range_own}
 use Rattle.migration.proofs.MadeLemmas.{edits_in}
 use Rattle.migration.proofs.FilledLemmas.{filled_more, filled_same}
-use Rattle.batch_apply.specs.Dealt.{Piece, IsSplit, IsReady, IsMadeOf, IsDealt, AreDealt}
+use Rattle.batch_apply.specs.Dealt.{Piece, pieces_of, IsReady, IsMadeOf, IsDealt, AreDealt}
 
 -- ---- the ranges that have an edit
 
@@ -86,17 +87,40 @@ filled_in g (suc n) i h =
           omega arith)
     ]
 
+-- a range that has an edit is one of the groups
+pub filled_one : (groups : Grouped) (ranges : List ℕ) (place range : ℕ) → ranges ≡ filled_groups groups → place < length ranges → get_or ranges place 0 ≡ range → range < groups.count
+filled_one groups ranges place range are inside here =
+    subst (λ r. r < groups.count) here (subst (λ l. get_or l place 0 < groups.count) (sym are) (filled_in groups groups.count place (subst (λ l. place < length l) are inside)))
+
+-- the piece at a place is of the filled group there, and has its edits
+pub piece_at : (groups : Grouped) (pieces : List Piece) (k : ℕ) (d : Piece) → pieces ≡ pieces_of groups → k < length pieces
+    → ((get_or pieces k d).0 ≡ get_or (filled_groups groups) k 0) × ((get_or pieces k d).1 ≡ edits_of groups (get_or pieces k d).0) × (k < length (filled_groups groups))
+piece_at groups pieces k d are h =
+    let own : ℕ → Piece = λ range. (range, edits_of groups range) in
+    let long : length pieces ≡ length (filled_groups groups) = ap length are ∙ length-map (filled_groups groups) own in
+    let inside : k < length (filled_groups groups) = omega (arith, h, long) in
+    let at : get_or pieces k d ≡ own (get_or (filled_groups groups) k 0) = ap (λ l. get_or l k d) are ∙ get_or-map own (filled_groups groups) k 0 d inside in (
+      ap (λ (p : Piece). p.0) at,
+      ap (λ (p : Piece). p.1) at ∙ ap (edits_of groups) (sym (ap (λ (p : Piece). p.0) at)),
+      inside,
+    )
+
+-- there are no more of them than ranges
+pub few_pieces : (groups : Grouped) (pieces : List Piece) → pieces ≡ pieces_of groups → groups.count ≤ MOST_RANGES → length pieces ≤ MOST_RANGES
+few_pieces groups pieces are few =
+    let own : ℕ → Piece = λ range. (range, edits_of groups range) in
+    omega (arith, ap length are, length-map (filled_groups groups) own, filled_small groups groups.count)
+
 -- the pieces of a batch are ready
-pub all_ready : (groups : Grouped) (parts : List Part) (pieces : List Piece) → IsBatch groups parts → IsSplit groups pieces → All (IsReady parts) pieces
-all_ready groups parts pieces batch split =
+pub all_ready : (groups : Grouped) (parts : List Part) (pieces : List Piece) → IsBatch groups parts → pieces ≡ pieces_of groups → All (IsReady parts) pieces
+all_ready groups parts pieces batch are =
     λ k d h.
     let own = get_or pieces k d in
-    let number : own.0 ≡ get_or (filled_groups groups) k 0 = sym (get_or-map (λ (piece : Piece). piece.0) pieces k d 0 h) ∙ ap (λ l. get_or l k 0) split.ranges in
-    let long : k < length (filled_groups groups) = omega (arith, h, length-map pieces (λ (piece : Piece). piece.0), ap length split.ranges) in
+    let at = piece_at groups pieces k d are h in
     let count = batch.count in
-    let inside : own.0 < length parts = omega (arith, number, count, filled_in groups groups.count k long) in
+    let inside : own.0 < length parts = omega (arith, at.0, count, filled_in groups groups.count k at.2) in
     let editable = batch.editable in
-    let edits : own.1.items ≡ range_edits groups.count groups.edits own.0 = split.edits k d h ∙ edits_in groups batch.by_range own.0 in (
+    let edits : own.1 ≡ range_edits groups.count groups.edits own.0 = at.1 ∙ edits_in groups batch.by_range own.0 in (
       inside,
       subst (AreEditsOf (part_at parts own.0)) (sym edits) (range_own editable.graph (part_at parts own.0) groups.count groups.edits own.0 editable.small (editable.table.each own.0 inside) editable.below),
     )
@@ -139,28 +163,21 @@ in_turn parts pieces lists place own some dealt h is =
     subst (λ (v : Vec EditedShard Global). (place / hands < length v.items) × ((p : Piece) (d : EditedShard) → IsMadeOf parts (get_or pieces place p) (get_or v.items (place / hands) d))) (sym is)
     (subst (λ k. (place / hands < length (get_or lists (place % hands) own).items) × ((p : Piece) (d : EditedShard) → IsMadeOf parts (get_or pieces k p) (get_or (get_or lists (place % hands) own).items (place / hands) d))) whole fact)
 
--- the piece of a range
-piece_of : (groups : Grouped) (parts : List Part) (pieces : List Piece) (k n : ℕ) (e : EditedShard) → n < length pieces → IsSplit groups pieces → get_or (filled_groups groups) n 0 ≡ k → ((p : Piece) → IsMadeOf parts (get_or pieces n p) e) → IsMade (part_at parts k) (edits_of groups k) e
-piece_of groups parts [] k n e h split at made = absurd (omega arith)
-piece_of groups parts (q ∷ qs) k n e h split at made =
-    let pieces = q ∷ qs in
-    let own = get_or pieces n q in
-    let number : own.0 ≡ k = sym (get_or-map (λ (piece : Piece). piece.0) pieces n q 0 h) ∙ ap (λ l. get_or l n 0) split.ranges ∙ at in
-    let edits : own.1.items ≡ edits_of groups k = split.edits n q h ∙ ap (edits_of groups) number in
-    subst₂ (λ r es. IsMade (part_at parts r) es e) number edits (made q)
-
 -- so all are made
-pub all_made : (groups : Grouped) (parts : List Part) (pieces : List Piece) (made : List (Bor EditedShard)) → groups.count ≡ length parts → IsSplit groups pieces → length made ≡ length pieces → ((j : ℕ) (p : Piece) (d : Bor EditedShard) → j < length made → IsMadeOf parts (get_or pieces j p) (get_or made j d).now) → AreMade groups 0 parts made
-all_made groups parts pieces made count split long each =
+pub all_made : (groups : Grouped) (parts : List Part) (pieces : List Piece) (made : List (Bor EditedShard)) → groups.count ≡ length parts → pieces ≡ pieces_of groups → length made ≡ length pieces → ((j : ℕ) (p : Piece) (d : Bor EditedShard) → j < length made → IsMadeOf parts (get_or pieces j p) (get_or made j d).now) → AreMade groups 0 parts made
+all_made groups parts pieces made count are long each =
     λ k h some.
     let at = place_of groups groups.count (0 + k) (omega arith) some in
     let n = length (filled_below groups (0 + k)) in
-    let few = length-map pieces (λ (piece : Piece). piece.0) in
-    let inside : n < length made = (let small = at.0 in omega (arith, long, few, ap length split.ranges)) in
-    let same : 0 + k ≡ k = omega arith in (
+    let few : length pieces ≡ length (filled_groups groups) = ap length are ∙ length-map (filled_groups groups) (λ range. (range, edits_of groups range)) in
+    let inside : n < length made = (let small = at.0 in omega (arith, long, few)) in
+    let same : 0 + k ≡ k = omega arith in
+    let q : Piece = (0, []) in
+    let own = piece_at groups pieces n q are (omega (arith, long, inside)) in
+    let number : (get_or pieces n q).0 ≡ 0 + k = own.0 ∙ at.1 in (
       inside,
       λ d. subst (λ r. IsMade (part_at parts r) (edits_of groups (0 + k)) (get_or made n d).now) same
-          (piece_of groups parts pieces (0 + k) n (get_or made n d).now (omega (arith, long, inside)) split at.1 (λ p. each n p d inside)),
+          (subst₂ (λ r es. IsMade (part_at parts r) es (get_or made n d).now) number (own.1 ∙ ap (edits_of groups) number) (each n q d inside)),
     )
 
 -- one piece more in the order of all

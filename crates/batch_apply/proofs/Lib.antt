@@ -1,3 +1,4 @@
 pub mod Dealing
 pub mod Sorting
 pub mod Cuts
+pub mod Running

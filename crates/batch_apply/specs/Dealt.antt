@@ -1,5 +1,5 @@
 -- The edits of a batch by ranges, and the pieces of work that they are, dealt to workers in turn.
-use Rattle.std.specs.Prelude.{◌≡◌, ℕ, ◌+◌, ◌*◌, ◌<◌, List, length, map, Vec, slice_index_or, All}
+use Rattle.std.specs.Prelude.{ℕ, ◌+◌, ◌*◌, ◌<◌, List, length, map, Vec, slice_index_or}
 use Rattle.std.specs.declared.alloc.Global.{Global}
 use Rattle.graph_model.specs.declared.edit.Edit.{Edit}
 use Rattle.migration.specs.declared.edited_shard.EditedShard.{EditedShard}
@@ -10,20 +10,19 @@ use Rattle.migration.specs.Made.{IsMade}
 
 -- a range's number, and its edits
 abbrev pub Piece : Type 0
-Piece = ℕ × Vec Edit Global
+Piece = ℕ × List Edit
 
 -- each range that has an edit, ascending, and its edits in their order
-pub record IsSplit (groups : Grouped) (pieces : List Piece) : Type 0 where
-  pub ranges : map (λ piece. piece.0) pieces ≡ filled_groups groups
-  pub edits : All (λ piece. piece.1.items ≡ edits_of groups piece.0) pieces
+abbrev pub pieces_of : Grouped → List Piece
+pieces_of groups = map (λ range. (range, edits_of groups range)) (filled_groups groups)
 
 -- the edits are of a shard of its range
 abbrev pub IsReady : List Part → Piece → Type 0
-IsReady parts piece = (piece.0 < length parts) × AreEditsOf (part_at parts piece.0) piece.1.items
+IsReady parts piece = (piece.0 < length parts) × AreEditsOf (part_at parts piece.0) piece.1
 
 -- it was made of the shard of the range, and of its edits
 abbrev pub IsMadeOf : List Part → Piece → EditedShard → Type 0
-IsMadeOf parts piece made = IsMade (part_at parts piece.0) piece.1.items made
+IsMadeOf parts piece made = IsMade (part_at parts piece.0) piece.1 made
 
 -- what one worker made: of the piece at its first place, and of each so many places further on
 abbrev pub IsDealt : List Part → List Piece → ℕ → ℕ → List EditedShard → Type 0

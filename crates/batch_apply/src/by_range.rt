@@ -2,8 +2,7 @@
 ghost use Rattle.std.specs.Prelude.{◌≡◌, IfOk};
 ghost use Rattle.graph_model.specs.declared.limits.TheConstants.{MOST_VERTICES};
 ghost use Rattle.graph_model.specs.Edits.{AreEditsBelow};
-ghost use Rattle.batch_apply.specs.Dealt.{IsSplit};
-ghost use Rattle.batch_apply.specs.Splits.{IsSplitBatch, by_ranges};
+ghost use Rattle.batch_apply.specs.Splits.{IsSplit, IsSplitBatch, by_ranges};
 
 use crate::apply::are_below;
 use crate::errors::ApplyError;

@@ -4,10 +4,10 @@ ghost use Rattle.graph_model.specs.declared.limits.TheConstants.{MOST_RANGES};
 ghost use Rattle.gates.specs.declared.limits.TheConstants.{MOST_WORKERS};
 ghost use Rattle.migration.specs.Made.{IsBatch};
 ghost use Rattle.migration.specs.Table.{IsEditable, AreAfter, AreMoved};
-ghost use Rattle.batch_apply.specs.Dealt.{IsReady, IsSplit, AreDealt};
+ghost use Rattle.batch_apply.specs.Dealt.{IsReady, AreDealt, pieces_of};
 
-use crate::grouped::split_groups;
 use crate::hands::{spread, work_alone};
+use crate::pieces::Pieces;
 use gates::{Gate, Refusal, Workers};
 use graph_model::Edit;
 use migration::{Counts, EditedShard, Grouping, Groups, Table};
@@ -21,7 +21,7 @@ fn made_by<Ga: Gate, R: Threads + Wait>(
     rt: &R,
     alloc: Global,
     table: &Table,
-    pieces: &[(u32, Vec<Edit>)],
+    pieces: &Pieces,
     gate: &Ga,
     hands: usize,
 ) -> Result<Vec<Vec<EditedShard>>, Refusal>
@@ -54,11 +54,11 @@ fn put_in(
     alloc: Global,
     table: &Table,
     groups: &Groups<'_>,
-    pieces: &[(u32, Vec<Edit>)],
+    pieces: &Pieces,
     lists: &[Vec<EditedShard>],
 ) -> Result<(Table, Counts), AllocError>
     requires batch { IsBatch groups.now table.now }
-    requires split { IsSplit groups.now pieces.now }
+    requires pieces { pieces.now ≡ pieces_of groups.now }
     requires few { length pieces.now ≤ MOST_RANGES }
     requires some { 0 < length lists.now }
     requires hands { length lists.now ≤ MOST_WORKERS }
@@ -92,7 +92,7 @@ pub fn edit_table<Ga: Gate, R: Threads + Wait>(
     ensures homes { IfOk result (λ next. AreMoved table.now next.0) }
 {
     let groups = Groups::of(alloc, Grouping::ByRange, table.count(), edits)?;
-    let pieces = split_groups(alloc, &groups)?;
+    let pieces = Pieces::of(alloc, &groups, edits.len())?;
     let hands = usize::from(workers.count()).min(pieces.len()).max(1);
     let lists = made_by(rt, alloc, table, &pieces, gate, hands)?;
     let next = put_in(alloc, table, &groups, &pieces, &lists)?;

@@ -4,8 +4,8 @@ ghost use Rattle.graph_model.specs.declared.limits.TheConstants.{MOST_RANGES};
 ghost use Rattle.gates.specs.declared.limits.TheConstants.{MOST_WORKERS};
 ghost use Rattle.batch_apply.specs.Dealt.{IsReady, IsDealt, AreDealt};
 
+use crate::pieces::Pieces;
 use gates::{Gate, Refusal};
-use graph_model::Edit;
 use migration::{EditedShard, Scratch, Table};
 use std::alloc::{AllocError, Global};
 use std::thread::{Promise, Scope, Threads};
@@ -14,7 +14,7 @@ use std::thread::{Promise, Scope, Threads};
 #[derive(Clone, Copy)]
 pub(crate) struct Share<'a> {
     table: &'a Table,
-    pieces: &'a [(u32, Vec<Edit>)],
+    pieces: &'a Pieces,
     first: usize,
     step: usize,
 }
@@ -29,7 +29,7 @@ impl<'a> Promise<Result<Vec<EditedShard>, AllocError>> for Share<'a> {
 pub(crate) fn work<Ga: Gate>(
     alloc: Global,
     table: &Table,
-    pieces: &[(u32, Vec<Edit>)],
+    pieces: &Pieces,
     gate: &Ga,
     first: usize,
     step: usize,
@@ -44,10 +44,10 @@ pub(crate) fn work<Ga: Gate>(
     let mut scratch = Scratch::new(alloc);
     let mut next = first;
     'pieces: while next < pieces.len() {
-        let (range, edits) = &pieces[next];
-        gate.enter(*range);
-        let edited = table.edit(alloc, *range as usize, edits, &mut scratch);
-        gate.leave(*range);
+        let range = pieces.range(next);
+        gate.enter(range);
+        let edited = table.edit(alloc, range as usize, pieces.edits(next), &mut scratch);
+        gate.leave(range);
         made.push(edited?)?;
         next += step;
     }
@@ -58,7 +58,7 @@ pub(crate) fn work<Ga: Gate>(
 pub(crate) fn work_alone<Ga: Gate>(
     alloc: Global,
     table: &Table,
-    pieces: &[(u32, Vec<Edit>)],
+    pieces: &Pieces,
     gate: &Ga,
     step: usize,
 ) -> Result<Vec<Vec<EditedShard>>, AllocError>
@@ -81,7 +81,7 @@ pub(crate) fn spread<'s, E, Ga: Gate, R: Threads>(
     alloc: Global,
     scope: &Scope<'s, E>,
     table: &'s Table,
-    pieces: &'s [(u32, Vec<Edit>)],
+    pieces: &'s Pieces,
     gate: &'s Ga,
     bound: usize,
     step: usize,

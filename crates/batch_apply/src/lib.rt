@@ -7,6 +7,7 @@ mod edited;
 mod errors;
 mod grouped;
 mod hands;
+mod pieces;
 mod runs;
 
 pub use apply::apply_batch;

@@ -1,4 +1,4 @@
-use Rattle.std.proofs.Common.{◌/◌, ◌<◌, sym, ap, subst, ◌∙◌, All, arith}
+use Rattle.std.proofs.Common.{◌/◌, ◌<◌, sym, ap, subst, ◌∙◌, arith}
 use Rattle.std.specs.List.{AllByRecursion}
 use Rattle.graph_model.specs.Edits.{source_of}
 use Rattle.migration.specs.Groups.{Grouped}
@@ -6,16 +6,15 @@ use Rattle.migration.specs.Table.{IsEditable}
 use Rattle.migration.specs.Made.{IsBatch}
 use Rattle.migration.proofs.RangeLemmas.{in_ranges}
 use Rattle.migration.proofs.TableLemmas.{few_parts}
-use Rattle.batch_apply.specs.Dealt.{IsReady}
-use Rattle.batch_apply.proofs.Dealing.{all_ready}
+use Rattle.batch_apply.proofs.Dealing.{all_ready, few_pieces}
 use Rattle.batch_apply.proofs.edited.edit_table.Goals as goal
 
 pub of-requires : goal.of-requires
 of-requires g c =
     subst (λ n. AllByRecursion (λ e. source_of e / 256 < n) c.args.edits.now) (sym c.count.ensures) (in_ranges c.requires.graph c.args.table.now c.args.edits.now c.requires.table c.requires.below)
 
-pub split_groups-requires : goal.split_groups-requires
-split_groups-requires g c = omega (arith, ap (λ (g : Grouped). g.count) c.in_ok-groups.ensures, c.count.ensures, few_parts c.requires.graph c.args.table.now c.requires.table c.requires.small)
+pub of-requires-2 : goal.of-requires-2
+of-requires-2 g c = omega (arith, ap (λ (g : Grouped). g.count) c.in_ok-groups.ensures, c.count.ensures, few_parts c.requires.graph c.args.table.now c.requires.table c.requires.small)
 
 pub made_by-requires-clause-ready : goal.made_by-requires-clause-ready
 made_by-requires-clause-ready g c κs within =
@@ -27,4 +26,14 @@ made_by-requires-clause-ready g c κs within =
       count = ap (λ (g : Grouped). g.count) is ∙ c.count.ensures;
       editable = subst (IsEditable parts) (sym (ap (λ (g : Grouped). g.edits) is)) c.requires;
     } in
-    subst (All (IsReady parts)) (sym c.deref.ensures.value) (all_ready groups parts c.in_ok-pieces.pieces.items batch c.in_ok-pieces.ensures.split)
+    all_ready groups parts c.in_ok-pieces.pieces batch c.in_ok-pieces.ensures
+
+pub made_by-requires-clause-few : goal.made_by-requires-clause-few
+made_by-requires-clause-few g c κs within =
+    few_pieces c.in_ok-groups.groups c.in_ok-pieces.pieces c.in_ok-pieces.ensures
+    (omega (arith, ap (λ (g : Grouped). g.count) c.in_ok-groups.ensures, c.count.ensures, few_parts c.requires.graph c.args.table.now c.requires.table c.requires.small))
+
+pub put_in-requires-clause-few : goal.put_in-requires-clause-few
+put_in-requires-clause-few g c =
+    few_pieces c.in_ok-groups.groups c.in_ok-pieces.pieces c.in_ok-pieces.ensures
+    (omega (arith, ap (λ (g : Grouped). g.count) c.in_ok-groups.ensures, c.count.ensures, few_parts c.requires.graph c.args.table.now c.requires.table c.requires.small))

@@ -15,7 +15,8 @@ loop-place-preserved c =
     let made = c.loop-place.made.items in
     let own = c.index-lists-place.result in
     let e : Bor EditedShard = c.index.result in
-    let turn = in_turn parts pieces lists place own c.requires.some c.requires.dealt c.loop-place-test.true c.index-lists-place.is in
+    let here_is : place < length pieces = (let test = c.loop-place-test.true in let end = c.len-place-end.ensures in omega arith) in
+    let turn = in_turn parts pieces lists place own c.requires.some c.requires.dealt here_is c.index-lists-place.is in
     let here : (p : Piece) → IsMadeOf parts (get_or pieces place p) e.now = λ p. subst (IsMadeOf parts (get_or pieces place p)) (sym c.index.ensures) (turn.1 p e.now) in
     let last : (p : Piece) → IsMadeOf parts (get_or pieces (length made) p) e.now = λ p. subst (λ n. IsMadeOf parts (get_or pieces n p) e.now) (sym c.loop-place.invariant.count) (here p) in
     record {
@@ -28,4 +29,4 @@ pub with-requires-clause-made : goal.with-requires-clause-made
 with-requires-clause-made c =
     let long : length c.loop-place.made.items ≡ length c.args.pieces.now = (let ended = c.loop-place.auto.place-end in let past = c.loop-place-test.false in let count = c.loop-place.invariant.count in omega arith) in
     subst (AreMade c.args.groups.now 0 c.args.table.now) (sym c.deref.ensures.value)
-    (all_made c.args.groups.now c.args.table.now c.args.pieces.now c.loop-place.made.items c.requires.batch.count c.requires.split long c.loop-place.invariant.each)
+    (all_made c.args.groups.now c.args.table.now c.args.pieces.now c.loop-place.made.items c.requires.batch.count c.requires.pieces long c.loop-place.invariant.each)

@@ -1,11 +1,26 @@
-use Rattle.std.proofs.Common.{◌≡◌, ◌+◌, ◌*◌, ◌<◌, length, sym, ap, subst, ◌∙◌, get_or, ◌≤◌, inl, inr, mul-le-mul, le_refl, arith}
+use Rattle.std.proofs.Common.{◌≡◌, ◌+◌, ◌*◌, ◌<◌, [], length, sym, ap, subst, subst₂, ◌∙◌, get_or, ◌≤◌, inl, inr, mul-le-mul, le_refl, arith}
 use Rattle.std.proofs.lemmas.Bool.{cases_lt}
-use Rattle.std.proofs.lemmas.List.{length_push, get_or_default}
+use Rattle.std.proofs.lemmas.List.{length_push}
+use Rattle.migration.specs.Part.{AreEditsOf}
 use Rattle.migration.specs.Table.{part_at}
 use Rattle.migration.specs.Made.{IsMade}
 use Rattle.batch_apply.specs.Dealt.{Piece, IsMadeOf}
 use Rattle.batch_apply.proofs.Dealing.{AreMadeOf, piece_more}
 use Rattle.batch_apply.proofs.hands.work.Goals as goal
+
+pub edit-edited-requires-clause-range : goal.edit-edited-requires-clause-range
+edit-edited-requires-clause-range g c =
+    let d : Piece = (0, []) in
+    let here : c.pieces.next < length c.args.pieces.now = (let test = c.pieces-test.true in let all = c.len.ensures in omega arith) in
+    let range = c.range-range.ensures d in
+    let inside = (c.requires.ready c.pieces.next d here).0 in
+    omega arith
+
+pub edit-edited-requires-clause-edits : goal.edit-edited-requires-clause-edits
+edit-edited-requires-clause-edits g c =
+    let d : Piece = (0, []) in
+    let here : c.pieces.next < length c.args.pieces.now = (let test = c.pieces-test.true in let all = c.len.ensures in omega arith) in
+    subst₂ (λ r es. AreEditsOf (part_at c.args.table.now r) es) (sym (c.range-range.ensures d)) (sym (c.edits.ensures d)) (c.requires.ready c.pieces.next d here).1
 
 pub pieces-preserved : goal.pieces-preserved
 pieces-preserved g c =
@@ -15,11 +30,9 @@ pieces-preserved g c =
     let step = c.args.step in
     let made = c.pieces.made.items in
     let e = c.in_ok-edited.field-0 in
-    let own : IsMadeOf parts c.index-pieces-next.result e = subst (λ es. IsMade (part_at parts c.index-pieces-next.result.0) es e) c.deref.ensures.value c.in_ok-edited.ensures in
-    let here : c.pieces.next < length pieces = c.pieces-test.true in
     let last : (p : Piece) → IsMadeOf parts (get_or pieces (first + length made * step) p) e =
     λ p. subst (λ n. IsMadeOf parts (get_or pieces n p) e) c.pieces.invariant.place
-    (subst (λ q. IsMadeOf parts q e) (c.index-pieces-next.is ∙ get_or_default pieces c.pieces.next c.index-pieces-next.result p here) own) in
+    (subst₂ (λ r es. IsMade (part_at parts r) es e) (c.range-range.ensures p) (c.edits.ensures p) c.in_ok-edited.ensures) in
     let long = ap length c.in_ok-push.ensures.items ∙ length_push made e in
     record {
       place = (
