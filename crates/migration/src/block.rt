@@ -51,6 +51,13 @@ impl Block {
         &self.shards
     }
 
+    /// The shards, in order, which are no block any more.
+    pub(crate) fn into_shards(self) -> Vec<Arc<Shard>>
+        ensures { parts_of result.items ≡ self }
+    {
+        self.shards
+    }
+
     /// The block with edited shards put in, where its first shard is of this range, and what the edits did to its
     /// shards. A shard that no edit is of is shared. `next` counts the edited shards that were put in.
     pub(crate) fn with(

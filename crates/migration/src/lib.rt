@@ -9,6 +9,7 @@ mod edited;
 mod edited_page;
 mod edited_shard;
 mod groups;
+mod letting_go;
 mod lists;
 mod merge;
 mod nearby;

@@ -12,6 +12,7 @@ use crate::block::{BLOCK_SHARDS, Block};
 use crate::counts::Counts;
 use crate::edited_shard::EditedShard;
 use crate::groups::Groups;
+use crate::letting_go::let_go_each;
 use crate::scratch::Scratch;
 use crate::shard::Shard;
 use crate::shards::{empty_shards, share_shards};
@@ -19,6 +20,7 @@ use graph_model::{Edit, Home, RANGE_VERTICES};
 use std::alloc::{AllocError, Global};
 use std::marker::Model;
 use std::sync::Arc;
+use std::thread::Threads;
 
 /// The shards of a graph, one for each range. A table after a batch shares with the one before each
 /// block of shards in which nothing is edited, and each shard that is not. It never changes after it was
@@ -176,5 +178,37 @@ impl Table {
         }
         let count = self.count;
         Ok((Table { blocks, count }, counts))
+    }
+
+    // The shards of its blocks that no other table has, dealt in turn to so many lists.
+    fn dealt(self, alloc: Global, hands: usize) -> Result<Vec<Vec<Arc<Shard>>>, AllocError>
+        requires some { 0 < hands }
+        ensures { IfOk result (λ lists. length lists.items ≡ hands) }
+    {
+        let mut lists = Vec::with_capacity(alloc, hands)?;
+        for _ in 0..hands {
+            lists.push(Vec::with_capacity(alloc, self.count.div_ceil(hands))?)?;
+        }
+        let mut next = 0;
+        for block in self.blocks {
+            let Some(block) = Arc::into_inner(block) else {
+                continue;
+            };
+            for shard in block.into_shards() {
+                lists[next].push(shard)?;
+                next = (next + 1) % hands;
+            }
+        }
+        Ok(lists)
+    }
+
+    /// Lets the table go, by so many threads, this one among them. Each has the shards of ranges that lie so far apart, as those who made
+    /// them had. This thread lets go by itself where there is no memory for that, and what no other thread can be started for.
+    pub fn let_go<R: Threads>(self, rt: &R, alloc: Global, hands: usize)
+        requires some { 0 < hands }
+    {
+        if let Ok(lists) = self.dealt(alloc, hands) {
+            let_go_each(rt, lists);
+        }
     }
 }

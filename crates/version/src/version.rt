@@ -173,4 +173,9 @@ impl Version {
         };
         Ok((draft, counts))
     }
+
+    /// Lets the version go, by workers, each of whom has a part of its shards. What other versions share stays.
+    pub fn let_go<R: Threads>(self, rt: &R, alloc: Global, workers: Workers) {
+        self.shards.let_go(rt, alloc, usize::from(workers.count()))
+    }
 }

@@ -14,9 +14,13 @@ use graph_model::Entry;
 use history::Head;
 use std::alloc::Global;
 use std::marker::Model;
+use std::mem;
 use std::sync::{Arc, Wait};
 use std::thread::Threads;
 use version::Version;
+
+/// From so many edits on, workers let go of the version before a batch.
+const LET_GO_EDITS: usize = 4_096;
 
 /// Where versions are made and shown. It has to be ended by `close`.
 pub struct Press {
@@ -60,9 +64,9 @@ impl Press {
     {
         match held {
             Held::Taken(entry) => self.add(entry, rt, workers, gate),
-            Held::Added(change, version) => self.share(change, version, rt),
-            Held::Made(change, version) => self.hand_in(change, version, rt),
-            Held::Ready(change, version, copy) => self.show(change, version, copy, rt),
+            Held::Added(change, version) => self.share(change, version, rt, workers),
+            Held::Made(change, version) => self.hand_in(change, version, rt, workers),
+            Held::Ready(change, version, copy) => self.show(change, version, copy, rt, workers),
         }
     }
 
@@ -95,15 +99,16 @@ impl Press {
             return Err(Stopped::for_memory(Held::Taken(entry)));
         };
         let version = draft.complete(known);
-        self.share(Change { entry, counts }, version, rt)
+        self.share(Change { entry, counts }, version, rt, workers)
     }
 
     // Gives the version an owner that can be shared.
-    fn share<R: Wait>(
+    fn share<R: Threads + Wait>(
         &mut self,
         change: Change,
         version: Version,
         rt: &R,
+        workers: Workers,
     ) -> Result<Receipt, Stopped>
         requires change { IsChange self.old.moment change }
         requires version { version ≡ after_entry self.old.moment change.entry }
@@ -111,17 +116,18 @@ impl Press {
         ensures { IsGoneOn self.old change.entry result self.new }
     {
         match Arc::new(self.alloc, version) {
-            Ok(version) => self.hand_in(change, version, rt),
+            Ok(version) => self.hand_in(change, version, rt, workers),
             Err(full) => Err(Stopped::for_memory(Held::Added(change, full.value))),
         }
     }
 
     // Hands the version in to be shown.
-    fn hand_in<R: Wait>(
+    fn hand_in<R: Threads + Wait>(
         &mut self,
         change: Change,
         version: Arc<Version>,
         rt: &R,
+        workers: Workers,
     ) -> Result<Receipt, Stopped>
         requires change { IsChange self.old.moment change }
         requires version { arc_value version ≡ after_entry self.old.moment change.entry }
@@ -135,18 +141,19 @@ impl Press {
             return Err(Stopped::for_memory(Held::Made(change, version)));
         };
         match self.board.append(shown) {
-            Ok(()) => self.show(change, version, copy, rt),
+            Ok(()) => self.show(change, version, copy, rt, workers),
             Err(_) => Err(Stopped::for_memory(Held::Made(change, version))),
         }
     }
 
     // Shows it.
-    fn show<R: Wait>(
+    fn show<R: Threads + Wait>(
         &mut self,
         change: Change,
         version: Arc<Version>,
         copy: Arc<Version>,
         rt: &R,
+        workers: Workers,
     ) -> Result<Receipt, Stopped>
         requires change { IsChange self.old.moment change }
         requires version { arc_value version ≡ after_entry self.old.moment change.entry }
@@ -156,7 +163,15 @@ impl Press {
     {
         match self.board.show(rt) {
             Ok(()) => {
-                self.current = version;
+                // The board's other copy is brought up to the same version now, and not when the next one is shown: so the
+                // version before has no owner here but this one.
+                let _ = self.board.show(rt);
+                let before = mem::replace(&mut self.current, version);
+                if change.entry.batch.edits().len() >= LET_GO_EDITS {
+                    if let Some(before) = Arc::into_inner(before) {
+                        before.let_go(rt, self.alloc, workers);
+                    }
+                }
                 Ok(Receipt::of(copy, change))
             }
             Err(_) => Err(Stopped::for_memory(Held::Ready(change, version, copy))),
