@@ -54,7 +54,7 @@ pub(crate) fn work<Ga: Gate>(
     Ok(made)
 }
 
-/// The edited shards of the first worker alone, who has the caller's thread.
+/// The edited shards of the one worker that there is, who has the caller's thread.
 pub(crate) fn work_alone<Ga: Gate>(
     alloc: Global,
     table: &Table,
@@ -74,8 +74,9 @@ pub(crate) fn work_alone<Ga: Gate>(
     Ok(lists)
 }
 
-/// The edited shards of the workers below a number, each in a thread of its own but for the first. All threads that
-/// were started have ended.
+/// The edited shards of the workers below a number, each in a thread of its own. All threads that were started have ended.
+// The caller's thread makes none: a system that starts a thread where its maker runs would have both in turn on one processor,
+// and another idle.
 pub(crate) fn spread<'s, E, Ga: Gate, R: Threads>(
     rt: &R,
     alloc: Global,
@@ -88,15 +89,13 @@ pub(crate) fn spread<'s, E, Ga: Gate, R: Threads>(
 ) -> Result<Vec<Vec<EditedShard>>, Refusal>
     requires ready { All (IsReady table.now) pieces.now }
     requires few { length pieces.now ≤ MOST_RANGES }
-    requires some { 0 < bound }
     requires bound { bound ≤ step }
     requires step { step ≤ MOST_WORKERS }
     ensures dealt { IfOk result (λ lists. AreDealt table.now pieces.now step lists.items) }
     ensures all { IfOk result (λ lists. length lists.items ≡ bound) }
 {
-    if bound == 1 {
-        let lists = work_alone(alloc, table, pieces, gate, step)?;
-        return Ok(lists);
+    if bound == 0 {
+        return Ok(Vec::new(alloc));
     }
     let first = bound - 1;
     let share = Share {

@@ -4,15 +4,12 @@ use crate::shard::Shard;
 use std::sync::Arc;
 use std::thread::{Threads, join};
 
-/// Lets lists of shards go: the first by this thread, each of the others by one of its own, or by this one where none can be
-/// started. All threads that were started have ended.
+/// Lets lists of shards go, each by a thread of its own, or by this one where none can be started. All threads that were started
+/// have ended.
 pub(crate) fn let_go_each<R: Threads>(rt: &R, lists: Vec<Vec<Arc<Shard>>>) {
     let mut rest = lists;
     let Some(own) = rest.pop() else {
         return;
     };
-    if rest.is_empty() {
-        return;
-    }
     join(rt, move || drop(own), move || let_go_each(rt, rest));
 }

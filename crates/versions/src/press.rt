@@ -44,7 +44,7 @@ impl Model for Press {
 
 impl Press {
     /// How many batches were published.
-    pub fn number(&self) -> u64
+    pub(crate) fn number(&self) -> u64
         ensures value { result ≡ number_of self.now.moment.past }
         ensures small { result ≤ MOST_BATCHES }
     {
@@ -52,7 +52,7 @@ impl Press {
     }
 
     /// Goes on with a held batch, from where it stopped.
-    pub fn go_on<Ga: Gate, R: Threads + Wait>(
+    pub(crate) fn go_on<Ga: Gate, R: Threads + Wait>(
         &mut self,
         held: Held,
         rt: &R,
@@ -163,23 +163,37 @@ impl Press {
     {
         match self.board.show(rt) {
             Ok(()) => {
-                // The board's other copy is brought up to the same version now, and not when the next one is shown: so the
-                // version before has no owner here but this one.
-                let _ = self.board.show(rt);
                 let before = mem::replace(&mut self.current, version);
-                if change.entry.batch.edits().len() >= LET_GO_EDITS {
-                    if let Some(before) = Arc::into_inner(before) {
-                        before.let_go(rt, self.alloc, workers);
-                    }
-                }
+                self.let_go(before, change.entry.batch.edits().len(), rt, workers);
                 Ok(Receipt::of(copy, change))
             }
             Err(_) => Err(Stopped::for_memory(Held::Ready(change, version, copy))),
         }
     }
 
+    // Lets go of the version before a batch of so many edits. Before a large one it goes now, and by workers: the board's other
+    // copy is brought up to the version that is shown, so that the one before has no owner here but this one.
+    fn let_go<R: Threads + Wait>(
+        &mut self,
+        before: Arc<Version>,
+        edits: usize,
+        rt: &R,
+        workers: Workers,
+    )
+        requires { self.old ≡ at_rest self.old.moment }
+        ensures { self.new ≡ self.old }
+    {
+        if edits < LET_GO_EDITS {
+            return;
+        }
+        let _ = self.board.show(rt);
+        if let Some(before) = Arc::into_inner(before) {
+            before.let_go(rt, self.alloc, workers);
+        }
+    }
+
     /// Ends it: the last version. Readers are told from then on that the store is closed.
-    pub fn close<R: Wait>(self, rt: &R) -> Arc<Version>
+    pub(crate) fn close<R: Wait>(self, rt: &R) -> Arc<Version>
         ensures { arc_value result ≡ self.moment }
     {
         let Press {
