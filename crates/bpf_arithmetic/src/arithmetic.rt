@@ -6,7 +6,7 @@ use crate::{long, short};
 use bpf_isa::{ByteOrder, Extension, Operation, SwapBits, Width};
 
 /// The low 32 bits of a number.
-pub fn low_half(x: u64) -> u32
+pub(crate) fn low_half(x: u64) -> u32
     ensures { result ≡ x % 2 ^ 32 }
 {
     (x & 0xffff_ffff) as u32

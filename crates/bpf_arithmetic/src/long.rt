@@ -6,7 +6,7 @@ ghost use Rattle.bpf_model.specs.Arithmetic.{operation_number, comparison_holds}
 use bpf_isa::{Comparison, Operation};
 
 /// What an operation makes of two numbers of 64 bits (RFC 9669, section 4.1).
-pub fn compute(operation: Operation, x: u64, y: u64) -> u64
+pub(crate) fn compute(operation: Operation, x: u64, y: u64) -> u64
     ensures { result ≡ operation_number Bits64 operation x y }
 {
     match operation {
@@ -50,7 +50,7 @@ fn remainder(x: u64, y: u64) -> u64
 }
 
 /// Whether a comparison holds of two numbers of 64 bits (RFC 9669, section 4.3).
-pub fn compare(comparison: Comparison, x: u64, y: u64) -> bool
+pub(crate) fn compare(comparison: Comparison, x: u64, y: u64) -> bool
     ensures { result ≡ comparison_holds Bits64 comparison x y }
 {
     match comparison {

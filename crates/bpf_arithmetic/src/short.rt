@@ -6,7 +6,7 @@ ghost use Rattle.bpf_model.specs.Arithmetic.{operation_number, comparison_holds}
 use bpf_isa::{Comparison, Operation};
 
 /// What an operation makes of two numbers of 32 bits (RFC 9669, section 4.1).
-pub fn compute(operation: Operation, x: u32, y: u32) -> u32
+pub(crate) fn compute(operation: Operation, x: u32, y: u32) -> u32
     ensures { result ≡ operation_number Bits32 operation x y }
 {
     match operation {
@@ -50,7 +50,7 @@ fn remainder(x: u32, y: u32) -> u32
 }
 
 /// Whether a comparison holds of two numbers of 32 bits.
-pub fn compare(comparison: Comparison, x: u32, y: u32) -> bool
+pub(crate) fn compare(comparison: Comparison, x: u32, y: u32) -> bool
     ensures { result ≡ comparison_holds Bits32 comparison x y }
 {
     match comparison {

@@ -24,7 +24,7 @@ fn first_number(machine: &Machine, operation: Operation, destination: Register) 
 }
 
 /// An arithmetic instruction (RFC 9669, section 4.1).
-pub fn operate(
+pub(crate) fn operate(
     machine: &mut Machine,
     width: Width,
     operation: Operation,
@@ -49,7 +49,7 @@ pub fn operate(
 }
 
 /// A move that extends a sign (RFC 9669, section 4.1).
-pub fn move_signed(
+pub(crate) fn move_signed(
     machine: &mut Machine,
     extension: Extension,
     destination: Register,
@@ -69,7 +69,7 @@ pub fn move_signed(
 }
 
 /// A negation (RFC 9669, section 4.1).
-pub fn negate_register(machine: &mut Machine, width: Width, destination: Register) -> Turn
+pub(crate) fn negate_register(machine: &mut Machine, width: Width, destination: Register) -> Turn
     requires { machine.old.pc ≤ℤ pos MOST_UNITS }
     ensures { (record_length : ℕ) (g : Graph) (bytes : List ℕ)
         → effect record_length g (Negate width destination) (state_of machine.old bytes)
@@ -82,7 +82,7 @@ pub fn negate_register(machine: &mut Machine, width: Width, destination: Registe
 }
 
 /// A byte swap (RFC 9669, section 4.2).
-pub fn swap_register(
+pub(crate) fn swap_register(
     machine: &mut Machine,
     order: ByteOrder,
     bits: SwapBits,

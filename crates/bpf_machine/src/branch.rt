@@ -13,7 +13,7 @@ use bpf_isa::{Comparison, Distance, Operand, Register, Width};
 use bpf_model::TrapKind;
 
 /// A jump (RFC 9669, section 4.3).
-pub fn jump_over(machine: &mut Machine, distance: Distance) -> Turn
+pub(crate) fn jump_over(machine: &mut Machine, distance: Distance) -> Turn
     requires from { pos 0 ≤ℤ machine.old.pc }
     requires limit { machine.old.pc ≤ℤ pos MOST_UNITS }
     ensures { (record_length : ℕ) (g : Graph) (bytes : List ℕ)
@@ -27,7 +27,7 @@ pub fn jump_over(machine: &mut Machine, distance: Distance) -> Turn
 }
 
 /// A conditional jump (RFC 9669, section 4.3).
-pub fn branch(
+pub(crate) fn branch(
     machine: &mut Machine,
     width: Width,
     comparison: Comparison,

@@ -28,7 +28,7 @@ impl Callers {
     ghost use Rattle.bpf_machine.specs.Seen.{saved_of, callers_of};
 
     /// None waits.
-    pub fn new() -> Callers
+    pub(crate) fn new() -> Callers
         ensures { result.count ≡ 0 }
     {
         let none = Kept {
@@ -42,7 +42,7 @@ impl Callers {
     }
 
     /// One more waits.
-    pub fn push(&mut self, caller: Kept)
+    pub(crate) fn push(&mut self, caller: Kept)
         requires { self.old.count < MOST_CALLERS }
         ensures pushed { callers_of self.new.kept self.new.count
             ≡ saved_of caller ∷ callers_of self.old.kept self.old.count }
@@ -53,7 +53,7 @@ impl Callers {
     }
 
     /// The last caller waits no longer, if one does.
-    pub fn pop(&mut self) -> Option<Kept>
+    pub(crate) fn pop(&mut self) -> Option<Kept>
         ensures last { IfSome result (λ caller. callers_of self.old.kept self.old.count
             ≡ saved_of caller ∷ callers_of self.new.kept self.new.count) }
         ensures count { IfSome result (λ caller. self.old.count ≡ self.new.count + 1) }

@@ -68,7 +68,7 @@ fn kept_of(machine: &Machine) -> Kept
 }
 
 /// A call of a function, so many units from the next instruction.
-pub fn call(machine: &mut Machine, distance: i32) -> Turn
+pub(crate) fn call(machine: &mut Machine, distance: i32) -> Turn
     requires from { pos 0 ≤ℤ machine.old.pc }
     requires limit { machine.old.pc ≤ℤ pos MOST_UNITS }
     ensures { (record_length : ℕ) (g : Graph) (bytes : List ℕ)
@@ -87,7 +87,7 @@ pub fn call(machine: &mut Machine, distance: i32) -> Turn
 }
 
 /// The exit of a function, which ends the run where no caller waits.
-pub fn exit(machine: &mut Machine) -> Turn
+pub(crate) fn exit(machine: &mut Machine) -> Turn
     ensures { (record_length : ℕ) (g : Graph) (bytes : List ℕ)
         → effect record_length g Exit (state_of machine.old bytes)
         ≡ answer result (state_of machine.new bytes) }

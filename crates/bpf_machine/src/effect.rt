@@ -17,7 +17,7 @@ use graph_model::GraphView;
 
 /// What an instruction does to the machine and the record, on a graph. A pc inside the code is below 4,096, so the
 /// next one fits.
-pub fn perform<G: GraphView>(
+pub(crate) fn perform<G: GraphView>(
     machine: &mut Machine,
     bytes: &mut [u8],
     graph: &G,

@@ -185,7 +185,7 @@ fn gather<G: GraphView>(machine: &mut Machine, bytes: &mut [u8], graph: &G) -> T
 }
 
 /// A call of the helper that has this number, if one has it.
-pub fn call_helper<G: GraphView>(
+pub(crate) fn call_helper<G: GraphView>(
     machine: &mut Machine,
     bytes: &mut [u8],
     graph: &G,

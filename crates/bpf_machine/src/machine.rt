@@ -42,7 +42,7 @@ impl Machine {
     ghost use Rattle.bpf_machine.specs.Seen.{state_of, answer};
 
     /// The machine as a run begins on a record of so many bytes.
-    pub fn new(record_length: u16) -> Machine
+    pub(crate) fn new(record_length: u16) -> Machine
         requires { record_length ≤ MOST_RECORD_LENGTH }
         ensures pc { result.pc ≡ pos 0 }
         ensures start { (bytes : List ℕ) → length bytes ≡ record_length → start bytes ≡ state_of result bytes }
@@ -59,7 +59,7 @@ impl Machine {
     }
 
     /// How many frames are live: the current one, and one for each caller.
-    pub fn live_frames(&self) -> usize
+    pub(crate) fn live_frames(&self) -> usize
         ensures live { (bytes : List ℕ) → result ≡ live_frames (state_of self.now bytes) }
         ensures few { result ≤ most_frames }
     {
@@ -67,14 +67,14 @@ impl Machine {
     }
 
     /// What a register holds, if it is set.
-    pub fn register(&self, register: Register) -> Option<u64>
+    pub(crate) fn register(&self, register: Register) -> Option<u64>
         ensures { result ≡ values_of self.now.registers (number_of register) }
     {
         self.registers[register.number() as usize]
     }
 
     /// The number that an operand stands for.
-    pub fn operand(&self, operand: Operand) -> Option<u64>
+    pub(crate) fn operand(&self, operand: Operand) -> Option<u64>
         ensures { (bytes : List ℕ) → result ≡ operand_of (state_of self.now bytes) operand }
     {
         match operand {
@@ -84,7 +84,7 @@ impl Machine {
     }
 
     /// Gives a register a number and goes on with the next instruction, so many units ahead.
-    pub fn put(&mut self, units: u8, destination: Register, value: u64) -> Turn
+    pub(crate) fn put(&mut self, units: u8, destination: Register, value: u64) -> Turn
         requires { self.old.pc ≤ℤ pos MOST_UNITS }
         ensures { (bytes : List ℕ)
             → next_with_result (state_of self.old bytes) units destination value ≡ answer result (state_of self.new bytes) }
@@ -99,7 +99,7 @@ impl Machine {
     }
 
     /// Goes on at a distance from the next instruction, wherever that is.
-    pub fn jump(&mut self, distance: i32) -> Turn
+    pub(crate) fn jump(&mut self, distance: i32) -> Turn
         requires from { pos 0 ≤ℤ self.old.pc }
         requires limit { self.old.pc ≤ℤ pos MOST_UNITS }
         ensures { (bytes : List ℕ) → jump (state_of self.old bytes) distance ≡ answer result (state_of self.new bytes) }

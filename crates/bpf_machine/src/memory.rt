@@ -9,7 +9,7 @@ use crate::stack::{FRAME_START, find_spot};
 use bpf_model::{FRAME_BYTES, FRAME_SPACE, RECORD_BASE, STACK_BASE};
 
 /// Whether so many bytes from an address lie wholly in a region.
-pub fn lies_within(base: u64, room: u64, address: u64, size: u64) -> bool
+pub(crate) fn lies_within(base: u64, room: u64, address: u64, size: u64) -> bool
     ensures { result ≡ (nat_le base address && nat_le (address + size) (base + room)) }
 {
     if address < base {
@@ -29,7 +29,7 @@ fn is_in_frame(machine: &Machine, bytes: &[u8], address: u64, size: u64) -> bool
 }
 
 /// Whether an access is allowed: wholly in the record, or wholly in one live frame.
-pub fn is_allowed(machine: &Machine, bytes: &[u8], address: u64, size: u64) -> bool
+pub(crate) fn is_allowed(machine: &Machine, bytes: &[u8], address: u64, size: u64) -> bool
     requires some { 1 ≤ size }
     requires record { length bytes.now ≤ MOST_RECORD_LENGTH }
     ensures exact { result ≡ may_access (length bytes.now) (state_of machine.now bytes.now) address size }
@@ -40,7 +40,7 @@ pub fn is_allowed(machine: &Machine, bytes: &[u8], address: u64, size: u64) -> b
 }
 
 /// The byte at an address, where there is one that is set.
-pub fn byte_at(machine: &Machine, bytes: &[u8], address: u64) -> Option<u8>
+pub(crate) fn byte_at(machine: &Machine, bytes: &[u8], address: u64) -> Option<u8>
     ensures { result ≡ (state_of machine.now bytes.now).memory address }
 {
     if address >= STACK_BASE {
@@ -59,7 +59,7 @@ pub fn byte_at(machine: &Machine, bytes: &[u8], address: u64) -> Option<u8>
 }
 
 /// The number whose bytes from an address are in little-endian order; none where one is not set.
-pub fn number_from(machine: &Machine, bytes: &[u8], address: u64, size: u64) -> Option<u64>
+pub(crate) fn number_from(machine: &Machine, bytes: &[u8], address: u64, size: u64) -> Option<u64>
     requires limit { size ≤ 8 }
     requires room { address + size < 2 ^ 64 }
     ensures { result ≡ number_at (state_of machine.now bytes.now).memory address size }

@@ -39,7 +39,7 @@ fn set_record(bytes: &mut [u8], place: usize, value: &[u8])
 
 /// Stores bytes from an address on, where all of them lie in the record or in one of the first frames. Else
 /// it stores none and says so.
-pub fn store_bytes(
+pub(crate) fn store_bytes(
     stack: &mut Stack,
     frames: usize,
     bytes: &mut [u8],
@@ -70,7 +70,7 @@ pub fn store_bytes(
 }
 
 /// Stores a number's low bytes at an address, where that is allowed, and goes on.
-pub fn store_to(
+pub(crate) fn store_to(
     machine: &mut Machine,
     bytes: &mut [u8],
     address: u64,

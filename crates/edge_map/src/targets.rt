@@ -21,14 +21,14 @@ impl<'a> Model for Targets<'a> {
 
 impl<'a> Targets<'a> {
     /// All that a cursor has still to lend.
-    pub fn of(rest: Cursor<'a>) -> Targets<'a>
+    pub(crate) fn of(rest: Cursor<'a>) -> Targets<'a>
         ensures { result ≡ rest.entry }
     {
         Targets { slice: &[], rest }
     }
 
     /// The first of what is left.
-    pub fn next(&mut self) -> Option<u32>
+    pub(crate) fn next(&mut self) -> Option<u32>
         ensures { MatchOption result
             ((self.old ≡ []) × (self.new ≡ []))
             (λ target. self.old ≡ target ∷ self.new) }

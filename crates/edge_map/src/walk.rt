@@ -52,7 +52,7 @@ impl<'a> Model for Walk<'a> {
 
 impl<'a> Walk<'a> {
     /// All edges of a version.
-    pub fn over(version: &'a Version) -> Walk<'a>
+    pub(crate) fn over(version: &'a Version) -> Walk<'a>
         ensures { result ≡ record { past = version.now.past; edges = all_edges (graph_of version.now.past) } }
     {
         let _some = version.vertex_count();
@@ -66,7 +66,7 @@ impl<'a> Walk<'a> {
     }
 
     /// The next edge.
-    pub fn next(&mut self) -> Option<Edge>
+    pub(crate) fn next(&mut self) -> Option<Edge>
         ensures past { self.new.past ≡ self.old.past }
         ensures edges { MatchOption result
             ((self.old.edges ≡ []) × (self.new.edges ≡ []))

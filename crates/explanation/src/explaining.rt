@@ -85,6 +85,8 @@ pub fn explain(
 ) -> Result<Explanation, AllocError>
     ensures { IfOk result (λ told. Explains image source.now (string_bytes told.text) told.outcome) }
 {
+    // An image has code, so that a unit which is refused stands in it.
+    let _code = image.code();
     let states = known_states(alloc, &image)?;
     match verify(alloc, image) {
         Ok(verified) => {

@@ -12,11 +12,21 @@ use word_sets::{WORD_LIMIT, place};
 
 /// For each of at most 256 vertices a set of words, or none. Clauses see it as the list of these, in the vertices'
 /// order; a set is the ascending list of its words.
-#[derive(Drop)]
 pub struct GappedArray {
     cells: Vec<u32>,
     segments: usize,
     runs: Vec<Option<Run>>,
+}
+
+impl Drop for GappedArray {
+    // Written out, so that crates above prove a call here, and not the drop of each part.
+    fn drop(self) {
+        let GappedArray {
+            cells: _cells,
+            segments: _segments,
+            runs: _runs,
+        } = self;
+    }
 }
 
 impl Model for GappedArray {

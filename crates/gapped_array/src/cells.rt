@@ -7,7 +7,7 @@ use crate::run::{Run, SEGMENT};
 use std::alloc::AllocError;
 
 /// The words of a run.
-pub fn words_of(cells: &[u32], run: Run) -> &[u32]
+pub(crate) fn words_of(cells: &[u32], run: Run) -> &[u32]
     requires { SEGMENT * run.segment + run.count ≤ length cells.now }
     ensures { result.now ≡ words_in cells.now run }
 {
@@ -16,7 +16,7 @@ pub fn words_of(cells: &[u32], run: Run) -> &[u32]
 }
 
 /// Puts a word at a place into the `count` cells from `from` on. The cell behind them is overwritten.
-pub fn put_word(cells: &mut Vec<u32>, from: usize, count: usize, at: usize, word: u32)
+pub(crate) fn put_word(cells: &mut Vec<u32>, from: usize, count: usize, at: usize, word: u32)
     requires place { at ≤ count }
     requires room { from + count < vec_len cells.old }
     ensures { cells.new.items ≡ take from cells.old.items
@@ -28,7 +28,7 @@ pub fn put_word(cells: &mut Vec<u32>, from: usize, count: usize, at: usize, word
 }
 
 /// Takes the word at a place out of the `count` cells from `from` on. It then lies behind the others.
-pub fn take_word(cells: &mut Vec<u32>, from: usize, count: usize, at: usize)
+pub(crate) fn take_word(cells: &mut Vec<u32>, from: usize, count: usize, at: usize)
     requires place { at < count }
     requires within { from + count ≤ vec_len cells.old }
     ensures { cells.new.items ≡ take from cells.old.items ++ ((remove (piece from count cells.old.items) at
@@ -38,7 +38,7 @@ pub fn take_word(cells: &mut Vec<u32>, from: usize, count: usize, at: usize)
 }
 
 /// Puts words behind all cells, and then empty cells, `places` in all.
-pub fn append(cells: &mut Vec<u32>, words: &[u32], places: usize) -> Result<(), AllocError>
+pub(crate) fn append(cells: &mut Vec<u32>, words: &[u32], places: usize) -> Result<(), AllocError>
     requires { length words.now ≤ places }
     ensures ok { OnOk result (cells.new.items ≡ cells.old.items ++ (words.now
         ++ replicate (places - length words.now) 0)) }
@@ -52,7 +52,7 @@ pub fn append(cells: &mut Vec<u32>, words: &[u32], places: usize) -> Result<(), 
 }
 
 /// The same with the `count` cells from `from` on.
-pub fn append_piece(
+pub(crate) fn append_piece(
     cells: &mut Vec<u32>,
     from: usize,
     count: usize,
@@ -73,7 +73,7 @@ pub fn append_piece(
 
 /// A run with a place free for one word more: this one, or where it is full a copy of it behind all segments, which
 /// has twice as many of them and one. After an error the cells are as they were.
-pub fn with_room(cells: &mut Vec<u32>, segments: usize, run: Run) -> Result<Run, AllocError>
+pub(crate) fn with_room(cells: &mut Vec<u32>, segments: usize, run: Run) -> Result<Run, AllocError>
     requires cells { vec_len cells.old ≡ SEGMENT * segments }
     requires inside { run.segment + run.segments ≤ segments }
     requires count { run.count ≤ SEGMENT * run.segments }

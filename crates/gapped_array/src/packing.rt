@@ -5,7 +5,7 @@ ghost use Rattle.gapped_array.specs.Runs.{IsLayout, IsFirstBelow, lists_in, word
 use crate::run::{Run, SEGMENT};
 
 /// How many segments there are beyond twice those of the runs.
-pub fn surplus(segments: usize, runs: &[Option<Run>]) -> usize
+pub(crate) fn surplus(segments: usize, runs: &[Option<Run>]) -> usize
     ensures { result ≡ segments - 2 * live runs.now }
 {
     let mut left = segments;
@@ -65,7 +65,7 @@ fn move_words(cells: &mut Vec<u32>, run: Run, segment: usize)
 }
 
 /// Moves all runs together, in their order, so that they alone have segments. Answers how many these are.
-pub fn pack(cells: &mut Vec<u32>, segments: usize, runs: &mut Vec<Option<Run>>) -> usize
+pub(crate) fn pack(cells: &mut Vec<u32>, segments: usize, runs: &mut Vec<Option<Run>>) -> usize
     requires { IsLayout cells.old.items segments runs.old.items }
     ensures layout { IsLayout cells.new.items result runs.new.items }
     ensures lists { lists_in cells.new.items runs.new.items ≡ lists_in cells.old.items runs.old.items }

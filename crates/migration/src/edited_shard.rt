@@ -12,11 +12,20 @@ use std::alloc::{AllocError, Global};
 use std::sync::Arc;
 
 /// A shard to which edits were applied, and what they did. Its type keeps that it is an earlier shard after edits.
-#[derive(Drop)]
 pub struct EditedShard {
     pub(crate) shard: Arc<Shard>,
     pub(crate) counts: Counts,
     ghost edited: { ∥ IsEdited (arc_value shard) counts ∥₁ },
+}
+
+impl Drop for EditedShard {
+    // Written out, so that crates above prove a call here, and not the drop of each part.
+    fn drop(self) {
+        let EditedShard {
+            shard: _shard,
+            counts: _counts,
+        } = self;
+    }
 }
 
 impl EditedShard {

@@ -25,10 +25,19 @@ use std::thread::Threads;
 /// The shards of a graph, one for each range. A table after a batch shares with the one before each
 /// block of shards in which nothing is edited, and each shard that is not. It never changes after it was
 /// made.
-#[derive(Drop)]
 pub struct Table {
     blocks: Vec<Arc<Block>>,
     count: usize,
+}
+
+impl Drop for Table {
+    // Written out, so that crates above prove a call here, and not the drop of each part.
+    fn drop(self) {
+        let Table {
+            blocks: _blocks,
+            count: _count,
+        } = self;
+    }
 }
 
 impl Model for Table {
@@ -185,12 +194,13 @@ impl Table {
         requires some { 0 < hands }
         ensures { IfOk result (λ lists. length lists.items ≡ hands) }
     {
+        let Table { blocks, count } = self;
         let mut lists = Vec::with_capacity(alloc, hands)?;
         for _ in 0..hands {
-            lists.push(Vec::with_capacity(alloc, self.count.div_ceil(hands))?)?;
+            lists.push(Vec::with_capacity(alloc, count.div_ceil(hands))?)?;
         }
         let mut next = 0;
-        for block in self.blocks {
+        for block in blocks {
             let Some(block) = Arc::into_inner(block) else {
                 continue;
             };
@@ -202,11 +212,12 @@ impl Table {
         Ok(lists)
     }
 
-    /// Lets the table go, by so many threads, this one among them. Each has the shards of ranges that lie so far apart, as those who made
-    /// them had. This thread lets go by itself where there is no memory for that, and what no other thread can be started for.
-    pub fn let_go<R: Threads>(self, rt: &R, alloc: Global, hands: usize)
-        requires some { 0 < hands }
-    {
+    /// Lets the table go, by so many threads, each of which has the shards of ranges that lie so far apart, as those who made them had. This
+    /// thread lets go by itself where one is told, where there is no memory for more, and what no other thread can be started for.
+    pub fn let_go<R: Threads>(self, rt: &R, alloc: Global, hands: usize) {
+        if hands < 2 {
+            return;
+        }
         if let Ok(lists) = self.dealt(alloc, hands) {
             let_go_each(rt, lists);
         }

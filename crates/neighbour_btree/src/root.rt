@@ -71,7 +71,7 @@ fn shrink<C: Level>(alloc: Global, node: &Inner<C>, word: u32) -> Result<Lowered
 
 impl Root {
     /// The root of a tree of these words, made at once.
-    pub fn of(alloc: Global, words: &[u32]) -> Result<Root, AllocError>
+    pub(crate) fn of(alloc: Global, words: &[u32]) -> Result<Root, AllocError>
         requires set { IsSet words.now }
         requires many { 64 ≤ length words.now }
         ensures words { IfOk result (λ root. words_of root ≡ words.now) }
@@ -93,7 +93,7 @@ impl Root {
     }
 
     /// Another owner of the same root.
-    pub fn share(&self) -> Result<Root, AllocError>
+    pub(crate) fn share(&self) -> Result<Root, AllocError>
         ensures { IfOk result (λ root. root ≡ self.now) }
     {
         match self {
@@ -106,7 +106,7 @@ impl Root {
     }
 
     /// How many words the tree has.
-    pub fn count(&self) -> u32
+    pub(crate) fn count(&self) -> u32
         ensures { result ≡ length (words_of self.now) }
     {
         match self {
@@ -119,7 +119,7 @@ impl Root {
     }
 
     /// Whether a word is in the tree.
-    pub fn contains(&self, word: u32) -> bool
+    pub(crate) fn contains(&self, word: u32) -> bool
         requires { word < WORD_LIMIT }
         ensures { result ≡ has_word word (words_of self.now) }
     {
@@ -133,7 +133,7 @@ impl Root {
     }
 
     /// The words from a place on, as far as they lie in one leaf.
-    pub fn slice_at(&self, place: u32) -> &[u32]
+    pub(crate) fn slice_at(&self, place: u32) -> &[u32]
         requires { place < length (words_of self.now) }
         ensures { IsSliceAt (words_of self.now) place result.now }
     {
@@ -147,7 +147,7 @@ impl Root {
     }
 
     /// The root with a word more, or `None` where it is there.
-    pub fn with(&self, alloc: Global, word: u32) -> Result<Option<Root>, AllocError>
+    pub(crate) fn with(&self, alloc: Global, word: u32) -> Result<Option<Root>, AllocError>
         requires word { word < WORD_LIMIT }
         requires size { fewest_of self.now ≤ (node_of self.now).size }
         requires set { IsSet (words_of self.now) }
@@ -183,7 +183,7 @@ impl Root {
     }
 
     /// The root with a word less, or `None` where it is not there.
-    pub fn without(&self, alloc: Global, word: u32) -> Result<Option<Root>, AllocError>
+    pub(crate) fn without(&self, alloc: Global, word: u32) -> Result<Option<Root>, AllocError>
         requires word { word < WORD_LIMIT }
         requires size { fewest_of self.now ≤ (node_of self.now).size }
         requires set { IsSet (words_of self.now) }
@@ -218,7 +218,7 @@ impl Root {
     }
 
     /// Puts a word in, in place, where that can be done. After an error the words are as they were.
-    pub fn insert(&mut self, alloc: Global, word: u32) -> Result<Change, AllocError>
+    pub(crate) fn insert(&mut self, alloc: Global, word: u32) -> Result<Change, AllocError>
         requires word { word < WORD_LIMIT }
         requires size { fewest_of self.old ≤ (node_of self.old).size }
         ensures size { fewest_of self.new ≤ (node_of self.new).size }
@@ -235,7 +235,7 @@ impl Root {
     }
 
     /// Takes a word out, in place, where that can be done. After an error the words are as they were.
-    pub fn remove(&mut self, alloc: Global, word: u32) -> Result<Change, AllocError>
+    pub(crate) fn remove(&mut self, alloc: Global, word: u32) -> Result<Change, AllocError>
         requires word { word < WORD_LIMIT }
         requires size { fewest_of self.old ≤ (node_of self.old).size }
         ensures size { fewest_of self.new ≤ (node_of self.new).size }

@@ -12,9 +12,15 @@ use word_sets::WORD_LIMIT;
 
 /// A set of words, each below `WORD_LIMIT`, in a tree of at most five levels. Clauses see it as the ascending list of
 /// its words.
-#[derive(Drop)]
 pub struct NeighbourTree {
     root: Root,
+}
+
+impl Drop for NeighbourTree {
+    // Written out, so that crates above prove a call here, and not the drop of each part.
+    fn drop(self) {
+        let NeighbourTree { root: _root } = self;
+    }
 }
 
 impl Model for NeighbourTree {

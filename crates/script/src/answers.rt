@@ -12,7 +12,7 @@ use session::Answer;
 use std::alloc::AllocError;
 
 /// Writes the lines of an answer at the end of a text, but those of the edges that it lists.
-pub fn put_answer(text: &mut Vec<u8>, answer: &Answer) -> Result<(), AllocError>
+pub(crate) fn put_answer(text: &mut Vec<u8>, answer: &Answer) -> Result<(), AllocError>
     ensures { OnOk result (text.new.items ≡ text.old.items ++ first_text (answer_of answer.now)) }
 {
     match answer {

@@ -34,7 +34,7 @@ pub enum Block {
 
 impl Block {
     /// The line that opened it.
-    pub fn first_line(&self) -> u64
+    pub(crate) fn first_line(&self) -> u64
         ensures { result ≡ first_line (block_of self.now) }
     {
         match self {

@@ -66,7 +66,7 @@ fn put_name(text: &mut Vec<u8>, label: &[u8], name: &[u8]) -> Result<(), AllocEr
 }
 
 /// The line of a graph that was made.
-pub fn put_graph(text: &mut Vec<u8>, vertices: u64) -> Result<(), AllocError>
+pub(crate) fn put_graph(text: &mut Vec<u8>, vertices: u64) -> Result<(), AllocError>
     ensures { OnOk result (text.new.items ≡ text.old.items ++ graph_text vertices) }
 {
     put_field(text, b"graph ", vertices)?;
@@ -91,7 +91,7 @@ fn feed_letter(feed: u8) -> &'static [u8]
 }
 
 /// The line of a batch that was published.
-pub fn put_batch(
+pub(crate) fn put_batch(
     text: &mut Vec<u8>,
     feed: u8,
     number: u64,
@@ -107,7 +107,7 @@ pub fn put_batch(
 }
 
 /// The line of a program that was accepted.
-pub fn put_program(
+pub(crate) fn put_program(
     text: &mut Vec<u8>,
     name: &[u8],
     bound: u64,
@@ -122,7 +122,11 @@ pub fn put_program(
 }
 
 /// The line of a program that was refused.
-pub fn put_refused(text: &mut Vec<u8>, name: &[u8], refusal: Refusal) -> Result<(), AllocError>
+pub(crate) fn put_refused(
+    text: &mut Vec<u8>,
+    name: &[u8],
+    refusal: Refusal,
+) -> Result<(), AllocError>
     ensures { OnOk result (text.new.items ≡ text.old.items ++ refused_text name.now refusal) }
 {
     put_name(text, b"refused ", name)?;
@@ -132,7 +136,7 @@ pub fn put_refused(text: &mut Vec<u8>, name: &[u8], refusal: Refusal) -> Result<
 }
 
 /// The line of code that has no image, as its length is not allowed.
-pub fn put_image(text: &mut Vec<u8>, name: &[u8]) -> Result<(), AllocError>
+pub(crate) fn put_image(text: &mut Vec<u8>, name: &[u8]) -> Result<(), AllocError>
     ensures { OnOk result (text.new.items ≡ text.old.items ++ image_text name.now) }
 {
     put_name(text, b"image ", name)?;
@@ -141,7 +145,7 @@ pub fn put_image(text: &mut Vec<u8>, name: &[u8]) -> Result<(), AllocError>
 }
 
 /// The line of a program whose text means no code.
-pub fn put_assembler(
+pub(crate) fn put_assembler(
     text: &mut Vec<u8>,
     name: &[u8],
     error: AssembleError,
@@ -155,7 +159,12 @@ pub fn put_assembler(
 }
 
 /// The line of a pin.
-pub fn put_pin(text: &mut Vec<u8>, name: &[u8], number: u64, edges: u64) -> Result<(), AllocError>
+pub(crate) fn put_pin(
+    text: &mut Vec<u8>,
+    name: &[u8],
+    number: u64,
+    edges: u64,
+) -> Result<(), AllocError>
     ensures { OnOk result (text.new.items ≡ text.old.items ++ pin_text name.now number edges) }
 {
     put_name(text, b"pin ", name)?;
@@ -165,7 +174,7 @@ pub fn put_pin(text: &mut Vec<u8>, name: &[u8], number: u64, edges: u64) -> Resu
 }
 
 /// The first line of a run.
-pub fn put_run(
+pub(crate) fn put_run(
     text: &mut Vec<u8>,
     program: &[u8],
     pin: &[u8],
@@ -194,7 +203,7 @@ fn put_row(text: &mut Vec<u8>, row: Row) -> Result<(), AllocError>
 }
 
 /// The lines of the vertices that have a neighbour.
-pub fn put_rows(text: &mut Vec<u8>, rows: &[Row]) -> Result<(), AllocError>
+pub(crate) fn put_rows(text: &mut Vec<u8>, rows: &[Row]) -> Result<(), AllocError>
     ensures { OnOk result (text.new.items ≡ text.old.items ++ flat_map row_text rows.now) }
 {
     for row in rows {
@@ -215,7 +224,12 @@ fn home_name(home: Home) -> &'static [u8]
 }
 
 /// The line of a vertex's home.
-pub fn put_home(text: &mut Vec<u8>, vertex: u64, home: Home, degree: u64) -> Result<(), AllocError>
+pub(crate) fn put_home(
+    text: &mut Vec<u8>,
+    vertex: u64,
+    home: Home,
+    degree: u64,
+) -> Result<(), AllocError>
     ensures { OnOk result (text.new.items ≡ text.old.items ++ home_text vertex home degree) }
 {
     put_field(text, b"home ", vertex)?;
@@ -225,7 +239,7 @@ pub fn put_home(text: &mut Vec<u8>, vertex: u64, home: Home, degree: u64) -> Res
 }
 
 /// The first line of a list.
-pub fn put_list(
+pub(crate) fn put_list(
     text: &mut Vec<u8>,
     program: &[u8],
     pin: &[u8],
@@ -254,7 +268,7 @@ fn put_edge(text: &mut Vec<u8>, edge: ListedEdge) -> Result<(), AllocError>
 }
 
 /// The lines of some edges of a list.
-pub fn put_edges(text: &mut Vec<u8>, edges: &[ListedEdge]) -> Result<(), AllocError>
+pub(crate) fn put_edges(text: &mut Vec<u8>, edges: &[ListedEdge]) -> Result<(), AllocError>
     ensures { OnOk result (text.new.items ≡ text.old.items ++ flat_map edge_text edges.now) }
 {
     for edge in edges {
@@ -264,7 +278,7 @@ pub fn put_edges(text: &mut Vec<u8>, edges: &[ListedEdge]) -> Result<(), AllocEr
 }
 
 /// The line of a fault, the last of a script.
-pub fn put_fault(text: &mut Vec<u8>, fault: LineFault, line: u64) -> Result<(), AllocError>
+pub(crate) fn put_fault(text: &mut Vec<u8>, fault: LineFault, line: u64) -> Result<(), AllocError>
     ensures { OnOk result (text.new.items ≡ text.old.items ++ fault_text fault line) }
 {
     put_field(text, b"fault ", fault.number())?;

@@ -53,7 +53,7 @@ fn execute_lines<Ga: Gate, R: Threads + Wait>(
 
 /// Executes the whole lines of what was read, up to the first that lists edges. A line that is too long is a fault
 /// before its end comes.
-pub fn execute_read<Ga: Gate, R: Threads + Wait>(
+pub(crate) fn execute_read<Ga: Gate, R: Threads + Wait>(
     crew: &Crew<'_, R, Ga>,
     script: &mut Script,
     text: &mut Vec<u8>,

@@ -15,7 +15,7 @@ use script::{EdgeLines, Listing};
 use std::alloc::Global;
 
 /// Writes all bytes of a text. After a failure the output has some of them, from the front.
-pub fn write_all<O: Output>(output: &mut O, text: &[u8]) -> Result<(), Failure>
+pub(crate) fn write_all<O: Output>(output: &mut O, text: &[u8]) -> Result<(), Failure>
     ensures ok { OnOk result (Appends (O.contents output.old) (O.contents output.new) text.now) }
     ensures err { OnErr result (TakesFront (O.contents output.old) (O.contents output.new) text.now) }
     ensures failures { CountsFailure result (O.failures output.old) (O.failures output.new) }
@@ -31,7 +31,7 @@ pub fn write_all<O: Output>(output: &mut O, text: &[u8]) -> Result<(), Failure>
 }
 
 /// Writes a text and lets go of it. After an error the output has some of it, from the front.
-pub fn write_text<O: Output>(output: &mut O, text: &mut Vec<u8>) -> Result<(), ServeError>
+pub(crate) fn write_text<O: Output>(output: &mut O, text: &mut Vec<u8>) -> Result<(), ServeError>
     ensures ok { OnOk result (Appends (O.contents output.old) (O.contents output.new) text.old.items) }
     ensures empty { OnOk result (text.new.items ≡ []) }
     ensures err { OnErr result (TakesFront (O.contents output.old) (O.contents output.new) text.old.items) }
@@ -50,7 +50,7 @@ pub fn write_text<O: Output>(output: &mut O, text: &mut Vec<u8>) -> Result<(), S
 
 /// Writes a text and behind it the lines of a listing's edges, block by block: no more of them is held at once than
 /// the lines of one block. After an error the output has some of all this, from the front.
-pub fn write_edges<O: Output>(
+pub(crate) fn write_edges<O: Output>(
     output: &mut O,
     alloc: Global,
     text: &mut Vec<u8>,

@@ -10,17 +10,35 @@ use verifier::Verified;
 use versions::Pin;
 
 /// A program that was accepted, under its name.
-#[derive(Drop)]
 pub struct NamedProgram {
     pub name: Vec<u8>,
     pub program: Arc<Verified>,
 }
 
+impl Drop for NamedProgram {
+    // Written out, so that crates above prove a call here, and not the drop of each part.
+    fn drop(self) {
+        let NamedProgram {
+            name: _name,
+            program: _program,
+        } = self;
+    }
+}
+
 /// A version that was pinned, under its name.
-#[derive(Drop)]
 pub struct NamedPin {
     pub name: Vec<u8>,
     pub pin: Pin,
+}
+
+impl Drop for NamedPin {
+    // Written out, so that crates above prove a call here, and not the drop of each part.
+    fn drop(self) {
+        let NamedPin {
+            name: _name,
+            pin: _pin,
+        } = self;
+    }
 }
 
 /// Whether two names are the same.

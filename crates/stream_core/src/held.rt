@@ -29,7 +29,7 @@ impl Held {
     ghost use Rattle.stream_core.specs.Work.{holding_of, IsEditable, IsWorkAfter};
 
     /// A batch of which nothing is done, and the shards that it is to edit.
-    pub fn begin(alloc: Global, entry: Entry, table: Table) -> Held
+    pub(crate) fn begin(alloc: Global, entry: Entry, table: Table) -> Held
         ensures { result ≡ record { entry = entry; done = []; parts = table } }
     {
         Held {
@@ -40,7 +40,7 @@ impl Held {
     }
 
     /// Puts the batch at the end of a log.
-    pub fn enter(&self, log: &mut Vec<Entry>) -> Result<(), AllocError>
+    pub(crate) fn enter(&self, log: &mut Vec<Entry>) -> Result<(), AllocError>
         ensures ok { OnOk result (log.new.items ≡ log.old.items ++ self.now.entry ∷ []) }
         ensures err { OnErr result (log.new.items ≡ log.old.items) }
     {
@@ -49,7 +49,7 @@ impl Held {
     }
 
     /// Puts the shards in the place of those that were published before.
-    pub fn show(self, published: &mut Table)
+    pub(crate) fn show(self, published: &mut Table)
         ensures { published.new ≡ self.parts }
     {
         *published = self.table;
@@ -63,7 +63,7 @@ impl Held {
     }
 
     /// Whether a range is still to be done.
-    pub fn is_open(&self, range: u32) -> bool
+    pub(crate) fn is_open(&self, range: u32) -> bool
         ensures { result ≡ is_open (holding_of self.now) range }
     {
         self.edits_range(range) && !self.is_done(range)
@@ -80,7 +80,7 @@ impl Held {
     }
 
     /// Whether each range that the batch edits is done.
-    pub fn is_whole(&self) -> bool
+    pub(crate) fn is_whole(&self) -> bool
         ensures { result ≡ is_whole (holding_of self.now) }
     {
         let edits = self.entry.batch.edits();
@@ -90,7 +90,7 @@ impl Held {
     }
 
     /// Does the edits of a range that is open. After an error nothing is changed.
-    pub fn apply(&mut self, alloc: Global, range: u32) -> Result<(), AllocError>
+    pub(crate) fn apply(&mut self, alloc: Global, range: u32) -> Result<(), AllocError>
         requires { IsEditable range self.old }
         ensures ok { OnOk result (IsWorkAfter range self.old self.new) }
         ensures err { OnErr result (self.new ≡ self.old) }

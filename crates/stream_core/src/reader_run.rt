@@ -22,7 +22,7 @@ impl ReaderRun {
     ghost use Rattle.stream_core.specs.Runs.{IsLendable, IsLent};
 
     /// Lends the next words, copied, or says that all were lent. After an error nothing is changed.
-    pub fn lend(&mut self, alloc: Global) -> Result<Reply, AllocError>
+    pub(crate) fn lend(&mut self, alloc: Global) -> Result<Reply, AllocError>
         requires { IsLendable self.old }
         ensures ok { IfOk result (λ reply. (past : Past) → IsLent past self.old reply self.new) }
         ensures err { OnErr result (self.new ≡ self.old) }

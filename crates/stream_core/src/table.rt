@@ -34,7 +34,7 @@ impl Table {
     ghost use Rattle.stream_core.specs.Tables.{own_edits};
 
     /// The table of a graph of so many vertices without an edge.
-    pub fn empty(alloc: Global, vertex_count: u32) -> Result<Table, AllocError>
+    pub(crate) fn empty(alloc: Global, vertex_count: u32) -> Result<Table, AllocError>
         requires some { 1 ≤ vertex_count }
         requires most { vertex_count ≤ MOST_VERTICES }
         ensures { IfOk result (λ table. IsTable (empty_graph vertex_count) table) }
@@ -44,7 +44,7 @@ impl Table {
     }
 
     /// Another table of the same shards.
-    pub fn share(&self, alloc: Global) -> Result<Table, AllocError>
+    pub(crate) fn share(&self, alloc: Global) -> Result<Table, AllocError>
         ensures { IfOk result (λ table. table ≡ self.now) }
     {
         let shards = share_shards(alloc, &self.shards)?;
@@ -52,14 +52,14 @@ impl Table {
     }
 
     /// The shards, by their ranges.
-    pub fn shards(&self) -> &[Arc<Shard>]
+    pub(crate) fn shards(&self) -> &[Arc<Shard>]
         ensures { parts_of result.now ≡ self.now }
     {
         &self.shards
     }
 
     /// The shard of a range after those edits of a batch that are of it. The table stays.
-    pub fn edited(
+    pub(crate) fn edited(
         &self,
         alloc: Global,
         range: u32,
@@ -79,7 +79,7 @@ impl Table {
     }
 
     /// Puts a shard in the place of a range.
-    pub fn set(&mut self, range: u32, shard: Arc<Shard>)
+    pub(crate) fn set(&mut self, range: u32, shard: Arc<Shard>)
         requires { range < length self.old }
         ensures { self.new ≡ slice_set self.old range (arc_value shard) }
     {

@@ -20,7 +20,6 @@ use store_model::{Event, FEEDS, QUEUE_PLACES, READERS, Reply};
 
 /// All that the store has: the log of its batches, the queue, the batch in work, the shards that were
 /// published last, and each reader's run.
-#[derive(Drop)]
 pub struct World {
     alloc: Global,
     vertex_count: u32,
@@ -29,6 +28,21 @@ pub struct World {
     held: Option<Held>,
     table: Table,
     runs: Vec<Option<ReaderRun>>,
+}
+
+impl Drop for World {
+    // Written out, so that crates above prove a call here, and not the drop of each part.
+    fn drop(self) {
+        let World {
+            alloc: _alloc,
+            vertex_count: _vertex_count,
+            log: _log,
+            queue: _queue,
+            held: _held,
+            table: _table,
+            runs: _runs,
+        } = self;
+    }
 }
 
 impl Model for World {

@@ -109,7 +109,7 @@ impl<C: Level> Child<C> {
 }
 
 /// The children of nodes that may be children.
-pub fn adopted<C: Level>(first: C, second: Option<C>) -> (Child<C>, Option<Child<C>>)
+pub(crate) fn adopted<C: Level>(first: C, second: Option<C>) -> (Child<C>, Option<Child<C>>)
     requires first { IsChild C.least (C.node first) }
     requires second { IfSome second (λ node. IsChild C.least (C.node node)) }
     ensures first { result.0 ≡ C.node first }

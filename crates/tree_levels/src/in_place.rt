@@ -89,7 +89,7 @@ fn replace_below<C: Level>(
 }
 
 /// Puts a word into shared children, where they have one owner.
-pub fn insert_owned<C: Level>(
+pub(crate) fn insert_owned<C: Level>(
     children: &mut Arc<Vec<Child<C>>>,
     alloc: Global,
     word: u32,
@@ -157,7 +157,7 @@ fn mend_below<C: Level>(
 }
 
 /// Takes a word out of shared children, where they have one owner. They never become fewer than `fewest`.
-pub fn remove_owned<C: Level>(
+pub(crate) fn remove_owned<C: Level>(
     children: &mut Arc<Vec<Child<C>>>,
     alloc: Global,
     word: u32,

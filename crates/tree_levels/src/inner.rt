@@ -213,7 +213,7 @@ fn packed<C: Level>(
 }
 
 /// Other owners of these children, of which one lost a word: where it is too small now, it is joined with a neighbour.
-pub fn mended<C: Level>(
+pub(crate) fn mended<C: Level>(
     alloc: Global,
     children: &[Child<C>],
     at: usize,

@@ -7,7 +7,7 @@ use crate::level::Level;
 use std::alloc::{AllocError, Global};
 
 /// Puts other owners of these children behind a list.
-pub fn share_all<C: Level>(
+pub(crate) fn share_all<C: Level>(
     list: &mut Vec<Child<C>>,
     children: &[Child<C>],
 ) -> Result<(), AllocError>
@@ -38,7 +38,7 @@ fn push_both<C: Level>(
 }
 
 /// Other owners of these children, of which `taken` from a place on are replaced.
-pub fn with_replaced<C: Level>(
+pub(crate) fn with_replaced<C: Level>(
     alloc: Global,
     children: &[Child<C>],
     at: usize,
@@ -57,7 +57,7 @@ pub fn with_replaced<C: Level>(
 }
 
 /// Other owners of the children of two lists.
-pub fn concatenated<C: Level>(
+pub(crate) fn concatenated<C: Level>(
     alloc: Global,
     left: &[Child<C>],
     right: &[Child<C>],

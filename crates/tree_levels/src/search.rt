@@ -6,7 +6,7 @@ use crate::child::Child;
 use crate::level::Level;
 
 /// The last child whose first word is not above a word, or else the first child.
-pub fn child_for<C: Level>(children: &[Child<C>], word: u32) -> usize
+pub(crate) fn child_for<C: Level>(children: &[Child<C>], word: u32) -> usize
     requires { 0 < length children.now }
     ensures within { result < length children.now }
     ensures from { 0 < result → first_at children.now result ≤ word }

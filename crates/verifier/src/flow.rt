@@ -116,7 +116,7 @@ fn fault_at(
 }
 
 /// The first instruction that breaks a rule of the pass.
-pub fn find_flow_fault(
+pub(crate) fn find_flow_fault(
     image: &Image,
     listing: &[Option<Instruction>],
     ends: &[u16],

@@ -26,7 +26,7 @@ fn is_call_at(image: &Image, listing: &[Option<Instruction>], pc: usize) -> bool
 }
 
 /// Whether a program calls functions of its own. Most do not: then it is one function, of one frame.
-pub fn has_calls(image: &Image, listing: &[Option<Instruction>]) -> bool
+pub(crate) fn has_calls(image: &Image, listing: &[Option<Instruction>]) -> bool
     requires listing { listing.now ≡ listing_of image.now (units image.now) }
     requires decodes { first_fault (decoding_fault image.now) (units image.now) ≡ None }
     ensures some { result ≡ true → (pc : ℕ) × (calls_one (instruction_at image.now pc) ≡ true) }
@@ -81,7 +81,7 @@ fn ends_of_one(alloc: Global, image: &Image) -> Result<Vec<u16>, Refusal>
 }
 
 /// Where the function ends that each pc lies in.
-pub fn find_ends(
+pub(crate) fn find_ends(
     alloc: Global,
     image: &Image,
     listing: &[Option<Instruction>],

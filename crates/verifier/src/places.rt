@@ -11,7 +11,7 @@ use bpf_image::Image;
 use bpf_isa::{Distance, Instruction};
 
 /// The pc at a distance from the instruction behind the one at a pc; it may lie outside the code.
-pub fn place_at(pc: usize, distance: i32) -> i64
+pub(crate) fn place_at(pc: usize, distance: i32) -> i64
     requires { pc ≤ MOST_UNITS }
     ensures { result ≡ target_pc pc distance }
 {
@@ -19,7 +19,7 @@ pub fn place_at(pc: usize, distance: i32) -> i64
 }
 
 /// How many units a jump goes.
-pub fn length_of(distance: Distance) -> i32
+pub(crate) fn length_of(distance: Distance) -> i32
     ensures { result ≡ units_over distance }
 {
     match distance {
@@ -29,7 +29,11 @@ pub fn length_of(distance: Distance) -> i32
 }
 
 /// The instruction that starts at a pc, if one does.
-pub fn starting_at(image: &Image, listing: &[Option<Instruction>], pc: usize) -> Option<Instruction>
+pub(crate) fn starting_at(
+    image: &Image,
+    listing: &[Option<Instruction>],
+    pc: usize,
+) -> Option<Instruction>
     requires { listing.now ≡ listing_of image.now (units image.now) }
     ensures exact { result ≡ instruction_at image.now pc }
     ensures few { units image.now ≤ MOST_UNITS }
@@ -39,7 +43,7 @@ pub fn starting_at(image: &Image, listing: &[Option<Instruction>], pc: usize) ->
 }
 
 /// Where the function begins that a call at a pc names, if an instruction starts there above the call.
-pub fn entry_of_call(
+pub(crate) fn entry_of_call(
     image: &Image,
     listing: &[Option<Instruction>],
     pc: usize,
@@ -62,7 +66,11 @@ pub fn entry_of_call(
 }
 
 /// Where the function begins that the instruction at a pc calls, if it is a call of one.
-pub fn entry_called_at(image: &Image, listing: &[Option<Instruction>], pc: usize) -> Option<usize>
+pub(crate) fn entry_called_at(
+    image: &Image,
+    listing: &[Option<Instruction>],
+    pc: usize,
+) -> Option<usize>
     requires listing { listing.now ≡ listing_of image.now (units image.now) }
     requires inside { pc < units image.now }
     ensures exact { result ≡ entry_called image.now pc (instruction_at image.now pc) }

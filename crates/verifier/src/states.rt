@@ -11,7 +11,10 @@ use std::alloc::{AllocError, Global};
 use verifier_rules::take_side;
 
 /// No state for so many pcs.
-pub fn no_states(alloc: Global, pcs: usize) -> Result<Vec<Option<Box<AbstractState>>>, AllocError>
+pub(crate) fn no_states(
+    alloc: Global,
+    pcs: usize,
+) -> Result<Vec<Option<Box<AbstractState>>>, AllocError>
     ensures none { IfOk result (λ states. (q : ℕ) → state_at states.items q ≡ None) }
     ensures same_length { IfOk result (λ states. length states.items ≡ pcs) }
 {
@@ -39,7 +42,11 @@ fn join_at(states: &mut Vec<Option<Box<AbstractState>>>, pc: usize, state: Box<A
 }
 
 /// One way more comes to a place.
-pub fn arrive(states: &mut Vec<Option<Box<AbstractState>>>, place: i64, state: Box<AbstractState>)
+pub(crate) fn arrive(
+    states: &mut Vec<Option<Box<AbstractState>>>,
+    place: i64,
+    state: Box<AbstractState>,
+)
     requires { LeadInside (length states.old.items) ((place, state.value) ∷ []) }
     ensures arrived { (q : ℕ) → state_at states.new.items q
         ≡ joined_ways (state_at states.old.items q) ((place, state.value) ∷ []) q }
@@ -49,7 +56,7 @@ pub fn arrive(states: &mut Vec<Option<Box<AbstractState>>>, place: i64, state: B
 }
 
 /// A side of a branch comes to a place, if it is walked.
-pub fn arrive_by_side(
+pub(crate) fn arrive_by_side(
     states: &mut Vec<Option<Box<AbstractState>>>,
     place: i64,
     compared: (Register, Operand),

@@ -111,7 +111,7 @@ fn go_on(
 }
 
 /// Goes over what is at a pc, if that is walked.
-pub fn visit(
+pub(crate) fn visit(
     alloc: Global,
     image: &Image,
     listing: &[Option<Instruction>],
@@ -143,7 +143,11 @@ pub fn visit(
 }
 
 /// Goes over all walked pcs, and finds the first broken rule.
-pub fn walk(alloc: Global, image: &Image, listing: &[Option<Instruction>]) -> Result<(), Refusal>
+pub(crate) fn walk(
+    alloc: Global,
+    image: &Image,
+    listing: &[Option<Instruction>],
+) -> Result<(), Refusal>
     requires listing { listing.now ≡ listing_of image.now (units image.now) }
     requires decodes { first_fault (decoding_fault image.now) (units image.now) ≡ None }
     requires flow { first_fault (flow_fault image.now) (units image.now) ≡ None }

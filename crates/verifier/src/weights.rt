@@ -172,7 +172,7 @@ pub struct Extent {
 }
 
 /// The extent of a program's runs, which no pass refuses.
-pub fn find_extent(
+pub(crate) fn find_extent(
     alloc: Global,
     image: &Image,
     listing: &[Option<Instruction>],

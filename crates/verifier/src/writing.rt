@@ -32,7 +32,7 @@ fn writes_at(image: &Image, listing: &[Option<Instruction>], pc: usize) -> bool
 }
 
 /// Whether an instruction of a program writes to memory.
-pub fn has_writes(image: &Image, listing: &[Option<Instruction>]) -> bool
+pub(crate) fn has_writes(image: &Image, listing: &[Option<Instruction>]) -> bool
     requires { listing.now ≡ listing_of image.now (units image.now) }
     ensures { (result ≡ false) ↔ NeverWrites image.now }
 {

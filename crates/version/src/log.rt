@@ -39,7 +39,7 @@ impl Model for Log {
 
 impl Log {
     /// The log of no entries. It takes no memory.
-    pub fn empty(alloc: Global) -> Log
+    pub(crate) fn empty(alloc: Global) -> Log
         ensures { result ≡ [] }
     {
         Log {
@@ -50,14 +50,14 @@ impl Log {
     }
 
     /// How many entries it has.
-    pub fn len(&self) -> u64
+    pub(crate) fn len(&self) -> u64
         ensures { result ≡ length self.now }
     {
         self.len
     }
 
     /// The log with one entry more. This one stays.
-    pub fn with(&self, alloc: Global, entry: Entry) -> Result<Log, AllocError>
+    pub(crate) fn with(&self, alloc: Global, entry: Entry) -> Result<Log, AllocError>
         requires { length self.now < MOST_BATCHES }
         ensures { IfOk result (λ log. log ≡ self.now ++ entry ∷ []) }
     {

@@ -23,13 +23,25 @@ use std::thread::Threads;
 
 /// One state of a graph: what the log of its batches makes of the graph without an edge. It never
 /// changes after it was made. It knows that its store's history begins with these batches.
-#[derive(Drop)]
 pub struct Version {
     pub(crate) vertex_count: u32,
     pub(crate) log: Log,
     pub(crate) shards: Table,
     pub(crate) edge_count: u64,
     pub(crate) known: Known,
+}
+
+impl Drop for Version {
+    // Written out, so that crates above prove a call here, and not the drop of each part.
+    fn drop(self) {
+        let Version {
+            vertex_count: _vertex_count,
+            log: _log,
+            shards: _shards,
+            edge_count: _edge_count,
+            known: _known,
+        } = self;
+    }
 }
 
 impl Model for Version {
@@ -176,6 +188,13 @@ impl Version {
 
     /// Lets the version go, by workers, each of whom has a part of its shards. What other versions share stays.
     pub fn let_go<R: Threads>(self, rt: &R, alloc: Global, workers: Workers) {
-        self.shards.let_go(rt, alloc, usize::from(workers.count()))
+        let Version {
+            vertex_count: _,
+            log: _log,
+            shards,
+            edge_count: _,
+            known: _known,
+        } = self;
+        shards.let_go(rt, alloc, usize::from(workers.count()));
     }
 }

@@ -36,7 +36,7 @@ pub struct Stopped {
 
 impl Stopped {
     /// It is in want of memory.
-    pub fn for_memory(held: Held) -> Stopped
+    pub(crate) fn for_memory(held: Held) -> Stopped
         ensures { result.held ≡ held }
     {
         Stopped {
@@ -48,7 +48,7 @@ impl Stopped {
 
 impl Held {
     /// The batch, and the feed that it came by.
-    pub fn entry(&self) -> &Entry
+    pub(crate) fn entry(&self) -> &Entry
         ensures { result.now ≡ entry_in self.now }
     {
         match self {
@@ -60,7 +60,7 @@ impl Held {
     }
 
     /// The batch, and the feed that it came by. What was done for it is let go.
-    pub fn into_entry(self) -> Entry
+    pub(crate) fn into_entry(self) -> Entry
         ensures { result ≡ entry_in self }
     {
         match self {

@@ -12,7 +12,7 @@ use Rattle.explanation.proofs.explaining.explain.Goals as goal
 
 pub write_all-requires-in-Err : goal.write_all-requires-in-Err
 write_all-requires-in-Err c =
-    let image : IsImage c.args.image = subst IsImage c.image.view_is c.image.invariant in
+    let image : IsImage c.args.image = c.code-code.ensures.image in
     let some : 0 < units c.args.image = (let one = image.code.some in omega (arith, one)) in
     let refused : verdict c.args.image ≡ verdicts.Refused c.in-Err.refusal = (elim c.in-Err.ensures.exact [
       | inl memory ↦ absurd (c.in_ok-rule_or_memory-in-Err.ensures memory)
