@@ -1,12 +1,12 @@
 #!/usr/bin/env python3
-"""What crates/at_limits has to print, by the second implementation: at_limits.py [RECIPES], or at_limits.py RECIPES NAME for one script
+"""What crates/script_rows has to print of scripts at the limits, by the second implementation: at_limits.py [RECIPES], or at_limits.py RECIPES NAME for one script
 and its text. See README.md."""
 import pathlib
 import sys
 
 from script import serve
 
-RECIPES = pathlib.Path(__file__).parent.parent / "crates/at_limits/stdin"
+RECIPES = pathlib.Path(__file__).parent.parent / "crates/script_rows/stdin"
 SIGNS = {"insert": "+", "remove": "-"}
 
 
@@ -44,7 +44,7 @@ def digest(text):
 
 def main():
     recipes = pathlib.Path(sys.argv[1]) if len(sys.argv) > 1 else RECIPES
-    for part in recipes.read_text().split("%")[1:]:
+    for part in recipes.read_text().partition("\n%! ")[2].split("%")[1:]:
         head, _, recipe = part.partition("\n")
         name, workers = head.split(" ")
         if len(sys.argv) > 2 and name != sys.argv[2]:

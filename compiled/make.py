@@ -93,11 +93,14 @@ def main():
         for name, (length, cause, pc) in REFUSED.items():
             rows.append((name, [f"code {name} {length} {code(name).hex()}"], f"refused {name} cause {cause} pc {pc}\n"))
     crate = here.parent / "crates/script_rows"
-    before = (crate / "stdin").read_text().partition(f"%^ {SECTION}\n")[0]
+    # Scripts at the limits stand behind the section, and stay.
+    before, _, behind = (crate / "stdin").read_text().partition(f"%^ {SECTION}\n")
+    limits = behind.partition("\n%! ")[2]
     (crate / "stdin").write_text(before + HEAD + "".join(
-        "\n".join([f"%% {name}", *script, "%=", text]) for name, script, text in rows))
-    before = (crate / "stdout").read_text().partition(f"ok {SECTION}: ")[0]
-    (crate / "stdout").write_text(before + "".join(f"ok {SECTION}: {name}\n" for name, _, _ in rows))
+        "\n".join([f"%% {name}", *script, "%=", text]) for name, script, text in rows) + f"%! {limits}")
+    before, _, behind = (crate / "stdout").read_text().partition(f"ok {SECTION}: ")
+    limits = [line for line in behind.splitlines(True) if ": status " in line]
+    (crate / "stdout").write_text(before + "".join(f"ok {SECTION}: {name}\n" for name, _, _ in rows) + "".join(limits))
 
 
 main()

@@ -4,6 +4,3 @@
 mod words;
 
 pub use words::options;
-
-#[cfg(test)]
-mod tests;

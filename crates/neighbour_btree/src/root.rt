@@ -6,7 +6,7 @@ ghost use Rattle.tree_levels.specs.Changes.{IsSliceAt};
 ghost use Rattle.neighbour_btree.specs.Root.{node_of, fewest_of, words_of, Raises, Lowers, RootWith, RootWithout, WordsAdded, WordsTaken};
 
 use std::alloc::{AllocError, Global};
-use tree_levels::{Change, Grown, Inner, Leaf, Level, MOST, leaves, nodes};
+use tree_levels::{Change, Grown, Inner, Leaf, Level, MOST, Third, leaves, nodes, thirds};
 use word_sets::WORD_LIMIT;
 
 /// A root of each of the five levels. Words are below 2^20, so that five are enough.
@@ -14,9 +14,9 @@ use word_sets::WORD_LIMIT;
 pub enum Root {
     One(Leaf),
     Two(Inner<Leaf>),
-    Three(Inner<Inner<Leaf>>),
-    Four(Inner<Inner<Inner<Leaf>>>),
-    Five(Inner<Inner<Inner<Inner<Leaf>>>>),
+    Three(Third),
+    Four(Inner<Third>),
+    Five(Inner<Inner<Third>>),
 }
 
 /// What a root becomes by one word more.
@@ -85,9 +85,9 @@ impl Root {
         let row = nodes(alloc, row)?;
         if row.len() <= MOST {
             let node = Inner::new(alloc, row)?;
-            return Ok(Root::Three(node));
+            return Ok(Root::Three(Third { node }));
         }
-        let row = nodes(alloc, row)?;
+        let row = thirds(alloc, nodes(alloc, row)?)?;
         let node = Inner::new(alloc, row)?;
         Ok(Root::Four(node))
     }
@@ -162,7 +162,7 @@ impl Root {
             Root::Two(node) => match grow(alloc, node, word)? {
                 Raised::Same => Ok(None),
                 Raised::Kept(node) => Ok(Some(Root::Two(node))),
-                Raised::Above(node) => Ok(Some(Root::Three(node))),
+                Raised::Above(node) => Ok(Some(Root::Three(Third { node }))),
             },
             Root::Three(node) => match grow(alloc, node, word)? {
                 Raised::Same => Ok(None),
@@ -199,9 +199,9 @@ impl Root {
                 Lowered::Kept(node) => Ok(Some(Root::Two(node))),
                 Lowered::Below(node) => Ok(Some(Root::One(node))),
             },
-            Root::Three(node) => match shrink(alloc, node, word)? {
+            Root::Three(third) => match shrink(alloc, &third.node, word)? {
                 Lowered::Same => Ok(None),
-                Lowered::Kept(node) => Ok(Some(Root::Three(node))),
+                Lowered::Kept(node) => Ok(Some(Root::Three(Third { node }))),
                 Lowered::Below(node) => Ok(Some(Root::Two(node))),
             },
             Root::Four(node) => match shrink(alloc, node, word)? {
@@ -245,7 +245,7 @@ impl Root {
         match self {
             Root::One(node) => node.remove(alloc, word),
             Root::Two(node) => node.remove_from_root(alloc, word),
-            Root::Three(node) => node.remove_from_root(alloc, word),
+            Root::Three(third) => third.node.remove_from_root(alloc, word),
             Root::Four(node) => node.remove_from_root(alloc, word),
             Root::Five(node) => node.remove_from_root(alloc, word),
         }

@@ -1,11 +1,14 @@
-//! Serves the scripts that its standard input has in rows, and tells of each row whether it came as the row wants.
+//! Serves the scripts that its standard input has in rows, and tells of each row whether it came as the row wants; then those at the
+//! limits, which it describes.
 #![tactic(auto)]
 
 mod kept;
+mod limits;
 mod recipes;
 mod row;
 
 use kept::Kept;
+use limits::serve_limits;
 use row::Row;
 use service::{OpenGate, StdInput, Workers, report, serve};
 use std::alloc::Global;
@@ -50,17 +53,16 @@ fn came_always<R: Print + Threads + Wait>(
     Ok(true)
 }
 
-fn main(rt: HostRuntime) -> io::Result<()> {
-    let alloc = rt.alloc();
-    let text = io::read_to_string(alloc, rt.stdin())?;
-    let text = text.strip_suffix('\n').unwrap_or(&text);
+/// Serves the rows of a text, and tells how each came.
+fn serve_rows<R: Print + Threads + Wait>(rt: &R, alloc: Global, text: &str) -> io::Result<()> {
+    let text = text.strip_suffix('\n').unwrap_or(text);
     // What stands before the first head says what the file is.
     for section in text.split("\n%^ ").skip(1) {
         let mut parts = section.split("\n%% ");
         let head = Row::read(alloc, parts.next().unwrap_or(""))?;
         for part in parts {
             let row = Row::read(alloc, part)?.behind(&head)?;
-            let told = if came_always(&rt, alloc, &row)? {
+            let told = if came_always(rt, alloc, &row)? {
                 "ok"
             } else {
                 "WRONG"
@@ -69,4 +71,12 @@ fn main(rt: HostRuntime) -> io::Result<()> {
         }
     }
     Ok(())
+}
+
+fn main(rt: HostRuntime) -> io::Result<()> {
+    let alloc = rt.alloc();
+    let text = io::read_to_string(alloc, rt.stdin())?;
+    let (rows, limits) = text.split_once("\n%! ").unwrap_or((&text, ""));
+    serve_rows(&rt, alloc, rows)?;
+    serve_limits(&rt, alloc, limits)
 }

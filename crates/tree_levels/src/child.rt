@@ -5,7 +5,10 @@ ghost use Rattle.tree_levels.specs.Node.{Node, IsChild, IsEntry};
 ghost use Rattle.tree_levels.specs.Changes.{Packs, Adds, Takes};
 
 use crate::change::Change;
+use crate::inner::Inner;
+use crate::leaf::Leaf;
 use crate::level::{FEWEST, Level};
+use crate::third::Third;
 use std::alloc::{AllocError, Global};
 use std::marker::Model;
 use word_sets::WORD_LIMIT;
@@ -26,6 +29,19 @@ impl<C: Level> Model for Child<C> {
     ghost view = { λ c. C.node c.node };
 
     ghost invariant = { λ c. IsEntry C.least c.first c.count (C.node c.node) };
+}
+
+impl Child<Inner<Inner<Leaf>>> {
+    /// The same child, of a node with a name of its own.
+    pub(crate) fn named(self) -> Child<Third>
+        ensures { result ≡ self }
+    {
+        Child {
+            first: self.first,
+            count: self.count,
+            node: Third { node: self.node },
+        }
+    }
 }
 
 impl<C: Level> Child<C> {

@@ -11,6 +11,7 @@ mod level;
 mod lists;
 mod rows;
 mod search;
+mod third;
 
 pub use change::{Change, Grown};
 pub use child::Child;
@@ -18,3 +19,4 @@ pub use inner::Inner;
 pub use leaf::Leaf;
 pub use level::{FEWEST, Level, MOST};
 pub use rows::{leaves, nodes};
+pub use third::{Third, thirds};

@@ -3,6 +3,7 @@ use Rattle.word_sets.specs.Words.{IsSet}
 use Rattle.word_sets.specs.declared.places.TheConstants.{WORD_LIMIT}
 use Rattle.word_sets.proofs.Within.{IsWithin-length}
 use Rattle.tree_levels.specs.Node.{words_under}
+use Rattle.tree_levels.specs.Lists.{IsRow}
 use Rattle.tree_levels.proofs.RowLists.{row_inner}
 use Rattle.neighbour_btree.proofs.root.Root.of.Goals as goal
 
@@ -14,7 +15,8 @@ pub new-requires-2 : goal.new-requires-2
 new-requires-2 c =
     let one = c.in_ok-row.ensures in
     let two = c.in_ok-row-2.ensures in
-    let three = c.in_ok-row-3.ensures in
+    let above = c.in_ok-row-2.row.items in
+    let three : IsRow 4096 (length above) (words_under above) c.in_ok-row-3.row.items = subst (IsRow 4096 (length above) (words_under above)) (sym c.in_ok-row-3.ensures) c.in_ok-nodes.ensures in
     let words = IsWithin-length 0 WORD_LIMIT c.args.words.now c.requires.set in
-    let set : IsSet (words_under c.in_ok-row-2.row.items) = subst IsSet (sym (two.words ∙ one.words)) c.requires.set in
-    row_inner 4096 (length c.in_ok-row-2.row.items) (words_under c.in_ok-row-2.row.items) c.in_ok-row-3.row.items three set (omega (arith, c.if-len-le-MOST-2.false, c.len-2.ensures, c.in_ok-row-2.row.ok)) (omega (arith, one.few, two.few, three.few, words))
+    let set : IsSet (words_under above) = subst IsSet (sym (two.words ∙ one.words)) c.requires.set in
+    row_inner 4096 (length above) (words_under above) c.in_ok-row-3.row.items three set (omega (arith, c.if-len-le-MOST-2.false, c.len-2.ensures, c.in_ok-row-2.row.ok)) (omega (arith, one.few, two.few, three.few, words))
