@@ -2,7 +2,7 @@
 """Runs a built program once for each of its allocations, each time with that one refused.
 
     refuse_each.py PROGRAM [SCRIPT ...]       edgebpf on scripts; without one, on first.script, homes and ranges of its own
-    refuse_each.py PROGRAM --says LINE ...    a program of the gate that prints what was refused: each run one of these lines
+    refuse_each.py PROGRAM --says LINE ...    a program of the gate that prints what was refused: each run one of these lines, and some run each
 
 A library that is loaded before the C library's counts the calls that ask for memory, and refuses one. A run of edgebpf has to end
 with status 0 and all of the output, or with status 1, one line that the documents name, and a beginning of the output; or, before
@@ -81,7 +81,7 @@ def run(program, shim, refused, given, words, told):
 
 
 def try_each(program, shim, folder, name, given, words, is_right, kind):
-    """Runs it with each allocation refused, and tells how often each kind of end came. Returns how many were wrong."""
+    """Runs it with each allocation refused, and tells how often each kind of end came. Returns how many were wrong, and the kinds."""
     told = f"{folder}/told"
     whole = run(program, shim, 0, given, words, told)
     kinds, wrong, refused = collections.Counter(), 0, 0
@@ -97,7 +97,7 @@ def try_each(program, shim, folder, name, given, words, is_right, kind):
             print(f"{name}: allocation {refused} refused: status {got.returncode}, {got.stdout[-60:]!r}, {got.stderr!r}")
     ends = ", ".join(f"{said} {times}" for said, times in sorted(kinds.items()))
     print(f"{name}: each of {refused - 1} allocations refused: {ends}", flush=True)
-    return wrong
+    return wrong, kinds
 
 
 def is_served(got, whole):
@@ -123,7 +123,10 @@ def main():
         if asked.says:
             said = lambda got: got.stdout.decode(errors="replace").strip()
             right = lambda got, _whole: got.returncode == 0 and said(got) in [*asked.says, "done"]
-            sys.exit(1 if try_each(program, shim, folder, os.path.basename(program), b"", [], right, said) else 0)
+            wrong, kinds = try_each(program, shim, folder, os.path.basename(program), b"", [], right, said)
+            missing = [line for line in asked.says if line not in kinds]
+            print(*[f"{line}: never said" for line in missing], sep="\n", end="\n" if missing else "")
+            sys.exit(1 if wrong or missing else 0)
         own = {"homes": homes(), "ranges": ranges()}
         first = os.path.join(os.path.dirname(os.path.abspath(__file__)), "../examples/first.script")
         for path in asked.scripts or [first]:
@@ -131,7 +134,7 @@ def main():
         for name, script in own.items():
             for workers in asked.workers:
                 kind = lambda got: got.stderr.decode(errors="replace").strip() or "complete"
-                wrong += try_each(program, shim, folder, f"{name} by {workers}", script, ["--workers", str(workers)], is_served, kind)
+                wrong += try_each(program, shim, folder, f"{name} by {workers}", script, ["--workers", str(workers)], is_served, kind)[0]
     sys.exit(1 if wrong else 0)
 
 

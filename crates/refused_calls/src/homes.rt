@@ -1,43 +1,11 @@
-//! Changes an array and a tree, and tells whether a call that was refused for want of memory left them as they
-//! were. It is run with each of its allocations failing in turn. A block takes no memory, so it has no part in this.
-#![tactic(auto)]
-
+//! Changes of an array and of a tree, which a call that is refused leaves as they were. A block takes no memory, so it has no part in
+//! this.
 ghost use Rattle.word_sets.specs.Words.{IsSet};
 
+use crate::stop::Stop;
 use gapped_array::GappedArray;
 use neighbour_btree::NeighbourTree;
 use std::alloc::{AllocError, Global};
-use std::io;
-use std::io::Read;
-
-/// Why it came to no end.
-#[derive(Clone, Copy, PartialEq, Eq)]
-enum Stop {
-    /// There was no memory to begin.
-    NotBegun,
-    /// A change of the array was refused, and it is as it was.
-    ArrayUnchanged,
-    /// A change of the tree was refused, and it is as it was.
-    TreeUnchanged,
-    /// Something is not as it should be.
-    Wrong,
-}
-
-impl Stop {
-    fn text(self) -> &'static str {
-        match self {
-            Stop::NotBegun => "not begun",
-            Stop::ArrayUnchanged => "array unchanged",
-            Stop::TreeUnchanged => "tree unchanged",
-            Stop::Wrong => "wrong",
-        }
-    }
-
-    // This one where nothing was changed by what was refused.
-    fn if_unchanged(self, is_unchanged: bool) -> Stop {
-        if is_unchanged { self } else { Stop::Wrong }
-    }
-}
 
 // How many words the array gets, and the tree is made of: the run moves twice.
 const WORDS: u32 = 33;
@@ -168,29 +136,11 @@ fn grow_and_shrink(alloc: Global, words: &[u32]) -> Result<(), Stop>
     }
 }
 
-fn change_homes(alloc: Global) -> Result<(), Stop> {
+/// An array that gets words, and a tree that grows and shrinks.
+pub fn change_homes(alloc: Global) -> Result<(), Stop> {
     let array = filled_array(alloc)?;
     if !array.is_open(1) {
         return Err(Stop::Wrong);
     }
     grow_and_shrink(alloc, array.words(1))
-}
-
-/// Makes so many allocations, and gives each back. What is refused is an allocation of a fixed number: with so many
-/// before it, it is one of those that matter.
-fn spend(alloc: Global, count: usize) {
-    for _ in 0..count {
-        let _spent: Result<Vec<u8>, AllocError> = Vec::with_capacity(alloc, 1);
-    }
-}
-
-fn main(rt: HostRuntime) -> io::Result<()> {
-    let mut bytes = [0; 512];
-    let count = rt.stdin().read(&mut bytes)?;
-    spend(rt.alloc(), count);
-    let text = match change_homes(rt.alloc()) {
-        Ok(()) => "done",
-        Err(stop) => stop.text(),
-    };
-    println!(rt; "{text}")
 }

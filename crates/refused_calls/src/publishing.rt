@@ -1,15 +1,10 @@
-//! Two feeds submit a batch each, and both are published. It tells whether a step that was refused for want of memory
-//! published nothing and held its batch, and whether the next one published it. It is run with each of its allocations
-//! failing in turn.
-#![tactic(auto)]
-
+//! Two batches that are published. A step that is refused publishes nothing and holds its batch, and the next one publishes it.
 ghost use Rattle.std.specs.Prelude.{◌≡◌, length, IfOk};
 ghost use Rattle.history.specs.Moment.{OneStore};
 ghost use Rattle.intake.specs.Ends.{IsFeedOf};
 
+use crate::stop::Stop;
 use std::alloc::{AllocError, Global};
-use std::io;
-use std::io::Read;
 use std::sync::Wait;
 use std::thread::Threads;
 use versions::{
@@ -17,28 +12,15 @@ use versions::{
     Version, Workers,
 };
 
-/// What came of it.
+/// What came of a step.
 #[derive(Clone, Copy, PartialEq, Eq)]
 enum Told {
-    /// There was no memory to begin.
-    NotBegun,
-    /// Both batches were published, with the right counts.
+    /// Its batch was published, with the right counts.
     Published,
-    /// A step was refused, its batch was held, and the last version was as it was. The next step published the batch.
+    /// It was refused, its batch was held, and the last version was as it was. The next step published the batch.
     Unchanged,
     /// Something is not as it should be.
     Changed,
-}
-
-impl Told {
-    fn text(self) -> &'static str {
-        match self {
-            Told::NotBegun => "not begun",
-            Told::Published => "published",
-            Told::Unchanged => "unchanged",
-            Told::Changed => "changed",
-        }
-    }
 }
 
 fn batch_of(alloc: Global, edits: &[Edit]) -> Result<Batch, AllocError>
@@ -134,13 +116,13 @@ fn is_done(finished: &Finished) -> bool {
     finished.held.is_none() && finished.left.is_empty() && finished.last.number() == 2
 }
 
-/// Submits two batches, and publishes them.
-fn publish_twice<R: Threads + Wait>(rt: &R, alloc: Global) -> Told {
+/// Two feeds submit a batch each, and both are published.
+pub fn publish_twice<R: Threads + Wait>(rt: &R, alloc: Global) -> Result<(), Stop> {
     let Ok((first_batch, second_batch)) = batches(alloc) else {
-        return Told::NotBegun;
+        return Err(Stop::NotBegun);
     };
     let Ok(opened) = Store::new(3, rt, alloc) else {
-        return Told::NotBegun;
+        return Err(Stop::NotBegun);
     };
     let feeds = opened.1;
     let mut publisher = opened.0;
@@ -154,25 +136,9 @@ fn publish_twice<R: Threads + Wait>(rt: &R, alloc: Global) -> Told {
     let told = publish_both(rt, &mut publisher, &mut reader);
     let feeds: [Feed; 2] = [first, second];
     let finished = publisher.finish(feeds, rt);
-    if submitted && is_done(&finished) {
-        told
-    } else {
-        Told::Changed
+    match told {
+        Told::Published if submitted && is_done(&finished) => Ok(()),
+        Told::Unchanged if submitted && is_done(&finished) => Err(Stop::NotPublished),
+        _ => Err(Stop::Wrong),
     }
-}
-
-/// Makes so many allocations, and gives each back. What is refused is an allocation of a fixed number: with so many
-/// before it, it is one of those that matter.
-fn spend(alloc: Global, count: usize) {
-    for _ in 0..count {
-        let _spent: Result<Vec<u8>, AllocError> = Vec::with_capacity(alloc, 1);
-    }
-}
-
-fn main(rt: HostRuntime) -> io::Result<()> {
-    let mut bytes = [0; 512];
-    let count = rt.stdin().read(&mut bytes)?;
-    spend(rt.alloc(), count);
-    let told = publish_twice(&rt, rt.alloc());
-    println!(rt; "{}", told.text())
 }

@@ -1,0 +1,55 @@
+//! What was refused memory.
+
+/// Why it came to no end.
+#[derive(Clone, Copy, PartialEq, Eq)]
+pub enum Stop {
+    /// There was no memory for what a call is handed.
+    NotBegun,
+    /// A change of the array was refused, and it is as it was.
+    ArrayUnchanged,
+    /// A change of the tree was refused, and it is as it was.
+    TreeUnchanged,
+    /// `assemble` answered so.
+    NotAssembled,
+    /// `disassemble` answered so.
+    NotDisassembled,
+    /// `verify` answered so.
+    NotVerified,
+    /// A step was refused, its batch was held, and the last version was as it was. The next step published the batch.
+    NotPublished,
+    /// `apply_batch` answered so.
+    NotApplied,
+    /// `run` answered so.
+    NotRun,
+    /// `map_edges` answered so.
+    NotMapped,
+    /// A list's block was refused, and came when it was asked for again.
+    NotListed,
+    /// Something is not as it should be.
+    Wrong,
+}
+
+impl Stop {
+    /// What is printed.
+    pub fn text(self) -> &'static str {
+        match self {
+            Stop::NotBegun => "not begun",
+            Stop::ArrayUnchanged => "array unchanged",
+            Stop::TreeUnchanged => "tree unchanged",
+            Stop::NotAssembled => "not assembled",
+            Stop::NotDisassembled => "not disassembled",
+            Stop::NotVerified => "not verified",
+            Stop::NotPublished => "not published",
+            Stop::NotApplied => "not applied",
+            Stop::NotRun => "not run",
+            Stop::NotMapped => "not mapped",
+            Stop::NotListed => "not listed",
+            Stop::Wrong => "wrong",
+        }
+    }
+
+    /// This one where nothing was changed by what was refused.
+    pub fn if_unchanged(self, is_unchanged: bool) -> Stop {
+        if is_unchanged { self } else { Stop::Wrong }
+    }
+}
