@@ -16,14 +16,8 @@ use versions::Edit;
 // Exits with the edge's target.
 const TARGET: [u8; 16] = [0x61, 0x10, 4, 0, 0, 0, 0, 0, 0x95, 0, 0, 0, 0, 0, 0, 0];
 
-// Loads the word behind the edge's own bytes, stores 7 there, and exits with what it loaded.
-const ARGUMENT: [u8; 24] = [
-    0x61, 0x10, 16, 0, 0, 0, 0, 0, 0x62, 1, 16, 0, 7, 0, 0, 0, 0x95, 0, 0, 0, 0, 0, 0, 0,
-];
-
-// A program over records of so many bytes.
-fn program_of(alloc: Global, record_length: u16, code: &[u8]) -> Result<Verified, Fail> {
-    let Ok(image) = Image::new(record_length, code.to_vec(alloc)?) else {
+fn target_program(alloc: Global) -> Result<Verified, Fail> {
+    let Ok(image) = Image::new(16, TARGET.to_vec(alloc)?) else {
         return Err(Fail::from("no image"));
     };
     match verify(alloc, image) {
@@ -65,7 +59,7 @@ fn targets<R: Threads + Wait>(
     reduction: Reduction,
     workers: u8,
 ) -> Result<MapOutcome, Fail> {
-    let program = program_of(alloc, 16, &TARGET)?;
+    let program = target_program(alloc)?;
     let out = map_edges(
         rt,
         alloc,
@@ -85,7 +79,7 @@ fn targets<R: Threads + Wait>(
 fn gated<R: Threads + Wait>(rt: &R, alloc: Global, count: u8) -> Result<[u64; 3], Fail> {
     let all = vertices_below(alloc, 64 * u32::from(count))?;
     let pin = four_edges(rt, alloc)?;
-    let program = program_of(alloc, 16, &TARGET)?;
+    let program = target_program(alloc)?;
     let gate = HoldingGate::until(u64::from(count));
     map_edges(
         rt,
@@ -115,25 +109,6 @@ const fn row(vertex: u32, value: u64) -> Row {
 }
 
 #[test]
-fn every_number_of_workers_gives_the_same(rt: HostRuntime) -> Result<(), Fail> {
-    let pin = four_edges(&rt, rt.alloc())?;
-    let all = vertices_below(rt.alloc(), 300)?;
-    for workers in [1, 2, 16] {
-        let out = targets(&rt, rt.alloc(), &pin, &all, Reduction::Sum, workers)?;
-        assert_eq!(rt; [out.edges, out.total], [4, 10], "by {workers}");
-        assert_eq!(rt; out.rows.len(), 300, "by {workers}");
-        for (vertex, value) in [(0, 1), (1, 0), (69, 0), (70, 2), (298, 0), (299, 7)] {
-            assert_eq!(rt;
-                out.rows[vertex as usize],
-                row(vertex, value),
-                "by {workers}"
-            );
-        }
-    }
-    Ok(())
-}
-
-#[test]
 fn a_vertex_without_a_neighbour_has_a_row(rt: HostRuntime) -> Result<(), Fail> {
     let pin = four_edges(&rt, rt.alloc())?;
     for (reduction, of_none, of_last) in [
@@ -144,21 +119,6 @@ fn a_vertex_without_a_neighbour_has_a_row(rt: HostRuntime) -> Result<(), Fail> {
         let out = targets(&rt, rt.alloc(), &pin, &[1, 70, 299], reduction, 2)?;
         let wanted = [row(1, of_none), row(70, 2), row(299, of_last)];
         assert_eq!(rt; out.rows.as_slice(), wanted.as_slice());
-    }
-    Ok(())
-}
-
-#[test]
-fn nothing_to_map(rt: HostRuntime) -> Result<(), Fail> {
-    let pin = four_edges(&rt, rt.alloc())?;
-    for (reduction, total) in [
-        (Reduction::Min, u64::MAX),
-        (Reduction::Max, 0),
-        (Reduction::Sum, 0),
-    ] {
-        let out = targets(&rt, rt.alloc(), &pin, &[], reduction, 1)?;
-        assert_eq!(rt; [out.edges, out.total], [0, total]);
-        assert_eq!(rt; out.rows.len(), 0);
     }
     Ok(())
 }
@@ -215,17 +175,10 @@ fn all_of(
     Ok(all)
 }
 
-// All edges of a version with their numbers, by a program and its argument; and how long each block is.
-fn edges_of(
-    alloc: Global,
-    pin: &Pin,
-    code: &[u8],
-    argument: &[u8],
-    lengths: &mut [usize],
-) -> Result<Vec<ListedEdge>, Fail> {
-    let record_length = 16 + argument.len().min(4) as u16;
-    let program = program_of(alloc, record_length, code)?;
-    let mut list = list_edges(pin, &program, argument)?;
+// All edges of a version with their targets as numbers; and how long each block is.
+fn edges_of(alloc: Global, pin: &Pin, lengths: &mut [usize]) -> Result<Vec<ListedEdge>, Fail> {
+    let program = target_program(alloc)?;
+    let mut list = list_edges(pin, &program, &[])?;
     let all = all_of(alloc, &mut list, lengths)?;
     Ok(all)
 }
@@ -242,7 +195,7 @@ const fn listed(source: u32, target: u32, number: u64) -> ListedEdge {
 fn each_edge_is_listed_with_its_number(rt: HostRuntime) -> Result<(), Fail> {
     let pin = four_edges(&rt, rt.alloc())?;
     let mut lengths = [0; 2];
-    let all = edges_of(rt.alloc(), &pin, &TARGET, &[], &mut lengths)?;
+    let all = edges_of(rt.alloc(), &pin, &mut lengths)?;
     let wanted = [
         listed(0, 1, 1),
         listed(70, 2, 2),
@@ -279,27 +232,8 @@ fn in_order(edges: &[ListedEdge]) -> Option<u32> {
 fn a_list_goes_on_in_the_next_block(rt: HostRuntime) -> Result<(), Fail> {
     let pin = complete(&rt, rt.alloc())?;
     let mut lengths = [0; 3];
-    let all = edges_of(rt.alloc(), &pin, &TARGET, &[], &mut lengths)?;
+    let all = edges_of(rt.alloc(), &pin, &mut lengths)?;
     assert_eq!(rt; lengths, [BLOCK_EDGES, 804, 0]);
     assert_eq!(rt; in_order(&all), Some(4_900));
-    Ok(())
-}
-
-// Whether each edge has the number 5.
-fn are_five(edges: &[ListedEdge]) -> bool {
-    for edge in edges {
-        if edge.number != 5 {
-            return false;
-        }
-    }
-    true
-}
-
-#[test]
-fn no_edge_sees_what_another_wrote(rt: HostRuntime) -> Result<(), Fail> {
-    let pin = four_edges(&rt, rt.alloc())?;
-    let all = edges_of(rt.alloc(), &pin, &ARGUMENT, &[5, 0, 0, 0], &mut [0])?;
-    assert_eq!(rt; all.len(), 4);
-    assert!(rt; are_five(&all));
     Ok(())
 }
