@@ -14,11 +14,20 @@ fn verify_code(alloc: Global, code: Vec<u8>) -> Result<(), Stop> {
         return Err(Stop::Wrong);
     };
     match verify(alloc, image) {
-        Ok(program) if program.bound() == 4 => Ok(()),
-        Err((_, refusal)) if refusal.cause == Cause::OutOfMemory && refusal.pc == 0 => {
-            Err(Stop::NotVerified)
+        Ok(program) => {
+            if program.bound() == 4 {
+                Ok(())
+            } else {
+                Err(Stop::Wrong)
+            }
         }
-        _ => Err(Stop::Wrong),
+        Err((_, refusal)) => {
+            if refusal.cause == Cause::OutOfMemory && refusal.pc == 0 {
+                Err(Stop::NotVerified)
+            } else {
+                Err(Stop::Wrong)
+            }
+        }
     }
 }
 
@@ -26,17 +35,23 @@ fn verify_code(alloc: Global, code: Vec<u8>) -> Result<(), Stop> {
 pub fn assemble_and_verify(alloc: Global) -> Result<(), Stop> {
     let code = match assemble(alloc, TEXT) {
         Ok(code) => code,
-        Err(
-            AssembleError {
-                cause: TextCause::OutOfMemory,
-                ..
-            },
-        ) => return Err(Stop::NotAssembled),
-        Err(_) => return Err(Stop::Wrong),
+        Err(AssembleError { cause, .. }) => {
+            return Err(if cause == TextCause::OutOfMemory {
+                Stop::NotAssembled
+            } else {
+                Stop::Wrong
+            });
+        }
     };
     match disassemble(alloc, &code) {
-        Ok(text) if text.as_str() == TEXT => verify_code(alloc, code),
+        Ok(text) => {
+            if text.as_str() == TEXT {
+                verify_code(alloc, code)
+            } else {
+                Err(Stop::Wrong)
+            }
+        }
         Err(DisassembleError::OutOfMemory) => Err(Stop::NotDisassembled),
-        _ => Err(Stop::Wrong),
+        Err(_) => Err(Stop::Wrong),
     }
 }
