@@ -147,8 +147,8 @@ fn list(alloc: Global, pin: &Pin, program: &Verified) -> Result<(), Stop> {
     }
 }
 
-/// Maps and lists the edges of a store's first version.
-pub fn map_and_list<R: Threads + Wait>(rt: &R, alloc: Global) -> Result<(), Stop> {
+/// Lists and maps the edges of a store's first version.
+pub fn list_and_map<R: Threads + Wait>(rt: &R, alloc: Global) -> Result<(), Stop> {
     let (Ok(batch), Some(program)) = (batch_of(alloc), program_of(alloc)) else {
         return Err(Stop::NotBegun);
     };
@@ -166,8 +166,8 @@ pub fn map_and_list<R: Threads + Wait>(rt: &R, alloc: Global) -> Result<(), Stop
     let is_published = matches!(publisher.step(rt, Workers::one(), &OpenGate), Ok(Some(_)));
     let told = match reader.pin() {
         Ok(pin) if is_submitted && is_published => {
-            match map(rt, alloc, &pin, &program) {
-                Ok(()) => list(alloc, &pin, &program),
+            match list(alloc, &pin, &program) {
+                Ok(()) => map(rt, alloc, &pin, &program),
                 Err(stop) => Err(stop),
             }
         }

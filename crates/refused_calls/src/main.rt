@@ -7,7 +7,7 @@ mod publishing;
 mod stop;
 mod texts;
 
-use calls::{apply, map_and_list, run_events};
+use calls::{apply, list_and_map, run_events};
 use homes::change_homes;
 use publishing::publish_twice;
 use std::alloc::Global;
@@ -21,9 +21,11 @@ fn call_all<R: Threads + Wait>(rt: &R, alloc: Global) -> Result<(), Stop> {
     change_homes(alloc)?;
     assemble_and_verify(alloc)?;
     publish_twice(rt, alloc)?;
-    apply(rt, alloc)?;
     run_events(alloc)?;
-    map_and_list(rt, alloc)
+
+    // What two workers do comes last: their allocations come in any order.
+    list_and_map(rt, alloc)?;
+    apply(rt, alloc)
 }
 
 fn main(rt: HostRuntime) -> io::Result<()> {
