@@ -41,7 +41,7 @@ fn told_of(
 }
 
 /// What is told of code in hexadecimal digits.
-pub fn told_of_digits(
+pub(crate) fn told_of_digits(
     alloc: Global,
     record_length: u16,
     digits: &str,
@@ -54,7 +54,11 @@ pub fn told_of_digits(
 }
 
 /// What is told of assembler text.
-pub fn told_of_text(alloc: Global, record_length: u16, text: &str) -> Result<Explanation, Failure> {
+pub(crate) fn told_of_text(
+    alloc: Global,
+    record_length: u16,
+    text: &str,
+) -> Result<Explanation, Failure> {
     match assemble(alloc, text) {
         Ok(code) => {
             let source = source_lines(alloc, text)?;

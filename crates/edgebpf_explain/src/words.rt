@@ -12,7 +12,7 @@ pub struct Asked {
 }
 
 /// What the words ask for, the program's name first among them.
-pub fn options(alloc: Global, words: &[String]) -> Result<Asked, Error> {
+pub(crate) fn options(alloc: Global, words: &[String]) -> Result<Asked, Error> {
     let length = Arg::new(alloc, "length")
         .value_name("LENGTH")
         .required(true)

@@ -11,7 +11,7 @@ use anyhow::{Result, bail};
 use std::alloc::Global;
 
 /// What comes of a row of a block.
-pub fn answer(alloc: Global, block: &Block<'_>, input: &str) -> Result<String> {
+pub(crate) fn answer(alloc: Global, block: &Block<'_>, input: &str) -> Result<String> {
     let number = block.number;
     let record_length = u16::try_from(number).unwrap_or(0);
     match block.kind {

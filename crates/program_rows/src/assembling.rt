@@ -21,7 +21,7 @@ fn with_text(alloc: Global, code: &[u8]) -> Result<String> {
 }
 
 /// The code of a text, in digits, and the text of that code; or the first fault.
-pub fn assembled(alloc: Global, text: &str) -> Result<String> {
+pub(crate) fn assembled(alloc: Global, text: &str) -> Result<String> {
     match assemble(alloc, text) {
         Ok(code) => with_text(alloc, &code),
         Err(error) => Ok(fault(alloc, error)?),
@@ -39,7 +39,7 @@ fn behind_exits(alloc: Global, count: u64, text: &str) -> Result<String, AllocEr
 }
 
 /// How long the code is of this text behind so many lines `exit`, if its text is the same, or the first fault.
-pub fn assembled_often(alloc: Global, count: u64, text: &str) -> Result<String> {
+pub(crate) fn assembled_often(alloc: Global, count: u64, text: &str) -> Result<String> {
     let longer = behind_exits(alloc, count, text)?;
     match assemble(alloc, &longer) {
         Ok(code) if disassemble(alloc, &code)?.as_str() == longer.as_str() => {
@@ -51,7 +51,7 @@ pub fn assembled_often(alloc: Global, count: u64, text: &str) -> Result<String> 
 }
 
 /// The text of code in digits, or why it has none.
-pub fn listed(alloc: Global, input: &str) -> Result<String> {
+pub(crate) fn listed(alloc: Global, input: &str) -> Result<String> {
     let code = bytes_of(alloc, input)?;
     match disassemble(alloc, &code) {
         Ok(text) => Ok(text),

@@ -13,7 +13,7 @@ pub struct Block<'a> {
 
 impl<'a> Block<'a> {
     /// The block of this text, which begins behind the mark.
-    pub fn read(part: &'a str) -> Block<'a> {
+    pub(crate) fn read(part: &'a str) -> Block<'a> {
         let (head, lines) = part.split_once('\n').unwrap_or((part, ""));
         let (kind, name) = head.split_once(": ").unwrap_or((head, ""));
         let (kind, number) = kind.split_once(' ').unwrap_or((kind, ""));
@@ -37,7 +37,7 @@ pub struct Row<'a> {
 
 impl<'a> Row<'a> {
     /// The one row of a block in which a line is the mark between what goes in and what is wanted.
-    pub fn of_block(lines: &'a str) -> Option<Row<'a>> {
+    pub(crate) fn of_block(lines: &'a str) -> Option<Row<'a>> {
         if let Some((input, wanted)) = lines.split_once("%=\n") {
             return Some(Row {
                 input,
@@ -54,7 +54,7 @@ impl<'a> Row<'a> {
     }
 
     /// The row of a line.
-    pub fn of_line(line: &'a str) -> Row<'a> {
+    pub(crate) fn of_line(line: &'a str) -> Row<'a> {
         let (input, wanted) = line.split_once(" | ").unwrap_or((line, ""));
         Row {
             input,
@@ -64,7 +64,7 @@ impl<'a> Row<'a> {
     }
 
     /// Whether what came out is wanted.
-    pub fn wants(&self, found: &str) -> bool {
+    pub(crate) fn wants(&self, found: &str) -> bool {
         if self.is_whole {
             found == self.wanted
         } else {

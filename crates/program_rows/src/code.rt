@@ -14,7 +14,7 @@ fn push_word(alloc: Global, bytes: &mut Vec<u8>, word: &str) -> Result<()> {
 }
 
 /// The bytes of these words.
-pub fn bytes_of(alloc: Global, words: &str) -> Result<Vec<u8>> {
+pub(crate) fn bytes_of(alloc: Global, words: &str) -> Result<Vec<u8>> {
     let mut bytes = Vec::new(alloc);
     for word in words.split_whitespace() {
         push_word(alloc, &mut bytes, word)?;
@@ -23,7 +23,7 @@ pub fn bytes_of(alloc: Global, words: &str) -> Result<Vec<u8>> {
 }
 
 /// The code of a program: that of an assembler text, or behind the word `code` its bytes.
-pub fn code_of(alloc: Global, input: &str) -> Result<Vec<u8>> {
+pub(crate) fn code_of(alloc: Global, input: &str) -> Result<Vec<u8>> {
     match input.strip_prefix("code ") {
         Some(words) => bytes_of(alloc, words),
         None => Ok(assemble(alloc, input)?),

@@ -19,7 +19,7 @@ fn stored(alloc: Global, image: &Image) -> Result<String> {
 }
 
 /// What comes of an image of this record length and of code in digits.
-pub fn made(alloc: Global, record_length: u16, input: &str) -> Result<String> {
+pub(crate) fn made(alloc: Global, record_length: u16, input: &str) -> Result<String> {
     match Image::new(record_length, bytes_of(alloc, input)?) {
         Ok(image) => stored(alloc, &image),
         Err((_, error)) => Ok(fault(alloc, error)?),
@@ -36,7 +36,7 @@ fn described(alloc: Global, image: &Image, bytes: &[u8]) -> Result<String> {
 }
 
 /// The image that bytes in digits spell, or why they spell none.
-pub fn loaded(alloc: Global, input: &str) -> Result<String> {
+pub(crate) fn loaded(alloc: Global, input: &str) -> Result<String> {
     let bytes = bytes_of(alloc, input)?;
     match Image::load(alloc, &bytes) {
         Ok(image) => described(alloc, &image, &bytes),

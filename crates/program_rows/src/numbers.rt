@@ -96,7 +96,7 @@ fn causes(alloc: Global) -> Result<String, AllocError> {
 }
 
 /// A line for each value of a type, in the order of the numbers.
-pub fn numbers_of(alloc: Global, name: &str) -> Result<String> {
+pub(crate) fn numbers_of(alloc: Global, name: &str) -> Result<String> {
     let text = match name.trim() {
         "DecodeError" => decode_errors(alloc)?,
         "TextCause" => text_causes(alloc)?,

@@ -52,7 +52,7 @@ fn tell_of_table(alloc: Global, told: &mut String, block: &Block<'_>) -> Result<
 }
 
 /// What is told of a block: its name, with how many rows it has, and that all came out as they want, or what came of the others.
-pub fn report_on(alloc: Global, block: &Block<'_>) -> Result<String> {
+pub(crate) fn report_on(alloc: Global, block: &Block<'_>) -> Result<String> {
     let mut told = String::new(alloc);
     let count = match Row::of_block(block.lines) {
         Some(row) => {

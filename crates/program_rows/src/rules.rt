@@ -82,13 +82,13 @@ fn go_on(
 }
 
 /// What comes of instructions where that is known which the entry of a program knows, and what stands behind them.
-pub fn stepped(alloc: Global, record_length: u16, input: &str) -> Result<String> {
+pub(crate) fn stepped(alloc: Global, record_length: u16, input: &str) -> Result<String> {
     let mut state = AbstractState::entry(record_length);
     go_on(alloc, record_length, &mut state, input)
 }
 
 /// What comes of the instructions of the last line, where two ways meet that have those of the lines before.
-pub fn met(alloc: Global, record_length: u16, input: &str) -> Result<String> {
+pub(crate) fn met(alloc: Global, record_length: u16, input: &str) -> Result<String> {
     let (ways, last) = input.split_once("\n=").unwrap_or((input, ""));
     let (one, other) = ways.split_once("\n+").unwrap_or((ways, ""));
     let mut state = AbstractState::entry(record_length);

@@ -30,7 +30,7 @@ fn with_record(alloc: Global, told: String, record: &[u8]) -> Result<String, All
 }
 
 /// How a program's run over that record ends with so much fuel, on a graph of three vertices without an edge.
-pub fn ran(alloc: Global, fuel: u64, input: &str) -> Result<String> {
+pub(crate) fn ran(alloc: Global, fuel: u64, input: &str) -> Result<String> {
     let Ok(image) = Image::new(16, code_of(alloc, input)?) else {
         return Ok(String::from_str(alloc, "no image")?);
     };

@@ -17,7 +17,7 @@ fn offset(number: u64) -> u16 {
 }
 
 /// What a text says is known. Any other text says 0.
-pub fn value_of(text: &str) -> AbstractValue {
+pub(crate) fn value_of(text: &str) -> AbstractValue {
     if let Some(places) = text.strip_prefix("record+") {
         let (lo, hi) = ends(places);
         return AbstractValue::Record {
@@ -45,7 +45,7 @@ fn range_text(alloc: Global, lo: u64, hi: u64) -> Result<String, AllocError> {
 }
 
 /// The text that says what is known.
-pub fn value_text(alloc: Global, value: AbstractValue) -> Result<String, AllocError> {
+pub(crate) fn value_text(alloc: Global, value: AbstractValue) -> Result<String, AllocError> {
     match value {
         AbstractValue::Unset => String::from_str(alloc, "unset"),
         AbstractValue::Number {

@@ -12,7 +12,7 @@ fn refusal_text(alloc: Global, refusal: Refusal) -> Result<String, AllocError> {
 }
 
 /// The bound and the frames of a program, or the rule that it breaks.
-pub fn verified(alloc: Global, record_length: u16, input: &str) -> Result<String> {
+pub(crate) fn verified(alloc: Global, record_length: u16, input: &str) -> Result<String> {
     let Ok(image) = Image::new(record_length, code_of(alloc, input)?) else {
         return Ok(String::from_str(alloc, "no image")?);
     };
@@ -34,7 +34,7 @@ fn lines_of(alloc: Global, input: &str) -> Result<Vec<SourceLine<'_>>, AllocErro
 }
 
 /// What is told of a program.
-pub fn explained(alloc: Global, record_length: u16, input: &str) -> Result<String> {
+pub(crate) fn explained(alloc: Global, record_length: u16, input: &str) -> Result<String> {
     let Ok(image) = Image::new(record_length, code_of(alloc, input)?) else {
         return Ok(String::from_str(alloc, "no image")?);
     };

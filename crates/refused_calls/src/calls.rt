@@ -35,7 +35,7 @@ fn two_workers() -> Workers {
 }
 
 /// The batch by two workers.
-pub fn apply<R: Threads + Wait>(rt: &R, alloc: Global) -> Result<(), Stop> {
+pub(crate) fn apply<R: Threads + Wait>(rt: &R, alloc: Global) -> Result<(), Stop> {
     let Ok(table) = Table::empty(alloc, VERTICES) else {
         return Err(Stop::NotBegun);
     };
@@ -70,7 +70,7 @@ fn events_of(alloc: Global) -> Result<Vec<Event>, AllocError> {
 }
 
 /// The events, one after another.
-pub fn run_events(alloc: Global) -> Result<(), Stop> {
+pub(crate) fn run_events(alloc: Global) -> Result<(), Stop> {
     let Ok(events) = events_of(alloc) else {
         return Err(Stop::NotBegun);
     };
@@ -148,7 +148,7 @@ fn list(alloc: Global, pin: &Pin, program: &Verified) -> Result<(), Stop> {
 }
 
 /// Lists and maps the edges of a store's first version.
-pub fn list_and_map<R: Threads + Wait>(rt: &R, alloc: Global) -> Result<(), Stop> {
+pub(crate) fn list_and_map<R: Threads + Wait>(rt: &R, alloc: Global) -> Result<(), Stop> {
     let (Ok(batch), Some(program)) = (batch_of(alloc), program_of(alloc)) else {
         return Err(Stop::NotBegun);
     };

@@ -137,7 +137,7 @@ fn grow_and_shrink(alloc: Global, words: &[u32]) -> Result<(), Stop>
 }
 
 /// An array that gets words, and a tree that grows and shrinks.
-pub fn change_homes(alloc: Global) -> Result<(), Stop> {
+pub(crate) fn change_homes(alloc: Global) -> Result<(), Stop> {
     let array = filled_array(alloc)?;
     if !array.is_open(1) {
         return Err(Stop::Wrong);

@@ -117,7 +117,7 @@ fn is_done(finished: &Finished) -> bool {
 }
 
 /// Two feeds submit a batch each, and both are published.
-pub fn publish_twice<R: Threads + Wait>(rt: &R, alloc: Global) -> Result<(), Stop> {
+pub(crate) fn publish_twice<R: Threads + Wait>(rt: &R, alloc: Global) -> Result<(), Stop> {
     let Ok((first_batch, second_batch)) = batches(alloc) else {
         return Err(Stop::NotBegun);
     };

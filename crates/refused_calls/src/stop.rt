@@ -31,7 +31,7 @@ pub enum Stop {
 
 impl Stop {
     /// What is printed.
-    pub fn text(self) -> &'static str {
+    pub(crate) fn text(self) -> &'static str {
         match self {
             Stop::NotBegun => "not begun",
             Stop::ArrayUnchanged => "array unchanged",
@@ -49,7 +49,7 @@ impl Stop {
     }
 
     /// This one where nothing was changed by what was refused.
-    pub fn if_unchanged(self, is_unchanged: bool) -> Stop {
+    pub(crate) fn if_unchanged(self, is_unchanged: bool) -> Stop {
         if is_unchanged { self } else { Stop::Wrong }
     }
 }

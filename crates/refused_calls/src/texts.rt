@@ -32,7 +32,7 @@ fn verify_code(alloc: Global, code: Vec<u8>) -> Result<(), Stop> {
 }
 
 /// The text becomes code, the code that text again, and the program is accepted.
-pub fn assemble_and_verify(alloc: Global) -> Result<(), Stop> {
+pub(crate) fn assemble_and_verify(alloc: Global) -> Result<(), Stop> {
     let code = match assemble(alloc, TEXT) {
         Ok(code) => code,
         Err(AssembleError { cause, .. }) => {

@@ -13,7 +13,7 @@ pub struct Kept {
 
 impl Kept {
     /// Nothing was written.
-    pub fn new(alloc: Global) -> Kept {
+    pub(crate) fn new(alloc: Global) -> Kept {
         Kept {
             bytes: Vec::new(alloc),
             failures: 0,
@@ -21,7 +21,7 @@ impl Kept {
     }
 
     /// What was written.
-    pub fn bytes(&self) -> &[u8] {
+    pub(crate) fn bytes(&self) -> &[u8] {
         self.bytes.as_slice()
     }
 }

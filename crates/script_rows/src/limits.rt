@@ -11,7 +11,7 @@ use std::sync::Wait;
 use std::thread::Threads;
 
 /// Serves the scripts that a text describes, each by as many workers as it says.
-pub fn serve_limits<R: Print + Threads + Wait>(
+pub(crate) fn serve_limits<R: Print + Threads + Wait>(
     rt: &R,
     alloc: Global,
     text: &str,

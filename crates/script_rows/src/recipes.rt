@@ -78,7 +78,7 @@ fn byte_of(word: &str) -> u8 {
 /// The bytes that lines stand for. `%* FIRST BELOW PATTERN` is the lines of a pattern for each number from the first on, below
 /// the second; `%+ COUNT TEXT` is a text so often at the end of the line before, and `%x BYTE COUNT` a byte. Any other line
 /// is itself.
-pub fn bytes_of(alloc: Global, lines: &str) -> Result<Vec<u8>, AllocError> {
+pub(crate) fn bytes_of(alloc: Global, lines: &str) -> Result<Vec<u8>, AllocError> {
     let mut meant = Lines {
         bytes: Vec::new(alloc),
         is_begun: false,

@@ -14,7 +14,7 @@ pub struct Row<'a> {
 
 impl<'a> Row<'a> {
     /// The row of its lines: the name, those of the script, a mark, and those of the text.
-    pub fn read(alloc: Global, lines: &'a str) -> Result<Row<'a>, AllocError> {
+    pub(crate) fn read(alloc: Global, lines: &'a str) -> Result<Row<'a>, AllocError> {
         let (front, behind) = lines.split_once("\n%=").unwrap_or((lines, ""));
         let (name, script) = front.split_once('\n').unwrap_or((front, ""));
         let wanted = behind.strip_prefix('\n').unwrap_or(behind);
@@ -36,7 +36,7 @@ impl<'a> Row<'a> {
     }
 
     /// This row behind a head, of which the script and the text come first. A head without a script changes nothing.
-    pub fn behind(self, head: &Row<'_>) -> Result<Row<'a>, AllocError> {
+    pub(crate) fn behind(self, head: &Row<'_>) -> Result<Row<'a>, AllocError> {
         let mut row = self;
         if head.script.is_empty() {
             return Ok(row);
@@ -52,17 +52,17 @@ impl<'a> Row<'a> {
     }
 
     /// The row's name.
-    pub fn name(&self) -> &'a str {
+    pub(crate) fn name(&self) -> &'a str {
         self.name
     }
 
     /// The bytes of the script.
-    pub fn script(&self) -> &[u8] {
+    pub(crate) fn script(&self) -> &[u8] {
         self.script.as_slice()
     }
 
     /// Whether this is what the script has to come to.
-    pub fn wants(&self, text: &[u8], answer: &Result<Ending, ServeError>) -> bool {
+    pub(crate) fn wants(&self, text: &[u8], answer: &Result<Ending, ServeError>) -> bool {
         text == self.text.as_slice() && *answer == Ok(self.ending)
     }
 }

@@ -12,7 +12,7 @@ pub struct Digest {
 
 impl Digest {
     /// Nothing is written.
-    pub fn new() -> Digest {
+    pub(crate) fn new() -> Digest {
         Digest {
             length: 0,
             digest: 0xcbf2_9ce4_8422_2325,
@@ -20,12 +20,12 @@ impl Digest {
     }
 
     /// How many bytes were written.
-    pub fn length(&self) -> u64 {
+    pub(crate) fn length(&self) -> u64 {
         self.length
     }
 
     /// The digest of these bytes.
-    pub fn digest(&self) -> u64 {
+    pub(crate) fn digest(&self) -> u64 {
         self.digest
     }
 }

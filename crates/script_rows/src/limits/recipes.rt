@@ -119,7 +119,7 @@ fn push_what_is_meant(alloc: Global, script: &mut String, line: &str) -> Result<
 }
 
 /// The script that lines stand for. It begins with an empty line.
-pub fn script_of(alloc: Global, lines: &str) -> Result<String, AllocError> {
+pub(crate) fn script_of(alloc: Global, lines: &str) -> Result<String, AllocError> {
     let mut script = String::new(alloc);
     for line in lines.lines() {
         push_what_is_meant(alloc, &mut script, line)?;
