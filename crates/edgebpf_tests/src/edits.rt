@@ -5,7 +5,7 @@ use graph_model::{Batch, Edit};
 use std::alloc::{AllocError, Global};
 
 /// The batch of these edits.
-pub fn batch_of(alloc: Global, edits: &[Edit]) -> Result<Batch, AllocError>
+pub(crate) fn batch_of(alloc: Global, edits: &[Edit]) -> Result<Batch, AllocError>
     ensures { IfOk result (λ batch. batch ≡ edits.now) }
 {
     Batch::new(alloc, Vec::from_slice(alloc, edits)?)

@@ -36,7 +36,11 @@ impl Model for Shop {
 }
 
 impl Shop {
-    pub fn open<R: Wait>(rt: &R, alloc: Global, vertex_count: u32) -> Result<Shop, StoreError> {
+    pub(crate) fn open<R: Wait>(
+        rt: &R,
+        alloc: Global,
+        vertex_count: u32,
+    ) -> Result<Shop, StoreError> {
         let opened = Store::new(vertex_count, rt, alloc)?;
         let feeds = opened.1;
         let publisher = opened.0;
@@ -62,7 +66,7 @@ impl Shop {
     }
 
     /// Why a batch is refused, and how many edits come back. `None` where it is not.
-    pub fn submit<R: Wait>(
+    pub(crate) fn submit<R: Wait>(
         &mut self,
         rt: &R,
         feed: u8,
@@ -74,12 +78,15 @@ impl Shop {
         }
     }
 
-    pub fn step<R: Threads + Wait>(&mut self, rt: &R) -> Result<Option<Receipt>, PublishError> {
+    pub(crate) fn step<R: Threads + Wait>(
+        &mut self,
+        rt: &R,
+    ) -> Result<Option<Receipt>, PublishError> {
         self.publisher.step(rt, Workers::one(), &OpenGate)
     }
 
     /// Submits a batch, publishes one, and learns of it.
-    pub fn publish<R: Threads + Wait>(
+    pub(crate) fn publish<R: Threads + Wait>(
         &mut self,
         rt: &R,
         feed: u8,
@@ -98,19 +105,23 @@ impl Shop {
         }
     }
 
-    pub fn pin(&mut self) -> Result<Pin, PinError> {
+    pub(crate) fn pin(&mut self) -> Result<Pin, PinError> {
         self.reader.pin()
     }
 
     /// Publishes a batch, and pins the version that it made.
-    pub fn pin_after<R: Threads + Wait>(&mut self, rt: &R, batch: Batch) -> Result<Pin, Fail> {
+    pub(crate) fn pin_after<R: Threads + Wait>(
+        &mut self,
+        rt: &R,
+        batch: Batch,
+    ) -> Result<Pin, Fail> {
         self.publish(rt, 0, batch)?;
         let pin = self.pin()?;
         Ok(pin)
     }
 
     /// What is left, and the reader.
-    pub fn close<R: Wait>(self, rt: &R) -> (Finished, Reader) {
+    pub(crate) fn close<R: Wait>(self, rt: &R) -> (Finished, Reader) {
         let Shop {
             publisher,
             first,
@@ -123,7 +134,7 @@ impl Shop {
 }
 
 /// A version of so many vertices, in which these edges were put in and taken out. Its store is closed.
-pub fn pin_of<R: Threads + Wait>(
+pub(crate) fn pin_of<R: Threads + Wait>(
     rt: &R,
     alloc: Global,
     vertex_count: u32,

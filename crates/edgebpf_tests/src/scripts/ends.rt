@@ -15,7 +15,7 @@ pub struct Parts<'a> {
 }
 
 impl<'a> Parts<'a> {
-    pub fn of(bytes: &'a [u8], most: usize, failing: Option<u64>) -> Parts<'a> {
+    pub(crate) fn of(bytes: &'a [u8], most: usize, failing: Option<u64>) -> Parts<'a> {
         Parts {
             bytes,
             most,
@@ -55,7 +55,7 @@ pub struct Written {
 }
 
 impl Written {
-    pub fn new(alloc: Global, most: usize, failing: Option<u64>) -> Written {
+    pub(crate) fn new(alloc: Global, most: usize, failing: Option<u64>) -> Written {
         Written {
             bytes: Vec::new(alloc),
             most,
