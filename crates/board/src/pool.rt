@@ -60,4 +60,5 @@ impl Split<Member> for Twin {
 /// Readers that wait to be lent.
 pub type Pool = RuledArrayQueue<Inner, Member, OneStore>;
 
+/// One who shares the pool.
 pub type Membership = Pass<Inner, Member>;

@@ -46,7 +46,8 @@ impl Join<Glimpse> for Notes {
     ghost spent = { stranger };
 }
 
-/// The writer's side of the board, and a reader's.
+/// The writer's side of the board.
 pub type Writer = left_right::writer::Writer<Shown, Arc<Version>, Glimpse, Grows>;
 
+/// A reader's side of the board.
 pub type Inner = left_right::reader::Reader<Shown, Glimpse, Grows>;

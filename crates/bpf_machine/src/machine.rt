@@ -87,7 +87,8 @@ impl Machine {
     pub(crate) fn put(&mut self, units: u8, destination: Register, value: u64) -> Turn
         requires { self.old.pc ≤ℤ pos MOST_UNITS }
         ensures { (bytes : List ℕ)
-            → next_with_result (state_of self.old bytes) units destination value ≡ answer result (state_of self.new bytes) }
+            → next_with_result (state_of self.old bytes) units destination value
+            ≡ answer result (state_of self.new bytes) }
     {
         let number = destination.number();
         if number == 10 {

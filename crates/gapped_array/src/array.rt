@@ -198,7 +198,8 @@ impl GappedArray {
     pub fn insert(&mut self, vertex: u8, word: u32) -> Result<bool, AllocError>
         requires word { word < WORD_LIMIT }
         requires open { IsOpen self.old vertex }
-        ensures ok { OnOk result (self.new ≡ slice_set self.old vertex (Some (with_word word (list_at self.old vertex)))) }
+        ensures ok { OnOk result
+            (self.new ≡ slice_set self.old vertex (Some (with_word word (list_at self.old vertex)))) }
         ensures changed { IfOk result (λ changed. changed ≡ not (has_word word (list_at self.old vertex))) }
         ensures err { OnErr result (self.new ≡ self.old) }
     {

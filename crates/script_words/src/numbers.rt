@@ -51,7 +51,8 @@ pub(crate) fn next_number(line: &[u8]) -> Option<(u64, &[u8])>
 
 /// The numbers of a line that has only numbers.
 pub(crate) fn all_numbers(alloc: Global, line: &[u8]) -> Result<Option<Vec<u64>>, AllocError>
-    ensures { IfOk result (λ found. option_map (λ v. v.items) found ≡ option_map (map cut_number) (numbers (words line.now))) }
+    ensures { IfOk result (λ found.
+        option_map (λ v. v.items) found ≡ option_map (map cut_number) (numbers (words line.now))) }
 {
     let mut found = Vec::new(alloc);
     let mut left = line;

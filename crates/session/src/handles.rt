@@ -45,7 +45,8 @@ impl Handles {
         vertex_count: u32,
     ) -> Result<Handles, StoreError>
         ensures opened { IfOk result (λ handles. handles ≡ new_store vertex_count) }
-        ensures refused { IsErrOf result StoreError.VertexCount ↔ ((vertex_count ≡ 0) ⊎ (MOST_VERTICES < vertex_count)) }
+        ensures refused { IsErrOf result StoreError.VertexCount
+            ↔ ((vertex_count ≡ 0) ⊎ (MOST_VERTICES < vertex_count)) }
     {
         let opened = Store::new(vertex_count, rt, alloc)?;
         let feeds = opened.1;

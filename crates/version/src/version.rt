@@ -53,7 +53,8 @@ impl Model for Version {
 
     ghost view = { λ v. moment_of v.vertex_count v.known };
 
-    ghost invariant = { λ v. IsVersion (moment_of v.vertex_count v.known).past v.shards v.edge_count × (v.log ≡ v.known.log) };
+    ghost invariant = { λ v. IsVersion (moment_of v.vertex_count v.known).past v.shards v.edge_count
+        × (v.log ≡ v.known.log) };
 }
 
 impl Version {
@@ -145,7 +146,8 @@ impl Version {
     /// and with bytes 255 where there are no more. It tells how many there were.
     pub fn gather(&self, vertex: u64, first: u64, out: &mut [u8]) -> u32
         requires { length out.old % 4 ≡ 0 }
-        ensures words { out.new ≡ word_bytes (neighbour_words (graph_of self.now.past) vertex first (length out.old / 4)) }
+        ensures words { out.new
+            ≡ word_bytes (neighbour_words (graph_of self.now.past) vertex first (length out.old / 4)) }
         ensures count { result ≡ neighbours_among (graph_of self.now.past) vertex first (length out.old / 4) }
     {
         cursors::gather(self.shards.shard_of(vertex), vertex, first, out)

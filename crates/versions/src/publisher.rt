@@ -64,7 +64,8 @@ impl Publisher {
         ensures same_queue { self.new.queue ≡ self.old.queue }
         ensures same_store { OneStore self.old.moment self.new.moment }
         ensures published { IfOk result (λ done. IfSome done (λ receipt. IsPublished self.old receipt self.new)) }
-        ensures events { IfOk result (λ done. IfSome done (λ receipt. PublishesAsEvents self.old receipt.entry self.new)) }
+        ensures events { IfOk result (λ done.
+            IfSome done (λ receipt. PublishesAsEvents self.old receipt.entry self.new)) }
         ensures idle { IfOk result (λ done. IfNone done (IsIdle self.old self.new)) }
         ensures kept { IfErr result (λ _. IsKept self.old self.new) }
         ensures taking { IfErr result (λ _. TakesAsEvent self.old self.new) }

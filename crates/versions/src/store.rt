@@ -26,7 +26,8 @@ impl Store {
         alloc: Global,
     ) -> Result<(Publisher, [Feed; 2], Reader), StoreError>
         ensures opened { IfOk result (λ store. IsOpened vertex_count store.0 store.1 store.2) }
-        ensures refused { IsErrOf result StoreError.VertexCount ↔ ((vertex_count ≡ 0) ⊎ (MOST_VERTICES < vertex_count)) }
+        ensures refused { IsErrOf result StoreError.VertexCount
+            ↔ ((vertex_count ≡ 0) ⊎ (MOST_VERTICES < vertex_count)) }
     {
         if vertex_count == 0 || vertex_count > MOST_VERTICES {
             return Err(StoreError::VertexCount);
