@@ -2,7 +2,7 @@
 use bpf_isa::{Comparison, Instruction, Operand, Register, Width};
 
 /// A statement that goes to a label.
-#[derive(Clone, Copy, Debug, PartialEq, Eq)]
+#[derive(Clone, Copy)]
 pub enum Jumping {
     Near,
     Far,

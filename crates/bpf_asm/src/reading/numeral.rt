@@ -27,7 +27,7 @@ ghost use Rattle.bpf_asm.specs.Said.{said_numeral};
 use crate::reading::lexing::is_digit;
 
 /// The base of a number's digits.
-#[derive(Clone, Copy, Debug, PartialEq, Eq)]
+#[derive(Clone, Copy)]
 pub enum Base {
     Ten,
     Sixteen,

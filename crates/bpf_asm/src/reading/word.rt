@@ -2,7 +2,7 @@
 use bpf_isa::{ByteOrder, Comparison, Extension, Operation, SignedSize, Size, SwapBits, Width};
 
 /// The word of a statement, which says what its arguments have to be.
-#[derive(Clone, Copy, Debug, PartialEq, Eq)]
+#[derive(Clone, Copy)]
 pub enum Word {
     Alu(Width, Operation),
     MoveSigned(Extension),
