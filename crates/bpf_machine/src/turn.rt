@@ -2,7 +2,7 @@
 use bpf_model::TrapKind;
 
 /// What came of one instruction.
-#[derive(Clone, Copy, Debug, PartialEq, Eq)]
+#[derive(Clone, Copy)]
 pub enum Turn {
     /// The run goes on.
     Went,

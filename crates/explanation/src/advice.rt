@@ -19,8 +19,8 @@ use bpf_isa::{Instruction, Operand, Operation, Width};
 use bpf_model::Cause;
 
 /// What usually helps.
-#[derive(Clone, Copy, Debug, PartialEq, Eq)]
-pub enum Advice {
+#[derive(Clone, Copy)]
+pub(crate) enum Advice {
     /// No instruction stands there: which ones there are.
     KnownInstructions,
     /// Where a jump may land.

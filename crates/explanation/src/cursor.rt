@@ -7,7 +7,7 @@ use crate::instructions::units_at;
 use bpf_image::Image;
 
 /// How far the way over the units has come.
-#[derive(Clone, Copy, Debug, PartialEq, Eq)]
+#[derive(Clone, Copy)]
 pub(crate) struct Cursor {
     /// Where the next instruction starts, here or behind.
     pub(crate) next: usize,

@@ -13,8 +13,6 @@ mod source;
 mod values;
 mod words;
 
-pub use advice::Advice;
 pub use explaining::{Explanation, explain};
 pub use outcome::Outcome;
 pub use source::{SourceLine, source_lines};
-pub use words::{words_of_advice, words_of_cause};

@@ -6,7 +6,7 @@ use crate::advice::Advice;
 use bpf_model::Cause;
 
 /// A rule in words: what is wrong.
-pub fn words_of_cause(cause: Cause) -> &'static str
+pub(crate) fn words_of_cause(cause: Cause) -> &'static str
     ensures { result.now ≡ cause_text cause }
 {
     match cause {
@@ -34,7 +34,7 @@ pub fn words_of_cause(cause: Cause) -> &'static str
 }
 
 /// What usually helps, in words.
-pub fn words_of_advice(advice: Advice) -> &'static str
+pub(crate) fn words_of_advice(advice: Advice) -> &'static str
     ensures { result.now ≡ advice_text advice }
 {
     match advice {

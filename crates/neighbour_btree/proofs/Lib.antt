@@ -1,1 +1,6 @@
+pub mod LeafWords
+pub mod NodeLists
+pub mod Lent
+pub mod Below
+pub mod RowLists
 pub mod Roots

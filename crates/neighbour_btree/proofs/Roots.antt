@@ -4,10 +4,10 @@ use Rattle.word_sets.specs.declared.places.TheConstants.{WORD_LIMIT}
 use Rattle.word_sets.specs.Words.{has_word, with_word, without_word, IsSet}
 use Rattle.word_sets.proofs.Within.{IsWithin-length}
 use Rattle.word_sets.proofs.Members.{IsWithin-with, IsWithin-without}
-use Rattle.tree_levels.specs.Node.{Node}
-use Rattle.tree_levels.specs.Changes.{Adds, Takes}
-use Rattle.tree_levels.specs.declared.change.Change.{Change}
-use Rattle.tree_levels.specs.declared.change.Change.TheVariants.{Same, Changed, Unable}
+use Rattle.neighbour_btree.specs.Node.{Node}
+use Rattle.neighbour_btree.specs.Changes.{Adds, Takes}
+use Rattle.neighbour_btree.specs.declared.levels.change.Change.{Change}
+use Rattle.neighbour_btree.specs.declared.levels.change.Change.TheVariants.{Same, Changed, Unable}
 use Rattle.neighbour_btree.specs.Root.{WordsAdded, WordsTaken}
 
 pub words_added : {E : Type 0} (least w : ℕ) (old new : Node) (r : Result Change E) → IfOk r (Adds least old new w) → IfOk r (WordsAdded old.words new.words w)

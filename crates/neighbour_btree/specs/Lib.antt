@@ -1,1 +1,5 @@
+pub mod Node
+pub mod Shared
+pub mod Changes
+pub mod Lists
 pub mod Root

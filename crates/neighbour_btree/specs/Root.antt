@@ -1,9 +1,9 @@
 -- The root of a tree.
 use Rattle.std.specs.Prelude.{◌≡◌, ℕ, ◌+◌, ◌≤◌, true, false, List, length, Option, Some, None}
 use Rattle.word_sets.specs.Words.{IsSet, has_word, with_word, without_word}
-use Rattle.tree_levels.specs.Node.{Node, IsChild}
-use Rattle.tree_levels.specs.declared.change.Change.{Change}
-use Rattle.tree_levels.specs.declared.change.Change.TheVariants.{Same, Changed, Unable}
+use Rattle.neighbour_btree.specs.Node.{Node, IsChild}
+use Rattle.neighbour_btree.specs.declared.levels.change.Change.{Change}
+use Rattle.neighbour_btree.specs.declared.levels.change.Change.TheVariants.{Same, Changed, Unable}
 use Rattle.neighbour_btree.specs.declared.root.Root.{Root}
 use Rattle.neighbour_btree.specs.declared.root.Root.TheVariants.{One, Two, Three, Four, Five}
 use Rattle.neighbour_btree.specs.declared.root.Raised.{Raised}

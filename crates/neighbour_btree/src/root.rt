@@ -1,17 +1,17 @@
 //! The root of a tree, and its changes.
 ghost use Rattle.std.specs.Prelude.{◌≡◌, ◌≤◌, ◌<◌, length, IfOk, OnErr};
 ghost use Rattle.word_sets.specs.Words.{IsSet, has_word};
-ghost use Rattle.tree_levels.specs.Node.{Node};
-ghost use Rattle.tree_levels.specs.Changes.{IsSliceAt};
+ghost use Rattle.neighbour_btree.specs.Node.{Node};
+ghost use Rattle.neighbour_btree.specs.Changes.{IsSliceAt};
 ghost use Rattle.neighbour_btree.specs.Root.{node_of, fewest_of, words_of, Raises, Lowers, RootWith, RootWithout, WordsAdded, WordsTaken};
 
 use std::alloc::{AllocError, Global};
-use tree_levels::{Change, Grown, Inner, Leaf, Level, MOST, Third, leaves, nodes, thirds};
+use crate::levels::{Change, Grown, Inner, Leaf, Level, MOST, Third, leaves, nodes, thirds};
 use word_sets::WORD_LIMIT;
 
 /// A root of each of the five levels. Words are below 2^20, so that five are enough.
 #[derive(Drop)]
-pub enum Root {
+pub(crate) enum Root {
     One(Leaf),
     Two(Inner<Leaf>),
     Three(Third),
@@ -21,7 +21,7 @@ pub enum Root {
 
 /// What a root becomes by one word more.
 #[derive(Drop)]
-pub enum Raised<C: Level> {
+pub(crate) enum Raised<C: Level> {
     Same,
     Kept(C),
     Above(Inner<C>),
@@ -29,7 +29,7 @@ pub enum Raised<C: Level> {
 
 /// What an inner root becomes by one word less.
 #[derive(Drop)]
-pub enum Lowered<C: Level> {
+pub(crate) enum Lowered<C: Level> {
     Same,
     Kept(Inner<C>),
     Below(C),

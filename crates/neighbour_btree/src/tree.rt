@@ -1,13 +1,13 @@
 //! The tree and its calls.
 ghost use Rattle.std.specs.Prelude.{◌≡◌, ◌<◌, [], length, not, IfOk, OnOk, OnErr};
 ghost use Rattle.word_sets.specs.Words.{IsSet, has_word, with_word, without_word};
-ghost use Rattle.tree_levels.specs.Changes.{IsSliceAt};
+ghost use Rattle.neighbour_btree.specs.Changes.{IsSliceAt};
 
 use crate::root::Root;
 use crate::slices::Slices;
 use std::alloc::{AllocError, Global};
 use std::marker::Model;
-use tree_levels::{Change, Leaf, MOST};
+use crate::levels::{Change, Leaf, MOST};
 use word_sets::WORD_LIMIT;
 
 /// A set of words, each below `WORD_LIMIT`, in a tree of at most five levels. Clauses see it as the ascending list of

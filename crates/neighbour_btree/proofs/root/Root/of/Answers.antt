@@ -2,9 +2,9 @@ use Rattle.std.proofs.Common.{◌≡◌, ◌≤◌, length, sym, subst, ◌∙�
 use Rattle.word_sets.specs.Words.{IsSet}
 use Rattle.word_sets.specs.declared.places.TheConstants.{WORD_LIMIT}
 use Rattle.word_sets.proofs.Within.{IsWithin-length}
-use Rattle.tree_levels.specs.Node.{words_under}
-use Rattle.tree_levels.specs.Lists.{IsRow}
-use Rattle.tree_levels.proofs.RowLists.{row_inner}
+use Rattle.neighbour_btree.specs.Node.{words_under}
+use Rattle.neighbour_btree.specs.Lists.{IsRow}
+use Rattle.neighbour_btree.proofs.RowLists.{row_inner}
 use Rattle.neighbour_btree.proofs.root.Root.of.Goals as goal
 
 pub new-requires : goal.new-requires

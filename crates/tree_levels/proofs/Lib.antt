@@ -1,5 +1,0 @@
-pub mod LeafWords
-pub mod NodeLists
-pub mod Lent
-pub mod Below
-pub mod RowLists

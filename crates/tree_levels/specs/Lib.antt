@@ -1,4 +1,0 @@
-pub mod Node
-pub mod Shared
-pub mod Changes
-pub mod Lists
