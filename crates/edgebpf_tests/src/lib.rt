@@ -18,15 +18,11 @@ mod numbers;
 #[cfg(test)]
 mod options;
 #[cfg(test)]
-mod queue;
-#[cfg(test)]
 mod runs;
 #[cfg(test)]
 mod scripts;
 #[cfg(test)]
 mod shop;
-#[cfg(test)]
-mod showing;
 #[cfg(test)]
 mod stores;
 #[cfg(test)]

@@ -1,7 +1,7 @@
 //! All ends of one store, for tests.
 ghost use Rattle.std.specs.Prelude.{◌≡◌};
 ghost use Rattle.history.specs.Moment.{OneStore};
-ghost use Rattle.intake.specs.Ends.{IsFeedOf};
+ghost use Rattle.versions.specs.Ends.{IsFeedOf};
 
 use std::alloc::Global;
 use std::marker::Model;
@@ -23,7 +23,7 @@ pub struct Shop {
 
 impl Model for Shop {
     ghost use Rattle.history.specs.Moment.{OneStore};
-    ghost use Rattle.intake.specs.Ends.{IsFeedOf};
+    ghost use Rattle.versions.specs.Ends.{IsFeedOf};
     ghost use Rattle.versions.specs.Storing.{Storing};
 
     ghost Value = { Storing };

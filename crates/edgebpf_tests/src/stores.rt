@@ -5,6 +5,7 @@ use std::alloc::{AllocError, Global};
 use std::sync::Wait;
 use std::test::Fail;
 use std::thread::Threads;
+use store_model::READERS;
 use versions::{Batch, Edit, Pin, PinError, PublishError, Reader, Receipt, SubmitCause, Version};
 
 mod threads;
@@ -208,16 +209,55 @@ fn fill_queue<R: Wait>(rt: &R, shop: &mut Shop) -> (u32, Option<SubmitCause>) {
     (100, None)
 }
 
+// Publishes a batch, and fills the place that it leaves.
+fn refill_queue<R: Threads + Wait>(rt: &R, shop: &mut Shop) -> (u32, Option<SubmitCause>) {
+    let is_published = matches!(shop.step(rt), Ok(Some(_)));
+    if is_published {
+        fill_queue(rt, shop)
+    } else {
+        (0, None)
+    }
+}
+
 #[test]
 fn a_full_queue_refuses(rt: HostRuntime) -> Result<(), Fail> {
     let batch = batch_of(rt.alloc(), &[Edit::Insert(0, 3)])?;
     let mut shop = Shop::open(&rt, rt.alloc(), 4)?;
     let filled = fill_queue(&rt, &mut shop);
     let refused = shop.submit(&rt, 1, batch);
+    let refilled = refill_queue(&rt, &mut shop);
     let (finished, _) = shop.close(&rt);
     assert_eq!(rt; filled, (64, Some(SubmitCause::Full)));
     assert_eq!(rt; refused, Some((SubmitCause::Full, 1)));
+    assert_eq!(rt; refilled, (1, Some(SubmitCause::Full)));
     assert_eq!(rt; finished.left.len(), 64);
+    Ok(())
+}
+
+// Another reader, where there is a place for it.
+fn another(shop: &mut Shop) -> Option<Reader> {
+    shop.reader.another().ok()
+}
+
+// How many readers can be made beside the first one.
+fn others(alloc: Global, shop: &mut Shop) -> Result<usize, AllocError> {
+    let mut others = Vec::new(alloc);
+    for _ in 0..2 * READERS {
+        match another(shop) {
+            Some(other) => others.push(other)?,
+            None => break,
+        }
+    }
+    Ok(others.len())
+}
+
+#[test]
+fn a_reader_that_is_gone_leaves_its_place(rt: HostRuntime) -> Result<(), Fail> {
+    let alloc = rt.alloc();
+    let mut shop = Shop::open(&rt, alloc, 4)?;
+    let counts = [others(alloc, &mut shop), others(alloc, &mut shop)];
+    shop.close(&rt);
+    assert_eq!(rt; counts, [Ok(15), Ok(15)]);
     Ok(())
 }
 
@@ -229,7 +269,7 @@ fn number_read(reader: &mut Reader) -> Result<u64, PinError> {
 
 // The number of the version that another reader pins.
 fn number_beside(shop: &mut Shop) -> Option<u64> {
-    let mut reader = shop.reader.another().ok()?;
+    let mut reader = another(shop)?;
     number_read(&mut reader).ok()
 }
 

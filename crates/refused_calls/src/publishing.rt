@@ -1,7 +1,7 @@
 //! Two batches that are published. A step that is refused publishes nothing and holds its batch, and the next one publishes it.
 ghost use Rattle.std.specs.Prelude.{◌≡◌, length, IfOk};
 ghost use Rattle.history.specs.Moment.{OneStore};
-ghost use Rattle.intake.specs.Ends.{IsFeedOf};
+ghost use Rattle.versions.specs.Ends.{IsFeedOf};
 
 use crate::stop::Stop;
 use std::alloc::{AllocError, Global};

@@ -5,7 +5,7 @@ use Rattle.graph_model.specs.declared.limits.TheConstants.{MOST_VERTICES}
 use Rattle.graph_model.specs.Edits.{added, removed}
 use Rattle.graph_model.specs.Past.{Past, opening, graph_of, number_of, longer}
 use Rattle.history.specs.Moment.{Moment, Begins}
-use Rattle.intake.specs.Ends.{Feeding, IsFeedOf}
+use Rattle.versions.specs.Ends.{Feeding, IsFeedOf}
 use Rattle.versions.specs.Receipts.{Publication}
 use Rattle.versions.specs.Storing.{Storing}
 use Rattle.session.specs.declared.error.CommandError.{CommandError}

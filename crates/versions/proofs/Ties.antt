@@ -6,7 +6,7 @@ use Rattle.graph_model.specs.Edits.{AreEditsBelow}
 use Rattle.graph_model.specs.Past.{Past}
 use Rattle.store_model.specs.declared.limits.TheConstants.{FEEDS}
 use Rattle.history.specs.Moment.{Moment}
-use Rattle.intake.specs.Ends.{Feeding, after_put}
+use Rattle.versions.specs.Ends.{Feeding, after_put}
 use Rattle.handle_model.specs.Calls.{IsSubmission, IsPublication, IsTaking}
 use Rattle.handle_model.proofs.Submissions.{submissions_are}
 use Rattle.handle_model.proofs.Publications.{publications_are, takings_are}

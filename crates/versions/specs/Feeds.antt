@@ -5,7 +5,7 @@ use Rattle.graph_model.specs.declared.entry.Entry.{Entry}
 use Rattle.graph_model.specs.declared.limits.TheConstants.{MOST_EDITS}
 use Rattle.graph_model.specs.Edits.{AreEditsBelow}
 use Rattle.store_model.specs.Core.{of_feed}
-use Rattle.intake.specs.Ends.{Feeding, after_refusal, WasFull, IsFeedOf}
+use Rattle.versions.specs.Ends.{Feeding, after_refusal, WasFull, IsFeedOf}
 use Rattle.versions.specs.declared.errors.SubmitCause.{SubmitCause}
 use Rattle.versions.specs.declared.errors.SubmitCause.TheVariants.{Full, VertexRange, TooManyEdits}
 use Rattle.versions.specs.Storing.{Storing}

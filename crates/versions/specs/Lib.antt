@@ -1,3 +1,10 @@
+pub mod Ends
+pub mod Hands
+pub mod QueueRule
+pub mod Glimpses
+pub mod BoardRule
+pub mod Pool
+pub mod Showing
 pub mod Receipts
 pub mod Refused
 pub mod Held

@@ -5,7 +5,7 @@ use Rattle.graph_model.specs.declared.entry.Entry.{Entry}
 use Rattle.graph_model.specs.Edits.{AreEditsBelow}
 use Rattle.store_model.specs.declared.limits.TheConstants.{FEEDS}
 use Rattle.history.specs.Moment.{Moment, opening_moment}
-use Rattle.intake.specs.Ends.{Feeding, new_feed, one_more, taking, WasEmpty}
+use Rattle.versions.specs.Ends.{Feeding, new_feed, one_more, taking, WasEmpty}
 use Rattle.versions.specs.Held.{entries_held}
 use Rattle.versions.specs.Receipts.{Publication, publication}
 

@@ -5,7 +5,7 @@ use Rattle.graph_model.specs.declared.entry.Entry.{Entry}
 use Rattle.graph_model.specs.Graph.{neighbours}
 use Rattle.graph_model.specs.Past.{graph_of}
 use Rattle.history.specs.Moment.{Moment}
-use Rattle.intake.specs.Ends.{Feeding}
+use Rattle.versions.specs.Ends.{Feeding}
 use Rattle.handle_model.specs.Calls.{IsSubmission, IsPublication, IsTaking, IsPin}
 use Rattle.versions.specs.Storing.{Storing}
 

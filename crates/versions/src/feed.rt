@@ -2,13 +2,13 @@
 ghost use Rattle.std.specs.Prelude.{◌≡◌, ◌<◌, ◌↔◌, true, IfOk, IfErr};
 ghost use Rattle.graph_model.specs.Edits.{AreEditsBelow};
 ghost use Rattle.store_model.specs.declared.limits.TheConstants.{FEEDS};
-ghost use Rattle.intake.specs.Ends.{after_put, IsFeedOf};
+ghost use Rattle.versions.specs.Ends.{after_put, IsFeedOf};
 ghost use Rattle.versions.specs.Feeds.{AreFew, IsRefused};
 ghost use Rattle.versions.specs.Ties.{SubmitsAsEvent};
 
 use crate::errors::{SubmitCause, SubmitError};
+use crate::intake::Outlet;
 use graph_model::{Batch, Edit, MOST_EDITS};
-use intake::Outlet;
 use std::marker::Model;
 use std::sync::Wait;
 
@@ -30,7 +30,7 @@ impl Drop for Feed {
 
 impl Model for Feed {
     ghost use Rattle.std.specs.Prelude.{◌≡◌};
-    ghost use Rattle.intake.specs.Ends.{Feeding};
+    ghost use Rattle.versions.specs.Ends.{Feeding};
 
     ghost Value = { Feeding };
 

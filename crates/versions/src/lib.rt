@@ -2,10 +2,12 @@
 //! pin versions.
 #![tactic(auto)]
 
+mod board;
 mod errors;
 mod feed;
 mod finished;
 mod held;
+mod intake;
 mod pin;
 mod press;
 mod publisher;

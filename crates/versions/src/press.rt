@@ -6,9 +6,9 @@ ghost use Rattle.graph_model.specs.Past.{number_of};
 ghost use Rattle.history.specs.Moment.{after_entry};
 ghost use Rattle.versions.specs.Held.{at_rest, and_waiting, entry_in, IsNext, IsChange, IsHeld, IsGoneOn};
 
+use crate::board::Board;
 use crate::held::{Change, Held, Stopped};
 use crate::receipt::Receipt;
-use board::Board;
 use gates::{Gate, Workers};
 use graph_model::Entry;
 use history::Head;

@@ -3,14 +3,14 @@ ghost use Rattle.std.specs.Prelude.{◌≡◌, ◌⊎◌, IfOk, IfErr};
 ghost use Rattle.history.specs.Moment.{OneStore, Begins};
 ghost use Rattle.versions.specs.Ties.{PinsAsEvent};
 
+use crate::board::{NoPlace, PinError, Viewer};
 use crate::pin::Pin;
 use crate::receipt::Receipt;
-use board::{NoPlace, PinError};
 use std::marker::Model;
 
 /// One that holds versions, in a thread of its own. Contracts see it as the moment that it saw last.
 pub struct Reader {
-    side: board::Reader,
+    side: Viewer,
 }
 
 impl Drop for Reader {
@@ -30,7 +30,7 @@ impl Model for Reader {
 
 impl Reader {
     /// The reader on this side of the board.
-    pub(crate) fn at(side: board::Reader) -> Reader
+    pub(crate) fn at(side: Viewer) -> Reader
         ensures { result ≡ side }
     {
         Reader { side }

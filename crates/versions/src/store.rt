@@ -3,8 +3,10 @@ ghost use Rattle.std.specs.Prelude.{◌≡◌, ◌<◌, ◌↔◌, ◌⊎◌, If
 ghost use Rattle.graph_model.specs.declared.limits.TheConstants.{MOST_VERTICES};
 ghost use Rattle.versions.specs.Storing.{IsOpened};
 
+use crate::board::open_board;
 use crate::errors::StoreError;
 use crate::feed::Feed;
+use crate::intake::open_queue;
 use crate::press::Press;
 use crate::publisher::Publisher;
 use crate::reader::Reader;
@@ -32,7 +34,7 @@ impl Store {
         if vertex_count == 0 || vertex_count > MOST_VERTICES {
             return Err(StoreError::VertexCount);
         }
-        let ends = intake::open(alloc, vertex_count)?;
+        let ends = open_queue(alloc, vertex_count)?;
         let feeds = [
             Feed::over(vertex_count, ends.first),
             Feed::over(vertex_count, ends.second),
@@ -40,7 +42,7 @@ impl Store {
         let (head, known) = Head::new();
         let version = Version::opening(alloc, vertex_count, known)?;
         let current = Arc::new(alloc, version)?;
-        let (board, side) = board::open(alloc, &current, rt)?;
+        let (board, side) = open_board(alloc, &current, rt)?;
         let press = Press {
             alloc,
             head,

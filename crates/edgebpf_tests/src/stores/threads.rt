@@ -2,7 +2,7 @@
 ghost use Rattle.std.specs.Prelude.{◌≡◌, IfOk};
 ghost use Rattle.graph_model.specs.Edits.{AreEditsBelow};
 ghost use Rattle.history.specs.Moment.{OneStore};
-ghost use Rattle.intake.specs.Ends.{IsFeedOf};
+ghost use Rattle.versions.specs.Ends.{IsFeedOf};
 
 use crate::edits::batch_of;
 use crate::shop::Shop;

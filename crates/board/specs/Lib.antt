@@ -1,4 +1,0 @@
-pub mod Glimpses
-pub mod Shows
-pub mod Pool
-pub mod Reading

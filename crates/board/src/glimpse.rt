@@ -1,8 +1,0 @@
-//! What a pass over what is shown knows, as the rule of showing has it.
-use version::Version;
-
-/// What a pass of the board knows: a version's moment, or nothing. No value of it is made.
-pub struct Glimpse {
-    pub knows: bool,
-    pub version: Version,
-}

@@ -1,8 +1,0 @@
-//! What a pass of the readers' places knows, as the rule of the places has it.
-use version::Version;
-
-/// What a pass of the pool knows: that it is the only one, or a moment of the store. No value of it is made.
-pub struct Member {
-    pub sole: bool,
-    pub of: Version,
-}

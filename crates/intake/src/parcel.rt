@@ -1,9 +1,0 @@
-//! What the queue holds.
-use graph_model::Entry;
-
-/// What the queue holds: an entry, or at first the number of vertices that the entries' edits are about.
-#[derive(Drop)]
-pub struct Parcel {
-    pub vertex_count: u32,
-    pub entry: Entry,
-}

@@ -1,0 +1,53 @@
+//! The rule of the board, as its calls name it.
+use crate::board::glimpse::Glimpse;
+use crate::board::shown::Shown;
+use atomic_table::{Join, Split};
+use crossbeam_utils::rule::{Outcome, Protocol};
+use std::sync::Arc;
+use version::Version;
+
+/// Each moment that a pass knows begins the one that is shown.
+pub(crate) struct Grows;
+
+impl Protocol<Shown, Glimpse> for Grows {
+    ghost use Rattle.std.specs.Arc.{arc_value};
+    ghost use Rattle.versions.specs.Glimpses.{stranger};
+    ghost use Rattle.versions.specs.BoardRule.{Keeps};
+
+    ghost holds = { λ s. Keeps (arc_value s.version) };
+
+    ghost first = { stranger };
+}
+
+/// A step that shows a version, or looks at it.
+pub(crate) struct Look;
+
+impl Outcome<Shown, Glimpse> for Look {
+    ghost use Rattle.std.specs.Arc.{arc_value};
+    ghost use Rattle.versions.specs.BoardRule.{Looks};
+
+    ghost then = { λ v x y w. Looks v (arc_value x.version) (arc_value y.version) w };
+}
+
+/// Another pass is told what this one knows.
+pub(crate) struct Notes;
+
+impl Split<Glimpse> for Notes {
+    ghost left = { λ v. v };
+
+    ghost right = { λ v. v };
+}
+
+impl Join<Glimpse> for Notes {
+    ghost use Rattle.versions.specs.Glimpses.{stranger};
+
+    ghost both = { λ _ w. w };
+
+    ghost spent = { stranger };
+}
+
+/// The writer's side of the board.
+pub(crate) type Writer = left_right::writer::Writer<Shown, Arc<Version>, Glimpse, Grows>;
+
+/// A reader's side of the board.
+pub(crate) type Inner = left_right::reader::Reader<Shown, Glimpse, Grows>;

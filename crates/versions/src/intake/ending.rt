@@ -1,0 +1,71 @@
+//! The end of a queue.
+ghost use Rattle.std.specs.Prelude.{◌≡◌, ◌+◌, ◌≤◌, ◌++◌, [], length, vec_capacity};
+ghost use Rattle.crossbeam_queue.specs.Passes.{view as hand_of, IsPassOf};
+ghost use Rattle.store_model.specs.declared.limits.TheConstants.{FEEDS, QUEUE_PLACES};
+ghost use Rattle.store_model.specs.Core.{of_feed};
+ghost use Rattle.versions.specs.Ends.{IsFeedOf};
+ghost use Rattle.versions.specs.Hands.{taker};
+ghost use Rattle.versions.specs.QueueRule.{Left};
+
+use crate::intake::delivery::{EndFeed, Queue, Seat, Take};
+use crate::intake::intake::Intake;
+use crate::intake::outlet::Outlet;
+use graph_model::Entry;
+use std::sync::Wait;
+
+impl Intake {
+    /// Ends the queue, after which nobody puts or takes: the batches that waited, in order. It takes no memory.
+    pub(crate) fn finish<R: Wait>(self, first: Outlet, second: Outlet, rt: &R) -> Vec<Entry>
+        requires first { IsFeedOf self.vertex_count self.queue 0 first }
+        requires second { IsFeedOf self.vertex_count self.queue 1 second }
+        ensures first { of_feed 0 (self.taken ++ result.items) ≡ first.sent }
+        ensures second { of_feed 1 (self.taken ++ result.items) ≡ second.sent }
+        ensures no_other { length (self.taken ++ result.items) ≡ length first.sent + length second.sent }
+        ensures few { length result.items ≤ QUEUE_PLACES }
+    {
+        let Intake {
+            vertex_count: _,
+            empties: _,
+            room,
+            queue,
+            mut pass,
+        } = self;
+        let Outlet {
+            vertex_count: _,
+            feed: _,
+            refused: _,
+            queue: _,
+            pass: first,
+        } = first;
+        let Outlet {
+            vertex_count: _,
+            feed: _,
+            refused: _,
+            queue: _,
+            pass: second,
+        } = second;
+        queue.absorb::<EndFeed>(&mut pass, first);
+        queue.absorb::<EndFeed>(&mut pass, second);
+        all_left(&queue, pass, room, rt)
+    }
+}
+
+// What the queue holds, put behind `left`, once the feeds have ended.
+fn all_left<R: Wait>(queue: &Queue, mut pass: Seat, mut left: Vec<Entry>, rt: &R) -> Vec<Entry>
+    requires pass { IsPassOf queue.now pass }
+    requires ended { hand_of pass ≡ taker (hand_of pass).vertex_count (hand_of pass).taken FEEDS (hand_of pass).ended }
+    requires both { length (hand_of pass).ended ≡ FEEDS }
+    requires room { (left.items ≡ []) × (QUEUE_PLACES ≤ vec_capacity left) }
+    ensures { Left (hand_of pass) result.items }
+{
+    queue.learn_as::<Take>(&mut pass);
+    'taking: for _ in rt.forever() {
+        let Some(parcel) = queue.pop_as::<Take, R>(rt, &mut pass) else {
+            return left;
+        };
+        if left.push(parcel.entry).is_err() {
+            unreachable!()
+        }
+    }
+    unreachable!()
+}
