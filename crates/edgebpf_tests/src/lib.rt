@@ -30,6 +30,4 @@ mod showing;
 #[cfg(test)]
 mod stores;
 #[cfg(test)]
-mod words;
-#[cfg(test)]
 mod workers;
