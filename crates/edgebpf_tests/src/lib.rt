@@ -26,6 +26,4 @@ mod shop;
 #[cfg(test)]
 mod stores;
 #[cfg(test)]
-mod words;
-#[cfg(test)]
 mod workers;

@@ -14,7 +14,7 @@ use Rattle.session_model.specs.Responses.{response, graph_response, load_respons
 use Rattle.script_model.specs.State.{OpenBatch, Script}
 use Rattle.script_model.specs.Parsing.{Statement, Asks, BeginBatch, BeginProgram, statement, BatchLine, OneEdit, EndBatch, batch_line}
 use Rattle.script_model.specs.Execution.{one_edit, inside_batch, begin_program, statement_execution, execution_of, is_comment, with_words, outside}
-use Rattle.script_words.specs.Said.{cut_number, cut_edit, cut_batch_line, cut_command, cut_statement, Saying, Nothing, NoStatement, Makes, found_statement, saying_of, cut_saying}
+use Rattle.script.specs.Said.{cut_number, cut_edit, cut_batch_line, cut_command, cut_statement, Saying, Nothing, NoStatement, Makes, found_statement, saying_of, cut_saying}
 use Rattle.script.specs.Executes.{line_of}
 
 -- ---- numbers

@@ -1,3 +1,10 @@
+pub mod BatchLemmas
+pub mod BlankLemmas
+pub mod StatementLemmas
+pub mod HexLemmas
+pub mod HexTable
+pub mod NumberLemmas
+pub mod WordLemmas
 pub mod ProgramLemmas
 pub mod Cuts
 pub mod Blocks

@@ -9,7 +9,7 @@ use Rattle.script_model.specs.declared.limits.TheConstants.{MOST_LINE_BYTES}
 use Rattle.script_model.specs.Parsing.{BatchLine, batch_line, pair_of, insert_line, remove_line}
 use Rattle.script_model.specs.State.{Script, OpenBatch, BatchBlock}
 use Rattle.script_model.specs.Execution.{execution, inside_batch}
-use Rattle.script_words.proofs.WordLemmas.{same_bytes-true}
+use Rattle.script.proofs.WordLemmas.{same_bytes-true}
 
 -- each word has allowed bytes alone
 abbrev are_plain : List (List ℕ) → Bool

@@ -7,7 +7,7 @@ use Rattle.script_model.specs.declared.line_fault.LineFault.TheVariants as line_
 use Rattle.script_model.specs.State.{Script}
 use Rattle.session_model.specs.Responses.{Response}
 use Rattle.script_model.specs.Execution.{Execution, Says, Stops, execution, execution_of, statement_execution}
-use Rattle.script_words.specs.Said.{Saying, Nothing, NoStatement, Makes}
+use Rattle.script.specs.Said.{Saying, Nothing, NoStatement, Makes}
 use Rattle.script_model.specs.Script.{next_line}
 use Rattle.script_model.specs.Texts.{fault_text, edge_text}
 use Rattle.session.specs.Performs.{IsOfStore}

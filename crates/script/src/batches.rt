@@ -6,16 +6,16 @@ ghost use Rattle.script_model.specs.State.{Script as ScriptState, OpenBatch, Bat
 ghost use Rattle.script_model.specs.Execution.{begin_batch, batch_step, one_edit, inside_batch, inside};
 ghost use Rattle.session_model.specs.Faults.{HasFewVertices};
 ghost use Rattle.session.specs.Edits.{edit_of};
-ghost use Rattle.script_words.specs.Said.{said_batch_line, cut_batch_line};
+ghost use Rattle.script.specs.Said.{said_batch_line, cut_batch_line};
 ghost use Rattle.script.specs.Kept.{open_batch, HasBatch};
 ghost use Rattle.script.specs.Executes.{Executes, Tells};
 
 use crate::block::{BegunBatch, Block};
 use crate::error::LineError;
+use crate::reading::BatchLine;
 use crate::script::Script;
 use crate::statements::whole;
 use script_model::LineFault;
-use script_words::BatchLine;
 use session::{Command, Crew, Gate, GivenEdit, Listing, Session};
 use session_model::Fault;
 use std::sync::Wait;

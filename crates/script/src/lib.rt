@@ -9,6 +9,7 @@ mod error;
 mod line;
 mod listed;
 mod programs;
+mod reading;
 mod script;
 mod statements;
 mod texts;

@@ -13,12 +13,12 @@ ghost use Rattle.script.specs.Executes.{Executes, Tells};
 
 use crate::block::{BegunProgram, Block};
 use crate::error::LineError;
+use crate::reading::is_end;
 use crate::script::Script;
 use crate::statements::whole;
 use crate::texts::put_assembler;
 use bpf_asm::{AssembleError, TextCause, assemble};
 use script_model::{LineFault, MOST_PROGRAM_LINES};
-use script_words::is_end;
 use session::{Command, Crew, Gate, Listing};
 use session_model::Fault;
 use std::str;

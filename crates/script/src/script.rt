@@ -13,9 +13,9 @@ ghost use Rattle.script.specs.Kept.{HasBatch};
 
 use crate::block::Block;
 use crate::error::{LineError, ScriptError};
+use crate::reading::{batch_line, is_plain_line, statement_line};
 use crate::texts::put_fault;
 use script_model::{Ending, LineFault, MOST_LINE_BYTES};
-use script_words::{batch_line, is_plain_line, statement_line};
 use session::{Crew, Gate, Listing, Session};
 use std::alloc::Global;
 use std::marker::Model;

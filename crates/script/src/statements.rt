@@ -5,14 +5,14 @@ ghost use Rattle.session_model.specs.Responses.{response};
 ghost use Rattle.session_model.specs.Faults.{HasFewVertices};
 ghost use Rattle.session.specs.Kept.{command_of};
 ghost use Rattle.script_model.specs.Execution.{execution_of, statement_execution};
-ghost use Rattle.script_words.specs.Said.{said_statement, said_line};
+ghost use Rattle.script.specs.Said.{said_statement, said_line};
 ghost use Rattle.script.specs.Executes.{Tells, whole_of, line_of};
 
 use crate::answers::put_answer;
 use crate::error::LineError;
+use crate::reading::{Line, Statement};
 use crate::script::Script;
 use script_model::LineFault;
-use script_words::{Line, Statement};
 use session::{Command, Crew, Gate, Listing};
 use std::sync::Wait;
 use std::thread::Threads;

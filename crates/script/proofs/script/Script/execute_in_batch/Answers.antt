@@ -2,7 +2,7 @@ use Rattle.std.proofs.Common.{rules, ◌≡◌, Some, option_map, subst}
 use Rattle.script_model.specs.Parsing.{OneEdit, batch_line}
 use Rattle.script_model.specs.Execution.{Execution, one_edit}
 use Rattle.graph_model.specs.declared.edit.Edit.TheVariants.{Insert, Remove}
-use Rattle.script_words.specs.Said.{cut_batch_line}
+use Rattle.script.specs.Said.{cut_batch_line}
 use Rattle.script.specs.Executes.{Executes}
 use Rattle.script.proofs.Cuts.{edit_line}
 use Rattle.script.proofs.ProgramLemmas.{silent, whole_tells}

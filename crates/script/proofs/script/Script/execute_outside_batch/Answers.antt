@@ -4,7 +4,7 @@ use Rattle.session_model.specs.Faults.{HasFewVertices}
 use Rattle.script_model.specs.Lexing.{words}
 use Rattle.script_model.specs.State.{Script, Block, BatchBlock, ProgramBlock}
 use Rattle.script_model.specs.Execution.{Execution, block_execution, outside}
-use Rattle.script_words.specs.Said.{Saying, saying_of, cut_saying, said_line}
+use Rattle.script.specs.Said.{Saying, saying_of, cut_saying, said_line}
 use Rattle.script.specs.declared.block.Block.{Block as BegunBlock}
 use Rattle.script.specs.Executes.{Tells, line_of}
 use Rattle.script.specs.Kept.{block_of, open_batch, open_program, script_of}

@@ -1,0 +1,86 @@
+-- What the code's lines stand for, where numbers are cut at 2^64 - 1.
+use Rattle.std.specs.Prelude.{ℕ, ◌-◌, ◌^◌, min, if◌then◌else◌, List, [], ◌∷◌, map, Option, Some, None}
+use Rattle.bpf_image.specs.Program.{Program}
+use Rattle.graph_model.specs.declared.edit.Edit.{Edit}
+use Rattle.graph_model.specs.declared.edit.Edit.TheVariants.{Insert, Remove}
+use Rattle.session_model.specs.Commands.{Command, MakeGraph, PublishBatch, LoadProgram, TakePin, RunProgram, TellHome, ListEdges}
+use Rattle.script_model.specs.Parsing.{Statement, Asks, BeginBatch, BeginProgram, statement, BatchLine, OneEdit, EndBatch}
+use Rattle.script_model.specs.Execution.{is_comment}
+use Rattle.script.specs.declared.reading.line.BatchLine.{BatchLine as CodeBatchLine}
+use Rattle.script.specs.declared.reading.line.BatchLine.TheVariants as batch_lines
+use Rattle.script.specs.declared.reading.line.Statement.{Statement as CodeStatement}
+use Rattle.script.specs.declared.reading.line.Statement.TheVariants as statements
+use Rattle.script.specs.declared.reading.line.Line.{Line}
+use Rattle.script.specs.declared.reading.line.Line.TheVariants as lines
+
+abbrev pub cut_number : ℕ → ℕ
+cut_number n = min n (2 ^ 64 - 1)
+
+abbrev pub cut_edit : Edit → Edit
+cut_edit (Insert u v) = Insert (cut_number u) (cut_number v)
+cut_edit (Remove u v) = Remove (cut_number u) (cut_number v)
+
+abbrev pub cut_batch_line : BatchLine → BatchLine
+cut_batch_line (OneEdit e) = OneEdit (cut_edit e)
+cut_batch_line EndBatch = EndBatch
+
+abbrev pub cut_program : Program → Program
+cut_program p = record { code = p.code; record_length = cut_number p.record_length }
+
+-- the numbers of a command that stand on its line
+abbrev pub cut_command : Command → Command
+cut_command (MakeGraph n) = MakeGraph (cut_number n)
+cut_command (PublishBatch feed edits) = PublishBatch feed edits
+cut_command (LoadProgram name p) = LoadProgram name (cut_program p)
+cut_command (TakePin name) = TakePin name
+cut_command (RunProgram program pin reduction argument frontier) =
+    RunProgram program pin reduction argument (map cut_number frontier)
+cut_command (TellHome v) = TellHome (cut_number v)
+cut_command (ListEdges program pin argument) = ListEdges program pin argument
+
+abbrev pub cut_statement : Statement → Statement
+cut_statement (Asks c) = Asks (cut_command c)
+cut_statement (BeginBatch feed) = BeginBatch feed
+cut_statement (BeginProgram name record_length) = BeginProgram name (cut_number record_length)
+
+-- the line of a batch that the code's stands for
+abbrev pub said_batch_line : CodeBatchLine → BatchLine
+said_batch_line (batch_lines.Insert u v) = OneEdit (Insert u v)
+said_batch_line (batch_lines.Remove u v) = OneEdit (Remove u v)
+said_batch_line batch_lines.End = EndBatch
+
+abbrev pub said_statement : CodeStatement → Statement
+said_statement (statements.Graph n) = Asks (MakeGraph n)
+said_statement (statements.Batch feed) = BeginBatch feed
+said_statement (statements.Code name record_length code) =
+    Asks (LoadProgram name.now (record { code = code.items; record_length = record_length }))
+said_statement (statements.Program name record_length) = BeginProgram name.now record_length
+said_statement (statements.Pin name) = Asks (TakePin name.now)
+said_statement (statements.Run program pin reduction argument frontier) =
+    Asks (RunProgram program.now pin.now reduction argument.items frontier.items)
+said_statement (statements.Home v) = Asks (TellHome v)
+said_statement (statements.List program pin argument) = Asks (ListEdges program.now pin.now argument.items)
+
+-- what a line outside blocks says
+pub data Saying : Type 0 where
+  Nothing : Saying
+  NoStatement : Saying
+  Makes : Statement → Saying
+
+abbrev pub found_statement : Option Statement → Saying
+found_statement None = NoStatement
+found_statement (Some x) = Makes x
+
+abbrev pub saying_of : List (List ℕ) → Saying
+saying_of [] = Nothing
+saying_of (word ∷ operands) = if is_comment word then Nothing else found_statement (statement word operands)
+
+abbrev pub cut_saying : Saying → Saying
+cut_saying Nothing = Nothing
+cut_saying NoStatement = NoStatement
+cut_saying (Makes x) = Makes (cut_statement x)
+
+abbrev pub said_line : Line → Saying
+said_line lines.Skipped = Nothing
+said_line lines.Unknown = NoStatement
+said_line (lines.Statement x) = Makes (said_statement x)

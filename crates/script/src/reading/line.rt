@@ -1,0 +1,70 @@
+//! What lines say.
+
+use bpf_model::Reduction;
+
+/// A line inside a batch. A number from 2^64 - 1 on stands as 2^64 - 1, which no graph has as a vertex.
+#[derive(Clone, Copy)]
+pub(crate) enum BatchLine {
+    /// An edge is inserted.
+    Insert { source: u64, target: u64 },
+    /// An edge is removed.
+    Remove { source: u64, target: u64 },
+    /// The batch ends.
+    End,
+}
+
+/// A line outside blocks that has words. Numbers stand as in a `BatchLine`.
+#[derive(Drop)]
+pub(crate) enum Statement<'a> {
+    /// A graph of so many vertices.
+    Graph {
+        vertices: u64,
+    },
+    /// A batch of edits begins, of a feed (0 for A, 1 for B).
+    Batch {
+        feed: u8,
+    },
+    /// A program's name, record length and code.
+    Code {
+        name: &'a [u8],
+        record_length: u64,
+        code: Vec<u8>,
+    },
+    /// A program in assembler text begins, with its name and record length.
+    Program {
+        name: &'a [u8],
+        record_length: u64,
+    },
+    /// A name for the last version.
+    Pin {
+        name: &'a [u8],
+    },
+    /// A program mapped over the edges of a pin.
+    Run {
+        program: &'a [u8],
+        pin: &'a [u8],
+        reduction: Reduction,
+        argument: Vec<u8>,
+        frontier: Vec<u64>,
+    },
+    /// Where the last version keeps a vertex's neighbours.
+    Home {
+        vertex: u64,
+    },
+    /// All edges of a pin with the numbers of a program.
+    List {
+        program: &'a [u8],
+        pin: &'a [u8],
+        argument: Vec<u8>,
+    },
+}
+
+/// What a line outside blocks says.
+#[derive(Drop)]
+pub(crate) enum Line<'a> {
+    /// It has no word, or is a comment.
+    Skipped,
+    /// It is no statement.
+    Unknown,
+    Statement(Statement<'a>),
+}

@@ -1,6 +1,0 @@
-use Rattle.std.proofs.Common.{◌∙◌}
-use Rattle.script_words.proofs.WordLemmas.{same_bytes-pointwise}
-use Rattle.script_words.proofs.words.is_word.Goals as goal
-
-pub returns : goal.returns
-returns c = (rw c.as_bytes.ensures.value at c.eq.ensures) ∙ same_bytes-pointwise c.args.word.now c.args.expected.now
