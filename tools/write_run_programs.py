@@ -1,5 +1,5 @@
 #!/usr/bin/env python3
-"""Writes the programs that the tests of both_runs run both ways: those of examples/, and those that clang compiled.
+"""Writes the programs that the tests of bpf_runs run both ways: those of examples/, and those that clang compiled.
 
 Run it at the top of the repository, behind compiled/make.py. An example's text is assembled by compared/assembler.py.
 """

@@ -1,8 +1,8 @@
 //! The programs of the examples and those compiled from C, run both ways.
 ghost use Rattle.std.specs.Prelude.{◌≡◌, ◌≤◌, IfOk, length as count_of};
 
-use both_runs::{Verified, run_both};
 use bpf_image::Image;
+use bpf_runs::{Verified, run_both};
 use gates::{OpenGate, Workers};
 use graph_model::{Batch, Edit, Entry};
 use history::Head;

@@ -6,8 +6,7 @@ use abstract_values::{AbstractValue, Sides};
 use anyhow::Result;
 use bpf_isa::{Register, decode_at};
 use std::alloc::{AllocError, Global};
-use verifier::Cause;
-use verifier_rules::{Onward, step_over};
+use verifier::{Cause, Onward, step_over};
 
 /// Sets registers to what a list says of them, as `r0 0 to 9, r1 record+0`.
 fn set_registers(state: &mut AbstractState, list: &str) {

@@ -7,8 +7,8 @@ use Rattle.std.proofs.lemmas.Bool.{cases_eq, cases_lt}
 use Rattle.std.proofs.lemmas.List.{get_or_past, length-append, get_or_append_left}
 use Rattle.std.proofs.Math.Seq.{get_or-append_seam}
 use Rattle.abstract_state.specs.declared.state.AbstractState.{AbstractState}
-use Rattle.verifier_rules.specs.Rules.{Ways}
-use Rattle.verifier_rules.specs.Described.{IsWay}
+use Rattle.verifier.specs.Rules.{Ways}
+use Rattle.verifier.specs.Described.{IsWay}
 use Rattle.verifier.specs.Equations.{joined_with, joined_ways}
 use Rattle.verifier.specs.Tables.{LeadInside}
 

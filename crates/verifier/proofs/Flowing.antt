@@ -10,7 +10,7 @@ use Rattle.bpf_model.specs.Step.{units_over}
 use Rattle.bpf_image.specs.Program.{Program, units}
 use Rattle.bpf_model.specs.declared.cause.Cause.{Cause}
 use Rattle.bpf_model.specs.declared.cause.Cause.TheVariants.{JumpOut, JumpBack, CallTarget, FallsOff}
-use Rattle.verifier_rules.specs.Rules.{target}
+use Rattle.verifier.specs.Rules.{target}
 use Rattle.verifier.specs.Listing.{instruction_at, start_from}
 use Rattle.verifier.specs.Functions.{start_above, is_entry, entry_from, function_end}
 use Rattle.verifier.specs.Walks.{next_pcs, called_pcs, IsOneOf}

@@ -1,3 +1,13 @@
+pub mod Stored
+pub mod RuleParts
+pub mod KnownValues
+pub mod RegisterWrites
+pub mod Accesses
+pub mod Splits
+pub mod Frames
+pub mod HelperAnswers
+pub mod HelperCalls
+pub mod Steps
 pub mod Faults
 pub mod Equal
 pub mod Listed

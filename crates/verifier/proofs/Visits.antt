@@ -6,8 +6,8 @@ use Rattle.bpf_isa.specs.declared.instruction.Instruction.{Instruction}
 use Rattle.bpf_image.specs.Program.{Program, units}
 use Rattle.bpf_model.specs.declared.cause.Cause.{Cause}
 use Rattle.abstract_state.specs.declared.state.AbstractState.{AbstractState}
-use Rattle.verifier_rules.specs.Rules.{Ways, transfer}
-use Rattle.verifier_rules.proofs.Parts.{ok}
+use Rattle.verifier.specs.Rules.{Ways, transfer}
+use Rattle.verifier.proofs.RuleParts.{ok}
 use Rattle.verifier.specs.Listing.{instruction_at}
 use Rattle.verifier.specs.Equations.{joined_ways, known_ways, arrivals, assignment_of}
 use Rattle.verifier.specs.Verdict.{first_fault, rule_fault}

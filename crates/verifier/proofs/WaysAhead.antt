@@ -16,10 +16,10 @@ use Rattle.abstract_values.specs.Values.{alu_result, negate_result, move_signed_
 use Rattle.abstract_state.specs.declared.state.AbstractState.{AbstractState}
 use Rattle.abstract_state.specs.States.{with_register, callee_state, state_behind_call}
 use Rattle.abstract_state.specs.Memory.{load_result, load_signed_result, store_result}
-use Rattle.verifier_rules.specs.Rules.{Ways, bind, constant, known_register, known_operand, known_left, onward, write_ways, behind_store, target, branch_sides, side_way, branch_ways, call_ways, exit_ways, transfer}
-use Rattle.verifier_rules.specs.Described.{IsWay}
-use Rattle.verifier_rules.proofs.Asked.{helper_call_way}
-use Rattle.verifier_rules.proofs.Parts.{ok, bind_ok, writes_from}
+use Rattle.verifier.specs.Rules.{Ways, bind, constant, known_register, known_operand, known_left, onward, write_ways, behind_store, target, branch_sides, side_way, branch_ways, call_ways, exit_ways, transfer}
+use Rattle.verifier.specs.Described.{IsWay}
+use Rattle.verifier.proofs.HelperCalls.{helper_call_way}
+use Rattle.verifier.proofs.RuleParts.{ok, bind_ok, writes_from}
 use Rattle.verifier.specs.Walks.{next_pcs, called_pcs, IsOneOf}
 
 -- each way leads to one of some pcs

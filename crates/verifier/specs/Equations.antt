@@ -7,7 +7,7 @@ use Rattle.bpf_image.specs.Program.{Program, units}
 use Rattle.bpf_model.specs.declared.cause.Cause.{Cause}
 use Rattle.abstract_state.specs.declared.state.AbstractState.{AbstractState}
 use Rattle.abstract_state.specs.States.{entry_state, join_of_states}
-use Rattle.verifier_rules.specs.Rules.{Ways, transfer}
+use Rattle.verifier.specs.Rules.{Ways, transfer}
 use Rattle.verifier.specs.Listing.{instruction_at}
 
 -- what is known by one way more

@@ -1,3 +1,7 @@
+pub mod Rules
+pub mod RuleAnswers
+pub mod Described
+pub mod RuleLaws
 pub mod Listing
 pub mod Functions
 pub mod Equations

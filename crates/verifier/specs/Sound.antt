@@ -11,7 +11,7 @@ use Rattle.bpf_model.specs.Run.{after}
 use Rattle.bpf_isa.specs.declared.instruction.Instruction.{Instruction}
 use Rattle.bpf_isa.specs.declared.instruction.Instruction.TheVariants.{CallLocal}
 use Rattle.abstract_state.specs.declared.state.AbstractState.{AbstractState}
-use Rattle.verifier_rules.specs.Described.{DescribesState, DescribesCaller}
+use Rattle.verifier.specs.Described.{DescribesState, DescribesCaller}
 use Rattle.verifier.specs.Listing.{instruction_at}
 use Rattle.verifier.specs.Equations.{assignment_of}
 use Rattle.verifier.specs.Walks.{longest, deepest, count_from, frames_from, IsLongest, IsDeepest}

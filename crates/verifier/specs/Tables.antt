@@ -4,8 +4,8 @@ use Rattle.std.specs.Global.{Box}
 use Rattle.bpf_isa.specs.declared.instruction.Instruction.{Instruction}
 use Rattle.bpf_image.specs.Program.{Program, units}
 use Rattle.abstract_state.specs.declared.state.AbstractState.{AbstractState}
-use Rattle.verifier_rules.specs.Rules.{Ways}
-use Rattle.verifier_rules.specs.Described.{IsWay}
+use Rattle.verifier.specs.Rules.{Ways}
+use Rattle.verifier.specs.Described.{IsWay}
 use Rattle.bpf_model.specs.State.{most_frames}
 use Rattle.verifier.specs.declared.weights.Measure.{Measure}
 use Rattle.verifier.specs.declared.weights.Measure.TheVariants.{Instructions, Frames}

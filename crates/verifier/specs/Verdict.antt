@@ -11,7 +11,7 @@ use Rattle.bpf_image.specs.Program.{Program, units}
 use Rattle.bpf_model.specs.declared.cause.Cause.{Cause}
 use Rattle.bpf_model.specs.declared.cause.Cause.TheVariants.{BadInstruction, JumpOut, JumpBack, CallTarget, FallsOff, TooDeep, TooLong, OutOfMemory}
 use Rattle.abstract_state.specs.declared.state.AbstractState.{AbstractState}
-use Rattle.verifier_rules.specs.Rules.{Ways, target, transfer}
+use Rattle.verifier.specs.Rules.{Ways, target, transfer}
 use Rattle.verifier.specs.declared.refusal.Refusal.{Refusal}
 use Rattle.verifier.specs.Listing.{instruction_at, is_start}
 use Rattle.verifier.specs.Equations.{assignment_of}

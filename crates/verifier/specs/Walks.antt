@@ -6,7 +6,7 @@ use Rattle.bpf_isa.specs.declared.instruction.Instruction.TheVariants.{Jump, Bra
 use Rattle.bpf_isa.specs.Encoding.{units_of}
 use Rattle.bpf_model.specs.Step.{units_over}
 use Rattle.bpf_image.specs.Program.{Program, units}
-use Rattle.verifier_rules.specs.Rules.{target}
+use Rattle.verifier.specs.Rules.{target}
 use Rattle.verifier.specs.Listing.{instruction_at}
 
 -- where a function goes on behind an instruction at a pc: nowhere from an exit

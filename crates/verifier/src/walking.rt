@@ -3,8 +3,8 @@ ghost use Rattle.std.specs.Prelude.{◌≡◌, ◌<◌, ◌≤◌, ◌+◌, ℕ,
 ghost use Rattle.bpf_isa.specs.declared.limits.TheConstants.{MOST_UNITS};
 ghost use Rattle.bpf_image.specs.Program.{units};
 ghost use Rattle.abstract_state.specs.declared.state.AbstractState.{AbstractState as KnownState};
-ghost use Rattle.verifier_rules.specs.Rules.{Ways, branch_ways, call_ways};
-ghost use Rattle.verifier_rules.specs.Answers.{ways_onward};
+ghost use Rattle.verifier.specs.Rules.{Ways, branch_ways, call_ways};
+ghost use Rattle.verifier.specs.RuleAnswers.{ways_onward};
 ghost use Rattle.verifier.specs.Listing.{listing_of};
 ghost use Rattle.verifier.specs.Equations.{joined_ways};
 ghost use Rattle.verifier.specs.Verdict.{first_fault, decoding_fault, flow_fault, rule_fault, unless_memory};
@@ -12,13 +12,13 @@ ghost use Rattle.verifier.specs.Tables.{state_at, LeadInside, IsWalkedTo};
 
 use crate::places::{length_of, place_at, starting_at};
 use crate::refusal::Refusal;
+use crate::rules::{Onward, step_over};
 use crate::states::{arrive, arrive_by_side, no_states};
 use abstract_state::{AbstractState, enter_call, return_from_call};
 use abstract_values::Sides;
 use bpf_image::Image;
 use bpf_isa::{Instruction, Operand, Register};
 use std::alloc::{AllocError, Global};
-use verifier_rules::{Onward, step_over};
 
 /// Both sides of a branch go on with what they know. A state is copied only where both are walked.
 fn split(

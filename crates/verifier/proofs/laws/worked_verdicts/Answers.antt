@@ -1,6 +1,6 @@
 use Rattle.std.proofs.Common.{refl}
 use Rattle.bpf_isa.specs.Reading.{decoding, read_row, row_at, register_at}
-use Rattle.verifier_rules.specs.Rules.{transfer}
+use Rattle.verifier.specs.Rules.{transfer}
 use Rattle.verifier.specs.Listing.{start_from}
 use Rattle.verifier.specs.Functions.{function_end}
 use Rattle.verifier.specs.Walks.{weight_over, weight_from}

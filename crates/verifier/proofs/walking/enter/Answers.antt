@@ -2,7 +2,7 @@ use Rattle.std.proofs.Common.{◌≡◌, ◌+◌, ap, ◌∙◌, refl, rules, ar
 use Rattle.std.specs.Prelude.{pos}
 use Rattle.std.proofs.lemmas.Int.{to_z_pos, to_z-of_z}
 use Rattle.abstract_state.specs.States.{callee_state, state_behind_call}
-use Rattle.verifier_rules.specs.Rules.{target}
+use Rattle.verifier.specs.Rules.{target}
 use Rattle.verifier.proofs.walking.enter.Goals as goal
 
 pub arrive-requires-2 : goal.arrive-requires-2

@@ -1,7 +1,7 @@
 use Rattle.std.proofs.Common.{◌≡◌, ◌+◌, length, ap, ◌∙◌, arith, w64, to_z}
 use Rattle.std.specs.Prelude.{pos}
 use Rattle.std.proofs.lemmas.Int.{to_z_pos}
-use Rattle.verifier_rules.specs.Rules.{side_way, target}
+use Rattle.verifier.specs.Rules.{side_way, target}
 use Rattle.verifier.specs.Tables.{LeadInside}
 use Rattle.verifier.proofs.Arrivals.{inside_right}
 use Rattle.verifier.proofs.walking.split.Goals.{then-is_some+in_ok-other, else-is_some}

@@ -1,9 +1,9 @@
 use Rattle.std.proofs.Common.{◌≡◌, length, sym, ◌∙◌, Some, None, Err, get_or, set, inr}
 use Rattle.std.proofs.lemmas.List.{length-set, get_or_read_under}
 use Rattle.bpf_image.specs.Program.{units}
-use Rattle.verifier_rules.specs.Rules.{transfer}
-use Rattle.verifier_rules.specs.Answers.{ways_onward}
-use Rattle.verifier_rules.proofs.Parts.{ok}
+use Rattle.verifier.specs.Rules.{transfer}
+use Rattle.verifier.specs.RuleAnswers.{ways_onward}
+use Rattle.verifier.proofs.RuleParts.{ok}
 use Rattle.verifier.specs.Listing.{instruction_at}
 use Rattle.verifier.specs.Verdict.{rule_fault}
 use Rattle.verifier.proofs.Flowing.{Flows}

@@ -1,0 +1,94 @@
+-- A load or a store that the rules allow does not trap, and leaves what they describe.
+use Rattle.std.proofs.Common.{◌≡◌, ℕ, nat_le, ◌+◌, ◌-◌, ◌^◌, ◌<◌, ◌≤◌, ◌⊎◌, true, length, Some, Result, Ok, Err, refl, ap, subst, ◌∙◌, arith, inl, inr}
+use Rattle.std.specs.Prelude.{ℤ, pos, ◌+ℤ◌, FitsSigned}
+use Rattle.std.specs.Int.{w16}
+use Rattle.std.proofs.lemmas.Bool.{or_left, or_right, and_from, and_parts, le-leb, leb-true}
+use Rattle.bpf_isa.specs.declared.register.Register.{Register}
+use Rattle.bpf_isa.specs.declared.instruction.Instruction.{Instruction}
+use Rattle.bpf_isa.specs.declared.instruction.Size.{Size}
+use Rattle.bpf_isa.specs.declared.instruction.SignedSize.{SignedSize}
+use Rattle.bpf_isa.specs.declared.instruction.SignedSize.TheVariants.{SignedByte, SignedHalf, SignedWord}
+use Rattle.bpf_isa.specs.declared.instruction.Extension.TheVariants.{From8To64, From16To64, From32To64}
+use Rattle.bpf_model.specs.Arithmetic.{move_signed_number}
+use Rattle.bpf_model.specs.State.{State, record_base, with_values, frame_top, frame_bytes, in_frame, may_access, address_at}
+use Rattle.bpf_model.specs.Step.{Goes, load_extension, low_bytes, load, store, next_with_result}
+use Rattle.bpf_isa.specs.Sizes.{size_bytes, plain_size}
+use Rattle.bpf_image.specs.declared.limits.TheConstants.{MOST_RECORD_LENGTH}
+use Rattle.bpf_model.proofs.ArithmeticFacts.{extended_fits}
+use Rattle.bpf_model.specs.declared.cause.Cause.{Cause}
+use Rattle.abstract_values.specs.declared.value.AbstractValue.{AbstractValue}
+use Rattle.abstract_values.specs.declared.value.AbstractValue.TheVariants.{Number}
+use Rattle.abstract_values.specs.Described.{Describes}
+use Rattle.abstract_state.specs.declared.state.AbstractState.{AbstractState}
+use Rattle.abstract_state.specs.Memory.{load_result, load_signed_result, any_number_where, store_result}
+use Rattle.abstract_state.specs.Described.{IsAllowed}
+use Rattle.abstract_state.proofs.Loads.{load_describes}
+use Rattle.abstract_state.proofs.Stores.{store_describes}
+use Rattle.verifier.specs.Rules.{Ways, onward, write_ways, behind_store}
+use Rattle.verifier.specs.Described.{DescribesState, KeepsFrames, Follows, stays}
+use Rattle.verifier.proofs.RuleParts.{ok, bind_ok, writes_from}
+use Rattle.verifier.proofs.KnownValues.{top, top_below}
+use Rattle.verifier.proofs.Stored.{stored_number}
+use Rattle.verifier.proofs.RegisterWrites.{put_follows}
+
+-- an access in the record or in the current frame
+pub allowed : (l : ℕ) (s : State) (a size : ℕ) → IsAllowed l (top s) a size → may_access l s a size ≡ true
+allowed l s a size (inl within) = or_left _ _ within
+allowed l s a size (inr inside) =
+    let here : in_frame (length s.callers) a size ≡ true = and_from _ _ (le-leb _ _ inside.0) (le-leb _ _ inside.1) in
+    or_right _ _ (or_left _ _ here)
+
+-- it lies beside the callers' frames
+pub apart_below : (l n a size k i : ℕ) → l ≤ MOST_RECORD_LENGTH → IsAllowed l (frame_top n) a size → k < n → i < frame_bytes → (frame_top k - frame_bytes + i < a) ⊎ (a + size ≤ frame_top k - frame_bytes + i)
+apart_below l n a size k i short (inl within) low lt =
+    let both = and_parts (nat_le record_base a) (nat_le (a + size) (record_base + l)) within in
+    let ends : a + size ≤ record_base + l = leb-true (a + size) (record_base + l) both.1 in
+    inr (omega (arith, ends, short))
+apart_below l n a size k i short (inr inside) low lt = inl (omega (arith, inside.0, low, lt))
+
+-- a plain load
+pub load_follows : (l pc : ℕ) (i : Instruction) (b : AbstractValue) (z : ℤ) (a : AbstractState) (s : State) (d : Register) (size : Size) (x : ℕ) (ws : Ways) → l ≤ MOST_RECORD_LENGTH → FitsSigned w16 z → s.pc ≡ pos pc → DescribesState l a s → Describes l (top s) b (Some x) → write_ways (pc + 1) a d (load_result l a b z (size_bytes size)) ≡ ok ws → Follows l i a s ws (load l s (address_at x z) size (next_with_result s 1 d))
+load_follows l pc i b z a s d size x ws short fits at described base h =
+    let w = writes_from (pc + 1) a d (load_result l a b z (size_bytes size)) ws h in
+    let n = load_describes l (top s) a s.registers s.memory b w.value z size x (omega (arith, short)) (omega arith) (top_below l a s described) fits w.from described.parts base in
+    let may = allowed l s (address_at x z) (size_bytes size) n.1 in
+    rw (may, n.2) (put_follows l pc 1 i a s d (ok w.value) n.0 ws at described (subst (λ r. write_ways (pc + 1) a d r ≡ ok ws) w.from h) (λ v e. let same : w.value ≡ v = cc in subst (λ u. Describes l (top s) u (Some n.0)) same n.3))
+
+any_number : (l t n : ℕ) → n < 2 ^ 64 → Describes l t (Number 0 (2 ^ 64 - 1)) (Some n)
+any_number l t n lt = (n, refl, omega arith, omega (arith, lt), lt)
+
+-- what a sign-extending load leaves has 64 bits
+extended_64 : (size : SignedSize) (n : ℕ) → move_signed_number (load_extension size) n < 2 ^ 64
+extended_64 SignedByte n = extended_fits From8To64 n
+extended_64 SignedHalf n = extended_fits From16To64 n
+extended_64 SignedWord n = extended_fits From32To64 n
+
+-- a sign-extending load is a plain one of any number
+any_from : (r : Result AbstractValue Cause) (v : AbstractValue) → any_number_where r ≡ ok v → (u : AbstractValue) × (r ≡ ok u) × (Number 0 (2 ^ 64 - 1) ≡ v)
+any_from (Ok u) v h = (u, refl, cc)
+any_from (Err cause) v h = absurd cc
+
+pub load_extended_follows : (l pc : ℕ) (i : Instruction) (b : AbstractValue) (z : ℤ) (a : AbstractState) (s : State) (d : Register) (size : SignedSize) (x : ℕ) (ws : Ways) → l ≤ MOST_RECORD_LENGTH → FitsSigned w16 z → s.pc ≡ pos pc → DescribesState l a s → Describes l (top s) b (Some x) → write_ways (pc + 1) a d (load_signed_result l a b z size) ≡ ok ws → Follows l i a s ws (load l s (address_at x z) (plain_size size) (λ n. next_with_result s 1 d (move_signed_number (load_extension size) n)))
+load_extended_follows l pc i b z a s d size x ws short fits at described base h =
+    let w = writes_from (pc + 1) a d (load_signed_result l a b z size) ws h in
+    let u = any_from (load_result l a b z (size_bytes (plain_size size))) w.value w.from in
+    let n = load_describes l (top s) a s.registers s.memory b u.0 z (plain_size size) x (omega (arith, short)) (omega arith) (top_below l a s described) fits u.1 described.parts base in
+    let may = allowed l s (address_at x z) (size_bytes (plain_size size)) n.1 in
+    let m = move_signed_number (load_extension size) n.0 in
+    rw (may, n.2) (put_follows l pc 1 i a s d (ok w.value) m ws at described (subst (λ r. write_ways (pc + 1) a d r ≡ ok ws) w.from h) (λ v e. let same : Number 0 (2 ^ 64 - 1) ≡ v = (let f : w.value ≡ v = cc in u.2 ∙ f) in subst (λ t. Describes l (top s) t (Some m)) same (any_number l (top s) m (extended_64 size n.0))))
+
+-- a store
+pub store_follows : (l pc : ℕ) (i : Instruction) (b v : AbstractValue) (z : ℤ) (a : AbstractState) (s : State) (size : Size) (x n : ℕ) (ws : Ways) → l ≤ MOST_RECORD_LENGTH → FitsSigned w16 z → n < 2 ^ 64 → s.pc ≡ pos pc → DescribesState l a s → Describes l (top s) b (Some x) → Describes l (top s) v (Some n) → behind_store (pc + 1) (store_result l a b z (size_bytes size) v) ≡ ok ws → Follows l i a s ws (store l s (address_at x z) size n)
+store_follows l pc i b v z a s size x n ws short fits lt at described base value h =
+    let parts = bind_ok (store_result l a b z (size_bytes size) v) (λ t. ok (onward (pc + 1) t)) ws h in
+    let t = parts.0 in
+    let ways : onward (pc + 1) t ≡ ws = (let e : ok (onward (pc + 1) t) ≡ ok ws = parts.2 in cc) in
+    let memory = with_values s.memory (address_at x z) (low_bytes size n) in
+    let written = stored_number s.memory (address_at x z) size n in
+    let left = store_describes l (top s) a t s.registers s.memory memory b v z size x n (omega (arith, short)) (omega arith) (top_below l a s described) fits lt parts.1 described.parts base value written in
+    let may = allowed l s (address_at x z) (size_bytes size) left.0 in
+    let moved : s.pc +ℤ pos 1 ≡ pos (pc + 1) = ap (λ y. y +ℤ pos 1) at in
+    let after : State = record s { pc = s.pc +ℤ pos 1; memory = memory } in
+    let known : DescribesState l t after = record { parts = left.1; frame_register = described.frame_register; few_callers = described.few_callers } in
+    let keeps : KeepsFrames (length s.callers) s.memory memory = λ k j low below. written.written.outside (frame_top k - frame_bytes + j) (apart_below l (length s.callers) (address_at x z) (size_bytes size) k j short left.0 low below) in
+    rw may (subst (λ u. Follows l i a s u (Goes after)) ways (stays (pos (pc + 1), t) (inl refl) moved known refl keeps))

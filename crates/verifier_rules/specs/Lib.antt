@@ -1,4 +1,0 @@
-pub mod Rules
-pub mod Answers
-pub mod Described
-pub mod Laws
