@@ -21,7 +21,7 @@ use std::alloc::Global;
 pub const MOST_COUNTED: u32 = 1_000_000;
 
 /// What a pass weighs walks by.
-#[derive(Clone, Copy, Debug, PartialEq, Eq)]
+#[derive(Clone, Copy)]
 pub enum Measure {
     /// How many instructions a walk counts.
     Instructions,
@@ -165,7 +165,7 @@ fn find_frames(
 }
 
 /// How many instructions a run counts and how many frames it has, both at most.
-#[derive(Clone, Copy, Debug, PartialEq, Eq)]
+#[derive(Clone, Copy, Debug)]
 pub struct Extent {
     pub instructions: u32,
     pub frames: u8,
