@@ -5,8 +5,8 @@ ghost use Rattle.neighbour_btree.specs.Node.{Node};
 ghost use Rattle.neighbour_btree.specs.Changes.{IsSliceAt};
 ghost use Rattle.neighbour_btree.specs.Root.{node_of, fewest_of, words_of, Raises, Lowers, RootWith, RootWithout, WordsAdded, WordsTaken};
 
-use std::alloc::{AllocError, Global};
 use crate::levels::{Change, Grown, Inner, Leaf, Level, MOST, Third, leaves, nodes, thirds};
+use std::alloc::{AllocError, Global};
 use word_sets::WORD_LIMIT;
 
 /// A root of each of the five levels. Words are below 2^20, so that five are enough.

@@ -3,11 +3,11 @@ ghost use Rattle.std.specs.Prelude.{◌≡◌, ◌<◌, [], length, not, IfOk, O
 ghost use Rattle.word_sets.specs.Words.{IsSet, has_word, with_word, without_word};
 ghost use Rattle.neighbour_btree.specs.Changes.{IsSliceAt};
 
+use crate::levels::{Change, Leaf, MOST};
 use crate::root::Root;
 use crate::slices::Slices;
 use std::alloc::{AllocError, Global};
 use std::marker::Model;
-use crate::levels::{Change, Leaf, MOST};
 use word_sets::WORD_LIMIT;
 
 /// A set of words, each below `WORD_LIMIT`, in a tree of at most five levels. Clauses see it as the ascending list of

@@ -70,7 +70,11 @@ impl<C: Level> Inner<C> {
     }
 
     /// Takes a word out, in place, of a root: it keeps two children. After an error the node is as it was.
-    pub(crate) fn remove_from_root(&mut self, alloc: Global, word: u32) -> Result<Change, AllocError>
+    pub(crate) fn remove_from_root(
+        &mut self,
+        alloc: Global,
+        word: u32,
+    ) -> Result<Change, AllocError>
         requires word { word < WORD_LIMIT }
         requires enough { 2 ≤ self.old.size }
         ensures ok { IfOk result (Takes (16 * C.least) self.old self.new word) }
