@@ -4,15 +4,11 @@
 #[cfg(test)]
 mod batches;
 #[cfg(test)]
-mod counters;
-#[cfg(test)]
 mod edits;
 #[cfg(test)]
 mod events;
 #[cfg(test)]
 mod homes;
-#[cfg(test)]
-mod maps;
 #[cfg(test)]
 mod numbers;
 #[cfg(test)]
@@ -29,7 +25,3 @@ mod shop;
 mod showing;
 #[cfg(test)]
 mod stores;
-#[cfg(test)]
-mod words;
-#[cfg(test)]
-mod workers;
