@@ -1,14 +1,11 @@
-//! The three homes of neighbour lists, each by itself; and where a list is kept along batches.
+//! The three homes of neighbour lists, each by itself. Where a list is kept along batches is tried by `script_rows`.
 ghost use Rattle.std.specs.Prelude.{◌<◌};
 
 use gapped_array::GappedArray;
 use neighbour_btree::NeighbourTree;
 use std::alloc::{AllocError, Global};
-use std::test::Fail;
 use vertex_block::{PLACES, VertexBlock};
 use word_sets::WORD_LIMIT;
-
-mod kept;
 
 // Puts words into a block as long as it has room. How many were not there.
 fn fill(block: &mut VertexBlock, words: &[u32]) -> usize {
@@ -107,40 +104,19 @@ fn filled(alloc: Global, vertices: u8, count: u8) -> Result<GappedArray, AllocEr
     Ok(array)
 }
 
-#[test]
-fn lists_of_an_array_grow_in_turn(rt: HostRuntime) -> Result<(), Fail> {
-    let mut array = filled(rt.alloc(), 3, 100)?;
-    take_out(&mut array, 1, 100, 200);
-    let counts = [
-        counted(&array, 0),
-        counted(&array, 1),
-        counted(&array, 2),
-        counted(&array, 3),
-    ];
-    assert_eq!(rt; counts, [Some(100), Some(50), Some(100), None]);
-    take_out(&mut array, 1, 0, 100);
-    assert_eq!(rt; counted(&array, 1), Some(0));
-    Ok(())
-}
-
-// Most lists are closed, and the others are packed; a copy keeps all.
-#[test]
-fn closed_lists_of_an_array_leave(rt: HostRuntime) -> Result<(), Fail> {
-    let mut array = filled(rt.alloc(), 255, 40)?;
-    let copy = array.copy(rt.alloc())?;
+// How many words vertices 254 and 7 have when all lists but that of vertex 254 were closed, which loses half of its words, and
+// how many vertex 7 has in a copy from before.
+fn closed(alloc: Global) -> Result<[Option<usize>; 3], AllocError> {
+    let mut array = filled(alloc, 255, 100)?;
+    let copy = array.copy(alloc)?;
     close_below(&mut array, 254);
-    assert_eq!(rt; counted(&array, 254), Some(40));
-    assert_eq!(rt; counted(&array, 7), None);
-    assert_eq!(rt; counted(&copy, 7), Some(40));
-    Ok(())
+    take_out(&mut array, 254, 354, 500);
+    Ok([counted(&array, 254), counted(&array, 7), counted(&copy, 7)])
 }
 
 #[test]
-fn a_list_of_an_array_is_opened_with_words(rt: HostRuntime) -> Result<(), Fail> {
-    let mut array = GappedArray::new(rt.alloc())?;
-    array.open_with(255, &[255, 257])?;
-    assert_eq!(rt; counted(&array, 255), Some(2));
-    Ok(())
+fn closed_lists_of_an_array_leave(rt: HostRuntime) {
+    assert_eq!(rt; closed(rt.alloc()), Ok([Some(50), None, Some(100)]));
 }
 
 // The numbers below 5,000 times 209, in an order that is not theirs: 1,237 and 5,000 have no common divisor.
@@ -201,14 +177,18 @@ fn whole(tree: &NeighbourTree) -> Option<u32> {
     Some(next / 209)
 }
 
+// How many words were put into a tree and taken out, and how many it and what shared it before have then.
+fn grown_and_shrunk(alloc: Global) -> Result<([u32; 2], [Option<u32>; 2]), AllocError> {
+    let mut tree = NeighbourTree::new(alloc)?;
+    let added = put_all(alloc, &mut tree)?;
+    let before = tree.share()?;
+    let removed = take_all(alloc, &mut tree)?;
+    Ok(([added, removed], [whole(&tree), whole(&before)]))
+}
+
 // Nodes that are full, too small or shared are made anew, so this tries `with` and `without`, too.
 #[test]
-fn a_tree_grows_and_shrinks(rt: HostRuntime) -> Result<(), Fail> {
-    let mut tree = NeighbourTree::new(rt.alloc())?;
-    let added = put_all(rt.alloc(), &mut tree);
-    let before = tree.share()?;
-    let removed = take_all(rt.alloc(), &mut tree);
-    assert_eq!(rt; [added, removed], [Ok(5_000), Ok(5_000)]);
-    assert_eq!(rt; [whole(&tree), whole(&before)], [Some(0), Some(5_000)]);
-    Ok(())
+fn a_tree_grows_and_shrinks(rt: HostRuntime) {
+    let told = grown_and_shrunk(rt.alloc());
+    assert_eq!(rt; told, Ok(([5_000, 5_000], [Some(0), Some(5_000)])));
 }

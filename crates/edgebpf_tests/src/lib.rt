@@ -4,15 +4,11 @@
 #[cfg(test)]
 mod batches;
 #[cfg(test)]
-mod counters;
-#[cfg(test)]
 mod edits;
 #[cfg(test)]
 mod events;
 #[cfg(test)]
 mod homes;
-#[cfg(test)]
-mod maps;
 #[cfg(test)]
 mod numbers;
 #[cfg(test)]
@@ -25,5 +21,3 @@ mod scripts;
 mod shop;
 #[cfg(test)]
 mod stores;
-#[cfg(test)]
-mod workers;

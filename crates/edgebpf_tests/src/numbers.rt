@@ -1,6 +1,7 @@
 //! The numbers of errors, as the documents have them.
 use batch_apply::ApplyError;
 use edge_map::MapError;
+use service::ServeError;
 use versions::{PinError, PublishError, StoreError, SubmitCause};
 
 #[test]
@@ -24,7 +25,7 @@ fn of_stores(rt: HostRuntime) {
 }
 
 #[test]
-fn of_batches_and_maps(rt: HostRuntime) {
+fn of_batches_maps_and_scripts(rt: HostRuntime) {
     let applying = [
         ApplyError::VertexRange as u8,
         ApplyError::TooManyEdits as u8,
@@ -39,4 +40,12 @@ fn of_batches_and_maps(rt: HostRuntime) {
         MapError::WorkerRefused as u8,
     ];
     assert_eq!(rt; mapping, [1, 2, 3, 4]);
+    let serving = [
+        ServeError::Read as u8,
+        ServeError::Write as u8,
+        ServeError::OutOfMemory as u8,
+        ServeError::WorkerRefused as u8,
+        ServeError::Store as u8,
+    ];
+    assert_eq!(rt; serving, [1, 2, 3, 4, 5]);
 }

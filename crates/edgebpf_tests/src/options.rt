@@ -5,51 +5,40 @@ use std::alloc::{AllocError, Global};
 use std::test::Fail;
 
 // These words, behind the program's name.
-fn words_of(alloc: Global, words: &[&str]) -> Result<Vec<String>, AllocError> {
+fn words_of(alloc: Global, words: &str) -> Result<Vec<String>, AllocError> {
     let mut all = Vec::new(alloc);
     all.push("edgebpf".to_string(alloc)?)?;
-    for word in words {
+    for word in words.split_ascii_whitespace() {
         all.push(word.to_string(alloc)?)?;
     }
     Ok(all)
 }
 
-#[test]
-fn one_to_sixteen_workers_may_be_asked_for(rt: HostRuntime) -> Result<(), Fail> {
-    let alloc = rt.alloc();
-    for (words, workers) in [
-        ([].as_slice(), 1),
-        (["--workers", "1"].as_slice(), 1),
-        (["--workers", "4"].as_slice(), 4),
-        (["--workers=16"].as_slice(), 16),
-    ] {
-        assert_eq!(rt;
-            options(alloc, &words_of(alloc, words)?)?,
-            workers,
-            "{words:?}"
-        );
+// How many workers words ask for, or which error they are.
+fn asked(alloc: Global, words: &str) -> Result<Result<u8, ErrorKind>, AllocError> {
+    let words = words_of(alloc, words)?;
+    match options(alloc, &words) {
+        Ok(workers) => Ok(Ok(workers)),
+        Err(error) => Ok(Err(error.kind())),
     }
-    Ok(())
 }
 
 #[test]
-fn other_words_are_errors(rt: HostRuntime) -> Result<(), Fail> {
-    let alloc = rt.alloc();
-    for (words, kind) in [
-        (["--workers", "0"].as_slice(), ErrorKind::ValueValidation),
-        (["--workers", "17"].as_slice(), ErrorKind::ValueValidation),
-        (["--workers", "two"].as_slice(), ErrorKind::ValueValidation),
-        (["--workers"].as_slice(), ErrorKind::InvalidValue),
-        (["--threads", "2"].as_slice(), ErrorKind::UnknownArgument),
-        (["first.script"].as_slice(), ErrorKind::UnknownArgument),
-        (["--help"].as_slice(), ErrorKind::DisplayHelp),
+fn one_to_sixteen_workers_may_be_asked_for(rt: HostRuntime) -> Result<(), Fail> {
+    for (words, wanted) in [
+        ("", Ok(1)),
+        ("--workers 1", Ok(1)),
+        ("--workers 4", Ok(4)),
+        ("--workers=16", Ok(16)),
+        ("--workers 0", Err(ErrorKind::ValueValidation)),
+        ("--workers 17", Err(ErrorKind::ValueValidation)),
+        ("--workers two", Err(ErrorKind::ValueValidation)),
+        ("--workers", Err(ErrorKind::InvalidValue)),
+        ("--threads 2", Err(ErrorKind::UnknownArgument)),
+        ("first.script", Err(ErrorKind::UnknownArgument)),
+        ("--help", Err(ErrorKind::DisplayHelp)),
     ] {
-        let answer = options(alloc, &words_of(alloc, words)?);
-        assert_eq!(rt;
-            answer.err().map(|error| error.kind()),
-            Some(kind),
-            "{words:?}"
-        );
+        assert_eq!(rt; asked(rt.alloc(), words)?, wanted, "{words}");
     }
     Ok(())
 }

@@ -1,77 +1,161 @@
 //! Whole scripts at ends that fail, or that give or take few bytes at once, and what a gate sees of one. What a script means is
 //! tried by `script_rows`.
-use crate::scripts::ends::{Parts, Written};
-use service::{Ending, OpenGate, ServeError, Workers, serve};
-use std::alloc::Global;
+use crate::scripts::ends::{Balking, Interrupted};
+use gates::HoldingGate;
+use service::{Ending, Gate, OpenGate, ServeError, StdInput, StdOutput, Workers, serve};
+use std::alloc::{AllocError, Global};
 use std::sync::Wait;
 use std::test::Fail;
 use std::thread::Threads;
 
-mod blocks;
 mod ends;
-mod standard;
-mod workers;
 
 /// A script that says something at most of its lines, and what it says.
 const SCRIPT: &str =
-    "graph 4\nbatch A\n+ 0 1\n+ 0 2\n+ 1 2\nend\ncode t 16 61100400000000009500000000000000\npin a\nrun t a sum -\nrun t a min - 1\nprogram s 16\nmov r0 7\nend\nlist";
+    "graph 4\nbatch A\n+ 0 1\n+ 0 2\n+ 1 2\nend\ncode t 16 61100400000000009500000000000000\npin a\nrun t a sum -\nrun t a min - 1\nlist t a -\nprogram s 16\nmov r0 7\nend\nlist";
 
 const SAID: &str =
-    "graph 4\nbatch A version 1 added 3 removed 0\nprogram t bound 2 frames 1\npin a version 1 edges 3\nrun t a edges 3 total 5\nrow 0 3\nrow 1 2\nrun t a edges 1 total 2\nrow 1 2\nassembler s error 1 line 1\nfault 2 line 14\n";
+    "graph 4\nbatch A version 1 added 3 removed 0\nprogram t bound 2 frames 1\npin a version 1 edges 3\nrun t a edges 3 total 5\nrow 0 3\nrow 1 2\nrun t a edges 1 total 2\nrow 1 2\nlist t a edges 3\nedge 0 1 1\nedge 0 2 2\nedge 1 2 2\nassembler s error 1 line 1\nfault 2 line 15\n";
 
-/// Serves by one worker, at an open gate.
-fn serve_alone<R: Threads + Wait>(
+/// Serves a script to a writer, where one read, if any, is interrupted.
+fn served<G: Gate, R: Threads + Wait>(
     rt: &R,
     alloc: Global,
-    input: &mut Parts,
-    output: &mut Written,
+    input: Interrupted<'_>,
+    output: &mut Balking,
+    workers: Workers,
+    gate: &G,
 ) -> Result<Ending, ServeError> {
-    serve(input, output, rt, alloc, Workers::one(), &OpenGate)
+    let mut input = StdInput::new(input);
+    let mut output = StdOutput::new(output);
+    serve(&mut input, &mut output, rt, alloc, workers, gate)
+}
+
+/// Serves `SCRIPT`, read in parts of so many bytes, by one worker.
+fn served_in_parts<R: Threads + Wait>(
+    rt: &R,
+    alloc: Global,
+    most: usize,
+    at: u64,
+    output: &mut Balking,
+) -> Result<Ending, ServeError> {
+    let input = Interrupted {
+        bytes: SCRIPT.as_bytes(),
+        most,
+        at,
+        reads: 0,
+    };
+    served(rt, alloc, input, output, Workers::one(), &OpenGate)
 }
 
 #[test]
-fn parts_of_any_size(rt: HostRuntime) -> Result<(), Fail> {
+fn parts_of_any_size(rt: HostRuntime) {
     for (read, written) in [(1, 3), (1, 1), (7, 2), (100, 5)] {
-        let mut input = Parts::of(SCRIPT.as_bytes(), read, None);
-        let mut output = Written::new(rt.alloc(), written, None);
-        let answer = serve_alone(&rt, rt.alloc(), &mut input, &mut output);
+        let mut output = Balking::new(rt.alloc(), written, 0, false);
+        let answer = served_in_parts(&rt, rt.alloc(), read, 0, &mut output);
         assert_eq!(rt; answer, Ok(Ending::Fault));
         assert_eq!(rt; output.bytes.as_slice(), SAID.as_bytes());
     }
-    Ok(())
 }
 
+// The end of the input is a read too.
 #[test]
-fn errors_have_numbers(rt: HostRuntime) {
-    assert_eq!(rt; ServeError::Read as u8, 1);
-    assert_eq!(rt; ServeError::Write as u8, 2);
-    assert_eq!(rt; ServeError::OutOfMemory as u8, 3);
-    assert_eq!(rt; ServeError::WorkerRefused as u8, 4);
-    assert_eq!(rt; ServeError::Store as u8, 5);
-}
-
-#[test]
-fn failing_reads(rt: HostRuntime) -> Result<(), Fail> {
-    // The end of the input is a read too.
-    let reads = SCRIPT.len() + 1;
-    for failing in 0..reads {
-        let mut input = Parts::of(SCRIPT.as_bytes(), 1, Some(failing as u64));
-        let mut output = Written::new(rt.alloc(), usize::MAX, None);
-        let answer = serve_alone(&rt, rt.alloc(), &mut input, &mut output);
-        assert_eq!(rt; answer, Err(ServeError::Read), "{failing}");
-        assert!(rt; SAID.as_bytes().starts_with(&output.bytes), "{failing}");
+fn failing_reads(rt: HostRuntime) {
+    for at in 0..SCRIPT.len() + 1 {
+        let mut output = Balking::new(rt.alloc(), usize::MAX, 0, false);
+        let answer = served_in_parts(&rt, rt.alloc(), 1, at as u64 + 1, &mut output);
+        assert_eq!(rt; answer, Err(ServeError::Read), "{at}");
+        assert!(rt; SAID.as_bytes().starts_with(&output.bytes), "{at}");
     }
-    Ok(())
 }
 
 #[test]
-fn failing_writes(rt: HostRuntime) -> Result<(), Fail> {
-    for failing in 0..SAID.len() {
-        let mut input = Parts::of(SCRIPT.as_bytes(), 20, None);
-        let mut output = Written::new(rt.alloc(), 1, Some(failing as u64));
-        let answer = serve_alone(&rt, rt.alloc(), &mut input, &mut output);
-        assert_eq!(rt; answer, Err(ServeError::Write), "{failing}");
-        assert_eq!(rt; output.bytes.as_slice(), &SAID.as_bytes()[..failing]);
+fn failing_writes(rt: HostRuntime) {
+    for at in 0..SAID.len() {
+        let mut output = Balking::new(rt.alloc(), 1, at as u64 + 1, at % 2 == 0);
+        let answer = served_in_parts(&rt, rt.alloc(), 20, 0, &mut output);
+        assert_eq!(rt; answer, Err(ServeError::Write), "{at}");
+        assert_eq!(rt; output.bytes.as_slice(), &SAID.as_bytes()[..at]);
     }
+}
+
+/// A script that lists 9,000 edges, 3,000 from each of three vertices.
+fn long_list(alloc: Global) -> Result<String, AllocError> {
+    let mut script = String::new(alloc);
+    script.push_str("graph 3000\nbatch A\n")?;
+    for edge in 0..9_000 {
+        let line = format!(in alloc; "+ {} {}\n", edge / 3_000, edge % 3_000)?;
+        script.push_str(&line)?;
+    }
+    script.push_str("end\ncode t 16 61100400000000009500000000000000\npin a\nlist t a -")?;
+    Ok(script)
+}
+
+/// How a script ends that is read at once, and how often it wrote.
+fn served_whole<G: Gate, R: Threads + Wait>(
+    rt: &R,
+    alloc: Global,
+    script: &str,
+    workers: Workers,
+    gate: &G,
+) -> (Result<Ending, ServeError>, u64) {
+    let input = Interrupted {
+        bytes: script.as_bytes(),
+        most: usize::MAX,
+        at: 0,
+        reads: 0,
+    };
+    let mut output = Balking::new(alloc, usize::MAX, 0, false);
+    let answer = served(rt, alloc, input, &mut output, workers, gate);
+    (answer, output.writes)
+}
+
+// 9,000 edges are two blocks of 4,096 and one of 808. Besides these there are writes for each read of the script and for the
+// first line of the list.
+#[test]
+fn a_list_is_written_in_blocks(rt: HostRuntime) -> Result<(), Fail> {
+    let script = long_list(rt.alloc())?;
+    let answer = served_whole(&rt, rt.alloc(), &script, Workers::one(), &OpenGate);
+    assert_eq!(rt; answer, (Ok(Ending::Complete), 6));
     Ok(())
+}
+
+/// How often a script's pieces were entered and left with so many workers, a digit of 16 for each piece, and how many
+/// waited in vain for as many pieces as there are workers; none where the script does not come to its end.
+fn seen<R: Threads + Wait>(rt: &R, alloc: Global, script: &str, count: u8) -> Option<[u64; 3]> {
+    let gate = HoldingGate::until(u64::from(count));
+    let workers = Workers::new(count)?;
+    let (answer, _) = served_whole(rt, alloc, script, workers, &gate);
+    if answer != Ok(Ending::Complete) {
+        return None;
+    }
+    Some([gate.entered(), gate.left(), gate.in_vain()])
+}
+
+// Edits of two ranges of 256 vertices, and of four.
+const TWO_RANGES: &str = "graph 1024\nbatch A\n+ 0 1\n+ 300 1\nend\n";
+
+const FOUR_RANGES: &str = "graph 1024\nbatch A\n+ 0 1\n+ 300 1\n+ 600 1\n+ 1000 1\nend\n";
+
+// Runs over graphs without an edge, of 64 vertices for each of two pieces, and of four.
+const TWO_PIECES: &str =
+    "graph 128\ncode t 16 61100400000000009500000000000000\npin a\nrun t a sum -\n";
+
+const FOUR_PIECES: &str =
+    "graph 256\ncode t 16 61100400000000009500000000000000\npin a\nrun t a sum -\n";
+
+// As many workers as there are pieces are inside at once, and so are three of four pieces.
+#[test]
+fn workers_are_inside_at_once(rt: HostRuntime) {
+    for (script, workers, pieces) in [
+        (TWO_RANGES, 2, 0x11),
+        (FOUR_RANGES, 4, 0x1111),
+        (FOUR_RANGES, 3, 0x1111),
+        (TWO_PIECES, 2, 0x11),
+        (FOUR_PIECES, 4, 0x1111),
+        (FOUR_PIECES, 3, 0x1111),
+    ] {
+        let told = seen(&rt, rt.alloc(), script, workers);
+        assert_eq!(rt; told, Some([pieces, pieces, 0]), "{script} by {workers}");
+    }
 }

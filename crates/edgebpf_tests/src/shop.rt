@@ -3,6 +3,7 @@ ghost use Rattle.std.specs.Prelude.{◌≡◌};
 ghost use Rattle.history.specs.Moment.{OneStore};
 ghost use Rattle.versions.specs.Ends.{IsFeedOf};
 
+use crate::edits::batch_of;
 use std::alloc::Global;
 use std::marker::Model;
 use std::sync::Wait;
@@ -138,9 +139,9 @@ pub(crate) fn pin_of<R: Threads + Wait>(
     rt: &R,
     alloc: Global,
     vertex_count: u32,
-    edits: Vec<Edit>,
+    edits: &[Edit],
 ) -> Result<Pin, Fail> {
-    let batch = Batch::new(alloc, edits)?;
+    let batch = batch_of(alloc, edits)?;
     let mut shop = Shop::open(rt, alloc, vertex_count)?;
     let pin = shop.pin_after(rt, batch);
     shop.close(rt);

@@ -1,42 +1,23 @@
-//! Inputs that give few bytes or fail, and outputs that take few or fail.
-ghost use Rattle.std.specs.Prelude.{None};
-
-use service::{Failure, Input, Output};
+//! A reader that gives few bytes or fails, and a writer that takes few or fails, each once: who tried again would get on.
 use std::alloc::Global;
+use std::io;
+use std::io::{ErrorKind, Read, Write};
 
-/// An input that gives at most so many bytes at once, and fails at one of its reads.
+/// A reader that gives at most so many bytes at once. One of its reads is interrupted; 0 is none.
 #[derive(Drop)]
-pub struct Parts<'a> {
-    bytes: &'a [u8],
-    most: usize,
-    failing: Option<u64>,
-    reads: u64,
-    failures: u64,
+pub struct Interrupted<'a> {
+    pub(crate) bytes: &'a [u8],
+    pub(crate) most: usize,
+    pub(crate) at: u64,
+    pub(crate) reads: u64,
 }
 
-impl<'a> Parts<'a> {
-    pub(crate) fn of(bytes: &'a [u8], most: usize, failing: Option<u64>) -> Parts<'a> {
-        Parts {
-            bytes,
-            most,
-            failing,
-            reads: 0,
-            failures: 0,
-        }
-    }
-}
-
-impl Input for Parts<'_> {
-    ghost remaining = { λ _. None };
-
-    ghost failures = { λ p. p.failures };
-
-    fn read(&mut self, buffer: &mut [u8]) -> Result<usize, Failure> {
-        if self.failing == Some(self.reads) {
-            self.failures = self.failures.wrapping_add(1);
-            return Err(Failure);
-        }
+impl Read for Interrupted<'_> {
+    fn read(&mut self, buffer: &mut [u8]) -> io::Result<usize> {
         self.reads = self.reads.wrapping_add(1);
+        if self.reads == self.at {
+            return Err(io::Error::from(ErrorKind::Interrupted));
+        }
         let count = self.most.min(buffer.len()).min(self.bytes.len());
         buffer[..count].copy_from_slice(&self.bytes[..count]);
         self.bytes = &self.bytes[count..];
@@ -44,41 +25,45 @@ impl Input for Parts<'_> {
     }
 }
 
-/// An output that takes at most so many bytes at once, and fails at one of its writes.
+/// A writer that takes at most so many bytes at once, and keeps them. One of its writes takes nothing, or is interrupted; 0 is none.
 #[derive(Drop)]
-pub struct Written {
-    pub bytes: Vec<u8>,
+pub struct Balking {
+    pub(crate) bytes: Vec<u8>,
+    pub(crate) writes: u64,
     most: usize,
-    failing: Option<u64>,
-    pub writes: u64,
-    failures: u64,
+    at: u64,
+    is_interrupted: bool,
 }
 
-impl Written {
-    pub(crate) fn new(alloc: Global, most: usize, failing: Option<u64>) -> Written {
-        Written {
+impl Balking {
+    pub(crate) fn new(alloc: Global, most: usize, at: u64, is_interrupted: bool) -> Balking {
+        Balking {
             bytes: Vec::new(alloc),
-            most,
-            failing,
             writes: 0,
-            failures: 0,
+            most,
+            at,
+            is_interrupted,
         }
     }
 }
 
-impl Output for Written {
-    ghost contents = { λ _. None };
-
-    ghost failures = { λ w. w.failures };
-
-    fn write(&mut self, bytes: &[u8]) -> Result<usize, Failure> {
-        let count = self.most.max(1).min(bytes.len());
-        let fails = self.failing == Some(self.writes);
-        if fails || self.bytes.extend_from_slice(&bytes[..count]).is_err() {
-            self.failures = self.failures.wrapping_add(1);
-            return Err(Failure);
-        }
+impl Write for Balking {
+    fn write(&mut self, bytes: &[u8]) -> io::Result<usize> {
         self.writes = self.writes.wrapping_add(1);
+        if self.writes == self.at && self.is_interrupted {
+            return Err(io::Error::from(ErrorKind::Interrupted));
+        }
+        if self.writes == self.at {
+            return Ok(0);
+        }
+        let count = self.most.min(bytes.len());
+        if self.bytes.extend_from_slice(&bytes[..count]).is_err() {
+            return Err(io::Error::from(ErrorKind::OutOfMemory));
+        }
         Ok(count)
+    }
+
+    fn flush(&mut self) -> io::Result<()> {
+        Ok(())
     }
 }

@@ -59,7 +59,10 @@ fn submit_all<R: Wait>(rt: &R, alloc: Global, feed: &mut Feed) -> u32
 
 // The number of a batch.
 fn number_of(batch: &Batch) -> Option<u32> {
-    batch.edits().first().map(|edit| edit.target())
+    match batch.edits().first() {
+        Some(edit) => Some(edit.target()),
+        None => None,
+    }
 }
 
 // Publishes the next batch. The number of its version, its feed, and its number.
