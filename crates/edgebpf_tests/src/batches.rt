@@ -1,7 +1,11 @@
-//! A batch in its ranges, below the number of edits from which threads sort them, at it, and at the most.
-use batch_apply::{ApplyError, split};
-use graph_model::{Batch, Edit};
+//! A batch in its ranges, below the number of edits from which threads sort them, at it, and at the most; and the greatest batch on
+//! the greatest graph.
+use batch_apply::{ApplyError, apply_batch, split};
+use gates::{OpenGate, Workers};
+use graph_model::{Batch, Edit, MOST_VERTICES};
+use migration::Table;
 use std::alloc::{AllocError, Global};
+use std::sync::Wait;
 use std::test::Fail;
 use std::thread::Threads;
 
@@ -41,5 +45,20 @@ fn a_batch_is_split(rt: HostRuntime) -> Result<(), Fail> {
         let pieces = pieces_of(&rt, rt.alloc(), &batch);
         assert_eq!(rt; pieces, Ok(wanted), "{count} by {apart}");
     }
+    Ok(())
+}
+
+// How many edges a batch adds to the greatest graph, by four workers.
+fn added<R: Threads + Wait>(rt: &R, alloc: Global, batch: &Batch) -> Result<u64, ApplyError> {
+    let workers = Workers::new(4).unwrap_or(Workers::one());
+    let table = Table::empty(alloc, MOST_VERTICES)?;
+    let (_, counts) = apply_batch(rt, alloc, &table, batch, workers, &OpenGate)?;
+    Ok(counts.added)
+}
+
+#[test]
+fn the_most_edits_on_the_greatest_graph(rt: HostRuntime) -> Result<(), Fail> {
+    let batch = spread(rt.alloc(), 65_536, 16)?;
+    assert_eq!(rt; added(&rt, rt.alloc(), &batch), Ok(65_536));
     Ok(())
 }

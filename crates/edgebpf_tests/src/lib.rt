@@ -10,6 +10,8 @@ mod events;
 #[cfg(test)]
 mod homes;
 #[cfg(test)]
+mod maps;
+#[cfg(test)]
 mod numbers;
 #[cfg(test)]
 mod options;

@@ -29,7 +29,7 @@ fn some_edges<R: Threads + Wait>(rt: &R, alloc: Global) -> Result<Pin, Fail> {
 }
 
 /// The verified program of a line: its name, its record length and its code, with a bar between.
-fn program_of(alloc: Global, line: &str) -> Result<Verified, Fail> {
+pub(crate) fn program_of(alloc: Global, line: &str) -> Result<Verified, Fail> {
     let (_, parts) = line.split_once('|').ok_or("no name")?;
     let (length, code) = parts.split_once('|').ok_or("no length")?;
     let Ok(length) = length.parse::<u16>() else {
