@@ -1,6 +1,6 @@
 //! Rows of events and replies, by hand: a letter for each.
 use crate::edits::batch_of;
-use graph_model::Edit;
+use graph_model::{Edit, MOST_EDITS, MOST_VERTICES};
 use std::alloc::{AllocError, Global};
 use std::test::Fail;
 use stream_core::{Event, Reply, World, step};
@@ -18,16 +18,26 @@ fn submission(alloc: Global, feed: u8, edits: &[Edit]) -> Result<Event, AllocErr
     Ok(Event::Submit { feed, batch })
 }
 
+// As many edges out of vertex 0 as a batch may have edits.
+fn most_edits(alloc: Global) -> Result<Vec<Edit>, AllocError> {
+    let mut edits = Vec::new(alloc);
+    for target in 0..MOST_EDITS as u32 {
+        edits.push(Edit::Insert(0, target))?;
+    }
+    Ok(edits)
+}
+
 const fn pin(reader: u8, vertex: u32) -> Event {
     Event::Pin { reader, vertex }
 }
 
-// The event of a letter: `s` and `w` submit, `f` by a feed that there is not, `v` and `u` edges of a vertex that there is not; `t`
+// The event of a letter: `s`, `w` and `m` submit, `m` the most edits, `f` by a feed that there is not, `v` and `u` edges of a vertex that there is not; `t`
 // takes, a digit is a part, `p` publishes; capital letters pin, and small ones of the same lend.
 fn event_of(alloc: Global, letter: char) -> Result<Event, AllocError> {
     match letter {
         's' => submission(alloc, 0, &[Edit::Insert(0, 1)]),
         'w' => submission(alloc, 1, &TWO_RANGES),
+        'm' => submission(alloc, 0, &most_edits(alloc)?),
         'f' => submission(alloc, 2, &[Edit::Insert(0, 1)]),
         'v' => submission(alloc, 0, &[Edit::Insert(300, 0)]),
         'u' => submission(alloc, 1, &[Edit::Remove(0, 300)]),
@@ -81,6 +91,12 @@ fn from_opening(alloc: Global, letters: &str) -> Result<String, AllocError> {
     signs_of(alloc, &mut world, letters)
 }
 
+// The same in the greatest store.
+fn from_greatest(alloc: Global, letters: &str) -> Result<String, AllocError> {
+    let mut world = World::new(alloc, MOST_VERTICES)?;
+    signs_of(alloc, &mut world, letters)
+}
+
 // A reader pins before a batch is published, and again after it; where nothing has happened only the last of the next
 // events can; what cannot be submitted; parts in either order, each of them tried once more or too early; and 65 batches, of
 // which the last has no room.
@@ -102,5 +118,13 @@ fn rows(rt: HostRuntime) -> Result<(), Fail> {
         let signs = from_opening(rt.alloc(), letters)?;
         assert_eq!(rt; signs.as_str(), wanted, "{letters}");
     }
+    Ok(())
+}
+
+// What a vertex of 65,536 neighbours is lent is a slice of several words.
+#[test]
+fn the_most_edits_in_the_greatest_store(rt: HostRuntime) -> Result<(), Fail> {
+    let signs = from_greatest(rt.alloc(), "mt0pAa")?;
+    assert_eq!(rt; signs.as_str(), "ddddds");
     Ok(())
 }
