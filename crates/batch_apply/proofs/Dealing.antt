@@ -4,7 +4,7 @@ use Rattle.std.specs.declared.alloc.Global.{Global}
 use Rattle.std.proofs.lemmas.Bool.{cases_Bool, cases_lt}
 use Rattle.std.proofs.lemmas.Nat.{div-add-mod'}
 use Rattle.std.proofs.lemmas.List.{get_or_push, get_or_append_left, length_push, length-map, get_or-map}
-use Rattle.graph_model.specs.declared.limits.TheConstants.{MOST_RANGES}
+use Rattle.past_model.specs.declared.limits.TheConstants.{MOST_RANGES}
 use Rattle.migration.specs.declared.edited_shard.EditedShard.{EditedShard}
 use Rattle.migration.specs.Groups.{Grouped, edits_of, is_filled, filled_below, filled_groups}
 use Rattle.migration.specs.Part.{Part, AreEditsOf}

@@ -4,7 +4,7 @@ use Rattle.std.specs.List.{AllByRecursion}
 use Rattle.std.proofs.Math.Seq.{drop-append_seam, take-length}
 use Rattle.std.proofs.lemmas.List.{take-append-le, drop-append-le, length-drop, map-append}
 use Rattle.std.proofs.lemmas.List.Elements.{All-weaker, recursion_from_All}
-use Rattle.graph_model.specs.declared.edit.Edit.{Edit}
+use Rattle.past_model.specs.declared.edit.Edit.{Edit}
 use Rattle.batch_apply.specs.declared.pieces.Run.{Run}
 use Rattle.batch_apply.specs.Pieces.{piece_in, IsWithin}
 

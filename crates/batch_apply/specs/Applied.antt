@@ -1,9 +1,9 @@
 -- What is answered for a batch.
 use Rattle.std.specs.Prelude.{◌<◌, ◌≤◌, List, length, Result, Ok, Err}
-use Rattle.graph_model.specs.declared.limits.TheConstants.{MOST_EDITS}
-use Rattle.graph_model.specs.declared.edit.Edit.{Edit}
+use Rattle.past_model.specs.declared.limits.TheConstants.{MOST_EDITS}
+use Rattle.past_model.specs.declared.edit.Edit.{Edit}
 use Rattle.graph_model.specs.Graph.{Graph}
-use Rattle.graph_model.specs.Edits.{AreEditsBelow}
+use Rattle.past_model.specs.Edits.{AreEditsBelow}
 use Rattle.migration.specs.declared.counts.Counts.{Counts}
 use Rattle.migration.specs.Part.{Part}
 use Rattle.migration.specs.Table.{IsTable, AreAfter, AreMoved}

@@ -1,7 +1,7 @@
 -- The edits of a batch by ranges, and the pieces of work that they are, dealt to workers in turn.
 use Rattle.std.specs.Prelude.{ℕ, ◌+◌, ◌*◌, ◌<◌, List, length, map, Vec, slice_index_or}
 use Rattle.std.specs.declared.alloc.Global.{Global}
-use Rattle.graph_model.specs.declared.edit.Edit.{Edit}
+use Rattle.past_model.specs.declared.edit.Edit.{Edit}
 use Rattle.migration.specs.declared.edited_shard.EditedShard.{EditedShard}
 use Rattle.migration.specs.Groups.{Grouped, edits_of, filled_groups}
 use Rattle.migration.specs.Part.{Part, AreEditsOf}

@@ -1,6 +1,6 @@
 -- Ranges with their edits, where these lie one behind another.
 use Rattle.std.specs.Prelude.{ℕ, ◌-◌, ◌≤◌, List, take, drop}
-use Rattle.graph_model.specs.declared.edit.Edit.{Edit}
+use Rattle.past_model.specs.declared.edit.Edit.{Edit}
 use Rattle.batch_apply.specs.declared.pieces.Run.{Run}
 use Rattle.batch_apply.specs.Dealt.{Piece}
 

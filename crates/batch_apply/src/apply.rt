@@ -1,14 +1,14 @@
 //! A batch on a table of shards.
 ghost use Rattle.std.specs.Prelude.{◌≡◌, ◌↔◌, true};
-ghost use Rattle.graph_model.specs.Edits.{AreEditsBelow};
+ghost use Rattle.past_model.specs.Edits.{AreEditsBelow};
 ghost use Rattle.migration.specs.Table.{IsOfGraph};
 ghost use Rattle.batch_apply.specs.Applied.{IsApplied};
 
 use crate::edited::edit_table;
 use crate::errors::ApplyError;
 use gates::{Gate, Workers};
-use graph_model::{Batch, Edit, MOST_EDITS};
 use migration::{Counts, Table};
+use past_model::{Batch, Edit, MOST_EDITS};
 use std::alloc::Global;
 use std::sync::Wait;
 use std::thread::Threads;

@@ -1,14 +1,14 @@
 //! A batch's edits by ranges, as the batch alone tells.
 ghost use Rattle.std.specs.Prelude.{◌≡◌, IfOk};
-ghost use Rattle.graph_model.specs.declared.limits.TheConstants.{MOST_VERTICES};
-ghost use Rattle.graph_model.specs.Edits.{AreEditsBelow};
+ghost use Rattle.past_model.specs.declared.limits.TheConstants.{MOST_VERTICES};
+ghost use Rattle.past_model.specs.Edits.{AreEditsBelow};
 ghost use Rattle.batch_apply.specs.Splits.{IsSplit, IsSplitBatch, by_ranges};
 
 use crate::apply::are_below;
 use crate::errors::ApplyError;
 use crate::grouped::linked;
 use crate::runs::{cut, sorted};
-use graph_model::{Batch, Edit, MOST_EDITS, MOST_VERTICES};
+use past_model::{Batch, Edit, MOST_EDITS, MOST_VERTICES};
 use std::alloc::{AllocError, Global};
 use std::thread::Threads;
 

@@ -1,6 +1,6 @@
 //! A table of shards after a batch.
 ghost use Rattle.std.specs.Prelude.{◌≡◌, ◌<◌, ◌≤◌, All, length, IfOk};
-ghost use Rattle.graph_model.specs.declared.limits.TheConstants.{MOST_RANGES};
+ghost use Rattle.past_model.specs.declared.limits.TheConstants.{MOST_RANGES};
 ghost use Rattle.gates.specs.declared.limits.TheConstants.{MOST_WORKERS};
 ghost use Rattle.migration.specs.Made.{IsBatch};
 ghost use Rattle.migration.specs.Table.{IsEditable, AreAfter, AreMoved};
@@ -9,8 +9,8 @@ ghost use Rattle.batch_apply.specs.Dealt.{IsReady, AreDealt, pieces_of};
 use crate::hands::{spread, work_alone};
 use crate::pieces::Pieces;
 use gates::{Gate, Refusal, Workers};
-use graph_model::Edit;
 use migration::{Counts, EditedShard, Grouping, Groups, Table};
+use past_model::Edit;
 use std::alloc::{AllocError, Global};
 use std::sync::Wait;
 use std::thread;

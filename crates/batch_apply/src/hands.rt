@@ -1,6 +1,6 @@
 //! Workers, to whom the edited ranges are dealt in turn.
 ghost use Rattle.std.specs.Prelude.{◌≡◌, ◌<◌, ◌≤◌, All, length, IfOk};
-ghost use Rattle.graph_model.specs.declared.limits.TheConstants.{MOST_RANGES};
+ghost use Rattle.past_model.specs.declared.limits.TheConstants.{MOST_RANGES};
 ghost use Rattle.gates.specs.declared.limits.TheConstants.{MOST_WORKERS};
 ghost use Rattle.batch_apply.specs.Dealt.{IsReady, IsDealt, AreDealt};
 

@@ -1,10 +1,10 @@
 //! The edits of a batch in the order of their ranges.
 ghost use Rattle.std.specs.Prelude.{◌≡◌, ◌<◌, ◌≤◌, ◌++◌, ◌∷◌, [], length, slice_index_or, IfOk};
-ghost use Rattle.graph_model.specs.declared.limits.TheConstants.{MOST_RANGES};
+ghost use Rattle.past_model.specs.declared.limits.TheConstants.{MOST_RANGES};
 ghost use Rattle.batch_apply.specs.Dealt.{Piece, pieces_of};
 
-use graph_model::Edit;
 use migration::Groups;
+use past_model::Edit;
 use std::alloc::{AllocError, Global};
 use std::marker::Model;
 

@@ -1,22 +1,23 @@
 -- Worked programs that ask the graph: what comes of each after so many steps, on small graphs that are given
 -- by their edges. Each follows from the definitions by computing. Codes are instruction by instruction, as
 -- bytes.
-use Rattle.std.specs.Prelude.{ℕ, pos, List, [], ◌∷◌, ◌++◌}
-use Rattle.graph_model.specs.declared.edit.Edit.TheVariants.{Insert}
-use Rattle.graph_model.specs.Graph.{Graph, empty_graph}
-use Rattle.graph_model.specs.Edits.{after_batch}
+use Rattle.std.specs.Prelude.{ℕ, ◌==◌, nat_lt, ◌&&◌, pos, List, [], ◌∷◌, ◌++◌}
+use Rattle.graph_model.specs.Graph.{Graph}
 use Rattle.bpf_model.specs.declared.trap.TrapKind.TheVariants.{UnsetRegister, UnknownHelper, RoomNotAllowed}
 use Rattle.bpf_model.specs.Next.{Exits, Traps}
-use Rattle.bpf_model.specs.EdgeMap.{edge_record}
 use Rattle.bpf_model.specs.CallRows.{code_unit, exit, Leads}
 
 -- four vertices with the edges 0-1, 0-2 and 1-2
 abbrev pub triangle : Graph
-triangle = after_batch (Insert 0 1 ∷ Insert 0 2 ∷ Insert 1 2 ∷ []) (empty_graph 4)
+triangle = record { vertex_count = 4; has_edge = λ u v. nat_lt u v && nat_lt v 3 }
 
 -- four vertices with the edges 0-1, 0-2 and 0-3
 abbrev pub star : Graph
-star = after_batch (Insert 0 1 ∷ Insert 0 2 ∷ Insert 0 3 ∷ []) (empty_graph 4)
+star = record { vertex_count = 4; has_edge = λ u v. (u == 0) && (nat_lt 0 v && nat_lt v 4) }
+
+-- the record of the star's edge 0-1: its source, its target, the target's place and the source's degree
+abbrev pub star_record : List ℕ
+star_record = 0 ∷ 0 ∷ 0 ∷ 0 ∷ 1 ∷ 0 ∷ 0 ∷ 0 ∷ 0 ∷ 0 ∷ 0 ∷ 0 ∷ 3 ∷ 0 ∷ 0 ∷ 0 ∷ []
 
 -- mov rN, n
 abbrev pub set_register : ℕ → ℕ → List ℕ
@@ -54,5 +55,5 @@ WorkedHelpers =
     × Leads triangle bytes (call_number 4 ++ exit) 2 (Exits 4)
     × Leads triangle bytes (call_number 6 ++ exit) 1 (Traps UnknownHelper (pos 0))
     × Leads triangle bytes argument_behind_helper 3 (Traps UnsetRegister (pos 2))
-    × Leads star (edge_record star 0 1 0 []) (gather_to_stack 16) 8 (Exits 4294967295)
-    × Leads star (edge_record star 0 1 0 []) (gather_to_stack 18) 6 (Traps RoomNotAllowed (pos 5))
+    × Leads star star_record (gather_to_stack 16) 8 (Exits 4294967295)
+    × Leads star star_record (gather_to_stack 18) 6 (Traps RoomNotAllowed (pos 5))

@@ -5,7 +5,6 @@ pub mod Calls
 pub mod Helpers
 pub mod Step
 pub mod Run
-pub mod EdgeMap
 pub mod CallRows
 pub mod HelperRows
 pub mod ArithmeticLaws

@@ -1,6 +1,5 @@
 //! Limits of runs and programs, and where the memory of a run lies. Clauses and definitions cite them by
 //! name.
-use bpf_image::LEAST_RECORD_LENGTH;
 
 /// The address at which the record begins.
 pub const RECORD_BASE: u64 = 0x1_0000_0000;
@@ -19,6 +18,3 @@ pub const MOST_FRAMES: usize = 8;
 
 /// How many bytes the helper gather may be lent at most.
 pub const MOST_GATHER_BYTES: usize = 256;
-
-/// How many bytes of its record are the edge's own; the argument comes after them.
-pub const EDGE_BYTES: usize = LEAST_RECORD_LENGTH as usize;

@@ -1,6 +1,6 @@
 -- What a cursor lends, as an event of the store.
 use Rattle.std.proofs.Common.{◌≡◌, ◌<◌, ℕ, Option, Some, None, MatchOption, List, [], ◌++◌, length, sym, subst}
-use Rattle.graph_model.specs.Past.{Past}
+use Rattle.past_model.specs.Past.{Past}
 use Rattle.handle_model.specs.Calls.{IsLend}
 use Rattle.handle_model.proofs.Lending.{lends_are}
 

@@ -1,6 +1,6 @@
 //! Single questions to a graph in shards.
 ghost use Rattle.std.specs.Prelude.{◌≡◌, ◌≤◌, ◌↔◌, length, slice_get, Contains, IsTrue};
-ghost use Rattle.graph_model.specs.declared.limits.TheConstants.{MOST_VERTICES};
+ghost use Rattle.past_model.specs.declared.limits.TheConstants.{MOST_VERTICES};
 ghost use Rattle.graph_model.specs.Graph.{Graph, neighbours};
 ghost use Rattle.migration.specs.Table.{IsShardOf};
 

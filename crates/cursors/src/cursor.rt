@@ -1,8 +1,8 @@
 //! A vertex's neighbours, slice by slice.
 ghost use Rattle.std.specs.Prelude.{◌≡◌, ◌<◌, ◌≤◌, ◌++◌, ℕ, [], length, drop, Some, None, MatchOption};
-ghost use Rattle.graph_model.specs.declared.limits.TheConstants.{MOST_VERTICES};
+ghost use Rattle.past_model.specs.declared.limits.TheConstants.{MOST_VERTICES};
 ghost use Rattle.graph_model.specs.Graph.{Graph, neighbours};
-ghost use Rattle.graph_model.specs.Past.{Past};
+ghost use Rattle.past_model.specs.Past.{Past};
 ghost use Rattle.handle_model.specs.Calls.{IsLend};
 ghost use Rattle.migration.specs.Part.{row_at};
 ghost use Rattle.migration.specs.Table.{IsShardOf};

@@ -4,8 +4,8 @@ ghost use Rattle.graph_model.specs.Graph.{Graph, neighbours};
 ghost use Rattle.migration.specs.Part.{row_at};
 ghost use Rattle.migration.specs.Table.{IsShardOf};
 
-use graph_model::RANGE_VERTICES;
 use migration::Shard;
+use past_model::RANGE_VERTICES;
 
 /// A vertex's list by the shard in which it stands and its place there. A vertex outside the graph has none.
 pub(crate) fn place_of(shard: Option<&Shard>, vertex: u64) -> Option<(&Shard, u8)>

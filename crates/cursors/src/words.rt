@@ -1,7 +1,7 @@
 //! A vertex's neighbours as the bytes of words, with which a part of a program's memory is filled.
 ghost use Rattle.std.specs.Prelude.{◌≡◌, ◌+◌, ◌*◌, ◌/◌, ◌%◌, ◌≤◌, [], ◌∷◌, ◌++◌, length, take, drop, min, MatchOption};
 ghost use Rattle.std.specs.Int.{w32, to_le_bytes};
-ghost use Rattle.graph_model.specs.declared.limits.TheConstants.{MOST_VERTICES};
+ghost use Rattle.past_model.specs.declared.limits.TheConstants.{MOST_VERTICES};
 ghost use Rattle.graph_model.specs.Graph.{Graph};
 ghost use Rattle.graph_model.specs.Views.{words_from, neighbour_words, neighbours_among, word_bytes};
 ghost use Rattle.migration.specs.Table.{IsShardOf};

@@ -7,11 +7,12 @@ use Rattle.std.proofs.Math.Seq.{take-add, take-append_seam, drop-append_seam}
 use Rattle.std.proofs.lemmas.List.Elements.{filter_map-append}
 use Rattle.bpf_image.specs.Program.{Program}
 use Rattle.graph_model.specs.Graph.{Graph}
-use Rattle.graph_model.specs.declared.limits.TheConstants.{MOST_VERTICES}
-use Rattle.bpf_model.specs.declared.reduction.Reduction.{Reduction}
-use Rattle.bpf_model.specs.declared.reduction.Reduction.TheVariants.{Max}
-use Rattle.bpf_model.specs.declared.limits.TheConstants.{EDGE_BYTES}
-use Rattle.bpf_model.specs.EdgeMap.{edge_record, number_for, numbers_from, reduction_of_numbers}
+use Rattle.past_model.specs.declared.limits.TheConstants.{MOST_VERTICES}
+use Rattle.map_model.specs.declared.reduction.Reduction.{Reduction}
+use Rattle.map_model.specs.declared.reduction.Reduction.TheVariants.{Max}
+use Rattle.map_model.specs.declared.limits.TheConstants.{EDGE_BYTES}
+use Rattle.bpf_model.specs.Run.{number_for}
+use Rattle.map_model.specs.EdgeMap.{edge_record, numbers_from, reduction_of_numbers}
 use Rattle.verifier.specs.Walks.{longest}
 use Rattle.edge_fold.specs.declared.edge.Edge.{Edge}
 use Rattle.edge_fold.specs.Numbers.{combination, record_bytes, BeginAlike}

@@ -8,10 +8,10 @@ mod outcome;
 mod rows;
 mod span;
 
-pub use bpf_model::{EDGE_BYTES, Reduction, Row};
 pub use bpf_runs::Memory;
 pub use edge::Edge;
 pub use fold::{combine, map_frontier, nothing, number_for_edge};
+pub use map_model::{EDGE_BYTES, Reduction, Row};
 pub use outcome::MapOutcome;
 pub use rows::Rows;
 pub use verifier::Verified;

@@ -3,14 +3,14 @@ use Rattle.std.proofs.Common.{◌≡◌, ℕ, ◌+◌, ◌*◌, ◌++◌, List, 
 use Rattle.std.proofs.Math.Seq.{take-add}
 use Rattle.std.proofs.lemmas.List.{take_all, map-append}
 use Rattle.std.proofs.lemmas.Grind.{flat_map-append}
-use Rattle.bpf_model.specs.EdgeMap.{exit_numbers, all_numbers, row_of, rows_of}
+use Rattle.map_model.specs.EdgeMap.{exit_numbers, all_numbers, row_of, rows_of}
 use Rattle.verifier.specs.Walks.{longest}
 use Rattle.edge_fold.specs.declared.outcome.MapOutcome.{MapOutcome}
 use Rattle.edge_fold.specs.Numbers.{combination}
 use Rattle.edge_fold.specs.Rows.{told_rows}
 use Rattle.edge_fold.proofs.Reductions.{total_more}
 use Rattle.edge_fold.proofs.RowFacts.{told_append}
-use Rattle.bpf_model.specs.declared.row.Row.{Row}
+use Rattle.map_model.specs.declared.row.Row.{Row}
 use Rattle.edge_map.specs.Maps.{IsMap}
 use Rattle.edge_map.specs.Pieces.{Task, IsPart, piece_count, piece_of}
 

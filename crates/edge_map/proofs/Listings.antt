@@ -4,8 +4,9 @@ use Rattle.std.specs.Prelude.{Option, Some, None}
 use Rattle.std.specs.List.{flat_map, filter_map}
 use Rattle.std.proofs.lemmas.List.Elements.{filter_map-append}
 use Rattle.bpf_image.specs.Program.{Program}
-use Rattle.bpf_model.specs.declared.listed_edge.ListedEdge.{ListedEdge}
-use Rattle.bpf_model.specs.EdgeMap.{edge_record, number_for, edge_with_number, numbered_from, listed_of, listed_edges}
+use Rattle.map_model.specs.declared.listed_edge.ListedEdge.{ListedEdge}
+use Rattle.bpf_model.specs.Run.{number_for}
+use Rattle.map_model.specs.EdgeMap.{edge_record, edge_with_number, numbered_from, listed_of, listed_edges}
 use Rattle.graph_model.specs.Graph.{Graph, numbers_below, neighbours, degree}
 use Rattle.verifier.specs.Walks.{longest}
 use Rattle.edge_fold.specs.declared.edge.Edge.{Edge}

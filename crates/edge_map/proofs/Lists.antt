@@ -1,7 +1,7 @@
 -- The edges that were listed, and those that are left.
 use Rattle.std.proofs.Common.{◌≡◌, ℕ, ◌≤◌, List, [], ◌++◌, length, take, drop, sym, ap, ◌∙◌, append-nil}
 use Rattle.std.proofs.lemmas.List.{take_all, drop_all, take_at, drop_at}
-use Rattle.bpf_model.specs.declared.listed_edge.ListedEdge.{ListedEdge}
+use Rattle.map_model.specs.declared.listed_edge.ListedEdge.{ListedEdge}
 
 -- a block that is full
 pub full_block : (all block left : List ListedEdge) (n : ℕ) → all ≡ block ++ left → length block ≡ n → (block ≡ take n all) × (left ≡ drop n all)

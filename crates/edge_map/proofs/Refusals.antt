@@ -1,7 +1,7 @@
 -- What the tests of a map's arguments say.
 use Rattle.std.proofs.Common.{◌≡◌, ℕ, List, Result, Ok, Err, IsErrAnd, true, false, sym, subst, arith}
 use Rattle.bpf_image.specs.Program.{Program}
-use Rattle.bpf_model.specs.declared.reduction.Reduction.{Reduction}
+use Rattle.map_model.specs.declared.reduction.Reduction.{Reduction}
 use Rattle.graph_model.specs.Graph.{Graph}
 use Rattle.gates.specs.declared.refusal.Refusal.{Refusal}
 use Rattle.gates.specs.declared.refusal.Refusal.TheVariants.{OutOfMemory, WorkerRefused}

@@ -1,8 +1,8 @@
 -- The edges of a graph that a walk has still ahead.
 use Rattle.std.specs.Prelude.{◌≡◌, ℕ, ◌+◌, ◌<◌, ◌≤◌, List, [], ◌++◌, drop, Option, Some, None}
 use Rattle.std.specs.List.{flat_map}
-use Rattle.graph_model.specs.declared.limits.TheConstants.{MOST_VERTICES}
-use Rattle.graph_model.specs.Past.{Past}
+use Rattle.past_model.specs.declared.limits.TheConstants.{MOST_VERTICES}
+use Rattle.past_model.specs.Past.{Past}
 use Rattle.graph_model.specs.Graph.{Graph, numbers_below, neighbours, degree}
 use Rattle.edge_fold.specs.declared.edge.Edge.{Edge}
 use Rattle.edge_map.specs.Listing.{edges_from, edges_of}

@@ -2,13 +2,14 @@
 use Rattle.std.specs.Prelude.{◌≡◌, ℕ, ◌+◌, List, [], ◌∷◌, Option, Result, Ok, Err}
 use Rattle.std.specs.List.{flat_map, filter_map}
 use Rattle.bpf_image.specs.Program.{Program}
-use Rattle.bpf_model.specs.EdgeMap.{edge_record, number_for, edge_with_number, listed_edges}
+use Rattle.bpf_model.specs.Run.{number_for}
+use Rattle.map_model.specs.EdgeMap.{edge_record, edge_with_number, listed_edges}
 use Rattle.graph_model.specs.Graph.{Graph, numbers_below, neighbours, degree}
 use Rattle.verifier.specs.Walks.{longest}
 use Rattle.edge_fold.specs.declared.edge.Edge.{Edge}
 use Rattle.edge_map.specs.declared.errors.MapError.{MapError}
 use Rattle.edge_map.specs.declared.errors.MapError.TheVariants.{ArgumentLength, Frontier, OutOfMemory, WorkerRefused}
-use Rattle.bpf_model.specs.declared.listed_edge.ListedEdge.{ListedEdge}
+use Rattle.map_model.specs.declared.listed_edge.ListedEdge.{ListedEdge}
 use Rattle.edge_map.specs.Maps.{FitsRecord}
 
 -- the edges from a source to some of its neighbours, of which the first stands at a place

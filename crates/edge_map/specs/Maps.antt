@@ -2,10 +2,10 @@
 use Rattle.std.specs.Prelude.{◌≡◌, ℕ, ◌+◌, ◌<◌, List, length, All, Result, Ok, Err}
 use Rattle.std.specs.List.Sorted.{IsStrictlyIncreasing}
 use Rattle.bpf_image.specs.Program.{Program}
-use Rattle.bpf_model.specs.declared.reduction.Reduction.{Reduction}
-use Rattle.bpf_model.specs.EdgeMap.{all_numbers, rows_of, reduction_of_numbers}
+use Rattle.map_model.specs.declared.reduction.Reduction.{Reduction}
+use Rattle.map_model.specs.EdgeMap.{all_numbers, rows_of, reduction_of_numbers}
 use Rattle.graph_model.specs.Graph.{Graph}
-use Rattle.bpf_model.specs.declared.limits.TheConstants.{EDGE_BYTES}
+use Rattle.map_model.specs.declared.limits.TheConstants.{EDGE_BYTES}
 use Rattle.verifier.specs.Walks.{longest}
 use Rattle.edge_fold.specs.declared.outcome.MapOutcome.{MapOutcome}
 use Rattle.edge_fold.specs.declared.rows.Rows.{Rows}

@@ -1,8 +1,8 @@
 -- A map in pieces, and what workers that claim them have done.
 use Rattle.std.specs.Prelude.{◌≡◌, ℕ, ◌+◌, ◌*◌, ◌/◌, ◌<◌, ◌≤◌, List, length, map, take, drop, All, Option, Some, None, slice_index_or}
 use Rattle.bpf_image.specs.Program.{Program}
-use Rattle.bpf_model.specs.declared.reduction.Reduction.{Reduction}
-use Rattle.graph_model.specs.declared.limits.TheConstants.{MOST_VERTICES}
+use Rattle.map_model.specs.declared.reduction.Reduction.{Reduction}
+use Rattle.past_model.specs.declared.limits.TheConstants.{MOST_VERTICES}
 use Rattle.graph_model.specs.Graph.{Graph}
 use Rattle.atomic_table.specs.Seated.{TableId}
 use Rattle.claims.specs.Claims.{Claiming, times}

@@ -1,5 +1,5 @@
 -- A plan's task.
-use Rattle.graph_model.specs.Past.{graph_of}
+use Rattle.past_model.specs.Past.{graph_of}
 use Rattle.edge_map.specs.declared.plan.Plan.{Plan}
 use Rattle.edge_map.specs.Pieces.{Task, task}
 

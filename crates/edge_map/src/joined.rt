@@ -1,6 +1,6 @@
 //! What all workers did, in the frontier's order again.
 ghost use Rattle.std.specs.Prelude.{◌≡◌, ◌<◌, ◌≤◌, length, slice_index_or, None, IfOk};
-ghost use Rattle.graph_model.specs.declared.limits.TheConstants.{MOST_VERTICES};
+ghost use Rattle.past_model.specs.declared.limits.TheConstants.{MOST_VERTICES};
 ghost use Rattle.edge_map.specs.Maps.{IsMap};
 ghost use Rattle.edge_map.specs.Pieces.{Task, IsWorkDone, ArePlaced, piece_count};
 ghost use Rattle.edge_map.specs.Plans.{task_of};

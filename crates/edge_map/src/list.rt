@@ -1,7 +1,7 @@
 //! All edges of a version with their numbers, block by block.
 ghost use Rattle.std.specs.Prelude.{◌≡◌, ◌≤◌, [], take, drop, OnOk, OnErr};
 ghost use Rattle.std.specs.Vec.{vec_capacity};
-ghost use Rattle.graph_model.specs.Past.{graph_of};
+ghost use Rattle.past_model.specs.Past.{graph_of};
 ghost use Rattle.edge_map.specs.declared.limits.TheConstants.{BLOCK_EDGES};
 ghost use Rattle.edge_map.specs.Listing.{listing, IsListed};
 ghost use Rattle.edge_map.specs.Maps.{FitsRecord};
@@ -9,8 +9,8 @@ ghost use Rattle.edge_map.specs.Maps.{FitsRecord};
 use crate::errors::MapError;
 use crate::limits::BLOCK_EDGES;
 use crate::walk::Walk;
-use bpf_model::{EDGE_BYTES, ListedEdge};
 use edge_fold::{Memory, number_for_edge};
+use map_model::{EDGE_BYTES, ListedEdge};
 use std::alloc::AllocError;
 use std::marker::Model;
 use verifier::Verified;
@@ -64,8 +64,8 @@ pub struct EdgeList<'a> {
 
 impl<'a> Model for EdgeList<'a> {
     ghost use Rattle.std.specs.Prelude.{◌≡◌, List};
-    ghost use Rattle.graph_model.specs.Past.{graph_of};
-    ghost use Rattle.bpf_model.specs.declared.listed_edge.ListedEdge.{ListedEdge};
+    ghost use Rattle.past_model.specs.Past.{graph_of};
+    ghost use Rattle.map_model.specs.declared.listed_edge.ListedEdge.{ListedEdge};
     ghost use Rattle.edge_map.specs.Listing.{listing};
     ghost use Rattle.edge_map.specs.Maps.{FitsRecord};
 

@@ -1,8 +1,8 @@
 //! A map over edges.
 ghost use Rattle.std.specs.Prelude.{◌≡◌, ◌+◌, ◌<◌, ◌≤◌, [], length, IfOk};
-ghost use Rattle.graph_model.specs.declared.limits.TheConstants.{MOST_VERTICES};
-ghost use Rattle.graph_model.specs.Past.{graph_of};
-ghost use Rattle.bpf_model.specs.declared.limits.TheConstants.{EDGE_BYTES};
+ghost use Rattle.past_model.specs.declared.limits.TheConstants.{MOST_VERTICES};
+ghost use Rattle.past_model.specs.Past.{graph_of};
+ghost use Rattle.map_model.specs.declared.limits.TheConstants.{EDGE_BYTES};
 ghost use Rattle.gates.specs.declared.limits.TheConstants.{MOST_WORKERS};
 ghost use Rattle.claims.specs.declared.limits.TheConstants.{PARTS};
 ghost use Rattle.edge_fold.specs.declared.rows.Rows.TheVariants.{OfEach, OfSources};
@@ -17,10 +17,10 @@ use crate::joined::joined;
 use crate::piece::count_pieces;
 use crate::plan::Plan;
 use crate::work::{spread, work};
-use bpf_model::{EDGE_BYTES, Reduction};
 use claims::{Claimant, Counter};
 use edge_fold::{MapOutcome, Rows};
 use gates::{Gate, Refusal, Workers};
+use map_model::{EDGE_BYTES, Reduction};
 use std::alloc::{AllocError, Global};
 use std::sync::Wait;
 use std::thread;

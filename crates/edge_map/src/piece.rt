@@ -1,6 +1,6 @@
 //! A piece of a map: so many places of the frontier.
 ghost use Rattle.std.specs.Prelude.{◌≡◌, ◌<◌, ◌≤◌, IfOk};
-ghost use Rattle.graph_model.specs.declared.limits.TheConstants.{MOST_VERTICES};
+ghost use Rattle.past_model.specs.declared.limits.TheConstants.{MOST_VERTICES};
 ghost use Rattle.edge_map.specs.Pieces.{IsPart, piece_count};
 ghost use Rattle.edge_map.specs.Plans.{task_of};
 

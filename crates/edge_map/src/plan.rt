@@ -1,11 +1,11 @@
 //! What workers are to do together.
 ghost use Rattle.std.specs.Prelude.{◌≡◌, ◌+◌, ◌≤◌, length};
-ghost use Rattle.graph_model.specs.declared.limits.TheConstants.{MOST_VERTICES};
-ghost use Rattle.bpf_model.specs.declared.limits.TheConstants.{EDGE_BYTES};
+ghost use Rattle.past_model.specs.declared.limits.TheConstants.{MOST_VERTICES};
+ghost use Rattle.map_model.specs.declared.limits.TheConstants.{EDGE_BYTES};
 
-use bpf_model::Reduction;
 use claims::Counter;
 use edge_fold::Rows;
+use map_model::Reduction;
 use verifier::Verified;
 use version::Version;
 

@@ -1,8 +1,8 @@
 //! The edges of a version, one after another.
 ghost use Rattle.std.specs.Prelude.{◌≡◌, ◌<◌, ◌∷◌, [], MatchOption, IfSome};
-ghost use Rattle.graph_model.specs.declared.limits.TheConstants.{MOST_VERTICES};
+ghost use Rattle.past_model.specs.declared.limits.TheConstants.{MOST_VERTICES};
 ghost use Rattle.graph_model.specs.Graph.{degree};
-ghost use Rattle.graph_model.specs.Past.{graph_of};
+ghost use Rattle.past_model.specs.Past.{graph_of};
 ghost use Rattle.edge_map.specs.Listing.{all_edges};
 ghost use Rattle.edge_map.specs.Ahead.{IsNextSource};
 
@@ -37,7 +37,7 @@ pub(crate) struct Walk<'a> {
 }
 
 impl<'a> Model for Walk<'a> {
-    ghost use Rattle.graph_model.specs.Past.{graph_of};
+    ghost use Rattle.past_model.specs.Past.{graph_of};
     ghost use Rattle.edge_map.specs.Ahead.{Ahead, edges_at, IsAt};
 
     ghost Value = { Ahead };

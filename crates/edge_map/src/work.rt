@@ -1,8 +1,8 @@
 //! Workers that claim one piece after another.
 ghost use Rattle.std.specs.Prelude.{◌≡◌, ◌+◌, ◌<◌, ◌≤◌, [], length, IfOk};
-ghost use Rattle.graph_model.specs.declared.limits.TheConstants.{MOST_VERTICES};
-ghost use Rattle.graph_model.specs.Past.{graph_of};
-ghost use Rattle.bpf_model.specs.declared.limits.TheConstants.{EDGE_BYTES};
+ghost use Rattle.past_model.specs.declared.limits.TheConstants.{MOST_VERTICES};
+ghost use Rattle.past_model.specs.Past.{graph_of};
+ghost use Rattle.map_model.specs.declared.limits.TheConstants.{EDGE_BYTES};
 ghost use Rattle.edge_map.specs.Pieces.{IsWork, task};
 ghost use Rattle.edge_map.specs.Plans.{task_of};
 

@@ -2,8 +2,8 @@
 //! the greatest graph.
 use batch_apply::{ApplyError, apply_batch, split};
 use gates::{OpenGate, Workers};
-use graph_model::{Batch, Edit, MOST_VERTICES};
 use migration::Table;
+use past_model::{Batch, Edit, MOST_VERTICES};
 use std::alloc::{AllocError, Global};
 use std::sync::Wait;
 use std::test::Fail;

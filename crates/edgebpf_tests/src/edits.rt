@@ -1,7 +1,7 @@
 //! Batches of edits, for tests.
 ghost use Rattle.std.specs.Prelude.{◌≡◌, IfOk};
 
-use graph_model::{Batch, Edit};
+use past_model::{Batch, Edit};
 use std::alloc::{AllocError, Global};
 
 /// The batch of these edits.

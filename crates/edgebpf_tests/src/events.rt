@@ -1,6 +1,6 @@
 //! Rows of events and replies, by hand: a letter for each.
 use crate::edits::batch_of;
-use graph_model::{Edit, MOST_EDITS, MOST_VERTICES};
+use past_model::{Edit, MOST_EDITS, MOST_VERTICES};
 use std::alloc::{AllocError, Global};
 use std::test::Fail;
 use stream_core::{Event, Reply, World, step};

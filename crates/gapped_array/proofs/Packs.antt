@@ -1,9 +1,8 @@
 -- Runs that are moved together.
 use Rattle.std.proofs.Common.{◌≡◌, ◌≢◌, ℕ, zero, suc, ◌+◌, ◌*◌, ◌<◌, ◌≤◌, ◌⊎◌, inl, inr, true, false, cond, ltb, List, [], ◌∷◌, ◌++◌, length, take, drop, get_or, set, Option, Some, None, sum_by, refl, sym, ap, ap₂, subst, ◌∙◌, arith, lt-ltb, le-ltb, length-append, length-drop, append_assoc}
 use Rattle.std.proofs.lemmas.Bool.{cases_lt, cases_eq}
-use Rattle.std.proofs.lemmas.List.{get_or-set_same, get_or-set_other, length-take-le, get_or_past}
+use Rattle.std.proofs.lemmas.List.{get_or-set_same, get_or-set_other, length-take-le, get_or_past, set-get_or, take_at, drop_at, take-take}
 use Rattle.std.proofs.lemmas.List.Sums.{sum_by-cons}
-use Rattle.std.proofs.lemmas.List.{set-get_or, take_at, drop_at, take-take}
 use Rattle.word_sets.specs.Words.{IsSet}
 use Rattle.gapped_array.specs.declared.run.Run.{Run}
 use Rattle.gapped_array.specs.declared.run.TheConstants.{SEGMENT}

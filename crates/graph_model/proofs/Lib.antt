@@ -3,6 +3,3 @@ pub mod Around
 pub mod Neighbours
 pub mod ViewLemmas
 pub mod Pairs
-pub mod Batches
-pub mod Pasts
-pub mod HomeLemmas

@@ -1,8 +1,3 @@
 pub mod Graph
-pub mod Edits
-pub mod Shared
-pub mod Past
-pub mod Homes
 pub mod Views
 pub mod Laws
-pub mod HomeLaws

@@ -3,7 +3,7 @@ use Rattle.std.proofs.Common.{◌≡◌, ◌==◌, ℕ, true, false, Option, Som
 use Rattle.std.proofs.lemmas.Bool.{eqb-false, true≢false}
 use Rattle.std.proofs.lemmas.List.{get_or-set_other}
 use Rattle.std.proofs.lemmas.List.Elements.{filter-append}
-use Rattle.graph_model.specs.declared.entry.Entry.{Entry}
+use Rattle.past_model.specs.declared.entry.Entry.{Entry}
 use Rattle.store_model.specs.declared.event.Event.{Event}
 use Rattle.store_model.specs.declared.event.Event.TheVariants.{Submit, Take, Part, Publish, Pin, Lend}
 use Rattle.store_model.specs.declared.reply.Reply.{Reply}

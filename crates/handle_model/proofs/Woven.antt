@@ -1,8 +1,8 @@
 -- The publisher's events among those of others.
 use Rattle.std.proofs.Common.{◌≡◌, true, false, nat_lt, is_none, Option, option_map, Some, None, List, [], ◌∷◌, ◌++◌, length, filter, refl, sym, ap, subst, ◌∙◌, append_assoc, append-nil, length-append, arith}
 use Rattle.std.proofs.lemmas.Bool.{and_from, and_parts, lt-ltb, ltb-true, true≢false, false≢true}
-use Rattle.graph_model.specs.declared.entry.Entry.{Entry}
-use Rattle.graph_model.specs.Past.{longer}
+use Rattle.past_model.specs.declared.entry.Entry.{Entry}
+use Rattle.past_model.specs.Past.{longer}
 use Rattle.store_model.specs.declared.event.Event.{Event}
 use Rattle.store_model.specs.declared.event.Event.TheVariants.{Submit, Take, Part, Publish, Pin, Lend}
 use Rattle.store_model.specs.declared.reply.Reply.{Reply}

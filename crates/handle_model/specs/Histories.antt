@@ -1,8 +1,8 @@
 -- Calls of all threads, one after another.
 use Rattle.std.specs.Prelude.{◌≡◌, ℕ, ◌<◌, List, [], ◌∷◌, ◌++◌, length, Option, Some, None, ◌⊎◌}
-use Rattle.graph_model.specs.declared.entry.Entry.{Entry}
-use Rattle.graph_model.specs.Edits.{AreEditsBelow}
-use Rattle.graph_model.specs.Past.{Past, opening, longer}
+use Rattle.past_model.specs.declared.entry.Entry.{Entry}
+use Rattle.past_model.specs.Edits.{AreEditsBelow}
+use Rattle.past_model.specs.Past.{Past, opening, longer}
 use Rattle.store_model.specs.declared.limits.TheConstants.{FEEDS, QUEUE_PLACES}
 use Rattle.store_model.specs.declared.event.Event.{Event}
 use Rattle.store_model.specs.declared.reply.Reply.{Reply}

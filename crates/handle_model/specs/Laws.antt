@@ -1,10 +1,10 @@
 -- Laws of handles and their calls. Each is the contract of a public function.
 use Rattle.std.specs.Prelude.{◌≡◌, ℕ, ◌<◌, Bool, true, false, List, [], ◌∷◌, ◌++◌, length, filter, Option, Some, None, ◌==◌}
-use Rattle.graph_model.specs.declared.edit.Edit.{Edit}
-use Rattle.graph_model.specs.declared.entry.Entry.{Entry}
+use Rattle.past_model.specs.declared.edit.Edit.{Edit}
+use Rattle.past_model.specs.declared.entry.Entry.{Entry}
 use Rattle.graph_model.specs.Graph.{neighbours}
-use Rattle.graph_model.specs.Edits.{AreEditsBelow}
-use Rattle.graph_model.specs.Past.{Past, graph_of, longer}
+use Rattle.past_model.specs.Edits.{AreEditsBelow}
+use Rattle.past_model.specs.Past.{Past, graph_of, longer}
 use Rattle.store_model.specs.declared.limits.TheConstants.{FEEDS}
 use Rattle.store_model.specs.declared.event.Event.{Event}
 use Rattle.store_model.specs.declared.event.Event.TheVariants.{Submit, Take, Part, Publish, Pin, Lend}

@@ -1,7 +1,7 @@
 -- What each handle of a store sees of it.
 use Rattle.std.specs.Prelude.{◌≡◌, ℕ, List, [], ◌++◌, Option, Some, option_map}
-use Rattle.graph_model.specs.declared.entry.Entry.{Entry}
-use Rattle.graph_model.specs.Past.{Past}
+use Rattle.past_model.specs.declared.entry.Entry.{Entry}
+use Rattle.past_model.specs.Past.{Past}
 use Rattle.store_model.specs.Core.{Core, Holding, Run, run_of, words_of, entries, of_feed}
 
 -- a feed sees how many vertices there are, and all that came by it, in order

@@ -5,7 +5,7 @@ use Rattle.std.proofs.lemmas.Bool.Decides.{nat_tests}
 use mathlib.Core.List.{IsPrefix}
 use prog.Atomic.{either}
 use Rattle.logbook.specs.Pages.{Cell, cell, keeps, no_nib, step, Moves, Goes}
-use Rattle.graph_model.specs.declared.entry.Entry.{Entry}
+use Rattle.past_model.specs.declared.entry.Entry.{Entry}
 use Rattle.history.specs.Rule.{IsKept, Adds}
 use Rattle.history.proofs.Beginnings.{prefix_whole}
 

@@ -1,7 +1,7 @@
 -- Moments of one history.
 use Rattle.std.proofs.Common.{◌≡◌, ◌≤◌, sym, ◌∙◌, refl}
-use Rattle.graph_model.specs.declared.entry.Entry.{Entry}
-use Rattle.graph_model.specs.Past.{number_of}
+use Rattle.past_model.specs.declared.entry.Entry.{Entry}
+use Rattle.past_model.specs.Past.{number_of}
 use Rattle.history.specs.Moment.{Moment, after_entry, OneStore, Begins}
 use Rattle.history.specs.Laws.{InOrder}
 use Rattle.history.proofs.Beginnings.{prefix_self, prefix_more, prefix_trans, prefix_shorter, prefix_whole, prefix_length}

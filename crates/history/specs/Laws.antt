@@ -1,7 +1,7 @@
 -- Laws of moments. Each is the contract of a public function.
 use Rattle.std.specs.Prelude.{◌≡◌, ◌≤◌}
-use Rattle.graph_model.specs.declared.entry.Entry.{Entry}
-use Rattle.graph_model.specs.Past.{number_of}
+use Rattle.past_model.specs.declared.entry.Entry.{Entry}
+use Rattle.past_model.specs.Past.{number_of}
 use Rattle.history.specs.Moment.{Moment, after_entry, Begins}
 
 -- each moment begins itself, what begins a beginning begins the whole, and two moments that begin each other are one

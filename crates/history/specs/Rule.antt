@@ -1,7 +1,7 @@
 -- The rule of a book, and what its one step tells.
 use Rattle.std.specs.Prelude.{ℕ, ◌≡◌, ◌==◌, true, List, [], ◌∷◌, ◌++◌, length, MatchBool}
 use Rattle.logbook.specs.Pages.{Cell, Step, View, Book, Named}
-use Rattle.graph_model.specs.declared.entry.Entry.{Entry}
+use Rattle.past_model.specs.declared.entry.Entry.{Entry}
 
 -- the first word is the length of the history. A book has two words, of which this one leaves the second at 0
 abbrev pub IsKept : List Cell → List Entry → Type 0

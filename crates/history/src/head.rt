@@ -1,12 +1,12 @@
 //! The end of a history, where batches are added.
 ghost use Rattle.std.specs.Prelude.{◌≡◌, ◌<◌, IfSome};
-ghost use Rattle.graph_model.specs.declared.limits.TheConstants.{MOST_BATCHES};
+ghost use Rattle.past_model.specs.declared.limits.TheConstants.{MOST_BATCHES};
 ghost use Rattle.history.specs.Moment.{no_batch, and_then, count_of};
 
 use crate::known::Known;
 use crate::rule::{Add, Law, Nothing};
-use graph_model::Entry;
 use logbook::{Offer, Seen, Start, Word};
+use past_model::Entry;
 use std::marker::Model;
 
 /// The end of a store's history, where batches are added. Contracts see it as the book that keeps the history.

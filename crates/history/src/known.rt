@@ -4,8 +4,8 @@ ghost use mathlib.Core.List.{IsPrefix};
 ghost use Rattle.history.specs.Moment.{count_of};
 
 use crate::rule::Law;
-use graph_model::Entry;
 use logbook::Seen;
+use past_model::Entry;
 use std::marker::Model;
 
 /// That a store's history begins with these batches. It has no bytes, and stays true for good.

@@ -1,6 +1,6 @@
 //! The rule of a book of one history.
-use graph_model::Entry;
 use logbook::{Gain, Plain, Play, Rule};
+use past_model::Entry;
 
 /// The book's first word is the length of its log.
 pub struct Law;

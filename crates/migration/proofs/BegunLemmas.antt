@@ -5,11 +5,11 @@ use Rattle.std.specs.declared.alloc.Global.{Global}
 use Rattle.std.specs.Arc.{arc_value}
 use Rattle.std.proofs.Math.Seq.{take-suc, take-length}
 use Rattle.std.proofs.lemmas.List.{length-map, length-take-le}
-use Rattle.graph_model.specs.declared.edit.Edit.{Edit}
-use Rattle.graph_model.specs.declared.home.Home.{Home}
-use Rattle.graph_model.specs.declared.home.Home.TheVariants.{Block}
+use Rattle.past_model.specs.declared.edit.Edit.{Edit}
+use Rattle.past_model.specs.declared.home.Home.{Home}
+use Rattle.past_model.specs.declared.home.Home.TheVariants.{Block}
 use Rattle.graph_model.specs.Graph.{numbers_below}
-use Rattle.graph_model.specs.Homes.{home_after}
+use Rattle.past_model.specs.Homes.{home_after}
 use Rattle.migration.specs.declared.counts.Counts.{Counts}
 use Rattle.migration.specs.declared.groups.Grouping.TheVariants.{ByVertex}
 use Rattle.migration.specs.declared.lists.Lists.{Lists}

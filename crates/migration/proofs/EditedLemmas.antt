@@ -2,9 +2,9 @@
 use Rattle.std.proofs.Common.{◌≡◌, ℕ, suc, ◌+◌, ◌-◌, ◌*◌, ◌^◌, ◌<◌, ◌≤◌, Bool, List, [], ◌∷◌, ◌++◌, length, refl, sym, ap, ap₂, subst, inl, inr, le_trans, mul-le-mul, length-append, add-zero, arith}
 use Rattle.std.proofs.lemmas.Bool.{cases_lt}
 use Rattle.std.proofs.lemmas.List.{get_or_append_left, get_or-append_right}
-use Rattle.graph_model.specs.declared.edit.Edit.{Edit}
+use Rattle.past_model.specs.declared.edit.Edit.{Edit}
 use Rattle.graph_model.specs.Graph.{Graph, count_pairs}
-use Rattle.graph_model.specs.Edits.{after_batch, added, removed, AreEditsBelow}
+use Rattle.past_model.specs.Edits.{after_batch, added, removed, AreEditsBelow}
 use Rattle.graph_model.proofs.Pairs.{count_pairs-le}
 use Rattle.migration.specs.declared.counts.Counts.{Counts}
 use Rattle.migration.specs.Part.{Part, IsPart, IsPartAfter, AreCounts}

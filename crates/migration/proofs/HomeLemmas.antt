@@ -2,12 +2,12 @@
 use Rattle.std.proofs.Common.{◌≡◌, ℕ, ◌+◌, ◌<◌, Bool, List, [], ◌∷◌, ◌++◌, length, get_or, filter, sym, ap, subst, ◌∙◌, inl, inr, arith}
 use Rattle.std.proofs.lemmas.Bool.{cases_lt}
 use Rattle.std.proofs.lemmas.List.{length_push, get_or_append_left, get_or_push}
-use Rattle.graph_model.specs.declared.edit.Edit.{Edit}
-use Rattle.graph_model.specs.declared.home.Home.{Home}
-use Rattle.graph_model.specs.declared.home.Home.TheVariants.{Block}
+use Rattle.past_model.specs.declared.edit.Edit.{Edit}
+use Rattle.past_model.specs.declared.home.Home.{Home}
+use Rattle.past_model.specs.declared.home.Home.TheVariants.{Block}
 use Rattle.graph_model.specs.Graph.{numbers_below}
-use Rattle.graph_model.specs.Homes.{home_after, IsHomeOf}
-use Rattle.graph_model.proofs.HomeLemmas.{homes_hold, homes_stay}
+use Rattle.past_model.specs.Homes.{home_after, IsHomeOf}
+use Rattle.past_model.proofs.HomeLemmas.{homes_hold, homes_stay}
 use Rattle.word_sets.specs.declared.places.TheConstants.{WORD_LIMIT}
 use Rattle.word_sets.specs.Words.{IsSet}
 use Rattle.word_sets.proofs.Targets.{IsWithin-numbers_below}

@@ -7,10 +7,10 @@ use Rattle.std.proofs.lemmas.Bool.{cases_lt}
 use Rattle.std.proofs.lemmas.List.{get_or_past, get_or-replicate, length-replicate}
 use Rattle.std.proofs.lemmas.List.Concat.{flat_map-cons}
 use Rattle.std.proofs.Math.Seq.{take-suc}
-use Rattle.graph_model.specs.declared.home.Home.TheVariants.{Block}
+use Rattle.past_model.specs.declared.home.Home.TheVariants.{Block}
 use Rattle.graph_model.specs.Graph.{empty_graph}
-use Rattle.graph_model.specs.Homes.{home_after, IsHomeOf}
-use Rattle.graph_model.proofs.HomeLemmas.{homes_hold, homes_stay}
+use Rattle.past_model.specs.Homes.{home_after, IsHomeOf}
+use Rattle.past_model.proofs.HomeLemmas.{homes_hold, homes_stay}
 use Rattle.graph_model.proofs.Neighbours.{neighbours-empty_graph}
 use Rattle.migration.specs.Part.{Part, row_at, home_at, vertex_at, AreHomes}
 use Rattle.migration.specs.Table.{IsPartAt, part_at, home_in, AreMoved}

@@ -5,10 +5,10 @@ use Rattle.std.proofs.lemmas.Bool.{cases_Bool, cases_lt, ne_eqb}
 use Rattle.std.proofs.lemmas.List.{drop_more, drop_all, get_or_append_left, get_or-append_right, get_or-append-add, get_or-take, take-append-drop, length-take-le, get_or_default}
 use Rattle.std.proofs.lemmas.List.Elements.{All-append, All-push, All-weaker, All-nil, All-from_recursion, filter_agree}
 use Rattle.std.proofs.lemmas.List.Kept.{IsStrictlyIncreasing-filter, AllPairs-from_increasing}
-use Rattle.graph_model.specs.declared.edit.Edit.{Edit}
-use Rattle.graph_model.specs.declared.edit.Edit.TheVariants.{Insert, Remove}
+use Rattle.past_model.specs.declared.edit.Edit.{Edit}
+use Rattle.past_model.specs.declared.edit.Edit.TheVariants.{Insert, Remove}
 use Rattle.graph_model.specs.Graph.{numbers_below}
-use Rattle.graph_model.specs.Edits.{source_of, target_of, inserts, names, decided_first, last_word}
+use Rattle.past_model.specs.Edits.{source_of, target_of, inserts, names, decided_first, last_word}
 use Rattle.graph_model.proofs.Around.{one, IsGap, filters_differ, lengths_differ, search_ascending, search_finds, search_misses}
 use Rattle.graph_model.proofs.Numbers.{numbers_below-ascend}
 use Rattle.migration.specs.Merge.{decision, AreEditsFrom, IsMerged, Merging, merge_step, IsEdited}

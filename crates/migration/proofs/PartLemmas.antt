@@ -4,18 +4,18 @@ use Rattle.std.specs.List.{AllByRecursion}
 use Rattle.std.proofs.lemmas.Bool.{cases_lt, cases_Bool, and_parts, false_from_ne_true}
 use Rattle.std.proofs.lemmas.List.{length_push, get_or_append_left, get_or_push, get_or-replicate, length-replicate}
 use Rattle.std.proofs.lemmas.List.Elements.{filter_agree}
-use Rattle.graph_model.specs.declared.edit.Edit.{Edit}
+use Rattle.past_model.specs.declared.edit.Edit.{Edit}
 use Rattle.graph_model.specs.Graph.{Graph, neighbours, numbers_below, count_pairs, empty_graph}
-use Rattle.graph_model.specs.Edits.{source_of, target_of, inserts, names, decided_first, last_word, after_batch, added, removed, AreEditsBelow}
+use Rattle.past_model.specs.Edits.{source_of, target_of, inserts, names, decided_first, last_word, after_batch, added, removed, AreEditsBelow}
 use Rattle.graph_model.proofs.Neighbours.{length-filter_below, length-neighbours, neighbours-within, neighbours-empty_graph}
 use Rattle.graph_model.proofs.Pairs.{count_pairs-le, count_pairs-suc, count_pairs-zero}
 use Rattle.migration.specs.declared.counts.Counts.{Counts}
 use Rattle.migration.specs.declared.groups.Grouping.{Grouping}
 use Rattle.migration.specs.declared.groups.Grouping.TheVariants.{ByVertex}
 use Rattle.migration.specs.Groups.{group_of, edits_of}
-use Rattle.graph_model.specs.declared.home.Home.{Home}
-use Rattle.graph_model.specs.declared.home.Home.TheVariants.{Block}
-use Rattle.graph_model.specs.Homes.{IsHomeOf}
+use Rattle.past_model.specs.declared.home.Home.{Home}
+use Rattle.past_model.specs.declared.home.Home.TheVariants.{Block}
+use Rattle.past_model.specs.Homes.{IsHomeOf}
 use Rattle.migration.specs.Part.{Part, vertex_at, row_at, IsPart, IsEditOf, AreEditsOf, IsPartAfter, AreCounts, AreHomes, IsShard}
 use Rattle.migration.specs.Merge.{decision, AreEditsFrom, IsMerged}
 use Rattle.migration.specs.Blocks.{is_new, is_gone}

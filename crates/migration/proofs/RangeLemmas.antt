@@ -3,9 +3,9 @@ use Rattle.std.proofs.Common.{◌≡◌, ◌==◌, ℕ, zero, suc, ◌+◌, ◌-
 use Rattle.std.specs.List.{AllByRecursion}
 use Rattle.std.proofs.lemmas.Bool.{cases_Bool, and_parts, false_from_ne_true}
 use Rattle.std.proofs.lemmas.List.Elements.{filter_agree}
-use Rattle.graph_model.specs.declared.edit.Edit.{Edit}
+use Rattle.past_model.specs.declared.edit.Edit.{Edit}
 use Rattle.graph_model.specs.Graph.{Graph, numbers_below, count_pairs}
-use Rattle.graph_model.specs.Edits.{source_of, target_of, inserts, names, decided_first, last_word, after_batch, added, removed, AreEditsBelow}
+use Rattle.past_model.specs.Edits.{source_of, target_of, inserts, names, decided_first, last_word, after_batch, added, removed, AreEditsBelow}
 use Rattle.graph_model.proofs.Neighbours.{neighbours_agree}
 use Rattle.graph_model.proofs.Pairs.{count_pairs-suc}
 use Rattle.migration.specs.declared.groups.Grouping.TheVariants.{ByRange}

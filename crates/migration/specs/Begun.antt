@@ -1,11 +1,11 @@
 -- A shard under edit: the lists of its first vertices are made.
 use Rattle.std.specs.Prelude.{◌≡◌, ℕ, ◌+◌, ◌<◌, ◌≤◌, List, [], length, slice_index_or}
-use Rattle.graph_model.specs.declared.edit.Edit.{Edit}
-use Rattle.graph_model.specs.declared.home.Home.{Home}
-use Rattle.graph_model.specs.declared.home.Home.TheVariants.{Block}
+use Rattle.past_model.specs.declared.edit.Edit.{Edit}
+use Rattle.past_model.specs.declared.home.Home.{Home}
+use Rattle.past_model.specs.declared.home.Home.TheVariants.{Block}
 use Rattle.graph_model.specs.Graph.{Graph, neighbours, count_pairs}
-use Rattle.graph_model.specs.Edits.{after_batch, AreEditsBelow}
-use Rattle.graph_model.specs.Homes.{home_after}
+use Rattle.past_model.specs.Edits.{after_batch, AreEditsBelow}
+use Rattle.past_model.specs.Homes.{home_after}
 use Rattle.migration.specs.declared.counts.Counts.{Counts}
 use Rattle.migration.specs.declared.lists.Lists.{Lists}
 use Rattle.migration.specs.Blocks.{is_new, is_gone}

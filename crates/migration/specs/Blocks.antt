@@ -4,11 +4,11 @@ use Rattle.std.specs.List.{AllByRecursion, flat_map}
 use Rattle.std.specs.declared.sync.Arc.{Arc}
 use Rattle.std.specs.declared.alloc.Global.{Global}
 use Rattle.std.specs.Arc.{arc_value}
-use Rattle.graph_model.specs.declared.limits.TheConstants.{MOST_VERTICES, RANGE_VERTICES}
-use Rattle.graph_model.specs.declared.edit.Edit.{Edit}
-use Rattle.graph_model.specs.declared.home.Home.TheVariants.{Block}
+use Rattle.past_model.specs.declared.limits.TheConstants.{MOST_VERTICES, RANGE_VERTICES}
+use Rattle.past_model.specs.declared.edit.Edit.{Edit}
+use Rattle.past_model.specs.declared.home.Home.TheVariants.{Block}
 use Rattle.graph_model.specs.Graph.{Graph, count_pairs}
-use Rattle.graph_model.specs.Edits.{after_batch, AreEditsBelow}
+use Rattle.past_model.specs.Edits.{after_batch, AreEditsBelow}
 use Rattle.migration.specs.declared.counts.Counts.{Counts}
 use Rattle.migration.specs.declared.block.TheConstants.{BLOCK_SHARDS}
 use Rattle.migration.specs.Part.{Part, AreHomes, AreHomesAfter}

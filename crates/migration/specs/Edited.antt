@@ -1,6 +1,6 @@
 -- One shard after edits.
 use Rattle.std.specs.Prelude.{List}
-use Rattle.graph_model.specs.declared.edit.Edit.{Edit}
+use Rattle.past_model.specs.declared.edit.Edit.{Edit}
 use Rattle.migration.specs.declared.counts.Counts.{Counts}
 use Rattle.migration.specs.Part.{Part, IsPartAfter, AreCounts, AreHomesAfter}
 

@@ -2,7 +2,7 @@
 use Rattle.std.specs.Prelude.{◌≡◌, ℕ, ◌+◌, ◌<◌, true, List, length, slice_index_or}
 use Rattle.std.specs.Borrow.{Bor}
 use Rattle.std.specs.Arc.{arc_value}
-use Rattle.graph_model.specs.declared.edit.Edit.{Edit}
+use Rattle.past_model.specs.declared.edit.Edit.{Edit}
 use Rattle.migration.specs.declared.groups.Grouping.TheVariants.{ByRange}
 use Rattle.migration.specs.declared.edited_shard.EditedShard.{EditedShard}
 use Rattle.migration.specs.Edited.{IsMadeOf}

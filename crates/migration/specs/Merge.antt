@@ -3,10 +3,10 @@ use Rattle.std.specs.Prelude.{◌≡◌, ℕ, ◌+◌, ◌<◌, Bool, ◌&&◌, 
 use Rattle.std.specs.List.{AllByRecursion}
 use Rattle.std.specs.List.Sorted.{IsBinarySearchResult}
 use Rattle.std.specs.Ordering.{nat_cmp}
-use Rattle.graph_model.specs.declared.edit.Edit.{Edit}
-use Rattle.graph_model.specs.declared.edit.Edit.TheVariants.{Insert, Remove}
+use Rattle.past_model.specs.declared.edit.Edit.{Edit}
+use Rattle.past_model.specs.declared.edit.Edit.TheVariants.{Insert, Remove}
 use Rattle.graph_model.specs.Graph.{numbers_below}
-use Rattle.graph_model.specs.Edits.{source_of, target_of, last_word}
+use Rattle.past_model.specs.Edits.{source_of, target_of, last_word}
 use Rattle.migration.specs.declared.counts.Counts.{Counts}
 
 -- whether a vertex u has an edge to v after edits, where p says whether it had one before

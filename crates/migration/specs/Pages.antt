@@ -4,7 +4,7 @@ use Rattle.std.specs.List.{AllByRecursion, flat_map}
 use Rattle.std.specs.declared.sync.Arc.{Arc}
 use Rattle.std.specs.declared.alloc.Global.{Global}
 use Rattle.std.specs.Arc.{arc_value}
-use Rattle.graph_model.specs.declared.home.Home.{Home}
+use Rattle.past_model.specs.declared.home.Home.{Home}
 use Rattle.migration.specs.declared.lists.Lists.{Lists}
 use Rattle.migration.specs.declared.pages.TheConstants.{PAGE_VERTICES}
 use Rattle.migration.specs.Lists.{rows_of, homes_of, AreKept}

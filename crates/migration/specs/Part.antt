@@ -1,13 +1,13 @@
 -- A part of a graph: one range of its vertices, each with the ascending list of its targets, and with that list's home.
 use Rattle.std.specs.Prelude.{◌≡◌, ℕ, ◌+◌, ◌*◌, ◌<◌, ◌≤◌, List, [], length, slice_index_or}
 use Rattle.std.specs.List.{AllByRecursion}
-use Rattle.graph_model.specs.declared.limits.TheConstants.{MOST_VERTICES, MOST_RANGES, RANGE_VERTICES}
-use Rattle.graph_model.specs.declared.edit.Edit.{Edit}
-use Rattle.graph_model.specs.declared.home.Home.{Home}
-use Rattle.graph_model.specs.declared.home.Home.TheVariants.{Block}
+use Rattle.past_model.specs.declared.limits.TheConstants.{MOST_VERTICES, MOST_RANGES, RANGE_VERTICES}
+use Rattle.past_model.specs.declared.edit.Edit.{Edit}
+use Rattle.past_model.specs.declared.home.Home.{Home}
+use Rattle.past_model.specs.declared.home.Home.TheVariants.{Block}
 use Rattle.graph_model.specs.Graph.{Graph, neighbours}
-use Rattle.graph_model.specs.Homes.{home_after, IsHomeOf}
-use Rattle.graph_model.specs.Edits.{source_of, target_of, after_batch, added, removed, AreEditsBelow}
+use Rattle.past_model.specs.Homes.{home_after, IsHomeOf}
+use Rattle.past_model.specs.Edits.{source_of, target_of, after_batch, added, removed, AreEditsBelow}
 use Rattle.migration.specs.declared.counts.Counts.{Counts}
 
 pub record Part : Type 0 where

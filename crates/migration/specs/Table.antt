@@ -4,12 +4,12 @@ use Rattle.std.specs.Borrow.{Bor}
 use Rattle.std.specs.declared.sync.Arc.{Arc}
 use Rattle.std.specs.declared.alloc.Global.{Global}
 use Rattle.std.specs.Arc.{arc_value}
-use Rattle.graph_model.specs.declared.limits.TheConstants.{MOST_VERTICES, RANGE_VERTICES}
-use Rattle.graph_model.specs.declared.edit.Edit.{Edit}
-use Rattle.graph_model.specs.declared.home.Home.{Home}
+use Rattle.past_model.specs.declared.limits.TheConstants.{MOST_VERTICES, RANGE_VERTICES}
+use Rattle.past_model.specs.declared.edit.Edit.{Edit}
+use Rattle.past_model.specs.declared.home.Home.{Home}
 use Rattle.graph_model.specs.Graph.{Graph}
-use Rattle.graph_model.specs.Homes.{home_after}
-use Rattle.graph_model.specs.Edits.{after_batch, added, removed, AreEditsBelow}
+use Rattle.past_model.specs.Homes.{home_after}
+use Rattle.past_model.specs.Edits.{after_batch, added, removed, AreEditsBelow}
 use Rattle.migration.specs.declared.counts.Counts.{Counts}
 use Rattle.migration.specs.Part.{Part, IsPart, row_at, home_at}
 

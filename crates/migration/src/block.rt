@@ -1,8 +1,8 @@
 //! Shards of neighbouring ranges, behind one owner.
 ghost use Rattle.std.specs.Prelude.{◌≡◌, ◌+◌, ◌^◌, ◌<◌, ◌≤◌, length, IfOk};
-ghost use Rattle.graph_model.specs.declared.limits.TheConstants.{MOST_RANGES};
+ghost use Rattle.past_model.specs.declared.limits.TheConstants.{MOST_RANGES};
 ghost use Rattle.graph_model.specs.Graph.{Graph};
-ghost use Rattle.graph_model.specs.Edits.{AreEditsBelow};
+ghost use Rattle.past_model.specs.Edits.{AreEditsBelow};
 ghost use Rattle.migration.specs.declared.groups.Grouping.TheVariants.{ByRange};
 ghost use Rattle.migration.specs.Blocks.{ArePartsFrom, AreEditable, AreEdited, AreHoused, AreRehoused};
 ghost use Rattle.migration.specs.Groups.{filled_below};

@@ -8,7 +8,7 @@ use crate::buffer::Buffer;
 use crate::counts::Counts;
 use crate::lists::Lists;
 use crate::merge::{merge, sort_by_target};
-use graph_model::Edit;
+use past_model::Edit;
 use std::alloc::AllocError;
 
 /// Puts a vertex's words after its edits, in their order, into a list in place of what it held, and tells what

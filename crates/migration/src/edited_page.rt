@@ -1,6 +1,6 @@
 //! A page after edits.
 ghost use Rattle.std.specs.Prelude.{◌≡◌, ◌+◌, ◌<◌, ◌≤◌, ◌++◌, ℕ, List, length, IfOk};
-ghost use Rattle.graph_model.specs.declared.home.Home.{Home};
+ghost use Rattle.past_model.specs.declared.home.Home.{Home};
 ghost use Rattle.migration.specs.declared.groups.Grouping.TheVariants.{ByVertex};
 ghost use Rattle.migration.specs.Begun.{AreBegun, IsNext, IsPageOf};
 ghost use Rattle.migration.specs.Lists.{AreKept, rows_of, homes_of};

@@ -7,7 +7,7 @@ ghost use Rattle.migration.specs.Part.{AreEditsOf};
 use crate::counts::Counts;
 use crate::scratch::Scratch;
 use crate::shard::Shard;
-use graph_model::Edit;
+use past_model::Edit;
 use std::alloc::{AllocError, Global};
 use std::sync::Arc;
 

@@ -1,8 +1,8 @@
 //! The lists of a range's vertices, each in its home.
 ghost use Rattle.std.specs.Prelude.{◌≡◌, ◌<◌, ◌≤◌, [], length, replicate, slice_index_or, IfOk};
 ghost use Rattle.migration.specs.declared.pages.TheConstants.{PAGE_VERTICES};
-ghost use Rattle.graph_model.specs.declared.home.Home.TheVariants.{Block, Gapped, Tree};
-ghost use Rattle.graph_model.specs.Homes.{IsHomeOf};
+ghost use Rattle.past_model.specs.declared.home.Home.TheVariants.{Block, Gapped, Tree};
+ghost use Rattle.past_model.specs.Homes.{IsHomeOf};
 ghost use Rattle.word_sets.specs.Words.{IsSet, has_word};
 ghost use Rattle.migration.specs.declared.lists.Place.TheVariants.{InShort, InBlock, InArray, InTree};
 ghost use Rattle.migration.specs.declared.short_blocks.TheConstants.{SHORT_PLACES};
@@ -14,8 +14,8 @@ use crate::pages::PAGE_VERTICES;
 use crate::short_blocks::{SHORT_PLACES, ShortBlocks};
 use arrayvec::ArrayVec;
 use gapped_array::GappedArray;
-use graph_model::Home;
 use neighbour_btree::NeighbourTree;
+use past_model::Home;
 use std::alloc::{AllocError, Global};
 use std::mem;
 use vertex_block::VertexBlock;

@@ -1,7 +1,7 @@
 //! The pages of a range.
 ghost use Rattle.std.specs.Prelude.{◌≡◌, ◌%◌, ◌<◌, ◌≤◌, [], length, replicate, slice_index_or, IfOk};
-ghost use Rattle.graph_model.specs.declared.limits.TheConstants.{RANGE_VERTICES};
-ghost use Rattle.graph_model.specs.declared.home.Home.TheVariants.{Block};
+ghost use Rattle.past_model.specs.declared.limits.TheConstants.{RANGE_VERTICES};
+ghost use Rattle.past_model.specs.declared.home.Home.TheVariants.{Block};
 ghost use Rattle.migration.specs.Lists.{AreKept, rows_of, homes_of};
 ghost use Rattle.migration.specs.Pages.{ArePages, rows_in, homes_in};
 

@@ -2,7 +2,7 @@
 
 use crate::buffer::Buffer;
 use crate::lists::Lists;
-use graph_model::Edit;
+use past_model::Edit;
 use std::alloc::Global;
 
 /// Space for the pages of shards that are made one after another, so that each takes just the memory that it needs. What it

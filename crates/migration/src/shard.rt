@@ -1,7 +1,7 @@
 //! A range's vertices with their lists, in one version.
 ghost use Rattle.std.specs.Prelude.{◌≡◌, ◌↔◌, ◌<◌, ◌≤◌, [], length, replicate, Contains, IsTrue, IfOk};
-ghost use Rattle.graph_model.specs.declared.home.Home.TheVariants.{Block};
-ghost use Rattle.graph_model.specs.declared.limits.TheConstants.{MOST_VERTICES, MOST_RANGES, RANGE_VERTICES};
+ghost use Rattle.past_model.specs.declared.home.Home.TheVariants.{Block};
+ghost use Rattle.past_model.specs.declared.limits.TheConstants.{MOST_VERTICES, MOST_RANGES, RANGE_VERTICES};
 
 use crate::counts::Counts;
 use crate::edited_page::edited_page;
@@ -9,7 +9,7 @@ use crate::groups::{Grouping, Groups};
 use crate::lists::Lists;
 use crate::pages::{PAGE_VERTICES, empty_pages, page_of};
 use crate::scratch::Scratch;
-use graph_model::{Edit, Home, MOST_VERTICES};
+use past_model::{Edit, Home, MOST_VERTICES};
 use std::alloc::{AllocError, Global};
 use std::marker::Model;
 use std::sync::Arc;

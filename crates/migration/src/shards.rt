@@ -1,12 +1,12 @@
 //! Shards with owners, in one list.
 ghost use Rattle.std.specs.Prelude.{◌≡◌, ◌≤◌, IfOk};
-ghost use Rattle.graph_model.specs.declared.limits.TheConstants.{MOST_VERTICES};
+ghost use Rattle.past_model.specs.declared.limits.TheConstants.{MOST_VERTICES};
 ghost use Rattle.graph_model.specs.Graph.{Graph, empty_graph};
 ghost use Rattle.migration.specs.Blocks.{AreInBlocks};
 ghost use Rattle.migration.specs.Table.{IsTable, IsShardOf, parts_of};
 
 use crate::shard::Shard;
-use graph_model::RANGE_VERTICES;
+use past_model::RANGE_VERTICES;
 use std::alloc::{AllocError, Global};
 use std::sync::Arc;
 

@@ -1,7 +1,7 @@
 //! The shards of a graph, in blocks that tables share.
 ghost use Rattle.std.specs.Prelude.{◌≡◌, ◌<◌, ◌≤◌, ℕ, length, IfOk, MatchOption};
-ghost use Rattle.graph_model.specs.declared.home.Home.TheVariants.{Block as InBlock};
-ghost use Rattle.graph_model.specs.declared.limits.TheConstants.{MOST_VERTICES, MOST_RANGES};
+ghost use Rattle.past_model.specs.declared.home.Home.TheVariants.{Block as InBlock};
+ghost use Rattle.past_model.specs.declared.limits.TheConstants.{MOST_VERTICES, MOST_RANGES};
 ghost use Rattle.graph_model.specs.Graph.{Graph, empty_graph};
 ghost use Rattle.migration.specs.Blocks.{parts_in, sizes_of, AreFull};
 ghost use Rattle.migration.specs.Part.{AreEditsOf};
@@ -16,7 +16,7 @@ use crate::letting_go::let_go_each;
 use crate::scratch::Scratch;
 use crate::shard::Shard;
 use crate::shards::{empty_shards, share_shards};
-use graph_model::{Edit, Home, RANGE_VERTICES};
+use past_model::{Edit, Home, RANGE_VERTICES};
 use std::alloc::{AllocError, Global};
 use std::marker::Model;
 use std::sync::Arc;

@@ -3,10 +3,10 @@ use Rattle.std.proofs.Common.{◌≡◌, ℕ, ◌<◌, ◌≤◌, Bool, true, fa
 use Rattle.std.specs.Prelude.{map, nat_lt, option_map, is_some}
 use Rattle.std.specs.List.{list_all}
 use Rattle.std.proofs.lemmas.Bool.{cases_Bool, cases_lt, le-ltb, ltb-true, leb-true, and_parts}
-use Rattle.bpf_model.specs.declared.reduction.Reduction.{Reduction}
-use Rattle.graph_model.specs.Past.{Past}
-use Rattle.graph_model.specs.declared.edit.Edit.{Edit}
-use Rattle.graph_model.specs.declared.edit.Edit.TheVariants.{Insert, Remove}
+use Rattle.map_model.specs.declared.reduction.Reduction.{Reduction}
+use Rattle.past_model.specs.Past.{Past}
+use Rattle.past_model.specs.declared.edit.Edit.{Edit}
+use Rattle.past_model.specs.declared.edit.Edit.TheVariants.{Insert, Remove}
 use Rattle.session_model.specs.Session.{Session}
 use Rattle.session_model.specs.Commands.{Command, MakeGraph, PublishBatch, LoadProgram, TakePin, RunProgram, TellHome, ListEdges}
 use Rattle.session_model.specs.Faults.{is_edit_of, is_vertex_count, is_record_length, AreFewVertices, HasFewVertices}

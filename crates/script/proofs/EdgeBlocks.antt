@@ -5,7 +5,7 @@ use Rattle.std.specs.List.{flat_map}
 use Rattle.std.proofs.lemmas.Bool.Decides.{nat_tests}
 use Rattle.std.proofs.lemmas.Grind.{flat_map-append}
 use Rattle.std.proofs.lemmas.List.{length-take}
-use Rattle.bpf_model.specs.declared.listed_edge.ListedEdge.{ListedEdge}
+use Rattle.map_model.specs.declared.listed_edge.ListedEdge.{ListedEdge}
 use Rattle.script_model.specs.Texts.{edge_text}
 
 abbrev lines_of : List ListedEdge → List ℕ

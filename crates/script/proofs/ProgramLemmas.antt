@@ -16,7 +16,7 @@ use Rattle.script_model.specs.Parsing.{is_end}
 use Rattle.script_model.specs.Execution.{Execution, one_line, inside_program}
 use Rattle.script.specs.declared.error.LineError.{LineError}
 use Rattle.script.specs.declared.error.LineError.TheVariants as errors
-use Rattle.bpf_model.specs.declared.listed_edge.ListedEdge.{ListedEdge}
+use Rattle.map_model.specs.declared.listed_edge.ListedEdge.{ListedEdge}
 use Rattle.script.specs.Executes.{Executes, Tells, whole_of}
 use Rattle.script.specs.Kept.{is_text_byte}
 

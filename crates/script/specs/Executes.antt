@@ -1,7 +1,7 @@
 -- What the code answers for a line, against what the definitions say of it.
 use Rattle.std.specs.Prelude.{◌≡◌, ℕ, List, [], ◌++◌, Option, Some, None, Result, Ok, Err, ⊤}
 use Rattle.std.specs.List.{flat_map}
-use Rattle.bpf_model.specs.declared.listed_edge.ListedEdge.{ListedEdge}
+use Rattle.map_model.specs.declared.listed_edge.ListedEdge.{ListedEdge}
 use Rattle.script_model.specs.declared.line_fault.LineFault.{LineFault}
 use Rattle.script_model.specs.declared.line_fault.LineFault.TheVariants as line_faults
 use Rattle.script_model.specs.State.{Script}

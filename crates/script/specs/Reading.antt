@@ -1,6 +1,6 @@
 -- What is read from the front of a line.
 use Rattle.std.specs.Prelude.{ℕ, List, [], ◌∷◌, Option, Some, None, option_map}
-use Rattle.bpf_model.specs.declared.reduction.Reduction.{Reduction}
+use Rattle.map_model.specs.declared.reduction.Reduction.{Reduction}
 use Rattle.script_model.specs.Lexing.{number, hex}
 use Rattle.session_model.specs.Commands.{LoadProgram, RunProgram, ListEdges}
 use Rattle.script_model.specs.Parsing.{pair_of, Statement, Asks, option_then, numbers}

@@ -4,7 +4,7 @@ ghost use Rattle.std.specs.Prelude.{◌≡◌};
 ghost use Rattle.script_model.specs.State.{first_line};
 ghost use Rattle.script.specs.Kept.{block_of};
 
-use graph_model::Edit;
+use past_model::Edit;
 
 /// A batch whose end has not come: the line that opened it, its feed (0 for A), and its edits so far.
 #[derive(Drop)]

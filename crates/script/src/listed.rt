@@ -18,7 +18,7 @@ pub struct EdgeLines<'a> {
 
 impl<'a> Model for EdgeLines<'a> {
     ghost use Rattle.std.specs.Prelude.{List};
-    ghost use Rattle.bpf_model.specs.declared.listed_edge.ListedEdge.{ListedEdge};
+    ghost use Rattle.map_model.specs.declared.listed_edge.ListedEdge.{ListedEdge};
 
     ghost Value = { List ListedEdge };
 

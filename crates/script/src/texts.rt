@@ -24,9 +24,9 @@ ghost use Rattle.script_model.specs.Texts.{
 
 use crate::line::Line;
 use bpf_asm::AssembleError;
-use bpf_model::{ListedEdge, Row};
-use graph_model::Home;
 use itoa::Buffer;
+use map_model::{ListedEdge, Row};
+use past_model::Home;
 use script_model::LineFault;
 use std::alloc::AllocError;
 use verifier::Refusal;

@@ -1,7 +1,7 @@
 -- What a line does to a script, and what is written for it.
 use Rattle.std.specs.Prelude.{ℕ, ◌+◌, ◌==◌, not, nat_le, nat_lt, if◌then◌else◌, Bool, false, List, [], ◌∷◌, ◌++◌, length, Option, Some, None, Result, Ok, Err, is_some}
 use Rattle.std.specs.List.{list_all}
-use Rattle.graph_model.specs.declared.edit.Edit.{Edit}
+use Rattle.past_model.specs.declared.edit.Edit.{Edit}
 use Rattle.bpf_asm.specs.declared.errors.AssembleError.{AssembleError}
 use Rattle.bpf_asm.specs.Assembly.{assembly}
 use Rattle.session_model.specs.declared.fault.Fault.{Fault}

@@ -1,9 +1,9 @@
 -- What the words of a line say, before anything is known of names and graphs.
 use Rattle.std.specs.Prelude.{ℕ, if◌then◌else◌, Bool, false, List, [], ◌∷◌, Option, Some, None, option_map, codes}
-use Rattle.graph_model.specs.declared.edit.Edit.{Edit}
-use Rattle.graph_model.specs.declared.edit.Edit.TheVariants.{Insert, Remove}
-use Rattle.bpf_model.specs.declared.reduction.Reduction.{Reduction}
-use Rattle.bpf_model.specs.declared.reduction.Reduction.TheVariants.{Min, Max, Sum}
+use Rattle.past_model.specs.declared.edit.Edit.{Edit}
+use Rattle.past_model.specs.declared.edit.Edit.TheVariants.{Insert, Remove}
+use Rattle.map_model.specs.declared.reduction.Reduction.{Reduction}
+use Rattle.map_model.specs.declared.reduction.Reduction.TheVariants.{Min, Max, Sum}
 use Rattle.session_model.specs.Commands.{Command, MakeGraph, LoadProgram, TakePin, RunProgram, TellHome, ListEdges}
 use Rattle.script_model.specs.Lexing.{number, is_name, hex, same_bytes}
 

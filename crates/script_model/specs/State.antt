@@ -1,6 +1,6 @@
 -- How far a script is: its session, the block that is open, and the next line.
 use Rattle.std.specs.Prelude.{ℕ, List, Option, None}
-use Rattle.graph_model.specs.declared.edit.Edit.{Edit}
+use Rattle.past_model.specs.declared.edit.Edit.{Edit}
 use Rattle.session_model.specs.Session.{Session, new_session}
 
 -- a batch whose end has not come: the line that opened it, its feed, and its edits so far

@@ -8,10 +8,10 @@ use Rattle.verifier.specs.declared.refusal.Refusal.{Refusal}
 use Rattle.bpf_asm.specs.declared.errors.TextCause.{TextCause}
 use Rattle.bpf_asm.specs.declared.errors.TextCause.TheVariants.{Syntax, UnknownName, DoubleLabel, UnknownLabel, NumberRange, TooLong, OutOfMemory}
 use Rattle.bpf_asm.specs.declared.errors.AssembleError.{AssembleError}
-use Rattle.bpf_model.specs.declared.row.Row.{Row}
-use Rattle.bpf_model.specs.declared.listed_edge.ListedEdge.{ListedEdge}
-use Rattle.graph_model.specs.declared.home.Home.{Home}
-use Rattle.graph_model.specs.declared.home.Home.TheVariants.{Block, Gapped, Tree}
+use Rattle.map_model.specs.declared.row.Row.{Row}
+use Rattle.map_model.specs.declared.listed_edge.ListedEdge.{ListedEdge}
+use Rattle.past_model.specs.declared.home.Home.{Home}
+use Rattle.past_model.specs.declared.home.Home.TheVariants.{Block, Gapped, Tree}
 use Rattle.session_model.specs.declared.fault.Fault.{Fault}
 use Rattle.session_model.specs.declared.fault.Fault.TheVariants as faults
 use Rattle.session_model.specs.Commands.{Answer, GraphMade, BatchPublished, ProgramAccepted, ProgramRefused, NoImage, PinTaken, EdgesMapped, HomeTold, EdgesListed}

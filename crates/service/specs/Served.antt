@@ -1,7 +1,7 @@
 -- How far a script has come, against its meaning.
 use Rattle.std.specs.Prelude.{◌≡◌, ◌+◌, ◌<◌, ◌≤◌, ℕ, false, length, take, drop, List, ◌∷◌, ◌++◌, Result, Ok, Err, ⊤}
 use Rattle.std.specs.List.{AllByRecursion, flat_map}
-use Rattle.bpf_model.specs.declared.listed_edge.ListedEdge.{ListedEdge}
+use Rattle.map_model.specs.declared.listed_edge.ListedEdge.{ListedEdge}
 use Rattle.service.specs.declared.lines.Progress.{Progress}
 use Rattle.service.specs.declared.lines.Progress.TheVariants as progress
 use Rattle.script.specs.declared.error.ScriptError.{ScriptError}

@@ -1,17 +1,16 @@
 -- What is answered to a batch, test by test.
-use Rattle.std.proofs.Common.{◌≡◌, ℕ, Bool, true, false, ltb, leb, List, [], ◌∷◌, None, refl, ap, ◌∙◌}
+use Rattle.std.proofs.Common.{◌≡◌, ℕ, Bool, true, false, ltb, leb, List, [], ◌∷◌, None, refl, ap, ◌∙◌, length}
 use Rattle.std.specs.List.{list_all}
 use Rattle.std.proofs.lemmas.Bool.{and_parts, ltb-true}
-use Rattle.graph_model.specs.declared.edit.Edit.{Edit}
-use Rattle.graph_model.specs.Edits.{AreEditsBelow}
-use Rattle.graph_model.specs.Past.{Past, opening, longer, number_of}
+use Rattle.past_model.specs.declared.edit.Edit.{Edit}
+use Rattle.past_model.specs.Edits.{AreEditsBelow}
+use Rattle.past_model.specs.Past.{Past, opening, longer, number_of}
 use Rattle.session_model.specs.declared.fault.Fault.TheVariants as faults
 use Rattle.session_model.specs.Session.{Session}
 use Rattle.session_model.specs.Faults.{is_edit_of}
 use Rattle.session_model.specs.Responses.{Answers, Fails, entry_of, published_answer, publish_response}
 use Rattle.session.specs.Handles.{StoreState}
 use Rattle.session.specs.Kept.{with_store}
-use Rattle.std.proofs.Common.{length}
 
 -- what a test of shown edits says of the graph's
 pub same_test : (passed : Bool) (n : ℕ) (edits shown : List Edit) (past : Past) → passed ≡ list_all (is_edit_of (opening n)) shown → shown ≡ edits → n ≡ past.vertex_count → passed ≡ list_all (is_edit_of past) edits

@@ -4,11 +4,11 @@ use Rattle.std.specs.Prelude.{nat_lt, ◌==◌}
 use Rattle.std.specs.List.{list_all}
 use Rattle.std.proofs.lemmas.Bool.{cases_Bool, and_parts, and_from}
 use Rattle.bpf_image.specs.Program.{Program}
-use Rattle.bpf_model.specs.declared.limits.TheConstants.{EDGE_BYTES}
-use Rattle.bpf_model.specs.declared.reduction.Reduction.{Reduction}
+use Rattle.map_model.specs.declared.limits.TheConstants.{EDGE_BYTES}
+use Rattle.map_model.specs.declared.reduction.Reduction.{Reduction}
 use Rattle.graph_model.specs.Graph.{Graph}
-use Rattle.graph_model.specs.Past.{Past, graph_of}
-use Rattle.graph_model.proofs.Pasts.{vertex_count-graph_of}
+use Rattle.past_model.specs.Past.{Past, graph_of}
+use Rattle.past_model.proofs.Pasts.{vertex_count-graph_of}
 use Rattle.edge_fold.specs.declared.outcome.MapOutcome.{MapOutcome}
 use Rattle.edge_fold.specs.declared.rows.Rows.TheVariants.{OfSources}
 use Rattle.edge_map.specs.declared.errors.MapError.{MapError}

@@ -1,7 +1,7 @@
 -- A store after a step that published nothing.
 use Rattle.std.proofs.Common.{◌≡◌, Option, Some, None, IfSome, refl, inl, inr, subst, ◌∙◌}
-use Rattle.graph_model.specs.declared.entry.Entry.{Entry}
-use Rattle.graph_model.specs.Past.{Past}
+use Rattle.past_model.specs.declared.entry.Entry.{Entry}
+use Rattle.past_model.specs.Past.{Past}
 use Rattle.versions.specs.Storing.{Storing, IsKept}
 use Rattle.session.specs.Handles.{StoreState, IsUnpublished}
 

@@ -1,7 +1,7 @@
 -- Edits that are added to those of a batch.
 use Rattle.std.specs.Prelude.{◌≡◌, List, [], ◌∷◌, ◌++◌, Option, Some, None, Result, Ok, Err}
-use Rattle.graph_model.specs.declared.edit.Edit.{Edit}
-use Rattle.graph_model.specs.declared.edit.Edit.TheVariants as edits
+use Rattle.past_model.specs.declared.edit.Edit.{Edit}
+use Rattle.past_model.specs.declared.edit.Edit.TheVariants as edits
 use Rattle.session_model.specs.declared.fault.Fault.{Fault}
 use Rattle.session.specs.declared.batches.GivenEdit.{GivenEdit}
 use Rattle.session.specs.declared.batches.GivenEdit.TheVariants as given

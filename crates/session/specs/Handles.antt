@@ -1,9 +1,9 @@
 -- All ends of one store in one thread, and what comes of a batch that is handed in there.
 use Rattle.std.specs.Prelude.{◌≡◌, ◌≤◌, ◌⊎◌, ℕ, Option, Some, None, Result, Ok, Err}
-use Rattle.graph_model.specs.declared.entry.Entry.{Entry}
-use Rattle.graph_model.specs.declared.limits.TheConstants.{MOST_VERTICES}
-use Rattle.graph_model.specs.Edits.{added, removed}
-use Rattle.graph_model.specs.Past.{Past, opening, graph_of, number_of, longer}
+use Rattle.past_model.specs.declared.entry.Entry.{Entry}
+use Rattle.past_model.specs.declared.limits.TheConstants.{MOST_VERTICES}
+use Rattle.past_model.specs.Edits.{added, removed}
+use Rattle.past_model.specs.Past.{Past, opening, graph_of, number_of, longer}
 use Rattle.history.specs.Moment.{Moment, Begins}
 use Rattle.versions.specs.Ends.{Feeding, IsFeedOf}
 use Rattle.versions.specs.Receipts.{Publication}

@@ -6,9 +6,9 @@ use Rattle.std.specs.declared.sync.Arc.{Arc}
 use Rattle.std.specs.declared.alloc.Global.{Global}
 use Rattle.std.specs.Arc.{arc_value}
 use Rattle.bpf_image.specs.Program.{Program}
-use Rattle.bpf_model.specs.declared.listed_edge.ListedEdge.{ListedEdge}
-use Rattle.graph_model.specs.declared.entry.Entry.{Entry}
-use Rattle.graph_model.specs.Past.{Past}
+use Rattle.map_model.specs.declared.listed_edge.ListedEdge.{ListedEdge}
+use Rattle.past_model.specs.declared.entry.Entry.{Entry}
+use Rattle.past_model.specs.Past.{Past}
 use Rattle.history.specs.Moment.{Moment}
 use Rattle.session_model.specs.Session.{KeptProgram, KeptPin, Session}
 use Rattle.session_model.specs.Commands.{Command, MakeGraph, PublishBatch, LoadProgram, TakePin, RunProgram, TellHome, ListEdges, Answer, GraphMade, BatchPublished, ProgramAccepted, ProgramRefused, NoImage, PinTaken, EdgesMapped, HomeTold, EdgesListed}

@@ -1,6 +1,6 @@
 -- A command that was performed, or was not.
 use Rattle.std.specs.Prelude.{◌≡◌, ◌⊎◌, Some, None, Result, Ok, Err, ⊤}
-use Rattle.graph_model.specs.declared.entry.Entry.{Entry}
+use Rattle.past_model.specs.declared.entry.Entry.{Entry}
 use Rattle.session_model.specs.Session.{Session}
 use Rattle.session_model.specs.Commands.{Answer, BatchPublished, PinTaken, HomeTold}
 use Rattle.session_model.specs.Responses.{Response, Answers, Fails}

@@ -4,8 +4,8 @@ ghost use Rattle.std.specs.Prelude.{◌≡◌};
 ghost use Rattle.session.specs.Kept.{listing_of};
 
 use crate::listing::Listing;
-use bpf_model::Row;
-use graph_model::Home;
+use map_model::Row;
+use past_model::Home;
 use verifier::Refusal;
 
 /// The answer to a command, with the names that the command gave.

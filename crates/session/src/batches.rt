@@ -2,7 +2,7 @@
 
 ghost use Rattle.std.specs.Prelude.{◌≡◌, MatchOption, Some, true, false};
 ghost use Rattle.std.specs.List.{list_all};
-ghost use Rattle.graph_model.specs.Past.{opening};
+ghost use Rattle.past_model.specs.Past.{opening};
 ghost use Rattle.session_model.specs.Session.{Session as SessionState};
 ghost use Rattle.session_model.specs.Faults.{edit_fault, is_edit_of, HasFewVertices};
 ghost use Rattle.session_model.specs.Responses.{publish_response};
@@ -15,7 +15,7 @@ use crate::error::CommandError;
 use crate::handles::Handles;
 use crate::session::Session;
 use gates::{Crew, Gate};
-use graph_model::{Batch, Edit, MOST_BATCHES, MOST_EDITS};
+use past_model::{Batch, Edit, MOST_BATCHES, MOST_EDITS};
 use session_model::Fault;
 use std::alloc::Global;
 use std::sync::Wait;

@@ -1,7 +1,7 @@
 //! What a session can be asked for.
 
-use bpf_model::Reduction;
-use graph_model::Edit;
+use map_model::Reduction;
+use past_model::Edit;
 
 /// A command. Numbers are tested when it is performed.
 #[derive(Debug, Drop)]

@@ -1,7 +1,7 @@
 //! The graph of a session.
 
 ghost use Rattle.std.specs.Prelude.{◌≡◌, IfOk, IfErr, MatchOption, option_map, true, false};
-ghost use Rattle.graph_model.specs.Past.{Past};
+ghost use Rattle.past_model.specs.Past.{Past};
 ghost use Rattle.session_model.specs.Faults.{is_vertex_count, HasFewVertices};
 ghost use Rattle.session_model.specs.Responses.{graph_response};
 ghost use Rattle.session.specs.Handles.{new_store};

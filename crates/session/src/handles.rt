@@ -1,14 +1,14 @@
 //! All ends of one store, in one thread.
 
 ghost use Rattle.std.specs.Prelude.{◌≡◌, ◌<◌, ◌≤◌, ◌↔◌, ◌⊎◌, true, IfOk, IfErr, IsErrOf};
-ghost use Rattle.graph_model.specs.declared.limits.TheConstants.{MOST_BATCHES, MOST_VERTICES};
-ghost use Rattle.graph_model.specs.Past.{number_of};
+ghost use Rattle.past_model.specs.declared.limits.TheConstants.{MOST_BATCHES, MOST_VERTICES};
+ghost use Rattle.past_model.specs.Past.{number_of};
 ghost use Rattle.session_model.specs.Responses.{entry_of};
 ghost use Rattle.session.specs.Handles.{Publishes, new_store};
 
 use crate::error::CommandError;
 use gates::{Crew, Gate};
-use graph_model::{Batch, Edit};
+use past_model::{Batch, Edit};
 use std::alloc::Global;
 use std::marker::Model;
 use std::sync::Wait;

@@ -2,8 +2,8 @@
 
 ghost use Rattle.std.specs.Prelude.{◌≡◌};
 ghost use Rattle.std.specs.Arc.{arc_value};
-ghost use Rattle.graph_model.specs.Past.{graph_of};
-ghost use Rattle.bpf_model.specs.EdgeMap.{listed_edges};
+ghost use Rattle.past_model.specs.Past.{graph_of};
+ghost use Rattle.map_model.specs.EdgeMap.{listed_edges};
 ghost use Rattle.edge_map.specs.Maps.{FitsRecord};
 ghost use Rattle.verifier.specs.Walks.{longest};
 
@@ -26,9 +26,9 @@ pub struct Listing {
 impl Model for Listing {
     ghost use Rattle.std.specs.Prelude.{List};
     ghost use Rattle.std.specs.Arc.{arc_value};
-    ghost use Rattle.graph_model.specs.Past.{graph_of};
-    ghost use Rattle.bpf_model.specs.declared.listed_edge.ListedEdge.{ListedEdge};
-    ghost use Rattle.bpf_model.specs.EdgeMap.{listed_edges};
+    ghost use Rattle.past_model.specs.Past.{graph_of};
+    ghost use Rattle.map_model.specs.declared.listed_edge.ListedEdge.{ListedEdge};
+    ghost use Rattle.map_model.specs.EdgeMap.{listed_edges};
     ghost use Rattle.edge_map.specs.Maps.{FitsRecord};
     ghost use Rattle.verifier.specs.Walks.{longest};
 

@@ -10,7 +10,7 @@ use crate::error::CommandError;
 use crate::kept::{find_pin, find_program};
 use crate::listing::Listing;
 use crate::session::Session;
-use bpf_model::EDGE_BYTES;
+use map_model::EDGE_BYTES;
 use session_model::Fault;
 use std::sync::Arc;
 use verifier::Verified;

@@ -2,7 +2,7 @@
 
 ghost use Rattle.std.specs.Prelude.{◌≡◌, nat_lt, true, IfOk};
 ghost use Rattle.std.specs.List.{list_all};
-ghost use Rattle.graph_model.specs.Past.{graph_of};
+ghost use Rattle.past_model.specs.Past.{graph_of};
 ghost use Rattle.session_model.specs.Session.{Session as SessionState};
 ghost use Rattle.session_model.specs.Responses.{run_response, found_response, map_response, frontier_of};
 ghost use Rattle.session.specs.Kept.{program_of, past_of};
@@ -14,9 +14,9 @@ use crate::error::CommandError;
 use crate::frontier::{all_vertices, are_below, narrowed};
 use crate::kept::{find_pin, find_program};
 use crate::session::Session;
-use bpf_model::Reduction;
 use edge_map::{MapError, MapOutcome, map_sources};
 use gates::{Crew, Gate};
+use map_model::Reduction;
 use session_model::Fault;
 use std::alloc::{AllocError, Global};
 use std::sync::{Arc, Wait};

@@ -1,11 +1,11 @@
 -- What a session can be asked for, and what it can answer.
 use Rattle.std.specs.Prelude.{ℕ, List}
 use Rattle.bpf_image.specs.Program.{Program}
-use Rattle.bpf_model.specs.declared.reduction.Reduction.{Reduction}
-use Rattle.bpf_model.specs.declared.row.Row.{Row}
-use Rattle.bpf_model.specs.declared.listed_edge.ListedEdge.{ListedEdge}
-use Rattle.graph_model.specs.declared.edit.Edit.{Edit}
-use Rattle.graph_model.specs.declared.home.Home.{Home}
+use Rattle.map_model.specs.declared.reduction.Reduction.{Reduction}
+use Rattle.map_model.specs.declared.row.Row.{Row}
+use Rattle.map_model.specs.declared.listed_edge.ListedEdge.{ListedEdge}
+use Rattle.past_model.specs.declared.edit.Edit.{Edit}
+use Rattle.past_model.specs.declared.home.Home.{Home}
 use Rattle.verifier.specs.declared.refusal.Refusal.{Refusal}
 
 pub data Command : Type 0 where

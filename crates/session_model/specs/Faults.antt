@@ -2,13 +2,13 @@
 use Rattle.std.specs.Prelude.{ℕ, ◌≤◌, ◌+◌, ◌==◌, ◌&&◌, not, nat_le, nat_lt, if◌then◌else◌, Bool, true, List, [], ◌∷◌, length, Option, Some, None, is_some}
 use Rattle.std.specs.List.{list_all}
 use Rattle.bpf_image.specs.declared.limits.TheConstants.{LEAST_RECORD_LENGTH, MOST_RECORD_LENGTH}
-use Rattle.graph_model.specs.declared.edit.Edit.{Edit}
-use Rattle.graph_model.specs.Edits.{source_of, target_of}
-use Rattle.graph_model.specs.Past.{Past, number_of}
+use Rattle.past_model.specs.declared.edit.Edit.{Edit}
+use Rattle.past_model.specs.Edits.{source_of, target_of}
+use Rattle.past_model.specs.Past.{Past, number_of}
 use Rattle.session_model.specs.declared.fault.Fault.{Fault}
 use Rattle.session_model.specs.declared.fault.Fault.TheVariants as faults
-use Rattle.graph_model.specs.declared.limits.TheConstants.{MOST_VERTICES, MOST_EDITS, MOST_BATCHES}
-use Rattle.bpf_model.specs.declared.limits.TheConstants.{EDGE_BYTES}
+use Rattle.past_model.specs.declared.limits.TheConstants.{MOST_VERTICES, MOST_EDITS, MOST_BATCHES}
+use Rattle.map_model.specs.declared.limits.TheConstants.{EDGE_BYTES}
 use Rattle.session_model.specs.declared.limits.TheConstants.{MOST_KEPT}
 use Rattle.session_model.specs.Session.{Session, program_named, pin_named}
 

@@ -1,16 +1,16 @@
 -- What a session answers to a command, and the session after it.
 use Rattle.std.specs.Prelude.{ℕ, ◌+◌, ◌*◌, ◌==◌, ◌&&◌, nat_le, nat_lt, Bool, if◌then◌else◌, List, [], ◌∷◌, ◌++◌, length, filter, Option, Some, None}
 use Rattle.bpf_isa.specs.declared.limits.TheConstants.{MOST_UNITS}
-use Rattle.graph_model.specs.declared.edit.Edit.{Edit}
-use Rattle.graph_model.specs.declared.entry.Entry.{Entry}
+use Rattle.past_model.specs.declared.edit.Edit.{Edit}
+use Rattle.past_model.specs.declared.entry.Entry.{Entry}
 use Rattle.graph_model.specs.Graph.{Graph, numbers_below, edge_count, degree}
-use Rattle.graph_model.specs.Edits.{added, removed}
-use Rattle.graph_model.specs.Past.{Past, opening, longer, graph_of, number_of}
-use Rattle.graph_model.specs.Homes.{home_of}
+use Rattle.past_model.specs.Edits.{added, removed}
+use Rattle.past_model.specs.Past.{Past, opening, longer, graph_of, number_of}
+use Rattle.past_model.specs.Homes.{home_of}
 use Rattle.bpf_image.specs.Program.{Program, units}
-use Rattle.bpf_model.specs.declared.reduction.Reduction.{Reduction}
-use Rattle.bpf_model.specs.declared.row.Row.{Row}
-use Rattle.bpf_model.specs.EdgeMap.{all_numbers, rows_of, reduction_of_numbers, listed_edges}
+use Rattle.map_model.specs.declared.reduction.Reduction.{Reduction}
+use Rattle.map_model.specs.declared.row.Row.{Row}
+use Rattle.map_model.specs.EdgeMap.{all_numbers, rows_of, reduction_of_numbers, listed_edges}
 use Rattle.verifier.specs.Walks.{longest}
 use Rattle.verifier.specs.Verdict.{Verdict, Accepted, Refused, verdict}
 use Rattle.session_model.specs.declared.fault.Fault.{Fault}

@@ -2,8 +2,8 @@
 use Rattle.std.specs.Prelude.{ℕ, if◌then◌else◌, List, [], ◌∷◌, Option, Some, None}
 use Rattle.bpf_asm.specs.Lexing.{same_bytes}
 use Rattle.bpf_image.specs.Program.{Program}
-use Rattle.graph_model.specs.declared.entry.Entry.{Entry}
-use Rattle.graph_model.specs.Past.{Past}
+use Rattle.past_model.specs.declared.entry.Entry.{Entry}
+use Rattle.past_model.specs.Past.{Past}
 
 -- a program that was accepted, under its name
 pub record KeptProgram : Type 0 where

@@ -1,6 +1,6 @@
 -- The worked row, by computing.
 use Rattle.std.proofs.Common.{◌≡◌, ◌<◌, ◌++◌, ℕ, List, [], ◌∷◌, length, refl, sym, ap, arith}
-use Rattle.graph_model.specs.declared.edit.Edit.TheVariants.{Insert}
+use Rattle.past_model.specs.declared.edit.Edit.TheVariants.{Insert}
 use Rattle.graph_model.specs.Graph.{neighbours}
 use Rattle.store_model.specs.declared.event.Event.TheVariants.{Submit, Take, Part, Publish, Pin, Lend}
 use Rattle.store_model.specs.declared.reply.Reply.TheVariants.{Done, Slice, End}

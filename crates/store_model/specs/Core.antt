@@ -1,12 +1,12 @@
 -- All that the store has: what is published, what waits, what is in work, and the readers' runs.
 use Rattle.std.specs.Prelude.{◌==◌, ℕ, ◌/◌, Bool, not, ◌&&◌, List, [], ◌∷◌, ◌++◌, filter, replicate, slice_index_or, Option, Some, None}
 use Rattle.std.specs.List.{list_any, list_all}
-use Rattle.graph_model.specs.declared.limits.TheConstants.{RANGE_VERTICES}
-use Rattle.graph_model.specs.declared.edit.Edit.{Edit}
-use Rattle.graph_model.specs.declared.entry.Entry.{Entry}
+use Rattle.past_model.specs.declared.limits.TheConstants.{RANGE_VERTICES}
+use Rattle.past_model.specs.declared.edit.Edit.{Edit}
+use Rattle.past_model.specs.declared.entry.Entry.{Entry}
 use Rattle.graph_model.specs.Graph.{neighbours}
-use Rattle.graph_model.specs.Edits.{source_of}
-use Rattle.graph_model.specs.Past.{Past, graph_of, opening}
+use Rattle.past_model.specs.Edits.{source_of}
+use Rattle.past_model.specs.Past.{Past, graph_of, opening}
 use Rattle.store_model.specs.declared.limits.TheConstants.{READERS}
 
 -- the range that an edit is of

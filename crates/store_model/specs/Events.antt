@@ -1,10 +1,10 @@
 -- Events: which can happen, what they do and are answered, one and in lists.
 use Rattle.std.specs.Prelude.{◌≡◌, ℕ, ◌<◌, Bool, true, false, ◌&&◌, nat_lt, List, [], ◌∷◌, ◌++◌, length, slice_set, Option, Some, None, option_map, is_some, is_none, MatchOption}
 use Rattle.std.specs.List.{list_all}
-use Rattle.graph_model.specs.declared.edit.Edit.{Edit}
-use Rattle.graph_model.specs.declared.entry.Entry.{Entry}
-use Rattle.graph_model.specs.Edits.{source_of, target_of}
-use Rattle.graph_model.specs.Past.{longer}
+use Rattle.past_model.specs.declared.edit.Edit.{Edit}
+use Rattle.past_model.specs.declared.entry.Entry.{Entry}
+use Rattle.past_model.specs.Edits.{source_of, target_of}
+use Rattle.past_model.specs.Past.{longer}
 use Rattle.store_model.specs.declared.limits.TheConstants.{FEEDS, READERS, QUEUE_PLACES}
 use Rattle.store_model.specs.declared.event.Event.{Event}
 use Rattle.store_model.specs.declared.event.Event.TheVariants.{Submit, Take, Part, Publish, Pin, Lend}

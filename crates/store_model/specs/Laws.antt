@@ -1,8 +1,8 @@
 -- Laws of all lists of events. Each is the contract of a public function.
 use Rattle.std.specs.Prelude.{◌≡◌, ℕ, true, List, [], ◌∷◌, ◌++◌, Some, Vec}
 use Rattle.std.specs.declared.alloc.Global.{Global}
-use Rattle.graph_model.specs.declared.edit.Edit.TheVariants.{Insert}
-use Rattle.graph_model.specs.Past.{IsPast}
+use Rattle.past_model.specs.declared.edit.Edit.TheVariants.{Insert}
+use Rattle.past_model.specs.Past.{IsPast}
 use Rattle.store_model.specs.declared.event.Event.{Event}
 use Rattle.store_model.specs.declared.event.Event.TheVariants.{Submit, Take, Part, Publish, Pin, Lend}
 use Rattle.store_model.specs.declared.reply.Reply.{Reply}

@@ -1,7 +1,7 @@
 //! What can happen to the store.
 ghost use Rattle.std.specs.Prelude.{◌≡◌, IfOk};
 
-use graph_model::Batch;
+use past_model::Batch;
 use std::alloc::AllocError;
 
 /// What can happen to the store. Each event is one atomic step.

@@ -2,9 +2,9 @@
 use Rattle.std.proofs.Common.{◌≡◌, ℕ, ◌+◌, ◌<◌, ◌≤◌, List, [], ◌++◌, Vec, length, take, drop, true, refl, sym, ap, ◌∙◌, append_assoc, append-nil, length-append, take_at, arith}
 use Rattle.std.specs.declared.alloc.Global.{Global}
 use Rattle.std.proofs.lemmas.List.{take-append-drop, length-take-le}
-use Rattle.graph_model.specs.Past.{Past, graph_of}
+use Rattle.past_model.specs.Past.{Past, graph_of}
 use Rattle.graph_model.proofs.Neighbours.{length-neighbours}
-use Rattle.graph_model.proofs.Pasts.{vertex_count-graph_of}
+use Rattle.past_model.proofs.Pasts.{vertex_count-graph_of}
 use Rattle.store_model.specs.declared.reply.Reply.TheVariants.{Slice, End}
 use Rattle.store_model.specs.Core.{Run}
 use Rattle.store_model.specs.Events.{IsBeginning}

@@ -7,9 +7,9 @@ use Rattle.std.specs.Arc.{arc_value}
 use Rattle.std.proofs.lemmas.Bool.{cases_lt, cases_eq, cases_Bool, and_parts, false_from_ne_true, false≢true}
 use Rattle.std.proofs.lemmas.List.{length_push, get_or_append_left, get_or_push, get_or-replicate, length-replicate, map_push, get_or-set_same, get_or-set_other}
 use Rattle.std.proofs.lemmas.List.Folds.{list_any-append}
-use Rattle.graph_model.specs.declared.edit.Edit.{Edit}
+use Rattle.past_model.specs.declared.edit.Edit.{Edit}
 use Rattle.graph_model.specs.Graph.{Graph, empty_graph}
-use Rattle.graph_model.specs.Edits.{source_of, after_batch, AreEditsBelow}
+use Rattle.past_model.specs.Edits.{source_of, after_batch, AreEditsBelow}
 use Rattle.graph_model.proofs.Neighbours.{neighbours_agree, neighbours-empty_graph}
 use Rattle.migration.specs.declared.groups.Grouping.TheVariants.{ByRange}
 use Rattle.migration.specs.Part.{Part, vertex_at, IsPart, AreEditsOf, IsPartAfter}

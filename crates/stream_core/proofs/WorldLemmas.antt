@@ -4,12 +4,12 @@ use Rattle.std.specs.List.{list_all}
 use Rattle.std.proofs.lemmas.Bool.{and_parts, false≢true}
 use Rattle.std.proofs.lemmas.Option.{none-some, same_Some}
 use Rattle.std.proofs.lemmas.List.{length_push, map-set, take-append-le, take_all}
-use Rattle.graph_model.specs.declared.edit.Edit.{Edit}
-use Rattle.graph_model.specs.declared.entry.Entry.{Entry}
+use Rattle.past_model.specs.declared.edit.Edit.{Edit}
+use Rattle.past_model.specs.declared.entry.Entry.{Entry}
 use Rattle.graph_model.specs.Graph.{empty_graph, neighbours}
-use Rattle.graph_model.specs.Edits.{AreEditsBelow}
-use Rattle.graph_model.specs.Past.{Past, graph_of, opening, longer}
-use Rattle.graph_model.proofs.Pasts.{graph_of-longer, vertex_count-graph_of}
+use Rattle.past_model.specs.Edits.{AreEditsBelow}
+use Rattle.past_model.specs.Past.{Past, graph_of, opening, longer}
+use Rattle.past_model.proofs.Pasts.{graph_of-longer, vertex_count-graph_of}
 use Rattle.migration.specs.Part.{Part}
 use Rattle.migration.specs.Table.{IsTable}
 use Rattle.store_model.specs.declared.event.Event.TheVariants.{Submit, Part as OnePart, Publish, Pin, Lend}

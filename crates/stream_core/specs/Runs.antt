@@ -1,8 +1,8 @@
 -- A reader's run, by the number of its version.
 use Rattle.std.specs.Prelude.{◌≡◌, ◌≤◌, ℕ, List, length, take}
-use Rattle.graph_model.specs.declared.limits.TheConstants.{MOST_VERTICES}
+use Rattle.past_model.specs.declared.limits.TheConstants.{MOST_VERTICES}
 use Rattle.graph_model.specs.Graph.{neighbours}
-use Rattle.graph_model.specs.Past.{Past, graph_of}
+use Rattle.past_model.specs.Past.{Past, graph_of}
 use Rattle.migration.specs.Table.{IsTable}
 use Rattle.store_model.specs.declared.reply.Reply.{Reply}
 use Rattle.store_model.specs.Core.{Run}

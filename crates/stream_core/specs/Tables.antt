@@ -1,9 +1,9 @@
 -- A table of parts while a batch is in work.
 use Rattle.std.specs.Prelude.{◌==◌, ◌↔◌, ℕ, ◌*◌, ◌<◌, if◌then◌else◌, List, length, filter}
-use Rattle.graph_model.specs.declared.limits.TheConstants.{RANGE_VERTICES}
-use Rattle.graph_model.specs.declared.edit.Edit.{Edit}
+use Rattle.past_model.specs.declared.limits.TheConstants.{RANGE_VERTICES}
+use Rattle.past_model.specs.declared.edit.Edit.{Edit}
 use Rattle.graph_model.specs.Graph.{Graph}
-use Rattle.graph_model.specs.Edits.{after_batch}
+use Rattle.past_model.specs.Edits.{after_batch}
 use Rattle.migration.specs.Part.{Part}
 use Rattle.migration.specs.Table.{IsPartAt, part_at}
 use Rattle.store_model.specs.Core.{range_of, is_done}

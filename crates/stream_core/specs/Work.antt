@@ -1,9 +1,9 @@
 -- A batch in work.
 use Rattle.std.specs.Prelude.{◌≡◌, ◌≤◌, ℕ, true, List, [], ◌∷◌, ◌++◌}
-use Rattle.graph_model.specs.declared.limits.TheConstants.{MOST_VERTICES}
-use Rattle.graph_model.specs.declared.entry.Entry.{Entry}
+use Rattle.past_model.specs.declared.limits.TheConstants.{MOST_VERTICES}
+use Rattle.past_model.specs.declared.entry.Entry.{Entry}
 use Rattle.graph_model.specs.Graph.{Graph}
-use Rattle.graph_model.specs.Edits.{AreEditsBelow}
+use Rattle.past_model.specs.Edits.{AreEditsBelow}
 use Rattle.migration.specs.Part.{Part}
 use Rattle.store_model.specs.Core.{Holding, is_open}
 use Rattle.stream_core.specs.Tables.{IsTableInWork}

@@ -1,10 +1,10 @@
 -- What a world is seen as, and kept to be.
 use Rattle.std.specs.Prelude.{◌≡◌, ◌≤◌, ℕ, List, length, map, slice_index_or, Option, Some, None, option_map, MatchOption}
 use Rattle.std.specs.List.{AllByRecursion}
-use Rattle.graph_model.specs.declared.limits.TheConstants.{MOST_VERTICES}
-use Rattle.graph_model.specs.declared.entry.Entry.{Entry}
-use Rattle.graph_model.specs.Edits.{AreEditsBelow}
-use Rattle.graph_model.specs.Past.{Past, graph_of}
+use Rattle.past_model.specs.declared.limits.TheConstants.{MOST_VERTICES}
+use Rattle.past_model.specs.declared.entry.Entry.{Entry}
+use Rattle.past_model.specs.Edits.{AreEditsBelow}
+use Rattle.past_model.specs.Past.{Past, graph_of}
 use Rattle.migration.specs.Part.{Part}
 use Rattle.migration.specs.Table.{IsTable}
 use Rattle.store_model.specs.declared.limits.TheConstants.{READERS}

@@ -1,7 +1,7 @@
 //! One event after another.
 ghost use Rattle.std.specs.Prelude.{◌≡◌, ◌≤◌, IfOk, OnErr};
-ghost use Rattle.graph_model.specs.declared.limits.TheConstants.{MOST_VERTICES};
-ghost use Rattle.graph_model.specs.Past.{graph_of};
+ghost use Rattle.past_model.specs.declared.limits.TheConstants.{MOST_VERTICES};
+ghost use Rattle.past_model.specs.Past.{graph_of};
 ghost use Rattle.migration.specs.Table.{IsTable, parts_of};
 ghost use Rattle.store_model.specs.Core.{opening_core};
 ghost use Rattle.store_model.specs.Events.{Steps, Ran};

@@ -2,7 +2,7 @@
 ghost use Rattle.std.specs.Prelude.{◌≡◌, [], ◌∷◌, ◌++◌, OnOk, OnErr};
 
 use crate::table::Table;
-use graph_model::{Entry, RANGE_VERTICES};
+use past_model::{Entry, RANGE_VERTICES};
 use std::alloc::{AllocError, Global};
 use std::marker::Model;
 

@@ -1,6 +1,6 @@
 //! What a reader does at the moment.
 ghost use Rattle.std.specs.Prelude.{◌≡◌, IfOk, OnErr};
-ghost use Rattle.graph_model.specs.Past.{Past};
+ghost use Rattle.past_model.specs.Past.{Past};
 
 use crate::lend::lent_from;
 use crate::table::Table;

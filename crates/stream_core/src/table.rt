@@ -2,14 +2,14 @@
 ghost use Rattle.std.specs.Prelude.{◌≡◌, ◌<◌, ◌≤◌, length, slice_set, IfOk};
 ghost use Rattle.std.specs.Arc.{arc_value};
 ghost use Rattle.std.specs.List.{AllByRecursion};
-ghost use Rattle.graph_model.specs.declared.limits.TheConstants.{MOST_VERTICES};
+ghost use Rattle.past_model.specs.declared.limits.TheConstants.{MOST_VERTICES};
 ghost use Rattle.graph_model.specs.Graph.{empty_graph};
 ghost use Rattle.migration.specs.Part.{AreEditsOf, IsPartAfter};
 ghost use Rattle.migration.specs.Table.{IsTable, parts_of, part_at};
 ghost use Rattle.store_model.specs.Core.{range_of};
 
-use graph_model::Edit;
 use migration::{Grouping, Groups, Shard, empty_shards, share_shards};
+use past_model::Edit;
 use std::alloc::{AllocError, Global};
 use std::marker::Model;
 use std::sync::Arc;

@@ -1,7 +1,7 @@
 //! The store as one value.
 ghost use Rattle.std.specs.Prelude.{◌≡◌, ◌≤◌, true, is_some, IfOk, OnOk, OnErr};
-ghost use Rattle.graph_model.specs.declared.limits.TheConstants.{MOST_VERTICES};
-ghost use Rattle.graph_model.specs.Past.{graph_of};
+ghost use Rattle.past_model.specs.declared.limits.TheConstants.{MOST_VERTICES};
+ghost use Rattle.past_model.specs.Past.{graph_of};
 ghost use Rattle.migration.specs.Table.{IsTable, parts_of};
 ghost use Rattle.std.specs.List.{list_all};
 ghost use Rattle.store_model.specs.Core.{opening_core, run_of};
@@ -10,8 +10,8 @@ ghost use Rattle.store_model.specs.Events.{is_edit_below, can, after, Answers};
 use crate::held::Held;
 use crate::reader_run::ReaderRun;
 use crate::table::Table;
-use graph_model::{Batch, Edit, Entry};
 use migration::Shard;
+use past_model::{Batch, Edit, Entry};
 use std::alloc::{AllocError, Global};
 use std::collections::VecDeque;
 use std::marker::Model;

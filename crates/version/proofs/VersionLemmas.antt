@@ -2,20 +2,20 @@
 use Rattle.std.proofs.Common.{◌≡◌, ℕ, ◌+◌, ◌-◌, ◌*◌, ◌/◌, ◌%◌, ◌<◌, ◌≤◌, Bool, true, false, List, [], length, Contains, sym, ap, subst, refl, ◌∙◌, inl, inr, le_trans, mul-le-mul, arith}
 use Rattle.std.proofs.lemmas.Bool.{cases_lt}
 use Rattle.std.proofs.lemmas.List.{get_or_past}
-use Rattle.graph_model.specs.declared.home.Home.{Home}
-use Rattle.graph_model.specs.declared.home.Home.TheVariants.{Block}
-use Rattle.graph_model.specs.declared.edit.Edit.{Edit}
-use Rattle.graph_model.specs.declared.entry.Entry.{Entry}
+use Rattle.past_model.specs.declared.home.Home.{Home}
+use Rattle.past_model.specs.declared.home.Home.TheVariants.{Block}
+use Rattle.past_model.specs.declared.edit.Edit.{Edit}
+use Rattle.past_model.specs.declared.entry.Entry.{Entry}
 use Rattle.graph_model.specs.Graph.{Graph, neighbours, edge_count, empty_graph}
-use Rattle.graph_model.specs.Edits.{after_batch, added, removed, AreEditsBelow}
-use Rattle.graph_model.specs.Past.{Past, graph_of, number_of, opening, longer}
-use Rattle.graph_model.specs.Homes.{home_after, home_of}
+use Rattle.past_model.specs.Edits.{after_batch, added, removed, AreEditsBelow}
+use Rattle.past_model.specs.Past.{Past, graph_of, number_of, opening, longer}
+use Rattle.past_model.specs.Homes.{home_after, home_of}
 use Rattle.graph_model.specs.Views.{is_edge}
-use Rattle.graph_model.proofs.HomeLemmas.{home_of_longer}
+use Rattle.past_model.proofs.HomeLemmas.{home_of_longer}
 use Rattle.graph_model.proofs.Neighbours.{neighbours-outside}
 use Rattle.graph_model.proofs.ViewLemmas.{neighbour-is_edge, is_edge-neighbour}
-use Rattle.graph_model.proofs.Batches.{change_of_size, edge_count-empty_graph, edge_count-le, new_edges-le}
-use Rattle.graph_model.proofs.Pasts.{graph_of-longer, vertex_count-graph_of, number_of-longer, IsPast-longer}
+use Rattle.past_model.proofs.Batches.{change_of_size, edge_count-empty_graph, edge_count-le, new_edges-le}
+use Rattle.past_model.proofs.Pasts.{graph_of-longer, vertex_count-graph_of, number_of-longer, IsPast-longer}
 use Rattle.migration.specs.declared.counts.Counts.{Counts}
 use Rattle.migration.specs.Part.{Part, row_at, vertex_at}
 use Rattle.migration.specs.Table.{IsTable, IsEditable, AreAfter, AreMoved, part_at, row_in, home_in}

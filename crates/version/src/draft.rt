@@ -18,7 +18,7 @@ pub struct Draft {
 }
 
 impl Model for Draft {
-    ghost use Rattle.graph_model.specs.Past.{Past};
+    ghost use Rattle.past_model.specs.Past.{Past};
     ghost use Rattle.version.specs.Version.{past_of, IsVersion};
 
     ghost Value = { Past };

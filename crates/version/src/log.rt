@@ -1,11 +1,11 @@
 //! The log of a version.
 ghost use Rattle.std.specs.Prelude.{◌≡◌, ◌<◌, [], ◌∷◌, ◌++◌, length, Some, IfOk};
 ghost use Rattle.std.specs.List.{flat_map};
-ghost use Rattle.graph_model.specs.declared.limits.TheConstants.{MOST_BATCHES};
-ghost use Rattle.graph_model.specs.Shared.{shared_items};
+ghost use Rattle.past_model.specs.declared.limits.TheConstants.{MOST_BATCHES};
+ghost use Rattle.past_model.specs.Shared.{shared_items};
 ghost use Rattle.version.specs.Log.{entries_in};
 
-use graph_model::Entry;
+use past_model::Entry;
 use std::alloc::{AllocError, Global};
 use std::marker::Model;
 use std::sync::Arc;
@@ -26,8 +26,8 @@ pub struct Log {
 
 impl Model for Log {
     ghost use Rattle.std.specs.Prelude.{◌≡◌, List, length};
-    ghost use Rattle.graph_model.specs.declared.entry.Entry.{Entry};
-    ghost use Rattle.graph_model.specs.Shared.{shared_items};
+    ghost use Rattle.past_model.specs.declared.entry.Entry.{Entry};
+    ghost use Rattle.past_model.specs.Shared.{shared_items};
     ghost use Rattle.version.specs.Log.{entries_of};
 
     ghost Value = { List Entry };

@@ -1,11 +1,11 @@
 //! A version: what it answers, and the next one of it and a batch.
 ghost use Rattle.std.specs.Prelude.{◌≡◌, ◌/◌, ◌%◌, ◌<◌, ◌≤◌, length, slice_get, IfOk};
-ghost use Rattle.graph_model.specs.declared.limits.TheConstants.{MOST_BATCHES, MOST_VERTICES};
+ghost use Rattle.past_model.specs.declared.limits.TheConstants.{MOST_BATCHES, MOST_VERTICES};
 ghost use Rattle.graph_model.specs.Graph.{neighbours, edge_count, degree};
-ghost use Rattle.graph_model.specs.Edits.{AreEditsBelow, added, removed};
-ghost use Rattle.graph_model.specs.Homes.{home_of};
+ghost use Rattle.past_model.specs.Edits.{AreEditsBelow, added, removed};
+ghost use Rattle.past_model.specs.Homes.{home_of};
 ghost use Rattle.graph_model.specs.Views.{is_edge, neighbour_words, neighbours_among, word_bytes};
-ghost use Rattle.graph_model.specs.Past.{IsPast, graph_of, number_of, longer};
+ghost use Rattle.past_model.specs.Past.{IsPast, graph_of, number_of, longer};
 ghost use Rattle.history.specs.Moment.{opening_moment, beginning_of, no_batch};
 
 use crate::draft::Draft;
@@ -13,9 +13,9 @@ use crate::log::Log;
 use batch_apply::edit_table;
 use cursors::Cursor;
 use gates::{Gate, Refusal, Workers};
-use graph_model::{Entry, Home};
 use history::Known;
 use migration::{Counts, Table};
+use past_model::{Entry, Home};
 use std::alloc::{AllocError, Global};
 use std::marker::Model;
 use std::sync::Wait;

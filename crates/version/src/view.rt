@@ -3,7 +3,7 @@ use crate::version::Version;
 use graph_model::GraphView;
 
 impl GraphView for Version {
-    ghost use Rattle.graph_model.specs.Past.{graph_of};
+    ghost use Rattle.past_model.specs.Past.{graph_of};
 
     ghost graph = { λ v. graph_of v.past };
 

@@ -3,7 +3,7 @@ use Rattle.std.proofs.Common.{◌≡◌, ◌≢◌, ℕ, ◌==◌, cond, List, [
 use Rattle.std.proofs.lemmas.Bool.{eq-eqb, ne_eqb}
 use Rattle.std.proofs.lemmas.List.Elements.{filter-append}
 use native.Mathlib.Decide.{ℕ_discrete}
-use Rattle.graph_model.specs.declared.entry.Entry.{Entry}
+use Rattle.past_model.specs.declared.entry.Entry.{Entry}
 use Rattle.store_model.specs.Core.{of_feed}
 
 -- f, but x at k

@@ -2,7 +2,7 @@
 use Rattle.std.proofs.Common.{◌≡◌, ◌≢◌, ℕ, ◌+◌, ◌<◌, ◌≤◌, List, [], ◌∷◌, ◌++◌, length, slice_index_or, refl, sym, ap, ◌∙◌, arith, append-nil, length-append}
 use Rattle.std.proofs.lemmas.Bool.{eq-eqb, ne_eqb}
 use native.Mathlib.Decide.{ℕ_discrete}
-use Rattle.graph_model.specs.declared.entry.Entry.{Entry}
+use Rattle.past_model.specs.declared.entry.Entry.{Entry}
 use Rattle.store_model.specs.declared.limits.TheConstants.{FEEDS, QUEUE_PLACES}
 use Rattle.store_model.specs.Core.{of_feed}
 use Rattle.versions.specs.Hands.{taker}

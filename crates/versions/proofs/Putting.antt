@@ -3,8 +3,8 @@ use Rattle.std.proofs.Common.{◌≡◌, ◌≢◌, ℕ, true, false, Some, List
 use Rattle.std.specs.List.{AllByRecursion}
 use Rattle.std.proofs.lemmas.List.{map-append}
 use Rattle.crossbeam_queue.specs.Fifo.{Pushes, Learns}
-use Rattle.graph_model.specs.declared.entry.Entry.{Entry}
-use Rattle.graph_model.specs.Edits.{AreEditsBelow}
+use Rattle.past_model.specs.declared.entry.Entry.{Entry}
+use Rattle.past_model.specs.Edits.{AreEditsBelow}
 use Rattle.store_model.specs.declared.limits.TheConstants.{QUEUE_PLACES}
 use Rattle.store_model.specs.Core.{of_feed}
 use Rattle.versions.specs.declared.intake.hand.Hand.{Hand}

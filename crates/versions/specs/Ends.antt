@@ -1,8 +1,8 @@
 -- What is known of the two kinds of ends of a queue: feeds put batches in, and one end takes them out.
 use Rattle.std.specs.Prelude.{◌≡◌, ℕ, ◌+◌, ◌%◌, ◌^◌, ◌≤◌, List, [], ◌∷◌, ◌++◌, length}
 use Rattle.atomic_table.specs.Seated.{TableId}
-use Rattle.graph_model.specs.declared.edit.Edit.{Edit}
-use Rattle.graph_model.specs.declared.entry.Entry.{Entry}
+use Rattle.past_model.specs.declared.edit.Edit.{Edit}
+use Rattle.past_model.specs.declared.entry.Entry.{Entry}
 use Rattle.store_model.specs.declared.limits.TheConstants.{FEEDS, QUEUE_PLACES}
 use Rattle.store_model.specs.Core.{of_feed}
 

@@ -1,9 +1,9 @@
 -- What becomes of a batch that a feed hands in, and which feeds end a store.
 use Rattle.std.specs.Prelude.{◌≡◌, ◌<◌, ◌≤◌, ◌+◌, List, [], ◌∷◌, length}
-use Rattle.graph_model.specs.declared.edit.Edit.{Edit}
-use Rattle.graph_model.specs.declared.entry.Entry.{Entry}
-use Rattle.graph_model.specs.declared.limits.TheConstants.{MOST_EDITS}
-use Rattle.graph_model.specs.Edits.{AreEditsBelow}
+use Rattle.past_model.specs.declared.edit.Edit.{Edit}
+use Rattle.past_model.specs.declared.entry.Entry.{Entry}
+use Rattle.past_model.specs.declared.limits.TheConstants.{MOST_EDITS}
+use Rattle.past_model.specs.Edits.{AreEditsBelow}
 use Rattle.store_model.specs.Core.{of_feed}
 use Rattle.versions.specs.Ends.{Feeding, after_refusal, WasFull, IsFeedOf}
 use Rattle.versions.specs.declared.errors.SubmitCause.{SubmitCause}

@@ -1,10 +1,10 @@
 -- A batch that was taken, and how far its publication has come.
 use Rattle.std.specs.Prelude.{◌≡◌, ◌<◌, List, [], ◌∷◌, Option, Some, None, Result, Ok, Err}
 use Rattle.std.specs.Arc.{arc_value}
-use Rattle.graph_model.specs.declared.entry.Entry.{Entry}
-use Rattle.graph_model.specs.declared.limits.TheConstants.{MOST_BATCHES}
-use Rattle.graph_model.specs.Edits.{AreEditsBelow, added, removed}
-use Rattle.graph_model.specs.Past.{graph_of, number_of}
+use Rattle.past_model.specs.declared.entry.Entry.{Entry}
+use Rattle.past_model.specs.declared.limits.TheConstants.{MOST_BATCHES}
+use Rattle.past_model.specs.Edits.{AreEditsBelow, added, removed}
+use Rattle.past_model.specs.Past.{graph_of, number_of}
 use Rattle.store_model.specs.declared.limits.TheConstants.{FEEDS}
 use Rattle.history.specs.Moment.{Moment, after_entry}
 use Rattle.versions.specs.Receipts.{Publication, publication}

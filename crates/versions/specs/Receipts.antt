@@ -1,8 +1,8 @@
 -- What a publication did: a batch made the next version.
 use Rattle.std.specs.Prelude.{◌≡◌, ℕ}
-use Rattle.graph_model.specs.declared.entry.Entry.{Entry}
-use Rattle.graph_model.specs.Edits.{added, removed}
-use Rattle.graph_model.specs.Past.{graph_of}
+use Rattle.past_model.specs.declared.entry.Entry.{Entry}
+use Rattle.past_model.specs.Edits.{added, removed}
+use Rattle.past_model.specs.Past.{graph_of}
 use Rattle.history.specs.Moment.{Moment, after_entry}
 use Rattle.versions.specs.declared.held.Change.{Change}
 

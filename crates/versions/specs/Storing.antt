@@ -1,8 +1,8 @@
 -- The publisher, and what its steps do.
 use Rattle.std.specs.Prelude.{◌≡◌, ◌<◌, ℕ, List, [], ◌∷◌, ◌++◌, Option, Some, None, IfSome}
 use Rattle.atomic_table.specs.Seated.{TableId}
-use Rattle.graph_model.specs.declared.entry.Entry.{Entry}
-use Rattle.graph_model.specs.Edits.{AreEditsBelow}
+use Rattle.past_model.specs.declared.entry.Entry.{Entry}
+use Rattle.past_model.specs.Edits.{AreEditsBelow}
 use Rattle.store_model.specs.declared.limits.TheConstants.{FEEDS}
 use Rattle.history.specs.Moment.{Moment, opening_moment}
 use Rattle.versions.specs.Ends.{Feeding, new_feed, one_more, taking, WasEmpty}

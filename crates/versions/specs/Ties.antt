@@ -1,9 +1,9 @@
 -- Which events of the store's core the calls of its handles are.
 use Rattle.std.specs.Prelude.{◌≡◌, ◌<◌, ℕ, List, Option, Some, None}
-use Rattle.graph_model.specs.declared.edit.Edit.{Edit}
-use Rattle.graph_model.specs.declared.entry.Entry.{Entry}
+use Rattle.past_model.specs.declared.edit.Edit.{Edit}
+use Rattle.past_model.specs.declared.entry.Entry.{Entry}
 use Rattle.graph_model.specs.Graph.{neighbours}
-use Rattle.graph_model.specs.Past.{graph_of}
+use Rattle.past_model.specs.Past.{graph_of}
 use Rattle.history.specs.Moment.{Moment}
 use Rattle.versions.specs.Ends.{Feeding}
 use Rattle.handle_model.specs.Calls.{IsSubmission, IsPublication, IsTaking, IsPin}

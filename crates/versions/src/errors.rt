@@ -4,7 +4,7 @@ ghost use Rattle.versions.specs.declared.errors.StoreError.TheVariants as openin
 ghost use Rattle.versions.specs.Refused.{refused_as};
 
 use gates::Refusal;
-use graph_model::Batch;
+use past_model::Batch;
 use std::alloc::{AllocError, AllocFailed};
 use thiserror::Error;
 

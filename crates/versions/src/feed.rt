@@ -1,6 +1,6 @@
 //! The end at which batches are submitted.
 ghost use Rattle.std.specs.Prelude.{◌≡◌, ◌<◌, ◌↔◌, true, IfOk, IfErr};
-ghost use Rattle.graph_model.specs.Edits.{AreEditsBelow};
+ghost use Rattle.past_model.specs.Edits.{AreEditsBelow};
 ghost use Rattle.store_model.specs.declared.limits.TheConstants.{FEEDS};
 ghost use Rattle.versions.specs.Ends.{after_put, IsFeedOf};
 ghost use Rattle.versions.specs.Feeds.{AreFew, IsRefused};
@@ -8,7 +8,7 @@ ghost use Rattle.versions.specs.Ties.{SubmitsAsEvent};
 
 use crate::errors::{SubmitCause, SubmitError};
 use crate::intake::Outlet;
-use graph_model::{Batch, Edit, MOST_EDITS};
+use past_model::{Batch, Edit, MOST_EDITS};
 use std::marker::Model;
 use std::sync::Wait;
 

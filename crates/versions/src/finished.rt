@@ -1,5 +1,5 @@
 //! What is left of a store that has ended.
-use graph_model::Entry;
+use past_model::Entry;
 use std::sync::Arc;
 use version::Version;
 

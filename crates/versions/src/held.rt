@@ -3,7 +3,7 @@ ghost use Rattle.std.specs.Prelude.{◌≡◌};
 ghost use Rattle.versions.specs.Held.{entry_in};
 
 use gates::Refusal;
-use graph_model::Entry;
+use past_model::Entry;
 use std::sync::Arc;
 use version::{Counts, Version};
 

@@ -1,8 +1,8 @@
 //! How a taken batch becomes the version that readers are shown.
 ghost use Rattle.std.specs.Prelude.{◌≡◌, ◌≤◌};
 ghost use Rattle.std.specs.Arc.{arc_value};
-ghost use Rattle.graph_model.specs.declared.limits.TheConstants.{MOST_BATCHES};
-ghost use Rattle.graph_model.specs.Past.{number_of};
+ghost use Rattle.past_model.specs.declared.limits.TheConstants.{MOST_BATCHES};
+ghost use Rattle.past_model.specs.Past.{number_of};
 ghost use Rattle.history.specs.Moment.{after_entry};
 ghost use Rattle.versions.specs.Held.{at_rest, and_waiting, entry_in, IsNext, IsChange, IsHeld, IsGoneOn};
 
@@ -10,8 +10,8 @@ use crate::board::Board;
 use crate::held::{Change, Held, Stopped};
 use crate::receipt::Receipt;
 use gates::{Gate, Workers};
-use graph_model::Entry;
 use history::Head;
+use past_model::Entry;
 use std::alloc::Global;
 use std::marker::Model;
 use std::mem;

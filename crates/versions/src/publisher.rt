@@ -1,8 +1,8 @@
 //! The end at which versions are made.
 ghost use Rattle.std.specs.Prelude.{◌≡◌, ◌≤◌, ◌↔◌, ◌++◌, length, option_map, IfOk, IfErr, IfSome, IfNone, IsErrOf};
 ghost use Rattle.std.specs.Arc.{arc_value};
-ghost use Rattle.graph_model.specs.declared.limits.TheConstants.{MOST_BATCHES};
-ghost use Rattle.graph_model.specs.Past.{number_of};
+ghost use Rattle.past_model.specs.declared.limits.TheConstants.{MOST_BATCHES};
+ghost use Rattle.past_model.specs.Past.{number_of};
 ghost use Rattle.store_model.specs.declared.limits.TheConstants.{QUEUE_PLACES};
 ghost use Rattle.history.specs.Moment.{OneStore};
 ghost use Rattle.versions.specs.Held.{entry_in, entry_held, IsNoted};
@@ -18,7 +18,7 @@ use crate::intake::Intake;
 use crate::press::Press;
 use crate::receipt::Receipt;
 use gates::{Gate, Workers};
-use graph_model::MOST_BATCHES;
+use past_model::MOST_BATCHES;
 use std::marker::Model;
 use std::sync::Wait;
 use std::thread::Threads;

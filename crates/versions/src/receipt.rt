@@ -1,12 +1,12 @@
 //! What a publication proves.
 ghost use Rattle.std.specs.Prelude.{◌≡◌, ◌≤◌};
 ghost use Rattle.std.specs.Arc.{arc_value};
-ghost use Rattle.graph_model.specs.declared.limits.TheConstants.{MOST_BATCHES};
-ghost use Rattle.graph_model.specs.Past.{number_of};
+ghost use Rattle.past_model.specs.declared.limits.TheConstants.{MOST_BATCHES};
+ghost use Rattle.past_model.specs.Past.{number_of};
 ghost use Rattle.versions.specs.Receipts.{IsPublication, publication_by};
 
 use crate::held::Change;
-use graph_model::Batch;
+use past_model::Batch;
 use std::marker::Model;
 use std::sync::Arc;
 use version::Version;

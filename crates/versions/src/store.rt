@@ -1,6 +1,6 @@
 //! How a store begins, with all its ends.
 ghost use Rattle.std.specs.Prelude.{◌≡◌, ◌<◌, ◌↔◌, ◌⊎◌, IfOk, IsErrOf};
-ghost use Rattle.graph_model.specs.declared.limits.TheConstants.{MOST_VERTICES};
+ghost use Rattle.past_model.specs.declared.limits.TheConstants.{MOST_VERTICES};
 ghost use Rattle.versions.specs.Storing.{IsOpened};
 
 use crate::board::open_board;
@@ -10,8 +10,8 @@ use crate::intake::open_queue;
 use crate::press::Press;
 use crate::publisher::Publisher;
 use crate::reader::Reader;
-use graph_model::MOST_VERTICES;
 use history::Head;
+use past_model::MOST_VERTICES;
 use std::alloc::Global;
 use std::sync::{Arc, Wait};
 use version::Version;

@@ -3,8 +3,8 @@ use Rattle.std.proofs.Common.{◌≡◌, ℕ, zero, suc, ◌<◌, Bool, true, fa
 use Rattle.std.proofs.lemmas.Bool.{cases_lt, cases_eq, ne_eqb, eq-eqb}
 use Rattle.std.proofs.lemmas.List.Folds.{list_any-append}
 use Rattle.graph_model.specs.Graph.{Graph, neighbours, numbers_below}
-use Rattle.graph_model.specs.Edits.{after_batch}
-use Rattle.graph_model.specs.declared.edit.Edit.TheVariants.{Insert, Remove}
+use Rattle.past_model.specs.Edits.{after_batch}
+use Rattle.past_model.specs.declared.edit.Edit.TheVariants.{Insert, Remove}
 use Rattle.graph_model.proofs.Neighbours.{neighbours-within, neighbours-outside, neighbours_agree}
 use Rattle.word_sets.specs.declared.places.TheConstants.{WORD_LIMIT}
 use Rattle.word_sets.specs.Words.{has_word, with_word, without_word, IsWithin}

@@ -2,8 +2,8 @@
 use Rattle.std.specs.Prelude.{◌≡◌, ◌≢◌, ℕ, ◌<◌, ◌≤◌, ◌↔◌, not, ◌&&◌, ◌||◌, ◌==◌, IsTrue, List, [], ◌∷◌, ◌++◌, All, Contains}
 use Rattle.std.specs.List.Sorted.{IsStrictlyIncreasing}
 use Rattle.graph_model.specs.Graph.{Graph, neighbours}
-use Rattle.graph_model.specs.Edits.{after_batch}
-use Rattle.graph_model.specs.declared.edit.Edit.TheVariants.{Insert, Remove}
+use Rattle.past_model.specs.Edits.{after_batch}
+use Rattle.past_model.specs.declared.edit.Edit.TheVariants.{Insert, Remove}
 use Rattle.word_sets.specs.declared.places.TheConstants.{WORD_LIMIT}
 use Rattle.word_sets.specs.Words.{has_word, with_word, without_word, IsWithin, IsSet}
 

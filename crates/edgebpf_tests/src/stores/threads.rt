@@ -1,6 +1,6 @@
 //! Two feeds, the publisher and a reader, each in a thread of its own.
 ghost use Rattle.std.specs.Prelude.{◌≡◌, IfOk};
-ghost use Rattle.graph_model.specs.Edits.{AreEditsBelow};
+ghost use Rattle.past_model.specs.Edits.{AreEditsBelow};
 ghost use Rattle.history.specs.Moment.{OneStore};
 ghost use Rattle.versions.specs.Ends.{IsFeedOf};
 

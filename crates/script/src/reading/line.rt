@@ -1,6 +1,6 @@
 //! What lines say.
 
-use bpf_model::Reduction;
+use map_model::Reduction;
 
 /// A line inside a batch. A number from 2^64 - 1 on stands as 2^64 - 1, which no graph has as a vertex.
 #[derive(Clone, Copy)]

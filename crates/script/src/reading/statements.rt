@@ -12,7 +12,7 @@ use crate::reading::line::{Line, Statement};
 use crate::reading::names::is_name;
 use crate::reading::numbers::{all_numbers, next_number};
 use crate::reading::words::{has_no_word, is_word, next_word};
-use bpf_model::Reduction;
+use map_model::Reduction;
 use std::alloc::{AllocError, Global};
 
 /// The words of a `code` command, its code in hexadecimal digits.

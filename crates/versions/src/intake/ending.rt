@@ -10,7 +10,7 @@ ghost use Rattle.versions.specs.QueueRule.{Left};
 use crate::intake::delivery::{EndFeed, Queue, Seat, Take};
 use crate::intake::intake::Intake;
 use crate::intake::outlet::Outlet;
-use graph_model::Entry;
+use past_model::Entry;
 use std::sync::Wait;
 
 impl Intake {

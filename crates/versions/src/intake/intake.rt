@@ -1,11 +1,11 @@
 //! The end of the queue at which batches are taken.
 ghost use Rattle.std.specs.Prelude.{◌≡◌, ◌<◌, IfSome, IfNone};
-ghost use Rattle.graph_model.specs.Edits.{AreEditsBelow};
+ghost use Rattle.past_model.specs.Edits.{AreEditsBelow};
 ghost use Rattle.store_model.specs.declared.limits.TheConstants.{FEEDS};
 ghost use Rattle.versions.specs.Ends.{after_pop, after_nothing, WasEmpty};
 
 use crate::intake::delivery::{Queue, Seat, Take};
-use graph_model::Entry;
+use past_model::Entry;
 use std::marker::Model;
 use std::sync::{Arc, Wait};
 

@@ -6,7 +6,7 @@ use crate::intake::delivery::{Begin, NewFeed, Queue, Say};
 use crate::intake::intake::Intake;
 use crate::intake::outlet::Outlet;
 use crate::intake::parcel::Parcel;
-use graph_model::{Batch, Entry};
+use past_model::{Batch, Entry};
 use std::alloc::{AllocError, Global};
 use std::sync::Arc;
 use store_model::QUEUE_PLACES;

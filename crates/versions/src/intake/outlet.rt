@@ -1,12 +1,12 @@
 //! The end of the queue at which a feed puts its batches.
 ghost use Rattle.std.specs.Prelude.{◌≡◌, ◌<◌, IfOk, IfErr};
 ghost use Rattle.store_model.specs.declared.limits.TheConstants.{FEEDS};
-ghost use Rattle.graph_model.specs.Edits.{AreEditsBelow};
+ghost use Rattle.past_model.specs.Edits.{AreEditsBelow};
 ghost use Rattle.versions.specs.Ends.{after_put, after_refusal, WasFull, IsFeedOf};
 
 use crate::intake::delivery::{Put, Queue, Seat};
 use crate::intake::parcel::Parcel;
-use graph_model::{Batch, Entry};
+use past_model::{Batch, Entry};
 use std::marker::Model;
 use std::sync::{Arc, Wait};
 

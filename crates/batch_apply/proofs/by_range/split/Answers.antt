@@ -1,7 +1,7 @@
 use Rattle.std.proofs.Common.{◌≤◌, List, length, refl, subst, arith}
-use Rattle.graph_model.specs.declared.edit.Edit.{Edit}
-use Rattle.graph_model.specs.declared.limits.TheConstants.{MOST_EDITS, MOST_VERTICES}
-use Rattle.graph_model.specs.Edits.{AreEditsBelow}
+use Rattle.past_model.specs.declared.edit.Edit.{Edit}
+use Rattle.past_model.specs.declared.limits.TheConstants.{MOST_EDITS, MOST_VERTICES}
+use Rattle.past_model.specs.Edits.{AreEditsBelow}
 use Rattle.batch_apply.specs.Splits.{IsSplit, by_ranges, IsSplittable}
 use Rattle.batch_apply.proofs.by_range.split.Goals as goal
 

@@ -1,7 +1,7 @@
 use Rattle.std.proofs.Common.{◌<◌, All, sym, subst}
 use Rattle.std.proofs.lemmas.List.Sorted.{All-permutation}
 use Rattle.std.proofs.lemmas.Result.{IfOk-weaker}
-use Rattle.graph_model.specs.declared.limits.TheConstants.{MOST_RANGES}
+use Rattle.past_model.specs.declared.limits.TheConstants.{MOST_RANGES}
 use Rattle.batch_apply.specs.Splits.{range_of}
 use Rattle.batch_apply.proofs.Cuts.{same_split, ranges_below}
 use Rattle.batch_apply.proofs.by_range.threaded.Goals as goal

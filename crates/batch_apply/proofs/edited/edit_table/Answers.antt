@@ -1,6 +1,6 @@
 use Rattle.std.proofs.Common.{◌/◌, ◌<◌, sym, ap, subst, ◌∙◌, arith}
 use Rattle.std.specs.List.{AllByRecursion}
-use Rattle.graph_model.specs.Edits.{source_of}
+use Rattle.past_model.specs.Edits.{source_of}
 use Rattle.migration.specs.Groups.{Grouped}
 use Rattle.migration.specs.Table.{IsEditable}
 use Rattle.migration.specs.Made.{IsBatch}

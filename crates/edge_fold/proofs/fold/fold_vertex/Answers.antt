@@ -1,9 +1,9 @@
 use Rattle.std.proofs.Common.{◌≡◌, ◌≤◌, ℕ, List, [], Option, Some, None, MatchOption, length, refl, sym, ◌∙◌, arith}
 use Rattle.graph_model.specs.Graph.{Graph, neighbours, degree}
-use Rattle.graph_model.specs.Past.{graph_of}
+use Rattle.past_model.specs.Past.{graph_of}
 use Rattle.bpf_image.specs.Program.{Program}
-use Rattle.bpf_model.specs.declared.reduction.Reduction.{Reduction}
-use Rattle.bpf_model.specs.EdgeMap.{reduction_of_numbers, exit_numbers}
+use Rattle.map_model.specs.declared.reduction.Reduction.{Reduction}
+use Rattle.map_model.specs.EdgeMap.{reduction_of_numbers, exit_numbers}
 use Rattle.verifier.specs.Walks.{longest}
 use Rattle.edge_fold.proofs.Numbers.{none_folded, all_folded, none_left, row_behind, few_in_row, row_folded}
 use Rattle.edge_fold.proofs.fold.fold_vertex.Goals as goal

@@ -1,5 +1,5 @@
 use Rattle.std.proofs.Common.{◌≡◌, ◌++◌, Option, Some, None, MatchOption, length, take, drop, refl, ap, sym, ◌∙◌, arith}
-use Rattle.graph_model.specs.Past.{graph_of}
+use Rattle.past_model.specs.Past.{graph_of}
 use Rattle.edge_map.specs.declared.limits.TheConstants.{BLOCK_EDGES}
 use Rattle.edge_map.specs.Listing.{listing}
 use Rattle.edge_map.proofs.Lists.{full_block, last_block}

@@ -1,6 +1,6 @@
 use Rattle.std.proofs.Common.{◌≡◌, ◌≤◌, ◌++◌, ◌-◌, length}
 use Rattle.std.specs.Vec.{vec_capacity}
-use Rattle.graph_model.specs.Past.{graph_of}
+use Rattle.past_model.specs.Past.{graph_of}
 use Rattle.edge_map.specs.declared.limits.TheConstants.{BLOCK_EDGES}
 use Rattle.edge_map.specs.Listing.{listing}
 use Rattle.edge_map.proofs.list.fill.Given as goal

@@ -1,6 +1,6 @@
 use Rattle.std.proofs.Common.{◌≡◌, refl, sym, subst, ◌∙◌, rules, arith}
-use Rattle.graph_model.specs.Past.{graph_of}
-use Rattle.graph_model.proofs.Pasts.{vertex_count-graph_of}
+use Rattle.past_model.specs.Past.{graph_of}
+use Rattle.past_model.proofs.Pasts.{vertex_count-graph_of}
 use Rattle.edge_map.specs.Maps.{IsFrontier, FitsRecord}
 use Rattle.edge_map.proofs.Frontiers.{frontier_short}
 use Rattle.edge_map.proofs.Refusals.{clash, refused_mapped}

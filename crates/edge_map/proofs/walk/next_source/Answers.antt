@@ -1,7 +1,7 @@
 use Rattle.std.proofs.Common.{◌≡◌, ◌<◌, ap, ◌∙◌, arith}
 use Rattle.graph_model.specs.Graph.{degree}
-use Rattle.graph_model.specs.Past.{graph_of}
-use Rattle.graph_model.proofs.Pasts.{vertex_count-graph_of}
+use Rattle.past_model.specs.Past.{graph_of}
+use Rattle.past_model.proofs.Pasts.{vertex_count-graph_of}
 use Rattle.edge_map.proofs.Walks.{on_is, idle, none_behind}
 use Rattle.edge_map.proofs.walk.next_source.Goals as goal
 

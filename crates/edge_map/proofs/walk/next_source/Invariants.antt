@@ -1,7 +1,7 @@
 use Rattle.std.proofs.Common.{◌≡◌, drop}
 use Rattle.std.specs.List.{flat_map}
 use Rattle.graph_model.specs.Graph.{numbers_below}
-use Rattle.graph_model.specs.Past.{graph_of}
+use Rattle.past_model.specs.Past.{graph_of}
 use Rattle.edge_map.specs.Listing.{edges_of}
 use Rattle.edge_map.specs.Ahead.{edges_behind}
 use Rattle.edge_map.proofs.walk.next_source.Given as goal

@@ -1,6 +1,6 @@
 use Rattle.std.proofs.Common.{subst, List}
 use mathlib.Core.List.{IsPrefix}
-use Rattle.graph_model.specs.declared.entry.Entry.{Entry}
+use Rattle.past_model.specs.declared.entry.Entry.{Entry}
 use Rattle.history.proofs.Beginnings.{prefix_shorter}
 use Rattle.history.proofs.known.compare.Goals as goal
 

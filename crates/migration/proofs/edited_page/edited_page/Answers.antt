@@ -1,7 +1,7 @@
 use Rattle.std.proofs.Common.{◌≡◌, ℕ, ◌+◌, ◌<◌, ◌++◌, ◌∷◌, List, [], length, get_or, sym, ap, ap₂, subst, subst₂, ◌∙◌, length-append, append-nil, ◌^◌, arith}
 use Rattle.std.proofs.lemmas.List.{length_push}
-use Rattle.graph_model.specs.declared.home.Home.TheVariants.{Block}
-use Rattle.graph_model.specs.Homes.{home_after}
+use Rattle.past_model.specs.declared.home.Home.TheVariants.{Block}
+use Rattle.past_model.specs.Homes.{home_after}
 use Rattle.word_sets.specs.Words.{IsSet}
 use Rattle.migration.specs.Begun.{AreBegun}
 use Rattle.migration.specs.Lists.{rows_of, homes_of}

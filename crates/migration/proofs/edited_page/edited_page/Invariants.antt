@@ -1,5 +1,5 @@
 use Rattle.std.proofs.Common.{◌≡◌, ◌++◌, ℕ, List, length}
-use Rattle.graph_model.specs.declared.home.Home.{Home}
+use Rattle.past_model.specs.declared.home.Home.{Home}
 use Rattle.migration.specs.Begun.{AreBegun, IsPageOf}
 use Rattle.migration.specs.Lists.{AreKept, rows_of, homes_of}
 use Rattle.migration.specs.Part.{Part}

@@ -1,5 +1,5 @@
 use Rattle.std.proofs.Common.{◌≡◌, ◌+◌, ◌-◌, ◌*◌, ◌<◌, [], min, replicate, sym, ap, subst, ◌∙◌, arith}
-use Rattle.graph_model.specs.declared.home.Home.TheVariants.{Block}
+use Rattle.past_model.specs.declared.home.Home.TheVariants.{Block}
 use Rattle.migration.specs.Lists.{rows_of, homes_of, AreKept}
 use Rattle.migration.proofs.PageLemmas.{AreEmpty, none_empty, one_empty, all_empty}
 use Rattle.migration.proofs.pages.empty_pages.Goals as goal

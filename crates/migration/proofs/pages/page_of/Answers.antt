@@ -1,6 +1,6 @@
 use Rattle.std.proofs.Common.{◌≡◌, ◌+◌, ◌*◌, ◌/◌, ◌%◌, ◌<◌, [], length, get_or, sym, ap, subst, ◌∙◌, arith}
 use Rattle.std.specs.Arc.{arc_value}
-use Rattle.graph_model.specs.declared.home.Home.TheVariants.{Block}
+use Rattle.past_model.specs.declared.home.Home.TheVariants.{Block}
 use Rattle.migration.specs.Lists.{AreKept, rows_of, homes_of}
 use Rattle.migration.specs.Pages.{rows_in, homes_in}
 use Rattle.migration.proofs.PageLemmas.{page_there, place_there, page_kept, row_in_page, home_in_page}

@@ -1,7 +1,7 @@
 use Rattle.std.proofs.Common.{◌≡◌, ◌<◌, ◌*◌, ◌-◌, ◌+◌, ℕ, [], min, length, replicate, sym, ap, subst, ◌∙◌, arith}
 use Rattle.std.specs.Arc.{arc_value}
 use Rattle.std.proofs.lemmas.List.{length_push, length-replicate}
-use Rattle.graph_model.specs.declared.home.Home.TheVariants.{Block}
+use Rattle.past_model.specs.declared.home.Home.TheVariants.{Block}
 use Rattle.graph_model.specs.Graph.{empty_graph}
 use Rattle.migration.specs.Part.{Part}
 use Rattle.migration.specs.Blocks.{AreInBlocks}

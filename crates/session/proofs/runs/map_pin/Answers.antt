@@ -1,5 +1,5 @@
 use Rattle.std.proofs.Common.{◌≡◌, ℕ, List, ap, subst, ◌∙◌}
-use Rattle.graph_model.specs.Past.{graph_of}
+use Rattle.past_model.specs.Past.{graph_of}
 use Rattle.history.specs.Moment.{Moment}
 use Rattle.edge_fold.specs.declared.rows.Rows.TheVariants.{OfSources}
 use Rattle.edge_map.specs.Maps.{IsMapped}

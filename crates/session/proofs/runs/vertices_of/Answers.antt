@@ -1,7 +1,7 @@
 use Rattle.std.proofs.Common.{◌≡◌, ℕ, length, sym, ap, ◌∙◌, arith}
 use Rattle.graph_model.specs.Graph.{numbers_below}
-use Rattle.graph_model.specs.Past.{graph_of}
-use Rattle.graph_model.proofs.Pasts.{vertex_count-graph_of}
+use Rattle.past_model.specs.Past.{graph_of}
+use Rattle.past_model.proofs.Pasts.{vertex_count-graph_of}
 use Rattle.session.proofs.Frontiers.{empty_frontier}
 use Rattle.session.proofs.runs.vertices_of.Goals as goal
 

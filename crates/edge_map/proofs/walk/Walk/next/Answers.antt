@@ -1,5 +1,5 @@
 use Rattle.std.proofs.Common.{ℕ, ◌+◌, ◌∷◌, sym, ap, subst, ◌∙◌}
-use Rattle.graph_model.specs.Past.{graph_of}
+use Rattle.past_model.specs.Past.{graph_of}
 use Rattle.edge_fold.specs.declared.edge.Edge.{Edge}
 use Rattle.edge_map.specs.Ahead.{Ahead, IsAt, edges_at}
 use Rattle.edge_map.proofs.Walks.{one_edge, next_at}

@@ -1,6 +1,6 @@
 use Rattle.std.proofs.Common.{◌<◌, List, sym, ap, arith}
-use Rattle.graph_model.specs.Past.{graph_of}
-use Rattle.graph_model.proofs.Pasts.{vertex_count-graph_of}
+use Rattle.past_model.specs.Past.{graph_of}
+use Rattle.past_model.proofs.Pasts.{vertex_count-graph_of}
 use Rattle.edge_fold.specs.declared.edge.Edge.{Edge}
 use Rattle.edge_map.specs.Ahead.{Ahead}
 use Rattle.edge_map.proofs.Walks.{all_at}

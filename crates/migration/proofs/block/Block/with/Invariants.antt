@@ -1,6 +1,6 @@
 use Rattle.std.proofs.Common.{◌≡◌, ◌+◌, length, take}
 use Rattle.graph_model.specs.Graph.{Graph}
-use Rattle.graph_model.specs.Edits.{AreEditsBelow}
+use Rattle.past_model.specs.Edits.{AreEditsBelow}
 use Rattle.migration.specs.Groups.{filled_below}
 use Rattle.migration.specs.Table.{parts_of}
 use Rattle.migration.specs.Blocks.{ArePartsFrom, AreEdited, AreHoused, AreRehoused}

@@ -1,5 +1,5 @@
 use Rattle.std.proofs.Common.{◌≡◌, [], replicate}
-use Rattle.graph_model.specs.declared.home.Home.TheVariants.{Block}
+use Rattle.past_model.specs.declared.home.Home.TheVariants.{Block}
 use Rattle.migration.specs.Lists.{AreKept, rows_of, homes_of}
 use Rattle.migration.proofs.lists.Lists.empty.Given as goal
 

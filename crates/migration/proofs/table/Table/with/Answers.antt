@@ -4,7 +4,7 @@ use Rattle.std.specs.declared.alloc.Global.{Global}
 use Rattle.std.specs.Arc.{arc_value}
 use Rattle.std.proofs.lemmas.List.{length-map, take_all}
 use Rattle.graph_model.specs.Graph.{Graph}
-use Rattle.graph_model.specs.Edits.{AreEditsBelow}
+use Rattle.past_model.specs.Edits.{AreEditsBelow}
 use Rattle.migration.specs.Groups.{filled_below}
 use Rattle.migration.specs.Made.{AreMade}
 use Rattle.migration.specs.Part.{Part}

@@ -1,7 +1,7 @@
 use Rattle.std.proofs.Common.{rules, ◌≡◌, Some, option_map, subst}
 use Rattle.script_model.specs.Parsing.{OneEdit, batch_line}
 use Rattle.script_model.specs.Execution.{Execution, one_edit}
-use Rattle.graph_model.specs.declared.edit.Edit.TheVariants.{Insert, Remove}
+use Rattle.past_model.specs.declared.edit.Edit.TheVariants.{Insert, Remove}
 use Rattle.script.specs.Said.{cut_batch_line}
 use Rattle.script.specs.Executes.{Executes}
 use Rattle.script.proofs.Cuts.{edit_line}

@@ -1,5 +1,5 @@
 use Rattle.std.proofs.Common.{◌≡◌, ◌+◌, ◌<◌, length, drop, sym, ap, subst, arith}
-use Rattle.graph_model.specs.Past.{graph_of}
+use Rattle.past_model.specs.Past.{graph_of}
 use Rattle.migration.specs.Table.{IsTable}
 use Rattle.store_model.specs.declared.reply.Reply.TheVariants.{Slice}
 use Rattle.store_model.specs.Events.{IsBeginning}

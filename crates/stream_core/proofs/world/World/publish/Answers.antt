@@ -1,6 +1,6 @@
 use Rattle.std.proofs.Common.{◌≡◌, true, None, [], ◌∷◌, ◌++◌, sym, ap, subst, ◌∙◌}
 use Rattle.std.proofs.lemmas.Option.{same_Some}
-use Rattle.graph_model.specs.Past.{longer}
+use Rattle.past_model.specs.Past.{longer}
 use Rattle.store_model.specs.declared.event.Event.TheVariants.{Publish}
 use Rattle.store_model.specs.declared.reply.Reply.TheVariants.{Done}
 use Rattle.store_model.specs.Events.{can, after}

@@ -1,8 +1,8 @@
 use Rattle.std.proofs.Common.{◌≡◌, ◌+◌, ◌-◌, ◌++◌, ◌∷◌, [], List, ◌<◌, sym, ap, subst, ◌∙◌, arith, rules}
-use Rattle.graph_model.specs.declared.edit.Edit.{Edit}
-use Rattle.graph_model.specs.declared.entry.Entry.{Entry}
-use Rattle.graph_model.specs.Edits.{added, removed, AreEditsBelow}
-use Rattle.graph_model.specs.Past.{Past, graph_of, number_of}
+use Rattle.past_model.specs.declared.edit.Edit.{Edit}
+use Rattle.past_model.specs.declared.entry.Entry.{Entry}
+use Rattle.past_model.specs.Edits.{added, removed, AreEditsBelow}
+use Rattle.past_model.specs.Past.{Past, graph_of, number_of}
 use Rattle.history.specs.Moment.{Moment, moment_of}
 use Rattle.migration.specs.Table.{IsEditable, AreAfter}
 use Rattle.version.specs.Version.{past_of, IsVersion}

@@ -1,6 +1,6 @@
 use Rattle.std.proofs.Common.{ap, ◌∙◌}
 use Rattle.graph_model.specs.Views.{is_edge}
-use Rattle.graph_model.specs.Past.{Past, graph_of}
+use Rattle.past_model.specs.Past.{Past, graph_of}
 use Rattle.history.specs.Moment.{Moment, moment_of}
 use Rattle.version.proofs.VersionLemmas.{edge_listed}
 use Rattle.version.proofs.version.Version.has_edge.Goals as goal

@@ -1,5 +1,5 @@
 use Rattle.std.proofs.Common.{ap, ◌∙◌}
-use Rattle.graph_model.specs.Homes.{home_of}
+use Rattle.past_model.specs.Homes.{home_of}
 use Rattle.history.specs.Moment.{Moment}
 use Rattle.version.proofs.version.Version.home.Goals as goal
 

@@ -1,5 +1,5 @@
 use Rattle.std.proofs.Common.{List, [], ◌≡◌, sym, ap, ◌∙◌, subst}
-use Rattle.graph_model.specs.declared.entry.Entry.{Entry}
+use Rattle.past_model.specs.declared.entry.Entry.{Entry}
 use Rattle.history.specs.Moment.{Beginning}
 use Rattle.version.specs.Version.{past_of, IsVersion}
 use Rattle.version.proofs.VersionLemmas.{first_version}

@@ -1,5 +1,5 @@
 use Rattle.std.proofs.Common.{sym, ◌∙◌}
-use Rattle.graph_model.proofs.Pasts.{vertex_count-graph_of}
+use Rattle.past_model.proofs.Pasts.{vertex_count-graph_of}
 use Rattle.version.proofs.view.VersionGraphView.vertex_count.Goals as goal
 
 pub returns : goal.returns

@@ -1,9 +1,8 @@
 use Rattle.std.proofs.Common.{◌≡◌, ◌++◌, List, Vec, ap, ap₂, ◌∙◌}
 use Rattle.std.specs.declared.alloc.Global.{Global}
-use Rattle.neighbour_btree.specs.Node.{Node}
+use Rattle.neighbour_btree.specs.Node.{Node, IsChild}
 use Rattle.neighbour_btree.specs.Shared.{items_of}
 use Rattle.std.proofs.lemmas.List.Elements.{All-append, All-same}
-use Rattle.neighbour_btree.specs.Node.{IsChild}
 use Rattle.neighbour_btree.proofs.levels.inner.InnerLevel.join.Goals as goal
 
 pub packed-requires-clause-children : goal.packed-requires-clause-children

@@ -1,7 +1,7 @@
 use Rattle.std.proofs.Common.{◌≡◌, ℕ, ◌++◌, ◌∷◌, [], sym, ap, ◌∙◌, subst, arith, length, List, length-append, refl}
 use Rattle.crossbeam_queue.specs.Passes.{view}
 use Rattle.store_model.specs.declared.limits.TheConstants.{FEEDS}
-use Rattle.graph_model.specs.declared.entry.Entry.{Entry}
+use Rattle.past_model.specs.declared.entry.Entry.{Entry}
 use Rattle.versions.specs.declared.intake.hand.Hand.{Hand}
 use Rattle.versions.specs.Ends.{Feeding, Taking}
 use Rattle.versions.specs.Hands.{taker}

@@ -4,29 +4,17 @@ use Rattle.std.specs.List.{flat_map, filter_map}
 use Rattle.std.specs.Int.{w32, to_le_bytes}
 use Rattle.bpf_image.specs.Program.{Program}
 use Rattle.graph_model.specs.Graph.{Graph, numbers_below, neighbours, degree}
-use Rattle.bpf_model.specs.declared.reduction.Reduction.{Reduction}
-use Rattle.bpf_model.specs.declared.reduction.Reduction.TheVariants.{Min, Max, Sum}
-use Rattle.bpf_model.specs.declared.row.Row.{Row}
-use Rattle.bpf_model.specs.declared.listed_edge.ListedEdge.{ListedEdge}
-use Rattle.bpf_model.specs.State.{start}
-use Rattle.bpf_model.specs.Step.{Next, Goes, Exits, Traps}
-use Rattle.bpf_model.specs.Run.{after}
+use Rattle.map_model.specs.declared.reduction.Reduction.{Reduction}
+use Rattle.map_model.specs.declared.reduction.Reduction.TheVariants.{Min, Max, Sum}
+use Rattle.map_model.specs.declared.row.Row.{Row}
+use Rattle.map_model.specs.declared.listed_edge.ListedEdge.{ListedEdge}
+use Rattle.bpf_model.specs.Run.{number_for}
 
 -- the record of an edge: source, target, the target's place among the neighbours, the source's
 -- degree, each as four bytes in little-endian order, and then the argument
 abbrev pub edge_record : Graph → ℕ → ℕ → ℕ → List ℕ → List ℕ
 edge_record g source target place argument =
     (to_le_bytes w32 source ++ to_le_bytes w32 target ++ to_le_bytes w32 place ++ to_le_bytes w32 (degree g source)) ++ argument
-
--- the number that a run has exited with, if it has
-abbrev pub exit_number : Next → Option ℕ
-exit_number (Goes s) = None
-exit_number (Exits v) = Some v
-exit_number (Traps kind pc) = None
-
--- the exit number of a run on a record, within so many steps
-abbrev pub number_for : Program → ℕ → Graph → List ℕ → Option ℕ
-number_for p steps g bytes = exit_number (after p g steps (start bytes))
 
 -- the exit numbers of a vertex's edges, from the edge at a place on
 abbrev pub numbers_from : Program → ℕ → Graph → List ℕ → ℕ → ℕ → List ℕ → List (Option ℕ)

@@ -1,13 +1,13 @@
 -- The homes of a vertex along a log.
 use Rattle.std.proofs.Common.{◌≡◌, ℕ, List, [], ◌∷◌, ◌++◌, refl, rules}
-use Rattle.graph_model.specs.declared.home.Home.{Home}
-use Rattle.graph_model.specs.declared.home.Home.TheVariants.{Block, Gapped, Tree}
-use Rattle.graph_model.specs.declared.entry.Entry.{Entry}
+use Rattle.past_model.specs.declared.home.Home.{Home}
+use Rattle.past_model.specs.declared.home.Home.TheVariants.{Block, Gapped, Tree}
+use Rattle.past_model.specs.declared.entry.Entry.{Entry}
 use Rattle.graph_model.specs.Graph.{Graph, degree, empty_graph}
-use Rattle.graph_model.specs.Edits.{after_batch}
-use Rattle.graph_model.specs.Past.{replay}
-use Rattle.graph_model.specs.Homes.{home_after, home_along}
-use Rattle.graph_model.specs.HomeLaws.{HomesHold, HomesStay, HomeOfLonger}
+use Rattle.past_model.specs.Edits.{after_batch}
+use Rattle.past_model.specs.Past.{replay}
+use Rattle.past_model.specs.Homes.{home_after, home_along}
+use Rattle.past_model.specs.HomeLaws.{HomesHold, HomesStay, HomeOfLonger}
 
 home_along-push : (log : List Entry) (e : Entry) (g : Graph) (v : ℕ) (home : Home) → home_along (log ++ e ∷ []) g v home ≡ home_after (home_along log g v home) (degree (replay (log ++ e ∷ []) g) v)
 home_along-push [] e g v home = refl

@@ -1,9 +1,9 @@
 -- A version is what its log makes of the graph without an edge: n vertices, and the batches published so far.
 use Rattle.std.specs.Prelude.{ℕ, List, [], ◌∷◌, ◌++◌, length}
 use Rattle.std.specs.List.{AllByRecursion}
-use Rattle.graph_model.specs.declared.entry.Entry.{Entry}
+use Rattle.past_model.specs.declared.entry.Entry.{Entry}
 use Rattle.graph_model.specs.Graph.{Graph, empty_graph}
-use Rattle.graph_model.specs.Edits.{after_batch, AreEditsBelow}
+use Rattle.past_model.specs.Edits.{after_batch, AreEditsBelow}
 
 -- what a version is the replay of
 pub record Past : Type 0 where

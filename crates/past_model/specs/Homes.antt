@@ -1,12 +1,12 @@
 -- Where a vertex's neighbours are kept: by how many there are, and by where they were kept before.
 use Rattle.std.specs.Prelude.{ℕ, ◌<◌, ◌≤◌, nat_le, if◌then◌else◌, List, [], ◌∷◌}
-use Rattle.graph_model.specs.declared.home.Home.{Home}
-use Rattle.graph_model.specs.declared.home.Home.TheVariants.{Block, Gapped, Tree}
-use Rattle.graph_model.specs.declared.home.TheConstants.{BLOCK_MOST, BLOCK_RETURN, ARRAY_MOST, ARRAY_RETURN}
-use Rattle.graph_model.specs.declared.entry.Entry.{Entry}
+use Rattle.past_model.specs.declared.home.Home.{Home}
+use Rattle.past_model.specs.declared.home.Home.TheVariants.{Block, Gapped, Tree}
+use Rattle.past_model.specs.declared.home.TheConstants.{BLOCK_MOST, BLOCK_RETURN, ARRAY_MOST, ARRAY_RETURN}
+use Rattle.past_model.specs.declared.entry.Entry.{Entry}
 use Rattle.graph_model.specs.Graph.{Graph, degree, empty_graph}
-use Rattle.graph_model.specs.Edits.{after_batch}
-use Rattle.graph_model.specs.Past.{Past}
+use Rattle.past_model.specs.Edits.{after_batch}
+use Rattle.past_model.specs.Past.{Past}
 
 -- the home of so many neighbours, where a block and an array may have at most these
 abbrev pub home_within : ℕ → ℕ → ℕ → Home

@@ -3,12 +3,12 @@ use Rattle.std.proofs.Common.{◌≡◌, ℕ, ◌+◌, List, [], ◌∷◌, ◌+
 use Rattle.std.specs.List.{AllByRecursion}
 use Rattle.std.proofs.lemmas.List.{length_push, same_from_push}
 use Rattle.std.proofs.lemmas.Bool.{false≢true}
-use Rattle.graph_model.specs.declared.entry.Entry.{Entry}
+use Rattle.past_model.specs.declared.entry.Entry.{Entry}
 use Rattle.graph_model.specs.Graph.{Graph, IsGraph, empty_graph}
-use Rattle.graph_model.specs.Edits.{after_batch, AreEditsBelow}
-use Rattle.graph_model.specs.Laws.{ReplayIsGraph}
-use Rattle.graph_model.specs.Past.{Past, IsPast, graph_of, number_of, replay, longer}
-use Rattle.graph_model.proofs.Batches.{IsGraph-after_batch}
+use Rattle.past_model.specs.Edits.{after_batch, AreEditsBelow}
+use Rattle.past_model.specs.Laws.{ReplayIsGraph}
+use Rattle.past_model.specs.Past.{Past, IsPast, graph_of, number_of, replay, longer}
+use Rattle.past_model.proofs.Batches.{IsGraph-after_batch}
 
 replay-push : (log : List Entry) (e : Entry) (g : Graph) → replay (log ++ e ∷ []) g ≡ after_batch e.batch (replay log g)
 replay-push [] e g = refl

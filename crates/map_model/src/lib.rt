@@ -1,0 +1,13 @@
+//! What the map of a program over the edges of a graph is: the record of an edge, the numbers of all runs, and
+//! what they reduce to. Definitions (in `specs/`), and the types that they name.
+#![tactic(auto)]
+
+mod limits;
+mod listed_edge;
+mod reduction;
+mod row;
+
+pub use limits::EDGE_BYTES;
+pub use listed_edge::ListedEdge;
+pub use reduction::Reduction;
+pub use row::Row;

@@ -1,0 +1,6 @@
+pub mod Edits
+pub mod Shared
+pub mod Past
+pub mod Homes
+pub mod Laws
+pub mod HomeLaws
