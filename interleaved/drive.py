@@ -14,7 +14,7 @@ import tempfile
 
 HERE = os.path.dirname(os.path.abspath(__file__))
 TOP = os.path.dirname(HERE)
-BELOW = ["graph_model", "migration", "cursors", "store_model", "stream_core"]
+BELOW = ["graph_model", "past_model", "migration", "cursors", "store_model", "stream_core"]
 EVENTS = 100_000
 
 
@@ -147,7 +147,7 @@ def replies_of(lines):
         with open(f"{TOP}/crates.txt") as listed:
             rows = [row for row in listed if row.split(":")[0] in BELOW]
         with open(f"{folder}/crates.txt", "w") as out:
-            out.writelines(rows + ["driver: cursors graph_model migration stream_core\n"])
+            out.writelines(rows + ["driver: cursors migration past_model stream_core\n"])
         for name in BELOW:
             shutil.copytree(f"{TOP}/crates/{name}", f"{folder}/crates/{name}", ignore=shutil.ignore_patterns("out"))
         os.makedirs(f"{folder}/crates/driver/src")
