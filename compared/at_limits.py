@@ -29,6 +29,8 @@ def expanded(recipe):
             lines[-1] += "".join(f" {steps(*numbers)(place)}" for place in range(count))
         elif word == "batches":
             lines += ["batch B", "end"] * int(rest[0])
+        elif word == "lines":
+            lines += [" ".join(rest[1:])] * int(rest[0])
         else:
             lines.append(line)
     return "\n".join(lines).encode()

@@ -6,7 +6,7 @@
 
 A library that is loaded before the C library's counts the calls that ask for memory, and refuses one. A run of edgebpf has to end
 with status 0 and all of the output, or with status 1, one line that the documents name, and a beginning of the output; or, before
-anything is read, with status 2 and the line of the command line's reader.
+anything is read, with status 2 and the line of the command line's reader. A refused worker is reported only where a thread was started.
 """
 import argparse
 import collections
@@ -15,7 +15,10 @@ import subprocess
 import sys
 import tempfile
 
-LINES = {b"edgebpf: memory\n", b"edgebpf: worker\n", b"edgebpf: store\n"}
+WORKER = b"edgebpf: worker\n"
+LINES = {b"edgebpf: memory\n", WORKER, b"edgebpf: store\n"}
+# One worker starts no thread, and neither do two for a script whose batches and runs have one piece each.
+ONE_PIECE = "first.script"
 # What is said where the words of the command line could not be read for want of memory.
 UNREAD = (2, b"", b"error: out of memory\n")
 TARGET = "code t 16 61100400000000009500000000000000"
@@ -100,12 +103,27 @@ def try_each(program, shim, folder, name, given, words, is_right, kind):
     return wrong, kinds
 
 
-def is_served(got, whole):
+def is_served(got, whole, lines):
     if got.returncode == 0:
         return got.stdout == whole.stdout and got.stderr == b""
     if (got.returncode, got.stdout, got.stderr) == UNREAD:
         return True
-    return got.returncode == 1 and got.stderr in LINES and whole.stdout.startswith(got.stdout)
+    return got.returncode == 1 and got.stderr in lines and whole.stdout.startswith(got.stdout)
+
+
+def serve_each(program, shim, folder, name, script, workers):
+    """Serves a script with each allocation refused. Returns how many ends were wrong: a refused worker, too, where no
+    thread is started, and no refused worker where threads are."""
+    starts_threads = workers > 1 and name != ONE_PIECE
+    lines = LINES if starts_threads else LINES - {WORKER}
+    kind = lambda got: got.stderr.decode(errors="replace").strip() or "complete"
+    right = lambda got, whole: is_served(got, whole, lines)
+    title = f"{name} by {workers}"
+    wrong, kinds = try_each(program, shim, folder, title, script, ["--workers", str(workers)], right, kind)
+    if starts_threads and WORKER.decode().strip() not in kinds:
+        print(f"{title}: no worker was refused")
+        wrong += 1
+    return wrong
 
 
 def main():
@@ -132,9 +150,7 @@ def main():
         for path in asked.scripts or [first]:
             own[os.path.basename(path)] = open(path, "rb").read()
         for name, script in own.items():
-            for workers in asked.workers:
-                kind = lambda got: got.stderr.decode(errors="replace").strip() or "complete"
-                wrong += try_each(program, shim, folder, f"{name} by {workers}", script, ["--workers", str(workers)], is_served, kind)[0]
+            wrong += sum(serve_each(program, shim, folder, name, script, workers) for workers in asked.workers)
     sys.exit(1 if wrong else 0)
 
 

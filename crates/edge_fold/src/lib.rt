@@ -4,6 +4,7 @@
 
 mod edge;
 mod fold;
+pub mod laws;
 mod outcome;
 mod rows;
 mod span;

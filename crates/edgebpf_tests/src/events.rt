@@ -3,7 +3,7 @@ use crate::edits::batch_of;
 use past_model::{Edit, MOST_EDITS, MOST_VERTICES};
 use std::alloc::{AllocError, Global};
 use std::test::Fail;
-use stream_core::{Event, Reply, World, step};
+use stream_core::{Event, Reply, World, run, step};
 
 // Edits of two ranges, of which 3-299 and 299-5 stay.
 const TWO_RANGES: [Edit; 4] = [
@@ -52,6 +52,7 @@ fn event_of(alloc: Global, letter: char) -> Result<Event, AllocError> {
         'C' => Ok(pin(16, 0)),
         'c' => Ok(Event::Lend { reader: 16 }),
         'D' => Ok(pin(0, 300)),
+        'E' => Ok(pin(0, MOST_VERTICES - 1)),
         _ => Ok(Event::Publish),
     }
 }
@@ -118,6 +119,39 @@ fn rows(rt: HostRuntime) -> Result<(), Fail> {
         let signs = from_opening(rt.alloc(), letters)?;
         assert_eq!(rt; signs.as_str(), wanted, "{letters}");
     }
+    Ok(())
+}
+
+// The same of a whole list of events, by one call.
+fn run_from_greatest(alloc: Global, letters: &str) -> Result<String, AllocError> {
+    let mut events = Vec::new(alloc);
+    for letter in letters.chars() {
+        events.push(event_of(alloc, letter)?)?;
+    }
+    let (_, replies) = run(alloc, MOST_VERTICES, &events)?;
+    let mut signs = String::new(alloc);
+    for reply in &replies {
+        signs.push(sign_of(reply))?;
+    }
+    Ok(signs)
+}
+
+// 101 batches, each submitted, taken, done and published, and then the last vertex, which has no neighbour.
+#[test]
+fn many_publications(rt: HostRuntime) -> Result<(), Fail> {
+    let alloc = rt.alloc();
+    let mut letters = String::new(alloc);
+    let mut wanted = String::new(alloc);
+    for _ in 0..101 {
+        letters.push_str("st0p")?;
+        wanted.push_str("dddd")?;
+    }
+    letters.push_str("EaAa")?;
+    wanted.push_str("ded1")?;
+    let stepped = from_greatest(alloc, &letters)?;
+    let ran = run_from_greatest(alloc, &letters)?;
+    assert_eq!(rt; stepped.as_str(), wanted.as_str());
+    assert_eq!(rt; ran.as_str(), wanted.as_str());
     Ok(())
 }
 

@@ -36,6 +36,9 @@ fn one_to_sixteen_workers_may_be_asked_for(rt: HostRuntime) -> Result<(), Fail> 
         ("--workers", Err(ErrorKind::InvalidValue)),
         ("--threads 2", Err(ErrorKind::UnknownArgument)),
         ("first.script", Err(ErrorKind::UnknownArgument)),
+        ("--workers 4 first.script", Err(ErrorKind::UnknownArgument)),
+        ("first.script --workers 4", Err(ErrorKind::UnknownArgument)),
+        ("--workers 4 --workers 8", Err(ErrorKind::ArgumentConflict)),
         ("--help", Err(ErrorKind::DisplayHelp)),
     ] {
         assert_eq!(rt; asked(rt.alloc(), words)?, wanted, "{words}");

@@ -58,6 +58,39 @@ fn parts_of_any_size(rt: HostRuntime) {
     }
 }
 
+/// `SCRIPT` after 100 comments of 1,000 bytes each, their line ends counted.
+fn commented(alloc: Global) -> Result<String, AllocError> {
+    let mut script = String::new(alloc);
+    for _ in 0..100 {
+        for _ in 0..111 {
+            script.push_str("#comment-")?;
+        }
+        script.push_str("\n")?;
+    }
+    script.push_str(SCRIPT)?;
+    Ok(script)
+}
+
+// More than 100,000 reads of one byte each.
+#[test]
+fn a_long_script_byte_by_byte(rt: HostRuntime) -> Result<(), Fail> {
+    let script = commented(rt.alloc())?;
+    let input = Interrupted {
+        bytes: script.as_bytes(),
+        most: 1,
+        at: 0,
+        reads: 0,
+    };
+    let mut output = Balking::new(rt.alloc(), usize::MAX, 0, false);
+    let workers = Workers::one();
+    let answer = served(&rt, rt.alloc(), input, &mut output, workers, &OpenGate);
+    let (said, _) = SAID.split_at(SAID.len() - "15\n".len());
+    assert_eq!(rt; answer, Ok(Ending::Fault));
+    assert_eq!(rt; &output.bytes[..said.len()], said.as_bytes());
+    assert_eq!(rt; &output.bytes[said.len()..], "115\n".as_bytes());
+    Ok(())
+}
+
 // The end of the input is a read too.
 #[test]
 fn failing_reads(rt: HostRuntime) {
@@ -135,6 +168,9 @@ fn seen<R: Threads + Wait>(rt: &R, alloc: Global, script: &str, count: u8) -> Op
 // Edits of two ranges of 256 vertices, and of four.
 const TWO_RANGES: &str = "graph 1024\nbatch A\n+ 0 1\n+ 300 1\nend\n";
 
+// The pieces of a batch are the numbers of its ranges, also where it leaves some out.
+const SECOND_AND_FOURTH: &str = "graph 1024\nbatch A\n+ 300 1\n+ 1000 1\nend\n";
+
 const FOUR_RANGES: &str = "graph 1024\nbatch A\n+ 0 1\n+ 300 1\n+ 600 1\n+ 1000 1\nend\n";
 
 // Runs over graphs without an edge, of 64 vertices for each of two pieces, and of four.
@@ -149,6 +185,7 @@ const FOUR_PIECES: &str =
 fn workers_are_inside_at_once(rt: HostRuntime) {
     for (script, workers, pieces) in [
         (TWO_RANGES, 2, 0x11),
+        (SECOND_AND_FOURTH, 2, 0x1010),
         (FOUR_RANGES, 4, 0x1111),
         (FOUR_RANGES, 3, 0x1111),
         (TWO_PIECES, 2, 0x11),

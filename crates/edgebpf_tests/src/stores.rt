@@ -45,6 +45,65 @@ fn a_full_queue_refuses(rt: HostRuntime) -> Result<(), Fail> {
     Ok(())
 }
 
+// The batch of so many edits.
+fn repeated(alloc: Global, count: usize) -> Result<Batch, AllocError> {
+    let mut edits = Vec::new(alloc);
+    for _ in 0..count {
+        edits.push(Edit::Insert(0, 3))?;
+    }
+    Batch::new(alloc, edits)
+}
+
+// Why a batch of so many edits is refused where one place of the queue is free.
+fn offered_the_last_place<R: Threads + Wait>(
+    rt: &R,
+    alloc: Global,
+    edits: usize,
+) -> Result<Option<(SubmitCause, usize)>, Fail> {
+    let batch = repeated(alloc, edits)?;
+    let mut shop = Shop::open(rt, alloc, 4)?;
+    for _ in 0..63 {
+        shop.submit(rt, 0, Batch::empty());
+    }
+    let refused = shop.submit(rt, 1, batch);
+    shop.close(rt);
+    Ok(refused)
+}
+
+// `Full` is never reported while the queue has a free place, whatever the size of the batch.
+#[test]
+fn a_batch_of_any_size_takes_the_last_place(rt: HostRuntime) -> Result<(), Fail> {
+    for edits in [0, 1, 1_000, 1_001, 65_536] {
+        let refused = offered_the_last_place(&rt, rt.alloc(), edits)?;
+        assert_eq!(rt; refused, None, "{edits}");
+    }
+    Ok(())
+}
+
+// How many of so many steps publish nothing because nothing waits.
+fn steps_in_vain<R: Threads + Wait>(rt: &R, shop: &mut Shop, count: u32) -> u32 {
+    let mut idle = 0;
+    for _ in 0..count {
+        if matches!(shop.step(rt), Ok(None)) {
+            idle += 1;
+        }
+    }
+    idle
+}
+
+// Steps in vain never hide a batch that comes after them.
+#[test]
+fn a_batch_after_steps_in_vain(rt: HostRuntime) -> Result<(), Fail> {
+    let mut shop = Shop::open(&rt, rt.alloc(), 4)?;
+    for _ in 0..3 {
+        assert_eq!(rt; steps_in_vain(&rt, &mut shop, 100), 100);
+        assert!(rt; shop.submit(&rt, 0, Batch::empty()).is_none());
+        assert!(rt; matches!(shop.step(&rt), Ok(Some(_))));
+    }
+    shop.close(&rt);
+    Ok(())
+}
+
 // Another reader, where there is a place for it.
 fn another(shop: &mut Shop) -> Option<Reader> {
     shop.reader.another().ok()

@@ -62,6 +62,14 @@ fn push_batches(script: &mut String, count: u64) -> Result<(), AllocError> {
     Ok(())
 }
 
+/// So many times the same line.
+fn push_lines(script: &mut String, count: u64, line: &str) -> Result<(), AllocError> {
+    for _ in 0..count {
+        push_line(script, line)?;
+    }
+    Ok(())
+}
+
 /// The numbers that words say; another word is 0.
 fn numbers_of(alloc: Global, words: &str) -> Result<Vec<u64>, AllocError> {
     let mut numbers = Vec::new(alloc);
@@ -89,7 +97,7 @@ fn steps_of(numbers: &[u64]) -> Steps {
 
 /// Writes what a line stands for at the end of a script. `insert` and `remove` have a count of edits, and the first number, the
 /// step and the limit of their sources and of their targets; `words` the same of numbers at the end of the line before;
-/// `batches` a count of batches without an edit. Any other line is itself.
+/// `batches` a count of batches without an edit; `lines` a count of lines, and the line. Any other line is itself.
 fn push_what_is_meant(alloc: Global, script: &mut String, line: &str) -> Result<(), AllocError> {
     let (word, rest) = line.split_once(' ').unwrap_or((line, ""));
     let numbers = numbers_of(alloc, rest)?;
@@ -114,6 +122,10 @@ fn push_what_is_meant(alloc: Global, script: &mut String, line: &str) -> Result<
         }
         ("words", [count, steps @ ..]) => push_words(script, *count, steps_of(steps)),
         ("batches", [count]) => push_batches(script, *count),
+        ("lines", [count, ..]) => {
+            let (_, repeated) = rest.split_once(' ').unwrap_or((rest, ""));
+            push_lines(script, *count, repeated)
+        }
         _ => push_line(script, line),
     }
 }

@@ -1,0 +1,24 @@
+//! Laws of maps. Each function does nothing: its contract is the law.
+ghost use Rattle.std.specs.Prelude.{◌≡◌, ◌+◌, ◌<◌, ℕ, length, slice_index};
+ghost use Rattle.past_model.specs.Past.{graph_of};
+ghost use Rattle.map_model.specs.declared.limits.TheConstants.{EDGE_BYTES};
+ghost use Rattle.edge_fold.specs.Laws.{EveryEdgeHasItsNumber};
+
+use verifier::Verified;
+use version::Version;
+
+/// Each element is a byte. It does nothing: only its contract is used.
+fn are_bytes(bytes: &[u8])
+    ensures { (i : ℕ) → slice_index bytes.now i < 256 }
+{}
+
+/// No run is left out of a map. Over any frontier an accepted program has as many numbers as the frontier's vertices have
+/// neighbours, and the list of all edges of a version has as many entries as the version has edges.
+pub fn every_edge_has_its_number(program: &Verified, version: &Version, argument: &[u8])
+    requires { length argument.now + EDGE_BYTES ≡ program.now.record_length }
+    ensures { EveryEdgeHasItsNumber program.now (graph_of version.now.past) argument.now }
+{
+    are_bytes(argument);
+    let _image = program.image();
+    let _count = version.vertex_count();
+}
