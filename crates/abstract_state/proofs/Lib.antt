@@ -4,3 +4,4 @@ pub mod Joined
 pub mod Loads
 pub mod Stores
 pub mod Gathers
+pub mod JoinOrder

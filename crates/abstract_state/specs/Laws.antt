@@ -19,6 +19,12 @@ JoinDescribesStates =
     → (DescribesParts record_length top a registers memory → DescribesParts record_length top (join_of_states a b) registers memory)
     × (DescribesParts record_length top b registers memory → DescribesParts record_length top (join_of_states a b) registers memory)
 
+-- the order of two ways, and of three, makes no difference to what is known where they meet
+abbrev pub JoinIsOrderless : Type 0
+JoinIsOrderless =
+    ((a b : AbstractState) → join_of_states a b ≡ join_of_states b a)
+    × ((a b c : AbstractState) → join_of_states (join_of_states a b) c ≡ join_of_states a (join_of_states b c))
+
 -- what the rules say of a load describes the number that is there, and the load is allowed
 abbrev pub LoadDescribes : Type 0
 LoadDescribes =

@@ -22,6 +22,13 @@ JoinDescribes =
     → (Describes record_length top a x → Describes record_length top (join_of a b) x)
     × (Describes record_length top b x → Describes record_length top (join_of a b) x)
 
+-- the order of two ways, and of three, makes no difference to what is known where they meet
+abbrev pub JoinCommutes : Type 0
+JoinCommutes = (a b : AbstractValue) → join_of a b ≡ join_of b a
+
+abbrev pub JoinAssociates : Type 0
+JoinAssociates = (a b c : AbstractValue) → join_of (join_of a b) c ≡ join_of a (join_of b c)
+
 -- what the rules give describes what the arithmetic makes of two described numbers. A record's length
 -- has 16 bits, and a frame lies below 2^64.
 abbrev pub AluDescribes : Type 0

@@ -152,7 +152,8 @@ pub(crate) fn map_version<Ga: Gate, R: Threads + Wait>(
 }
 
 /// Runs a verified program on each edge of the frontier's vertices, on a record of the edge's own, and reduces the
-/// numbers that it exits with: those of each vertex, which has a row, and all together. The graph is that of the pin's version.
+/// numbers that it exits with: those of each vertex, which has a row, and all together. No edge is left out
+/// (`edge_fold::laws`). The graph is that of the pin's version.
 /// `ArgumentLength` exactly where the argument does not have the record's length less 16 bytes; else `Frontier` exactly
 /// where the frontier does not strictly ascend or has a vertex outside; then `OutOfMemory` where there is no memory,
 /// and `WorkerRefused` where a thread could not be started. The answer does not depend on the workers, the gate or the

@@ -7,15 +7,15 @@ use Rattle.past_model.specs.Edits.{AreEditsBelow}
 use Rattle.past_model.specs.Past.{Past, opening, longer, number_of}
 use Rattle.session_model.specs.declared.fault.Fault.TheVariants as faults
 use Rattle.session_model.specs.Session.{Session}
-use Rattle.session_model.specs.Faults.{is_edit_of}
+use Rattle.session_model.specs.Faults.{is_batch_of, is_edit_of}
 use Rattle.session_model.specs.Responses.{Answers, Fails, entry_of, published_answer, publish_response}
 use Rattle.session.specs.Handles.{StoreState}
 use Rattle.session.specs.Kept.{with_store}
 
 -- what a test of shown edits says of the graph's
-pub same_test : (passed : Bool) (n : ℕ) (edits shown : List Edit) (past : Past) → passed ≡ list_all (is_edit_of (opening n)) shown → shown ≡ edits → n ≡ past.vertex_count → passed ≡ list_all (is_edit_of past) edits
-same_test passed n edits shown past test same count =
-    test ∙ ap (λ (es : List Edit). list_all (is_edit_of (opening n)) es) same ∙ ap (λ (m : ℕ). list_all (is_edit_of (opening m)) edits) count
+pub same_test : (passed : Bool) (feed n : ℕ) (edits shown : List Edit) (past : Past) → passed ≡ is_batch_of feed shown (opening n) → shown ≡ edits → n ≡ past.vertex_count → passed ≡ is_batch_of feed edits past
+same_test passed feed n edits shown past test same count =
+    test ∙ ap (λ (es : List Edit). is_batch_of feed es (opening n)) same ∙ ap (λ (m : ℕ). is_batch_of feed edits (opening m)) count
 
 -- ends that pass the test are vertices
 pub edits_below : (past : Past) (edits : List Edit) → list_all (is_edit_of past) edits ≡ true → AreEditsBelow past.vertex_count edits
@@ -25,17 +25,17 @@ edits_below past (e ∷ edits) all =
     let ends = and_parts _ _ parts.0 in
     ((ltb-true _ _ ends.0, ltb-true _ _ ends.1), edits_below past edits parts.1)
 
-pub batch_outside : (feed : ℕ) (edits : List Edit) (store : StoreState) (s : Session) → list_all (is_edit_of store.past) edits ≡ false → publish_response feed edits (with_store s store) ≡ Fails faults.Range
+pub batch_outside : (feed : ℕ) (edits : List Edit) (store : StoreState) (s : Session) → is_batch_of feed edits store.past ≡ false → publish_response feed edits (with_store s store) ≡ Fails faults.Range
 batch_outside feed edits store s outside = rw outside refl
 
-pub batch_too_long : (feed : ℕ) (edits : List Edit) (store : StoreState) (s : Session) → list_all (is_edit_of store.past) edits ≡ true → ltb 65536 (length edits) ≡ true → publish_response feed edits (with_store s store) ≡ Fails faults.TooMany
+pub batch_too_long : (feed : ℕ) (edits : List Edit) (store : StoreState) (s : Session) → is_batch_of feed edits store.past ≡ true → ltb 65536 (length edits) ≡ true → publish_response feed edits (with_store s store) ≡ Fails faults.TooMany
 batch_too_long feed edits store s inside long = rw (inside, long) refl
 
-pub log_full : (feed : ℕ) (edits : List Edit) (store : StoreState) (s : Session) → list_all (is_edit_of store.past) edits ≡ true → ltb 65536 (length edits) ≡ false → leb 4096 (number_of store.past) ≡ true → publish_response feed edits (with_store s store) ≡ Fails faults.LogFull
+pub log_full : (feed : ℕ) (edits : List Edit) (store : StoreState) (s : Session) → is_batch_of feed edits store.past ≡ true → ltb 65536 (length edits) ≡ false → leb 4096 (number_of store.past) ≡ true → publish_response feed edits (with_store s store) ≡ Fails faults.LogFull
 log_full feed edits store s inside short full = rw (inside, short, full) refl
 
 -- a batch that passes all tests
 pub batch_passes : (feed : ℕ) (edits : List Edit) (store : StoreState) (s : Session)
-    → list_all (is_edit_of store.past) edits ≡ true → ltb 65536 (length edits) ≡ false → leb 4096 (number_of store.past) ≡ false
+    → is_batch_of feed edits store.past ≡ true → ltb 65536 (length edits) ≡ false → leb 4096 (number_of store.past) ≡ false
     → publish_response feed edits (with_store s store) ≡ Answers (published_answer feed edits store.past) (with_store s (record { past = longer store.past (entry_of feed edits); held = None }))
 batch_passes feed edits store s inside short room = rw (inside, short, room) refl

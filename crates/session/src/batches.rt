@@ -4,7 +4,7 @@ ghost use Rattle.std.specs.Prelude.{◌≡◌, MatchOption, Some, true, false};
 ghost use Rattle.std.specs.List.{list_all};
 ghost use Rattle.past_model.specs.Past.{opening};
 ghost use Rattle.session_model.specs.Session.{Session as SessionState};
-ghost use Rattle.session_model.specs.Faults.{edit_fault, is_edit_of, HasFewVertices};
+ghost use Rattle.session_model.specs.Faults.{edit_fault, is_batch_of, is_edit_of, HasFewVertices};
 ghost use Rattle.session_model.specs.Responses.{publish_response};
 ghost use Rattle.session.specs.Edits.{edit_of, AddsEdit};
 ghost use Rattle.session.specs.Kept.{with_store};
@@ -20,6 +20,7 @@ use session_model::Fault;
 use std::alloc::Global;
 use std::sync::Wait;
 use std::thread::Threads;
+use store_model::FEEDS;
 
 /// An edit whose vertices are not tested: source and target.
 #[derive(Clone, Copy, Debug, PartialEq, Eq)]
@@ -68,7 +69,7 @@ impl Session {
     }
 }
 
-/// Publishes a batch, where its edits are of the graph and few enough, and the log has room for it.
+/// Publishes a batch, where there is such a feed, its edits are of the graph and few enough, and the log has room for it.
 fn publish<'a, Ga: Gate, R: Threads + Wait>(
     crew: &Crew<'_, R, Ga>,
     alloc: Global,
@@ -79,7 +80,7 @@ fn publish<'a, Ga: Gate, R: Threads + Wait>(
     ensures { (s : SessionState) → Performs (publish_response feed edits.items (with_store s store.old)) result
         (with_store s store.old) (with_store s store.new) }
 {
-    if !are_below(&edits, store.vertex_count()) {
+    if !is_batch(feed, &edits, store.vertex_count()) {
         return Err(CommandError::Fault(Fault::Range));
     }
     if edits.len() > MOST_EDITS {
@@ -115,6 +116,13 @@ fn edit_below(edit: GivenEdit, vertices: u32) -> Option<Edit>
         }
         _ => None,
     }
+}
+
+/// Whether there is such a feed, and the ends of all edits are below a number of vertices.
+fn is_batch(feed: u8, edits: &[Edit], vertices: u32) -> bool
+    ensures { result ≡ is_batch_of feed edits.now (opening vertices) }
+{
+    feed < FEEDS && are_below(edits, vertices)
 }
 
 /// Whether the ends of all edits are below a number of vertices.

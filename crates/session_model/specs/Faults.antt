@@ -10,6 +10,7 @@ use Rattle.session_model.specs.declared.fault.Fault.TheVariants as faults
 use Rattle.past_model.specs.declared.limits.TheConstants.{MOST_VERTICES, MOST_EDITS, MOST_BATCHES}
 use Rattle.map_model.specs.declared.limits.TheConstants.{EDGE_BYTES}
 use Rattle.session_model.specs.declared.limits.TheConstants.{MOST_KEPT}
+use Rattle.store_model.specs.declared.limits.TheConstants.{FEEDS}
 use Rattle.session_model.specs.Session.{Session, program_named, pin_named}
 
 -- tests in their order: the first that holds tells the fault
@@ -44,10 +45,14 @@ edit_fault e edits None = Some faults.Order
 edit_fault e edits (Some past) =
     first_fault ((not (is_edit_of past e), faults.Range) ∷ (nat_le MOST_EDITS (length edits), faults.TooMany) ∷ [])
 
--- a batch of the graph that a version shows
-abbrev pub batch_fault : List Edit → Past → Option Fault
-batch_fault edits past =
-    first_fault ((not (list_all (is_edit_of past) edits), faults.Range) ∷ (nat_lt MOST_EDITS (length edits), faults.TooMany) ∷ (nat_le MOST_BATCHES (number_of past), faults.LogFull) ∷ [])
+-- there is such a feed, and the edits are of the graph that a version shows
+abbrev pub is_batch_of : ℕ → List Edit → Past → Bool
+is_batch_of feed edits past = nat_lt feed FEEDS && list_all (is_edit_of past) edits
+
+-- a batch by a feed, of the graph that a version shows
+abbrev pub batch_fault : ℕ → List Edit → Past → Option Fault
+batch_fault feed edits past =
+    first_fault ((not (is_batch_of feed edits past), faults.Range) ∷ (nat_lt MOST_EDITS (length edits), faults.TooMany) ∷ (nat_le MOST_BATCHES (number_of past), faults.LogFull) ∷ [])
 
 -- a program more, under its name, with the length of its record
 abbrev pub program_fault : List ℕ → ℕ → Session → Option Fault

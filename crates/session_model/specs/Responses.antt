@@ -48,7 +48,7 @@ published_answer feed edits past =
 abbrev pub publish_response : ℕ → List Edit → Session → Response
 publish_response feed edits s =
     response_with s.past faults.Order (λ past.
-    unless_fault (batch_fault edits past)
+    unless_fault (batch_fault feed edits past)
     (Answers (published_answer feed edits past) (record s { past = Some (longer past (entry_of feed edits)); held = None })))
 
 -- code of some whole units, and of no more than there may be

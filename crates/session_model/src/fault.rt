@@ -9,7 +9,7 @@ pub enum Fault {
     /// A command before there is a graph, or a second graph.
     #[error("there is no graph yet, or there is one already")]
     Order = 3,
-    /// A number of vertices, a record length or a vertex out of its range.
+    /// A number of vertices, a record length, a vertex or a feed out of its range.
     #[error("a number is out of its range")]
     Range = 4,
     /// A name that is already used, or that is unknown.
