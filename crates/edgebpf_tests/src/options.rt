@@ -36,7 +36,8 @@ fn one_to_sixteen_workers_may_be_asked_for(rt: HostRuntime) -> Result<(), Fail> 
         ("--workers", Err(ErrorKind::InvalidValue)),
         ("--threads 2", Err(ErrorKind::UnknownArgument)),
         ("first.script", Err(ErrorKind::UnknownArgument)),
-        ("--help", Err(ErrorKind::DisplayHelp)),
+        ("-h", Err(ErrorKind::DisplayHelp)),
+        ("-V", Err(ErrorKind::DisplayVersion)),
     ] {
         assert_eq!(rt; asked(rt.alloc(), words)?, wanted, "{words}");
     }
