@@ -1,4 +1,4 @@
-"""Serves scripts by the edgebpf of this checkout."""
+"""Serves scripts by the edgebpf of this checkout or installation."""
 import os
 import pathlib
 import subprocess
@@ -7,7 +7,7 @@ TOP = pathlib.Path(__file__).resolve().parent.parent.parent
 
 
 def command():
-    """How edgebpf is started: EDGEBPF in the environment, or the checkout's own, which it builds where needed."""
+    """How edgebpf is started: EDGEBPF in the environment, or the checkout's or installation's own."""
     return [os.environ.get("EDGEBPF", str(TOP / "edgebpf"))]
 
 
