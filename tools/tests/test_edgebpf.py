@@ -26,7 +26,9 @@ for crate in $(sed '/^#/d; s/[ :].*//' crates.txt); do
         mkdir -p "crates/$crate/out"
         printf '#!/bin/sh\ncat\n' >"crates/$crate/out/$crate"
         chmod +x "crates/$crate/out/$crate"
-        echo object >"crates/$crate/out/$crate.o"
+        # what was kept has no object file
+        if [ "$KEPT" != yes ] || grep -q "Once more" "crates/$crate/src/main.rt"; then echo object >"crates/$crate/out/$crate.o"; fi
+        if [ "$ANOTHER" = yes ] && grep -q "Once more" "crates/$crate/src/main.rt"; then echo "# another" >>"crates/$crate/out/$crate"; fi
     fi
 done
 """
@@ -65,7 +67,7 @@ class Checkout(unittest.TestCase):
     def environment(self, **more):
         room = {**os.environ, "PATH": f"{self.commands}:/usr/bin:/bin", "RUNS": str(self.room / "runs"), "TMPDIR": str(self.room)}
         room.pop("EDGEBPF_PROVED", None)
-        return {**room, "BROKEN": "", "WAIT": "0", "XDG_CACHE_HOME": str(self.room / "cache"), **more}
+        return {**room, "BROKEN": "", "WAIT": "0", "KEPT": "no", "ANOTHER": "no", "XDG_CACHE_HOME": str(self.room / "cache"), **more}
 
     def serve(self, *words, **more):
         """Serves a text through the symbolic link."""
@@ -148,7 +150,7 @@ class Proving(Checkout):
     def test_no_prover(self):
         run = self.serve(PATH="/usr/bin:/bin")
         self.assertEqual((run.returncode, run.stdout), (1, ""))
-        self.assertIn("rt is not there", run.stderr)
+        self.assertIn("edgebpf: the sources are not those that dist/ was made from. rt is not there", run.stderr)
 
     def test_two_at_once(self):
         words = {"stdin": subprocess.DEVNULL, "stderr": subprocess.PIPE, "text": True, "env": self.environment(WAIT="0.3")}
@@ -179,10 +181,41 @@ class Proving(Checkout):
         self.assertEqual(run.stdout, "text\n")
         self.assertEqual(self.prover_runs(), 2)
 
-    def test_what_rt_ci_built_is_noted(self):
+    def have_both_programs(self):
         (self.top / "crates.txt").write_text("edgebpf:\nedgebpf_explain:\n")
         (self.top / "crates/edgebpf_explain/src").mkdir(parents=True)
         (self.top / "crates/edgebpf_explain/src/main.rt").write_text("//! explains\n")
+
+    def prove(self, *words, **more):
+        run = subprocess.run([self.top / "tools/prove", *words], env=self.environment(**more), capture_output=True, text=True)
+        return run.returncode, run.stderr
+
+    def test_object_files_are_made_where_none_are_kept(self):
+        self.have_both_programs()
+        objects = [self.top / f"crates/{name}/out/{name}.o" for name in ("edgebpf", "edgebpf_explain")]
+        self.assertEqual(self.prove("edgebpf", KEPT="yes")[0], 0)
+        self.assertFalse(objects[0].exists())
+        status, said = self.prove("--objects", KEPT="yes", ANOTHER="yes")
+        self.assertEqual(status, 1)
+        self.assertIn("edgebpf was compiled once more, and is another program", said)
+        self.assertFalse(objects[0].exists())
+        status, said = self.prove("--objects", KEPT="yes")
+        self.assertEqual(status, 0, said)
+        self.assertIn("edgebpf_explain is kept from an earlier run without its object file", said)
+        self.assertEqual([path.read_text() for path in objects], ["object\n"] * 2)
+        self.assertNotIn("Once more", (self.top / "crates/edgebpf/src/main.rt").read_text())
+        self.assertIn("nothing has changed", self.prove("--objects")[1])
+        objects[1].write_text("another\n")
+        self.assertNotIn("nothing has changed", self.prove("--objects")[1])
+        self.assertEqual(objects[1].read_text(), "object\n")
+
+    def test_words_that_mean_nothing(self):
+        for words in (["nowhere"], ["--all"], ["--built", "edgebpf"]):
+            status, said = self.prove(*words)
+            self.assertEqual((status, said.count("\n")), (1, 1))
+
+    def test_what_rt_ci_built_is_noted(self):
+        self.have_both_programs()
         subprocess.run(["rt", "ci"], cwd=self.top, env=self.environment(), capture_output=True, check=True)
         note = [self.top / "tools/prove", "--built"]
         self.assertEqual(subprocess.run(note, env=self.environment()).returncode, 0)
