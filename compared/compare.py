@@ -112,7 +112,7 @@ def job_of(said):
     if said.only_keep:
         return partial(kept, said.keep)
     if not said.program.exists():
-        sys.exit(f"compare.py: {said.program} is not there: build it by ./edgebpf < examples/first.script, or name another by --program")
+        sys.exit(f"compare.py: {said.program} is not there: build it by tools/prove edgebpf, or name another by --program")
     return partial(compared, said.program, said.seconds, said.workers, said.keep)
 
 

@@ -76,7 +76,7 @@ def arguments():
 def main():
     said = arguments()
     if not said.program.exists():
-        sys.exit(f"serve.py: {said.program} is not there: build it by ./edgebpf < examples/first.script, or name another by --program")
+        sys.exit(f"serve.py: {said.program} is not there: build it by tools/prove edgebpf, or name another by --program")
     last = said.first + said.count
     pieces = [range(start, min(start + PIECE, last)) for start in range(said.first, last, PIECE)]
     with ProcessPoolExecutor(said.processes) as pool:

@@ -2,12 +2,15 @@
 import pathlib
 import re
 
-WORDS = pathlib.Path(__file__).resolve().parent.parent.parent / "crates" / "explanation" / "src" / "words.rt"
+TOP = pathlib.Path(__file__).resolve().parent.parent.parent
+# In a checkout, and in an installation, which has that file alone of the sources.
+PLACES = [TOP / "crates" / "explanation" / "src" / "words.rt", TOP / "words.rt"]
 
 
 def words_of(kind):
     """The words of the rules, or of what helps, by their names: the source of the program that explains has them."""
-    return dict(re.findall(rf'{kind}::(\w+) => (?:{{\s*)?"([^"]*)"', WORDS.read_text()))
+    source = next(path for path in PLACES if path.exists()).read_text()
+    return dict(re.findall(rf'{kind}::(\w+) => (?:{{\s*)?"([^"]*)"', source))
 
 
 CAUSES = dict(enumerate(words_of("Cause").values(), 1))

@@ -11,11 +11,13 @@ use Rattle.clap.specs.Simple.{names_of}
 use Rattle.clap.specs.Faults.{built_fault}
 use Rattle.clap.specs.ValueTests.{accepts}
 use Rattle.clap.specs.declared.error.Error.{Error}
-use Rattle.clap.specs.declared.error.kind.ErrorKind.TheVariants.{OutOfMemory, ValueValidation}
+use Rattle.clap.specs.declared.error.kind.ErrorKind.{ErrorKind}
+use Rattle.clap.specs.declared.error.kind.ErrorKind.TheVariants.{DisplayHelp, DisplayVersion, OutOfMemory, ValueValidation}
 use Rattle.clap.specs.declared.builder.action.ArgAction.TheVariants.{Set}
 use Rattle.clap.specs.declared.builder.value_parser.ValueParser.{ValueParser}
 use Rattle.clap.specs.declared.builder.value_parser.ValueParser.TheVariants as parsers
 use Rattle.clap.specs.declared.parser.matches.ArgMatches.{ArgMatches}
+use Rattle.command_line.specs.Asked.{with_version}
 use Rattle.clap.proofs.OnLiterals.{clap_on_literals}
 use Rattle.clap.proofs.ValueTestLemmas.{Accepts-accepts, accepts-Accepts}
 use Rattle.clap.proofs.WalkLemmas.{one_text-rows}
@@ -33,7 +35,7 @@ workers_rule =
     }
 
 abbrev pub edgebpf : App
-edgebpf = with_rule (new_app (codes "edgebpf")) workers_rule
+edgebpf = with_rule (with_version (new_app (codes "edgebpf"))) workers_rule
 
 -- the kinds of error at these words behind the program's name, and the value of `--workers`
 abbrev pub fault_at : List Text → Kinds
@@ -49,6 +51,14 @@ no_fault = refl
 pub no_value : value_at [] ≡ None
 unfolding clap_on_literals
 no_value = refl
+
+pub help_shown : fault_at (codes "--help" ∷ []) ≡ DisplayHelp ∷ []
+unfolding clap_on_literals
+help_shown = refl
+
+pub version_shown : fault_at (codes "--version" ∷ []) ≡ DisplayVersion ∷ []
+unfolding clap_on_literals
+version_shown = refl
 
 module _ (d : ℕ) (ds : List ℕ) (no_minus : (d == 45) ≡ false) where
   pub value_asked : value_at (codes "--workers" ∷ (d ∷ ds) ∷ []) ≡ Some (d ∷ ds)
@@ -171,11 +181,17 @@ pub up_for_memory : {T : Type 0} (r : Result T Error) (e : Error) → IsErrAnd r
 up_for_memory (Ok x) e up kinds = absurd up
 up_for_memory (Err x) e up kinds = elim kinds [ inl memory ↦ ap kind_of up ∙ memory | inr none ↦ absurd none ]
 
-pub up_refused : {T : Type 0} (r : Result T Error) (e : Error) → IsErrAnd r (λ x. x ≡ e) → HasKind (ValueValidation ∷ []) e
-    → IsErrAnd r (λ x. (kind_of x ≡ ValueValidation) ⊎ (kind_of x ≡ OutOfMemory))
-up_refused (Ok x) e up kinds = absurd up
-up_refused (Err x) e up kinds = elim kinds [
+pub up_of_kind : {T : Type 0} (kind : ErrorKind) (r : Result T Error) (e : Error) → IsErrAnd r (λ x. x ≡ e) → HasKind (kind ∷ []) e
+    → IsErrAnd r (λ x. (kind_of x ≡ kind) ⊎ (kind_of x ≡ OutOfMemory))
+up_of_kind kind (Ok x) e up kinds = absurd up
+up_of_kind kind (Err x) e up kinds = elim kinds [
   | inl memory ↦ inr (ap kind_of up ∙ memory)
-  | inr (inl value) ↦ inl (ap kind_of up ∙ value)
+  | inr (inl same) ↦ inl (ap kind_of up ∙ same)
   | inr (inr none) ↦ absurd none
 ]
+
+-- words that some error comes at are not parsed
+pub none_is_parsed : (kind : ErrorKind) (kinds : Kinds) → kinds ≡ kind ∷ [] → kinds ≡ [] → ⊥
+none_is_parsed kind kinds some none =
+    let both : kind ∷ [] ≡ [] = sym some ∙ none in
+    cc

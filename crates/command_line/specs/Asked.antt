@@ -1,7 +1,9 @@
 -- What the words of a command line ask for.
-use Rattle.std.specs.Prelude.{◌≡◌, ◌≤◌, ◌⊎◌, ℕ, List, ◌∷◌, [], drop, map, codes, String, string_bytes}
+use Rattle.std.specs.Prelude.{◌≡◌, ◌≤◌, ◌⊎◌, ℕ, List, ◌∷◌, [], drop, map, codes, String, string_bytes, true}
 use Rattle.std.specs.Str.Parse.{IsNumeral, digits_value}
 use Rattle.std.specs.declared.alloc.Global.{Global}
+use Rattle.clap.specs.Words.{App}
+use Rattle.clap.specs.Simple.{on_top}
 use Rattle.gates.specs.declared.limits.TheConstants.{MOST_WORKERS}
 
 -- the texts of the words behind the program's name
@@ -16,3 +18,7 @@ AsksFor n words =
 -- there are no such words, or they ask for 1 to 16 workers
 abbrev pub AsksForAllowed : List (String Global) → Type 0
 AsksForAllowed words = (arguments words ≡ []) ⊎ ((n : ℕ) × AsksFor n words × (1 ≤ n) × (n ≤ MOST_WORKERS))
+
+-- a command that has a version to name
+abbrev pub with_version : App → App
+with_version = on_top (λ s. record s { has_version = true })

@@ -1,14 +1,31 @@
 //! The program: it serves the script on standard input, and writes what it says to standard output.
 #![tactic(auto)]
 
+use clap::Error;
 use command_line::options;
 use service::{OpenGate, StdInput, StdOutput, Workers, report, serve};
 use std::io::ErrorKind;
 use std::process::ExitCode;
 use std::{env, io};
 
-/// The status where the words of the command line are not allowed, or ask for help.
+/// The status if a read, a write, memory or a thread failed.
+const FAILED: u8 = 1;
+/// The status if the words of the command line are not allowed.
 const WRONG_WORDS: u8 = 2;
+
+/// Prints what clap answers in place of options, which is help, the version or what is wrong with the words, and returns
+/// the status.
+fn status_of_words(rt: &HostRuntime, answer: &Error) -> u8 {
+    match (answer.use_stderr(), answer.print(rt)) {
+        // If standard error takes nothing, only the status is left.
+        (true, _) => WRONG_WORDS,
+        (false, Ok(())) => 0,
+        (false, Err(_)) => {
+            let _ = eprintln!(rt; "edgebpf: write");
+            FAILED
+        }
+    }
+}
 
 fn main(rt: HostRuntime) -> ExitCode {
     let alloc = rt.alloc();
@@ -21,16 +38,12 @@ fn main(rt: HostRuntime) -> ExitCode {
         }
         Err(_) => {
             let _ = eprintln!(rt; "edgebpf: memory");
-            return ExitCode::from(1);
+            return ExitCode::from(FAILED);
         }
     };
     let count = match options(alloc, &words) {
         Ok(count) => count,
-        Err(error) => {
-            // Where standard error takes nothing, the status alone is left to tell.
-            let _ = eprint!(rt; "{error}");
-            return ExitCode::from(WRONG_WORDS);
-        }
+        Err(answer) => return ExitCode::from(status_of_words(&rt, &answer)),
     };
     let workers = Workers::new(count).unwrap_or(Workers::one());
     let mut input = StdInput::new(rt.stdin());

@@ -40,6 +40,8 @@ fn one_to_sixteen_workers_may_be_asked_for(rt: HostRuntime) -> Result<(), Fail> 
         ("first.script --workers 4", Err(ErrorKind::UnknownArgument)),
         ("--workers 4 --workers 8", Err(ErrorKind::ArgumentConflict)),
         ("--help", Err(ErrorKind::DisplayHelp)),
+        ("-h", Err(ErrorKind::DisplayHelp)),
+        ("-V", Err(ErrorKind::DisplayVersion)),
     ] {
         assert_eq!(rt; asked(rt.alloc(), words)?, wanted, "{words}");
     }

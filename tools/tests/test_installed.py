@@ -1,0 +1,163 @@
+"""`make -C dist install` and `make -C dist deb`: edgebpf and its companions from an installation, through links, as another user."""
+import importlib.util
+import os
+import pathlib
+import shutil
+import subprocess
+import tempfile
+import unittest
+
+from tools_here import MISSING, TOOLS
+
+TOP = TOOLS.parent
+NOBODY = {"user": 65534, "group": 65534, "extra_groups": []} if os.geteuid() == 0 else {}
+GRAPH = "graph 4\nbatch A\n+ 0 1\n+ 0 2\n+ 1 2\nend\n"
+SCORE = "#include <edgebpf.h>\nu64 score(struct edge *edge, u64 length) { return edge->target; }\n"
+LOOP = """#include <edgebpf.h>
+u64 loop(struct edge *edge, u64 length) {
+    u64 sum = 0;
+    for (u32 place = 0; place < degree(edge->target); place++) sum += degree(neighbour(edge->target, place));
+    return sum;
+}
+"""
+BACKWARD = "again:\n    ja again\n"
+
+
+def make(*words):
+    run = subprocess.run(["make", "-s", "-C", TOP / "dist", *words], capture_output=True, text=True)
+    if run.returncode:
+        raise AssertionError(f"make {' '.join(map(str, words))}: {run.stdout}{run.stderr}")
+    return run.stdout
+
+
+@unittest.skipUnless((TOP / "dist" / "edgebpf.s").exists() and shutil.which("make"), "there is no dist/, or no make")
+class Installed(unittest.TestCase):
+    @classmethod
+    def setUpClass(cls):
+        folder = tempfile.TemporaryDirectory()
+        cls.addClassCleanup(folder.cleanup)
+        cls.room = pathlib.Path(folder.name).resolve()
+        cls.room.chmod(0o755)
+        cls.place = cls.room / "place"
+        # what is installed is for all users, whatever its owner's habit
+        cls.addClassCleanup(os.umask, os.umask(0o077))
+        make(f"BUILD={cls.room / 'build'}", "install", f"PREFIX={cls.place}")
+        # what a user has: a folder of links of their own, and one to work in
+        cls.links = cls.room / "links"
+        cls.links.mkdir(mode=0o755)
+        cls.links.chmod(0o755)
+        for command in (cls.place / "bin").iterdir():
+            (cls.links / command.name).symlink_to(command)
+        cls.work = cls.room / "work"
+        cls.work.mkdir()
+        cls.work.chmod(0o777)
+        for name, text in (("graph.script", GRAPH), ("score.c", SCORE), ("loop.c", LOOP), ("edges.txt", "10 20\n20 30\n"), ("back.asm", BACKWARD)):
+            (cls.work / name).write_text(text)
+            (cls.work / name).chmod(0o644)
+
+    def run_as_user(self, name, *words, text="", **more):
+        """Runs a command by its link, as a user who owns nothing of the installation."""
+        room = {"PATH": f"{self.links}:/usr/bin:/bin", "HOME": str(self.work), **more}
+        words = [self.links / name, *words]
+        return subprocess.run(words, cwd=self.work, env=room, input=text, capture_output=True, text=True, **NOBODY)
+
+    def test_edgebpf(self):
+        first = (TOP / "examples" / "first.script").read_text()
+        run = self.run_as_user("edgebpf", "--workers", "2", text=first)
+        self.assertEqual((run.stdout, run.stderr, run.returncode), ((TOP / "examples" / "first.output").read_text(), "", 0))
+
+    def test_version(self):
+        run = self.run_as_user("edgebpf", "--version")
+        self.assertEqual((run.stderr, run.returncode), ("", 0))
+        first, commit, proved = run.stdout.splitlines()
+        facts = dict(line.split(": ", 1) for line in (TOP / "dist" / "PROVED").read_text().splitlines() if ": " in line)
+        self.assertEqual(first, f"edgebpf {facts['release']}")
+        self.assertRegex(commit, "^commit [0-9a-f]{12}(-dirty)?$" if (TOP / ".git").exists() else "^commit ")
+        self.assertIn(facts["kit"], proved)
+        self.assertIn(facts["sources of edgebpf"], proved)
+
+    def test_help_shows_lines_that_work(self):
+        text = self.run_as_user("edgebpf", "--help").stdout
+        lines = [line.strip() for line in text.splitlines() if line.startswith("  printf") or line.startswith("  cat")]
+        self.assertEqual(len(lines), 3)
+        for line in lines:
+            run = subprocess.run(["sh", "-ec", line], cwd=self.work, env={"PATH": f"{self.links}:/usr/bin:/bin"}, capture_output=True, text=True, **NOBODY)
+            self.assertEqual((run.returncode, run.stderr), (0, ""))
+        self.assertTrue(run.stdout.endswith("run p now edges 1 total 7\nrow 0 7\n"), run.stdout)
+
+    def test_refused_where_it_has_to_be_proved_here(self):
+        run = self.run_as_user("edgebpf", text="graph 2\n", EDGEBPF_PROVED="here")
+        self.assertEqual((run.stdout, run.returncode), ("", 2))
+        self.assertIn("proved elsewhere", run.stderr)
+
+    @unittest.skipIf(MISSING, f"missing: {MISSING}")
+    def test_from_c(self):
+        run = self.run_as_user("edgebpf-c", "score.c", "score", "16", "--on", "graph.script")
+        self.assertEqual((run.stderr, run.returncode), ("", 0))
+        self.assertIn("run score last edges 3 total 5\nrow 0 3\nrow 1 2\n", run.stdout)
+        refused = self.run_as_user("edgebpf-c", "loop.c", "loop", "16", "--on", "graph.script")
+        self.assertEqual(refused.returncode, 1)
+        self.assertIn("a jump leads back", refused.stderr)
+
+    @unittest.skipIf(MISSING, f"missing: {MISSING}")
+    def test_import(self):
+        run = self.run_as_user("edgebpf-import", "--quiet", "edges.txt")
+        self.assertEqual((run.stderr, run.returncode), ("", 0))
+        self.assertIn("+ 10 20", run.stdout)
+
+    def test_explain(self):
+        run = self.run_as_user("edgebpf-explain", "16", text=BACKWARD)
+        self.assertEqual((run.stderr, run.returncode), ("", 1))
+        self.assertIn("ja", run.stdout)
+
+    def test_shell(self):
+        run = self.run_as_user("edgebpf-shell", text=f"{GRAPH}program p 16\n{BACKWARD}end\n.explain p\n")
+        self.assertEqual((run.stderr, run.returncode), ("", 0))
+        self.assertIn("refused", run.stdout)
+
+    @unittest.skipIf(importlib.util.find_spec("distributed") is None, "missing: python3-distributed")
+    def test_spread(self):
+        (self.work / "score.code").write_text("code score 16 61100400000000009500000000000000\n")
+        (self.work / "score.code").chmod(0o644)
+        run = self.run_as_user("edgebpf-spread", "--processes", "2", "graph.script", "score.code")
+        self.assertEqual(run.returncode, 0, run.stderr)
+        self.assertEqual(run.stdout, "run score last edges 3 total 5\nrow 0 3\nrow 1 2\n")
+
+    def test_completion(self):
+        file = self.place / "share/bash-completion/completions/edgebpf"
+        asked = f"source {file}; COMP_WORDS=(edgebpf --w); COMP_CWORD=1; _edgebpf; echo ${{COMPREPLY[@]}}"
+        asked += "; COMP_WORDS=(edgebpf-c --red); _edgebpf; echo ${COMPREPLY[@]}"
+        run = subprocess.run(["bash", "-c", asked], env={"PATH": f"{self.links}:/usr/bin:/bin"}, capture_output=True, text=True)
+        self.assertEqual(run.stdout, "--workers\n--reduce\n", run.stderr)
+
+    @unittest.skipIf(shutil.which("man") is None, "there is no man")
+    def test_man_page(self):
+        page = self.place / "share/man/man1/edgebpf-c.1"
+        run = subprocess.run(["man", "--warnings", "-l", page], env={**os.environ, "MANWIDTH": "100", "LC_ALL": "C"}, capture_output=True, text=True)
+        self.assertEqual((run.returncode, run.stderr), (0, ""))
+        self.assertIn("--workers", run.stdout)
+
+    def test_uninstall_leaves_nothing(self):
+        place = self.room / "gone"
+        make(f"BUILD={self.room / 'build'}", "install", f"PREFIX={place}")
+        make(f"BUILD={self.room / 'build'}", "uninstall", f"PREFIX={place}")
+        self.assertEqual([path for path in place.rglob("*") if not path.is_dir()], [])
+        self.assertFalse((place / "lib/edgebpf").exists())
+
+
+@unittest.skipUnless((TOP / "dist" / "edgebpf.s").exists() and shutil.which("dpkg-deb") and shutil.which("make"), "there is no dist/, or no dpkg-deb")
+class Package(unittest.TestCase):
+    def test_the_same_bytes_twice(self):
+        with tempfile.TemporaryDirectory() as folder:
+            rooms = [pathlib.Path(folder) / name for name in ("one", "another_place")]
+            made = [pathlib.Path(make(f"BUILD={room}", "deb").split()[-1]) for room in rooms]
+            self.assertEqual(made[0].read_bytes(), made[1].read_bytes())
+            unpacked = pathlib.Path(folder) / "unpacked"
+            subprocess.run(["dpkg-deb", "-x", made[0], unpacked], check=True)
+            first = TOP / "examples" / "first"
+            with open(first.with_suffix(".script")) as script:
+                run = subprocess.run([unpacked / "usr/bin/edgebpf"], stdin=script, capture_output=True, text=True)
+            self.assertEqual((run.stdout, run.stderr), (first.with_suffix(".output").read_text(), ""))
+            listed = subprocess.run(["dpkg-deb", "-c", made[0]], stdout=subprocess.PIPE, text=True, check=True).stdout
+            self.assertNotIn("__pycache__", listed)
+            self.assertTrue(all(line.split()[1] == "root/root" for line in listed.splitlines()))
