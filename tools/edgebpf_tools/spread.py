@@ -8,6 +8,7 @@ import tempfile
 import time
 
 from edgebpf_tools import parts, store
+from edgebpf_tools.own_source import asks_of_others
 from edgebpf_tools.refusal import Refusal, needs_package
 
 # A line has at most 70,000 bytes, and a vertex at most 7 digits.
@@ -19,23 +20,26 @@ def arguments(words):
         prog="edgebpf-spread",
         description="Cuts a script that makes a graph by the sources of its edges, serves each part by an edgebpf of its "
         "own, runs one program on all of them, and joins what they write to the lines of one run.",
-        epilog="In a part only the vertices whose edges stand there have neighbours: a program may ask for the degree, the "
-        "edges and the neighbours of its edge's source, and for those of another vertex only with --whole. Needs Dask's "
-        "scheduler: apt-get install python3-distributed",
+        epilog="A part has only the edges of its own sources. A program that asks the graph about another vertex than its "
+        "edge's source therefore needs --whole, which is taken unless the code shows that it asks about no other, or "
+        "--own-source-only says so. Needs Dask's scheduler: apt-get install python3-distributed",
     )
     parser.add_argument("graph", metavar="GRAPH", help="a script that makes a graph, as edgebpf-import writes it")
     parser.add_argument("program", metavar="PROGRAM", help="a file whose line is `code NAME LENGTH HEX`, as of edgebpf-c")
     parser.add_argument("--processes", type=int, default=2, metavar="K", help="how many parts, 1 to 64; else 2")
     parser.add_argument("--reduce", default="sum", choices=sorted(parts.JOIN), help="else sum")
     parser.add_argument("--argument", default=None, metavar="HEX", help="the record's end; else zeros")
-    parser.add_argument("--whole", action="store_true", help="each process has the whole graph, and runs over its part's vertices")
+    asked = parser.add_mutually_exclusive_group()
+    asked.add_argument("--whole", action="store_true", help="each process has the whole graph, and runs over its part's vertices")
+    asked.add_argument("--own-source-only", action="store_true", help="the program asks about no vertex but its edge's source: "
+                       "your word, which nothing checks")
     parser.add_argument("--scheduler", metavar="ADDRESS", help="a scheduler that runs already, whose workers see the same files")
     parser.add_argument("--timer", action="store_true", help="say on standard error how long what took")
     return parser.parse_args(words)
 
 
 def code_line(path):
-    """The name, the record's length and the line of a program."""
+    """The name, the record's length, the code and the line of a program."""
     try:
         lines = [line for line in pathlib.Path(path).read_text().splitlines() if line.strip()]
     except OSError as error:
@@ -43,7 +47,19 @@ def code_line(path):
     words = lines[0].split() if len(lines) == 1 else []
     if len(words) != 4 or words[0] != "code" or not words[2].isdecimal():
         raise Refusal(f"{path} has to be one line: code NAME LENGTH HEX")
-    return words[1], int(words[2]), lines[0]
+    try:
+        return words[1], int(words[2]), bytes.fromhex(words[3]), lines[0]
+    except ValueError:
+        raise Refusal(f"{path}: the code is not pairs of hexadecimal digits") from None
+
+
+def takes_whole(options, name, code):
+    """Whether each process has to have the whole graph. If the code decides it, standard error says so."""
+    if options.whole or options.own_source_only or not asks_of_others(code):
+        return options.whole
+    print(f"edgebpf-spread: {name} may ask about other vertices than its edge's source: each process has the whole graph "
+          "(--whole). --own-source-only cuts it all the same", file=sys.stderr)
+    return True
 
 
 def cut_graph(path, count, folder):
@@ -105,7 +121,8 @@ def perform(words):
     options = arguments(words)
     if not 1 <= options.processes <= 64:
         raise Refusal(f"--processes is 1 to 64, not {options.processes}")
-    name, length, line = code_line(options.program)
+    name, length, code, line = code_line(options.program)
+    is_whole = takes_whole(options, name, code)
     argument = options.argument or ("-" if length <= 16 else "00" * (length - 16))
     with tempfile.TemporaryDirectory() as folder:
         begun = time.monotonic()
@@ -113,7 +130,7 @@ def perform(words):
         cut_in = time.monotonic() - begun
         run = f"run {name} last {options.reduce} {argument}"
         each = [(file, f"\n{line}\npin last\n{run}\n") for file in files]
-        if options.whole and any(sources):
+        if is_whole and any(sources):
             each = [(options.graph, f"\n{line}\npin last\n{runs_over(run, part)}") for part in sources if part]
         served, served_in = serve_all(each, options)
     results = [result for text in served for result in parts.read_results(text)]

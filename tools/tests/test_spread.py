@@ -10,6 +10,8 @@ from tools_here import TOOLS, run_tool
 # Of each edge its target, and the degree of its target by a call of the first helper.
 TARGET = "code t 16 61100400000000009500000000000000\n"
 DEGREE = "code d 16 611104000000000085000000010000009500000000000000\n"
+# The same of its source.
+OWN_DEGREE = "code o 16 611100000000000085000000010000009500000000000000\n"
 # The edges 0-1, 70-2, 299-3 and 299-4, and 256-0 that goes again.
 EDITS = ["batch A", "+ 0 1", "+ 299 4", "+ 256 0", "end", "batch B", "# more", "- 256 0", "+ 70 2", "+ 299 3", "end"]
 GRAPH = "\n".join(["graph 300", *EDITS[:6], *EDITS[7:], ""])
@@ -60,10 +62,16 @@ class EdgebpfSpread(unittest.TestCase):
     def test_other_vertices(self):
         """Vertex 299 leads to vertex 0, which has two neighbours, in another part."""
         graph = "graph 300\nbatch A\n+ 0 1\n+ 0 2\n+ 299 0\nend\n"
-        whole = self.spread("--whole", graph=graph, program=DEGREE)
-        self.assertEqual(whole.stdout, "run d last edges 3 total 2\nrow 0 0\nrow 299 2\n")
-        parts = self.spread(graph=graph, program=DEGREE)
-        self.assertEqual(parts.stdout, "run d last edges 3 total 0\nrow 0 0\nrow 299 0\n")
+        for words, told in ([["--whole"], ""], [[], "d may ask about other vertices than its edge's source"]):
+            whole = self.spread(*words, graph=graph, program=DEGREE)
+            self.assertEqual(whole.stdout, "run d last edges 3 total 2\nrow 0 0\nrow 299 2\n")
+            self.assertEqual(told in whole.stderr, True, whole.stderr)
+            self.assertEqual(len(whole.stderr.splitlines()), 1 if told else 0)
+        # The user's word is taken, and here it is wrong.
+        parts = self.spread("--own-source-only", graph=graph, program=DEGREE)
+        self.assertEqual((parts.stdout, parts.stderr), ("run d last edges 3 total 0\nrow 0 0\nrow 299 0\n", ""))
+        own = self.spread(graph=graph, program=OWN_DEGREE)
+        self.assertEqual((own.stdout, own.stderr), ("run o last edges 3 total 5\nrow 0 4\nrow 299 1\n", ""))
 
     def test_errors(self):
         self.assertIn("line 2: `pin` makes no graph", self.spread(graph="graph 3\npin a\n").stderr)
