@@ -5,7 +5,7 @@ import subprocess
 import sys
 import time
 
-from edgebpf_tools import explain, store
+from edgebpf_tools import ends, explain, store
 from edgebpf_tools.language import FORMS, Complaint, Language
 from edgebpf_tools.refusal import Refusal
 from edgebpf_tools.words import in_words
@@ -255,10 +255,4 @@ def perform(words):
 
 
 def main():
-    try:
-        sys.exit(perform(sys.argv[1:]))
-    except Refusal as refusal:
-        print(f"edgebpf-shell: {refusal}", file=sys.stderr)
-        sys.exit(1)
-    except KeyboardInterrupt:
-        sys.exit(130)
+    ends.run("edgebpf-shell", perform)

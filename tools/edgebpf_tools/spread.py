@@ -7,7 +7,7 @@ import sys
 import tempfile
 import time
 
-from edgebpf_tools import parts, store
+from edgebpf_tools import ends, parts, store
 from edgebpf_tools.own_source import asks_of_others
 from edgebpf_tools.refusal import Refusal, needs_package
 
@@ -143,8 +143,4 @@ def perform(words):
 
 
 def main():
-    try:
-        sys.exit(perform(sys.argv[1:]))
-    except Refusal as refusal:
-        print(f"edgebpf-spread: {refusal}", file=sys.stderr)
-        sys.exit(1)
+    ends.run("edgebpf-spread", perform)
