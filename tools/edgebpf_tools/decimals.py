@@ -39,3 +39,17 @@ def pairs(text):
     numbers = numpy.fromstring(text, dtype=numpy.int64, sep=" ")
     is_cut = len(numbers) and numbers.max() == numpy.iinfo(numpy.int64).max
     return None if len(numbers) != len(gaps) or is_cut else numbers.reshape(-1, 2)
+
+
+def numbers_at(letters, places):
+    """The decimal number that begins at each place of a text, and where it ends. A text has to go on for `WIDTH` + 1 bytes after
+    the last place; of a number with more digits only the first of them count, and the end is before its others."""
+    numpy = refusal.numpy()
+    numbers = numpy.zeros(len(places), dtype=numpy.uint32)
+    ends = places.copy()
+    for place in range(WIDTH):
+        digits = letters[ends] - ZERO
+        goes_on = (digits < TEN) & (ends - places == place)
+        numbers = numpy.where(goes_on, numbers * TEN + digits, numbers)
+        ends += goes_on
+    return numbers, ends

@@ -22,27 +22,32 @@ class Interrupted(KeyboardInterrupt):
 class Signals:
     """The signals that ask the process to end. They raise `Interrupted`, but not within `held`, where they wait for its end."""
 
-    holds, waiting = 0, None
+    holds, waiting = [], None
+    # A signal of these leaves the process to go on, and one that has to wait is answered with the note.
+    survived, note = frozenset(), b""
 
     @classmethod
     def take(cls, number, _):
-        if cls.holds:
+        if any(number in held for held in cls.holds):
             cls.waiting = cls.waiting or number
+            os.write(2, cls.note)
             return
-        # What is cleaned up from here on is cleaned up whole.
-        handle(signal.SIG_IGN)
+        if number not in cls.survived:
+            # What is cleaned up from here on is cleaned up whole.
+            handle(signal.SIG_IGN)
         raise Interrupted(number)
 
     @classmethod
     @contextlib.contextmanager
-    def held(cls):
-        cls.holds += 1
+    def held(cls, numbers=frozenset(SIGNALS)):
+        cls.holds.append(numbers)
         try:
             yield
         finally:
-            cls.holds -= 1
+            cls.holds.pop()
             if cls.waiting and not cls.holds:
-                cls.take(cls.waiting, None)
+                number, cls.waiting = cls.waiting, None
+                cls.take(number, None)
 
 
 def handle(handler):

@@ -12,13 +12,16 @@ from edgebpf_tools.refusal import Refusal
 @contextlib.contextmanager
 def folder():
     """A temporary folder, which is gone at the end of the block."""
-    with ends.Signals.held():
-        kept = tempfile.TemporaryDirectory(prefix="edgebpf-")
+    kept = None
     try:
+        # A signal that came meanwhile is taken as the inner block ends.
+        with ends.Signals.held():
+            kept = tempfile.TemporaryDirectory(prefix="edgebpf-")
         yield kept.name
     finally:
         with ends.Signals.held():
-            kept.cleanup()
+            if kept:
+                kept.cleanup()
 
 
 @contextlib.contextmanager
@@ -45,20 +48,23 @@ def whole_file(path):
 def child(command, **options):
     """A process with a group of its own, so that a Ctrl-C reaches it by way of this one. It and what it started are gone at
     the end of the block."""
-    with ends.Signals.held():
-        try:
-            process = subprocess.Popen(command, process_group=0, **options)
-        except OSError as error:
-            raise Refusal(ends.in_words(error)) from None
+    process = None
     try:
+        with ends.Signals.held():
+            process = subprocess.Popen(command, process_group=0, **options)
         yield process
     finally:
         with ends.Signals.held():
-            if process.poll() is None:
-                with contextlib.suppress(OSError):
-                    os.killpg(process.pid, signal.SIGKILL)
-            for stream in (process.stdin, process.stdout, process.stderr):
-                with contextlib.suppress(OSError):
-                    if stream:
-                        stream.close()
-            process.wait()
+            if process:
+                _stop(process)
+
+
+def _stop(process):
+    if process.poll() is None:
+        with contextlib.suppress(OSError):
+            os.killpg(process.pid, signal.SIGKILL)
+    for stream in (process.stdin, process.stdout, process.stderr):
+        with contextlib.suppress(OSError):
+            if stream:
+                stream.close()
+    process.wait()

@@ -2,15 +2,15 @@
 import argparse
 import contextlib
 import pathlib
-import subprocess
 import sys
-import tempfile
 import time
 
-from edgebpf_tools import ends, parts, store
+from edgebpf_tools import ends, owned, parts, store, workers
 from edgebpf_tools.own_source import asks_of_others
-from edgebpf_tools.refusal import Refusal, needs_package
+from edgebpf_tools.refusal import Refusal
+from edgebpf_tools.words import in_words
 
+MOST_PROCESSES = 64
 # A line has at most 70,000 bytes, and a vertex at most 7 digits.
 VERTICES_OF_A_LINE = 8_000
 
@@ -39,16 +39,13 @@ def arguments(words):
 
 
 def code_line(path):
-    """The name, the record's length, the code and the line of a program."""
-    try:
-        lines = [line for line in pathlib.Path(path).read_text().splitlines() if line.strip()]
-    except OSError as error:
-        raise Refusal(f"{path}: {error.strerror}") from None
+    """The name, the code and the line of a program."""
+    lines = [line for line in pathlib.Path(path).read_text().splitlines() if line.strip()]
     words = lines[0].split() if len(lines) == 1 else []
-    if len(words) != 4 or words[0] != "code" or not words[2].isdecimal():
+    if len(words) != 4 or words[0] != "code" or not (words[2].isascii() and words[2].isdecimal()):
         raise Refusal(f"{path} has to be one line: code NAME LENGTH HEX")
     try:
-        return words[1], int(words[2]), bytes.fromhex(words[3]), lines[0]
+        return words[1], bytes.fromhex(words[3].replace("-", "")), lines[0]
     except ValueError:
         raise Refusal(f"{path}: the code is not pairs of hexadecimal digits") from None
 
@@ -62,16 +59,13 @@ def takes_whole(options, name, code):
     return True
 
 
-def cut_graph(path, count, folder):
-    """The files of a graph's parts, and the sources of each."""
-    files = [f"{folder}/part{part}.script" for part in range(count)]
-    try:
-        with contextlib.ExitStack() as stack:
-            lines = stack.enter_context(open(path))
-            sources = parts.cut(lines, [stack.enter_context(open(file, "w")) for file in files])
-    except OSError as error:
-        raise Refusal(f"{path}: {error.strerror}") from None
-    return files, sources
+def cut_graph(options, is_whole, folder):
+    """The files of a graph's parts, and the sources of each. For whole graphs there are no files."""
+    files = [] if is_whole else [f"{folder}/part{part}.script" for part in range(options.processes)]
+    with contextlib.ExitStack() as stack:
+        cutter = parts.Cutter(options.processes, [stack.enter_context(open(file, "wb")) for file in files])
+        cutter.cut(stack.enter_context(open(options.graph, "rb")))
+    return files, cutter.sources()
 
 
 def runs_over(run, sources):
@@ -80,63 +74,58 @@ def runs_over(run, sources):
     return "".join(f"{run} {' '.join(map(str, sources[start : start + VERTICES_OF_A_LINE]))}\n" for start in starts)
 
 
-def serve_part(command, graph, rest):
-    """What edgebpf ends with, for the script of a graph and the lines behind it. It is run by a worker of the scheduler."""
-    with tempfile.TemporaryFile("w+") as out:
-        server = subprocess.Popen(command, stdin=subprocess.PIPE, stdout=out)
-        with contextlib.suppress(BrokenPipeError):
-            with server.stdin as pipe, open(graph, "rb") as stream:
-                while block := stream.read(1 << 20):
-                    pipe.write(block)
-                pipe.write(rest.encode())
-        server.wait()
-        out.seek(0)
-        return out.read()
+def test_program(name, line, run):
+    """Refuses a program that cannot be run, before anything is cut. A program that is not built yet is built here."""
+    said, status = store.serve(f"graph 1\n{line}\npin last\n{run}\n")
+    answers = said.splitlines()[1:]
+    meaning = in_words(answers[0]) if answers else None
+    if meaning:
+        raise Refusal(f"{name} is {meaning}")
+    if status:
+        raise Refusal(f"edgebpf cannot run {name}: {answers[-1] if answers else f'status {status}'}")
 
 
-def scheduler_of(options):
-    """A client of the scheduler that was named, or of one on this machine with as many worker processes."""
-    try:
-        import cloudpickle
-        from distributed import Client
-    except ImportError:
-        raise needs_package("Dask's distributed scheduler", "python3-distributed") from None
-    if options.scheduler:
-        # workers that were started elsewhere cannot import this module
-        cloudpickle.register_pickle_by_value(sys.modules[__name__])
-        return Client(options.scheduler)
-    return Client(n_workers=options.processes, threads_per_worker=1, processes=True, dashboard_address=None)
+def results_of(served):
+    """The results of all parts; refuses one that was not served to its end."""
+    results = []
+    for status, text, said in served:
+        if status != 0:
+            last = (said.strip() or text.strip() or b"nothing was written").decode("utf-8", "replace").splitlines()[-1]
+            raise Refusal(f"a part was not served; edgebpf ended with status {status}: {last}")
+        results += parts.read_results(text)
+    return results
 
 
-def serve_all(each, options):
-    """What is written for each part, and how many seconds that took once there were workers."""
-    with scheduler_of(options) as client:
-        client.wait_for_workers(1)
-        begun = time.monotonic()
-        texts = client.gather([client.submit(serve_part, store.command(), *part, pure=False) for part in each])
-        return texts, time.monotonic() - begun
+def served_results(options, name, code, line, folder):
+    """The results of the program over all parts, and how many seconds cutting and serving took."""
+    length = int(line.split()[2])
+    argument = options.argument or ("-" if length <= 16 else "00" * (length - 16))
+    run = f"run {name} last {options.reduce} {argument}"
+    test_program(name, line, run)
+    is_whole = takes_whole(options, name, code)
+    begun = time.monotonic()
+    files, sources = cut_graph(options, is_whole, folder)
+    cut_in = time.monotonic() - begun
+    if is_whole:
+        each = [(options.graph, f"\n{line}\npin last\n{runs_over(run, part)}".encode()) for part in sources if part]
+    if not is_whole or not each:
+        each = [(file, f"\n{line}\npin last\n{run}\n".encode()) for file in files or [options.graph]]
+    served, served_in = workers.serve_parts(store.command(), each, options, folder)
+    return results_of(served), cut_in, served_in
 
 
 def perform(words):
     options = arguments(words)
-    if not 1 <= options.processes <= 64:
-        raise Refusal(f"--processes is 1 to 64, not {options.processes}")
-    name, length, code, line = code_line(options.program)
-    is_whole = takes_whole(options, name, code)
-    argument = options.argument or ("-" if length <= 16 else "00" * (length - 16))
-    with tempfile.TemporaryDirectory() as folder:
-        begun = time.monotonic()
-        files, sources = cut_graph(options.graph, options.processes, folder)
-        cut_in = time.monotonic() - begun
-        run = f"run {name} last {options.reduce} {argument}"
-        each = [(file, f"\n{line}\npin last\n{run}\n") for file in files]
-        if is_whole and any(sources):
-            each = [(options.graph, f"\n{line}\npin last\n{runs_over(run, part)}") for part in sources if part]
-        served, served_in = serve_all(each, options)
-    results = [result for text in served for result in parts.read_results(text)]
-    whole = parts.joined(results, options.reduce)
-    print(f"run {name} last edges {whole.edges} total {whole.total}")
-    sys.stdout.writelines(f"row {vertex} {number}\n" for vertex, number in sorted(whole.rows.items()))
+    if not 1 <= options.processes <= MOST_PROCESSES:
+        raise Refusal(f"--processes is 1 to {MOST_PROCESSES}, not {options.processes}")
+    name, code, line = code_line(options.program)
+    with owned.folder() as folder:
+        results, cut_in, served_in = served_results(options, name, code, line, folder)
+    edges, total = parts.joined(results, options.reduce)
+    print(f"run {name} last edges {edges} total {total}")
+    sys.stdout.flush()
+    for piece in parts.rows_in_order(results):
+        sys.stdout.buffer.write(piece)
     if options.timer:
         print(f"edgebpf-spread: cut in {cut_in:.2f} s, served in {served_in:.2f} s", file=sys.stderr)
     return 0

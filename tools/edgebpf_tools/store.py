@@ -3,6 +3,8 @@ import os
 import pathlib
 import subprocess
 
+from edgebpf_tools import owned
+
 TOP = pathlib.Path(__file__).resolve().parent.parent.parent
 
 
@@ -13,5 +15,5 @@ def command():
 
 def serve(script):
     """What edgebpf writes for a script, and its status. Its standard error is passed on."""
-    run = subprocess.run(command(), input=script, stdout=subprocess.PIPE, text=True)
-    return run.stdout, run.returncode
+    with owned.child(command(), stdin=subprocess.PIPE, stdout=subprocess.PIPE, text=True) as process:
+        return process.communicate(script)[0], process.wait()
