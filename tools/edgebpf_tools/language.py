@@ -41,8 +41,16 @@ def edits_below(vertices):
     smaller = [
         f"{digits[:place]}[0-{int(digit) - 1}][0-9]{{{others - place}}}" for place, digit in enumerate(digits) if digit != "0"
     ]
-    vertex = "|".join([*smaller, *([f"[0-9]{{1,{others}}}"] if others else [])])
-    return re.compile(f"(?:[+-] (?:{vertex}) (?:{vertex})\n)*")
+    if not others:
+        return _edits_of(smaller[0])
+    # Numbers with fewer digits are tried first: the pattern takes half the time so where they are many.
+    shorter = f"[0-9]{{1,{others}}}"
+    return _edits_of(shorter, "|".join([*smaller, shorter]))
+
+
+def _edits_of(*vertices):
+    """What lines of edits match whose vertices both match one of the patterns."""
+    return re.compile(f"(?:{'|'.join(f'[+-] (?:{vertex}) (?:{vertex}){chr(92)}n' for vertex in vertices)})*")
 
 
 def number(words, place, what, least, most):
@@ -185,16 +193,17 @@ class Language:
         return self.block is not None and self.block[0].split()[0] == "program"
 
     def take_edits(self, text, start):
-        """Takes as many lines as can be taken at once from a place of a text on, if a batch is open. Answers where they end."""
+        """Takes as many lines as can be taken at once from a place of a text on, if a batch is open. Answers where they end, and how
+        many they are."""
         if self.block is None or self.is_in_program():
-            return start
+            return start, 0
         end = self.edits.match(text, start).end()
         count = text.count("\n", start, end)
         if count == 0 or self.block_lines + count > MOST_EDITS:
-            return start
+            return start, 0
         self.block.append(text[start : end - 1])
         self.block_lines += count
-        return end
+        return end, count
 
     def heard(self, lines, reply):
         """Takes note of what was answered to lines that were sent."""

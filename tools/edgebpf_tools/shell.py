@@ -120,10 +120,9 @@ class Shell:
         """Takes whole lines, of which edits as many at once as can be. Answers how many lines there were until then."""
         at = 0
         while at < len(text):
-            end = self.language.take_edits(text, at)
-            if end > at:
-                number += text.count("\n", at, end)
-                at = end
+            end, count = self.language.take_edits(text, at)
+            if count:
+                at, number = end, number + count
                 continue
             end = text.index("\n", at)
             number += 1
