@@ -5,7 +5,7 @@ import re
 import sys
 import tempfile
 
-from edgebpf_tools import clang, store
+from edgebpf_tools import clang, ends, store
 from edgebpf_tools.link import ObjectFile, link
 from edgebpf_tools.refusal import Refusal
 from edgebpf_tools.words import in_words
@@ -124,8 +124,4 @@ def perform(words):
 
 
 def main():
-    try:
-        sys.exit(perform(sys.argv[1:]))
-    except Refusal as refusal:
-        print(f"edgebpf-c: {refusal}", file=sys.stderr)
-        sys.exit(1)
+    ends.run("edgebpf-c", perform)

@@ -1,106 +1,147 @@
 """Reads files of edges: SNAP and other lists of two columns, and Matrix Market."""
+import io
+import re
 import sys
 import warnings
 
-from edgebpf_tools.refusal import Refusal, needs_package
+from edgebpf_tools import decimals, refusal
+from edgebpf_tools.refusal import Refusal
 
-try:
-    import numpy
-except ImportError:
-    numpy = None
-
-# How much is read at a time, and how often progress is told.
-BLOCK = 1 << 24
+# How many bytes are read at a time, and of how many edges each the progress is told.
+BLOCK = 1 << 22
 PROGRESS = 1_000_000
+MOST_ID = 2**63 - 1
 
 
 class EdgeFile:
-    """The edges of a file as two columns of ids, and what its header said."""
+    """The edges of a file as columns of ids, and what its header said."""
 
-    def __init__(self, name, base, is_undirected, quiet):
-        if numpy is None:
-            raise needs_package("numpy, which sorts edges,", "python3-numpy")
-        self.name, self.base, self.quiet = name, base, quiet
-        self.is_symmetric = is_undirected
+    def __init__(self, name, options, warn):
+        self.numpy = refusal.numpy()
+        self.name, self.base, self.quiet = name, options.base, options.quiet
+        self.rectangle = options.rectangular
+        self.is_symmetric = options.undirected
+        self.warn = warn
+        # Of a Matrix Market file, its rows, columns and entries.
         self.is_matrix, self.size = False, None
+        self.has_begun, self.has_more, self.separator = False, False, None
         self.line, self.count, self.told = 0, 0, 0
-        self.parts = []
+        self.sources, self.targets = [], []
 
     def fault(self, line, text):
         return Refusal(f"{self.name}, line {line}: {text}")
 
     def read(self, stream):
-        """Reads all of a stream of text."""
-        rest = ""
+        """Reads all of a stream of bytes."""
+        rest = b""
         while block := stream.read(BLOCK):
-            whole, end, rest = (rest + block).rpartition("\n")
+            whole, end, rest = (rest + block).rpartition(b"\n")
             if end:
                 self._take_block(whole + end)
+            elif len(rest) >= BLOCK:
+                raise self.fault(self.line + 1, f"the line has more than {BLOCK} bytes")
         if rest:
             self._take_block(rest)
-        if self.size is not None and self.size[1] != self.count:
-            raise self.fault(self.line, f"the file says {self.size[1]} entries, and has {self.count}")
+        if self.size is not None and self.size[2] != self.count:
+            raise self.fault(self.line, f"the file says {self.size[2]} entries, and has {self.count}")
 
     def columns(self):
-        """The sources and the targets, as they stand in the file."""
-        ids = numpy.concatenate(self.parts)
-        return ids[0::2], ids[1::2]
+        """The sources and the targets, as they stand in the file. They are kept here no longer."""
+        columns = self.numpy.concatenate(self.sources), self.numpy.concatenate(self.targets)
+        self.sources, self.targets = [], []
+        return columns
 
-    def _take_block(self, text):
-        lines = text.count("\n")
-        ids = self._plain_ids(text, lines)
-        if ids is None:
-            ids = self._ids_by_line(text)
-        else:
-            self.line += lines
-        if len(ids):
-            self.parts.append(ids)
-            self.count += len(ids) // 2
+    def vertices(self):
+        """How many vertices the header says, at least."""
+        rows, columns, _ = self.size or (0, 0, 0)
+        return rows + columns if self.rectangle == "apart" and rows != columns else max(rows, columns)
+
+    def _take_block(self, block):
+        if not self.has_begun:
+            block = self._after_head(block)
+        if block:
+            columns = self._plain_columns(block)
+            if columns is None:
+                columns = self._columns_by_line(block)
+            else:
+                self.line += block.count(b"\n") + (not block.endswith(b"\n"))
+            self._keep(*columns)
         if not self.quiet and self.count // PROGRESS > self.told:
             self.told = self.count // PROGRESS
             print(f"edgebpf-import: {self.count} edges read", file=sys.stderr)
 
-    def _plain_ids(self, text, lines):
-        """The ids of a block whose lines are all two numbers; None where that is not plain to see."""
-        if "#" in text or "%" in text or "-" in text or "." in text or (self.is_matrix and self.size is None):
+    def _keep(self, sources, targets):
+        """Keeps columns, in half as many bytes where their ids allow it."""
+        for kept, column in ((self.sources, sources), (self.targets, targets)):
+            is_short = len(column) and column.max() < 2**32
+            kept.append(column.astype(self.numpy.uint32 if is_short else self.numpy.int64))
+        self.count += len(sources)
+
+    def _after_head(self, block):
+        """What stands behind the comments and the header, from the first edge on."""
+        place = 0
+        while place < len(block):
+            end = block.find(b"\n", place) + 1 or len(block)
+            line = block[place:end].decode("utf-8", "replace").strip()
+            words = line.split()
+            if words and line[0] not in "#%" and not (self.is_matrix and self.size is None):
+                self._begin_edges(line)
+                break
+            place, self.line = end, self.line + 1
+            if self.line == 1 and line.lower().startswith("%%matrixmarket"):
+                self._begin_matrix(line)
+            elif words and line[0] not in "#%":
+                self._take_size(words)
+        return block[place:]
+
+    def _begin_edges(self, line):
+        """The first edge shows by what columns are separated."""
+        self.has_begun = True
+        if re.match(r"[0-9]+[ \t]*,", line):
+            self.separator = ","
+            self.warn(f"{self.name}: columns are separated by commas")
+
+    def _plain_columns(self, block):
+        """The columns of a block if a library reads them; None if its lines have to be looked at one by one."""
+        ids = decimals.pairs(block) if self.separator is None and block.endswith(b"\n") else None
+        if ids is None:
+            ids = self._table(block)
+        return None if ids is None or ids.shape[1] != 2 or ids.min() < 0 else (ids[:, 0], ids[:, 1])
+
+    def _table(self, block):
+        """The first two columns of a block whose lines have two each, or have more as its first line has; else None."""
+        if any(sign in block for sign in b"#%+"):
             return None
+        has_more = len(block.strip().split(b"\n", 1)[0].split(self.separator and b",")) > 2
         with warnings.catch_warnings():
             warnings.simplefilter("error")
             try:
-                ids = numpy.fromstring(text, dtype=numpy.int64, sep=" ")
-            except (DeprecationWarning, ValueError):
+                ids = self.numpy.loadtxt(
+                    io.BytesIO(block), dtype=self.numpy.int64, comments=None, delimiter=self.separator, ndmin=2,
+                    usecols=(0, 1) if has_more else None,
+                )
+            except (ValueError, Warning):
                 return None
-        # Numbers above the greatest are cut down to it. A line of one number and one of three are seen line by line.
-        if len(ids) != 2 * lines or (len(ids) and ids.max() == numpy.iinfo(numpy.int64).max):
-            return None
-        return ids if self._has_two_each(text, lines) else None
+        if has_more:
+            self._take_more(self.line + 1)
+        return ids
 
-    @staticmethod
-    def _has_two_each(text, lines):
-        """Whether each line has two words: one gap between them, where blanks that follow each other are one."""
-        bytes_of = numpy.frombuffer(text.encode(), dtype=numpy.uint8)
-        is_word = bytes_of > 32
-        begins = is_word.copy()
-        begins[1:] &= ~is_word[:-1]
-        ends = numpy.flatnonzero(bytes_of == 10)
-        counts = numpy.add.reduceat(begins, numpy.concatenate(([0], ends[:-1] + 1))) if lines else numpy.array([])
-        return bool((counts == 2).all())
-
-    def _ids_by_line(self, text):
+    def _columns_by_line(self, block):
         ids = []
-        for line in text.splitlines():
+        for line in block.decode("utf-8", "replace").split("\n"):
             self.line += 1
-            words = line.split()
-            if not words:
-                continue
-            if words[0][0] in "#%":
-                if self.line == 1 and line.lower().startswith("%%matrixmarket"):
-                    self._begin_matrix(line)
-            elif self.is_matrix and self.size is None:
-                self._take_size(words)
-            else:
-                ids += self._ids_of(words)
-        return numpy.array(ids, dtype=numpy.int64)
+            words = [word.strip() for word in line.split(self.separator)]
+            if line.strip() and line.strip()[0] not in "#%":
+                ids.append(self._ids_of(words))
+        self.line -= block.endswith(b"\n")
+        both = self.numpy.array(ids, dtype=self.numpy.int64).reshape(-1, 2)
+        return both[:, 0], both[:, 1]
+
+    def _take_more(self, line):
+        """Says once that there are more columns than two."""
+        if not self.has_more:
+            self.has_more = True
+            self.warn(f"{self.name}, line {line}: columns after the second are not read; edges have no weights or labels")
 
     def _begin_matrix(self, header):
         words = header.lower().split()
@@ -113,13 +154,22 @@ class EdgeFile:
     def _take_size(self, words):
         if len(words) != 3 or not all(word.isdecimal() for word in words):
             raise self.fault(self.line, "a Matrix Market file has a line of rows, columns and entries before its edges")
-        self.size = max(int(words[0]), int(words[1])), int(words[2])
+        rows, columns, entries = map(int, words)
+        if rows != columns and self.rectangle is None:
+            raise self.fault(
+                self.line,
+                f"the matrix has {rows} rows and {columns} columns. Say what columns are: --rectangular same, if row K and "
+                "column K are one vertex, or --rectangular apart, if columns are vertices after those of the rows",
+            )
+        self.size = rows, columns, entries
 
     def _ids_of(self, words):
         if len(words) < 2:
             raise self.fault(self.line, "an edge is two ids, and here is one word")
+        if len(words) > 2:
+            self._take_more(self.line)
         for word in words[:2]:
-            if not (word.isascii() and word.isdecimal() and int(word) < 2**63):
+            if not (word.isascii() and word.isdecimal() and int(word) <= MOST_ID):
                 shown = word if len(word) <= 40 else word[:40] + ".."
                 raise self.fault(self.line, f"`{shown}` is no id: ids are decimal numbers from 0 to 2^63 - 1")
         return int(words[0]), int(words[1])

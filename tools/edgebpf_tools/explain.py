@@ -5,6 +5,7 @@ import pathlib
 import subprocess
 import sys
 
+from edgebpf_tools import ends
 from edgebpf_tools.explain_page import page
 from edgebpf_tools.refusal import Refusal
 
@@ -57,10 +58,4 @@ def perform(words):
 
 
 def main():
-    try:
-        sys.exit(perform(sys.argv[1:]))
-    except Refusal as refusal:
-        print(f"edgebpf-explain: {refusal}", file=sys.stderr)
-        sys.exit(2)
-    except KeyboardInterrupt:
-        sys.exit(130)
+    ends.run("edgebpf-explain", perform, failed=2)

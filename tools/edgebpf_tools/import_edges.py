@@ -1,47 +1,72 @@
 """From a file of edges to a script that makes their graph."""
 import argparse
+import contextlib
 import sys
 
-from edgebpf_tools import edge_files
+from edgebpf_tools import decimals, ends, owned, refusal
 from edgebpf_tools.edge_files import EdgeFile
 from edgebpf_tools.refusal import Refusal
 
 MOST_VERTICES = 1_048_576
 MOST_EDITS = 65_536
+# So many bits hold a vertex.
+VERTEX_BITS = 20
 
 
 def arguments(words):
     parser = argparse.ArgumentParser(
         prog="edgebpf-import",
-        description="Turns a list of edges (SNAP, or columns parted by blanks or tabs) or a Matrix Market file into a "
+        description="Turns a list of edges (SNAP, or columns separated by blanks, tabs or commas) or a Matrix Market file into a "
         "script: the graph, and its edges in batches of 65,536, sorted by source. The script goes to standard output.",
-        epilog="Lines that begin with # or % are comments; columns behind the second are not read. Ids are taken as they "
-        "are where all are below 1,048,576; else they are numbered anew in ascending order, and the table of both is "
-        "kept beside. Needs numpy: apt-get install python3-numpy",
+        epilog="Lines that begin with # or % are comments. Columns after the second are not read, which is said on standard "
+        "error. Ids are taken as they are if all are below 1,048,576; else they are renumbered in ascending order, and the "
+        "table of both is kept beside. Needs numpy: apt-get install python3-numpy",
     )
     parser.add_argument("file", metavar="FILE", help="the edges; - for standard input")
     parser.add_argument("--base", type=int, choices=[0, 1], default=None, help="the least id; else 0, in Matrix Market 1")
-    parser.add_argument("--renumber", action="store_true", help="number the ids anew, also where they are small")
+    parser.add_argument("--renumber", action="store_true", help="renumber the ids also if they are small")
     parser.add_argument("--table", metavar="TABLE", help="where the table of new and old ids goes; else FILE.ids")
     parser.add_argument("--undirected", action="store_true", help="each edge also leads back")
-    parser.add_argument("--quiet", action="store_true", help="no progress on standard error")
+    parser.add_argument("--rectangular", choices=["same", "apart"], help="of a matrix with another number of columns than rows: row K "
+                        "and column K are one vertex, or columns are vertices after those of the rows")
+    parser.add_argument("--quiet", action="store_true", help="no progress on standard error, only warnings")
     return parser.parse_args(words)
+
+
+def warn(text):
+    print(f"edgebpf-import: warning: {text}", file=sys.stderr)
+
+
+def move_columns(file, targets):
+    """The targets of a matrix whose columns are vertices after those of the rows. Entries have to lie in the matrix."""
+    rows, columns, _ = file.size
+    if file.rectangle == "apart" and rows != columns:
+        return targets.astype("int64") + rows
+    return targets
+
+
+def test_matrix(file, sources, targets):
+    """Refuses a matrix that is symmetric and no square, or that has an entry outside."""
+    rows, columns, _ = file.size
+    if file.is_symmetric and rows != columns and file.rectangle != "apart":
+        raise Refusal(f"{file.name}: a matrix of {rows} rows and {columns} columns is not symmetric")
+    if sources.max() >= rows + file.base or targets.max() >= columns + file.base:
+        raise Refusal(f"{file.name}: an entry lies outside the {rows} rows and {columns} columns of the matrix")
 
 
 class Numbering:
     """Which vertex an id becomes: the id less the least one, or its place among all ids."""
 
     def __init__(self, file, sources, targets, renumbers):
-        numpy = edge_files.numpy
+        self.numpy = refusal.numpy()
         self.base = file.base or 0
         least, most = min(sources.min(), targets.min()), max(sources.max(), targets.max())
         if least < self.base:
             raise Refusal(f"{file.name}: id {least} is below {self.base}, the least id of --base or of the format")
         self.ids = None
-        rows = file.size[0] if file.size else 0
-        self.count = max(int(most) - self.base + 1, rows)
+        self.count = max(int(most) - self.base + 1, file.vertices())
         if renumbers or self.count > MOST_VERTICES:
-            self.ids = numpy.unique(numpy.concatenate((numpy.unique(sources), numpy.unique(targets))))
+            self.ids = self.numpy.unique(self.numpy.concatenate((self.numpy.unique(sources), self.numpy.unique(targets))))
             self.count = len(self.ids)
         if self.count > MOST_VERTICES:
             raise Refusal(f"{file.name} has {self.count} vertices, and a graph has at most {MOST_VERTICES}")
@@ -49,76 +74,82 @@ class Numbering:
     def vertices(self, column):
         """The vertices of a column of ids."""
         if self.ids is None:
-            return column - self.base
-        return edge_files.numpy.searchsorted(self.ids, column)
+            return column - column.dtype.type(self.base)
+        return self.numpy.searchsorted(self.ids, column)
 
-    def write_table(self, path):
-        with open(path, "w") as stream:
-            stream.write("# vertex, id in the file\n")
-            stream.writelines(f"{new} {old}\n" for new, old in enumerate(self.ids.tolist()))
+    def write_table(self, stream):
+        stream.write("# vertex, id in the file\n")
+        stream.writelines(f"{new} {old}\n" for new, old in enumerate(self.ids.tolist()))
 
 
 def sorted_edges(sources, targets, is_symmetric):
-    """The edges in order, each once, as two columns."""
-    numpy = edge_files.numpy
-    edges = sources << 20 | targets
+    """The edges in order, each once, as numbers: the source's bits above those of the target."""
+    numpy = refusal.numpy()
+    edges = sources.astype(numpy.int64)
+    edges <<= VERTEX_BITS
+    edges |= targets
     if is_symmetric:
-        edges = numpy.concatenate((edges, targets << 20 | sources))
-    edges = numpy.unique(edges)
-    return edges >> 20, edges & (MOST_VERTICES - 1)
+        back = targets.astype(numpy.int64)
+        back <<= VERTEX_BITS
+        back |= sources
+        edges = numpy.concatenate((edges, back))
+    edges.sort()
+    is_first = numpy.empty(len(edges), dtype=bool)
+    is_first[:1] = True
+    numpy.not_equal(edges[1:], edges[:-1], out=is_first[1:])
+    return edges[is_first]
 
 
-def write_script(count, sources, targets, out):
-    """Writes the graph and its batches; answers how many batches."""
-    out.write(f"graph {count}\n")
-    starts = range(0, len(sources), MOST_EDITS)
+def write_script(count, edges, out):
+    """Writes the graph and its batches as bytes; answers how many batches."""
+    out.write(b"graph %d\n" % count)
+    starts = range(0, len(edges), MOST_EDITS)
     for start in starts:
-        part = slice(start, start + MOST_EDITS)
-        lines = map("+ {} {}\n".format, sources[part].tolist(), targets[part].tolist())
-        out.write("batch A\n" + "".join(lines) + "end\n")
+        part = edges[start : start + MOST_EDITS]
+        out.write(b"batch A\n" + decimals.edits(part >> VERTEX_BITS, part & (MOST_VERTICES - 1)) + b"end\n")
     return len(starts)
 
 
 def read_file(options):
     name = "standard input" if options.file == "-" else options.file
-    file = EdgeFile(name, options.base, options.undirected, options.quiet)
-    try:
-        if options.file == "-":
-            file.read(sys.stdin)
-        else:
-            with open(options.file, encoding="utf-8", errors="replace") as stream:
-                file.read(stream)
-    except OSError as error:
-        raise Refusal(f"{options.file}: {error.strerror}") from None
-    if not file.parts:
+    file = EdgeFile(name, options, warn)
+    if options.file == "-":
+        file.read(ends.standard_input().buffer)
+    else:
+        with open(options.file, "rb") as stream:
+            file.read(stream)
+    if not file.count:
         raise Refusal(f"{name} has no edge")
     return file
+
+
+def made(file, numbering, sources, targets):
+    """The edges of the graph, sorted, of the columns of a file."""
+    return sorted_edges(numbering.vertices(sources), numbering.vertices(targets), file.is_symmetric)
 
 
 def perform(words):
     options = arguments(words)
     file = read_file(options)
     sources, targets = file.columns()
+    if file.size:
+        test_matrix(file, sources, targets)
+        targets = move_columns(file, targets)
     numbering = Numbering(file, sources, targets, options.renumber)
-    say = (lambda text: None) if options.quiet else lambda text: print(f"edgebpf-import: {text}", file=sys.stderr)
-    if numbering.ids is not None:
-        table = options.table or ("edges.ids" if options.file == "-" else options.file + ".ids")
-        numbering.write_table(table)
-        say(f"ids are numbered anew; the table is {table}")
-    sources, targets = numbering.vertices(sources), numbering.vertices(targets)
-    sources, targets = sorted_edges(sources, targets, file.is_symmetric)
-    batches = write_script(numbering.count, sources, targets, sys.stdout)
-    say(f"{numbering.count} vertices, {len(sources)} edges, {batches} batches")
+    edges = made(file, numbering, sources, targets)
+    table = options.table or ("edges.ids" if options.file == "-" else options.file + ".ids")
+    del sources, targets
+    with contextlib.ExitStack() as stack:
+        if numbering.ids is not None:
+            numbering.write_table(stack.enter_context(owned.whole_file(table)))
+        batches = write_script(numbering.count, edges, sys.stdout.buffer)
+        sys.stdout.flush()
+    if not options.quiet:
+        if numbering.ids is not None:
+            print(f"edgebpf-import: ids are renumbered; the table is {table}", file=sys.stderr)
+        print(f"edgebpf-import: {numbering.count} vertices, {len(edges)} edges, {batches} batches", file=sys.stderr)
     return 0
 
 
 def main():
-    try:
-        status = perform(sys.argv[1:])
-        sys.stdout.flush()
-        sys.exit(status)
-    except Refusal as refusal:
-        print(f"edgebpf-import: {refusal}", file=sys.stderr)
-        sys.exit(1)
-    except BrokenPipeError:
-        sys.exit(1)
+    ends.run("edgebpf-import", perform)

@@ -34,6 +34,25 @@ class Complaint(Exception):
         return f"{line}\n{' ' * first}{'^' * (end - first)} {self}"
 
 
+def edits_below(vertices):
+    """What lines of edits match, each with its end, whose vertices are below a number. It matches only what `check` lets pass."""
+    digits = str(vertices)
+    others = len(digits) - 1
+    smaller = [
+        f"{digits[:place]}[0-{int(digit) - 1}][0-9]{{{others - place}}}" for place, digit in enumerate(digits) if digit != "0"
+    ]
+    if not others:
+        return _edits_of(smaller[0])
+    # Numbers with fewer digits are tried first: the pattern takes half the time so where they are many.
+    shorter = f"[0-9]{{1,{others}}}"
+    return _edits_of(shorter, "|".join([*smaller, shorter]))
+
+
+def _edits_of(*vertices):
+    """What lines of edits match whose vertices both match one of the patterns."""
+    return re.compile(f"(?:{'|'.join(f'[+-] (?:{vertex}) (?:{vertex}){chr(92)}n' for vertex in vertices)})*")
+
+
 def number(words, place, what, least, most):
     """The number that a word is, within its limits."""
     if not (words[place].isascii() and words[place].isdecimal()):
@@ -64,6 +83,9 @@ class Language:
     programs: dict = field(default_factory=dict)
     pins: set = field(default_factory=set)
     block: list = None
+    # How many lines the block has after its first one, and what edits match that may be taken many at a time.
+    block_lines: int = 0
+    edits: re.Pattern = None
 
     def check(self, line):
         """Complains of a line that would be a fault."""
@@ -82,7 +104,7 @@ class Language:
         if is_end:
             if is_batch and self.batches >= MOST_BATCHES:
                 raise Complaint(f"the log is full: {MOST_BATCHES} batches are published")
-        elif len(self.block) > (MOST_EDITS if is_batch else MOST_PROGRAM_LINES):
+        elif self.block_lines >= (MOST_EDITS if is_batch else MOST_PROGRAM_LINES):
             raise Complaint("the block is full; end it")
         elif is_batch:
             if len(words) != 3 or words[0] not in ("+", "-"):
@@ -157,20 +179,38 @@ class Language:
         words = line.split()
         if self.block is not None:
             self.block.append(line)
+            self.block_lines += 1
             if words != ["end"]:
                 return []
             lines, self.block = self.block, None
             return lines
         if words[:1] in (["batch"], ["program"]):
-            self.block = [line]
+            self.block, self.block_lines = [line], 0
             return []
         return [line] if words and not words[0].startswith("#") else []
+
+    def is_in_program(self):
+        return self.block is not None and self.block[0].split()[0] == "program"
+
+    def take_edits(self, text, start):
+        """Takes as many lines as can be taken at once from a place of a text on, if a batch is open. Answers where they end, and how
+        many they are."""
+        if self.block is None or self.is_in_program():
+            return start, 0
+        end = self.edits.match(text, start).end()
+        count = text.count("\n", start, end)
+        if count == 0 or self.block_lines + count > MOST_EDITS:
+            return start, 0
+        self.block.append(text[start : end - 1])
+        self.block_lines += count
+        return end, count
 
     def heard(self, lines, reply):
         """Takes note of what was answered to lines that were sent."""
         words, said = lines[0].split(), reply.split()
         if words[0] == "graph":
             self.vertices = int(words[1])
+            self.edits = edits_below(self.vertices)
         elif words[0] == "batch":
             self.batches += 1
         elif words[0] == "pin":

@@ -1,13 +1,20 @@
 """A graph in parts: its script cut by the sources of its edits, and what the parts' runs write joined to one."""
-from dataclasses import dataclass, field
+from dataclasses import dataclass
 
+from edgebpf_tools import decimals, refusal
 from edgebpf_tools.refusal import Refusal
 
 # Vertices follow each other in a part by ranges, as the store keeps them.
 RANGE = 256
+MOST_VERTICES = 1_048_576
 BITS_64 = (1 << 64) - 1
 IDENTITY = {"min": BITS_64, "max": 0, "sum": 0}
 JOIN = {"min": min, "max": max, "sum": lambda one, other: (one + other) & BITS_64}
+BLOCK = 1 << 24
+# So many bytes may be looked at after a place.
+MARGIN = bytes(2 * decimals.WIDTH)
+NEWLINE, BLANK = ord("\n"), ord(" ")
+EVERY = -1
 
 
 def part_of(vertex, count):
@@ -15,55 +22,116 @@ def part_of(vertex, count):
     return vertex // RANGE % count
 
 
-def cut(lines, outs):
-    """Writes each line of a script that makes a graph to the parts that it is for: an edit to that of its source, all
-    else to each. Answers the sources of each part, ascending."""
-    sources, is_made = [set() for _ in outs], False
-    for number, line in enumerate(lines, 1):
-        words = line.split()
-        if words and words[0] in ("+", "-") and len(words) == 3 and words[1].isdecimal():
-            part = part_of(int(words[1]), len(outs))
-            sources[part].add(int(words[1]))
-            outs[part].write(line)
-            continue
+class Cutter:
+    """Cuts the script of a graph: an edit goes to the part of its source, and every other line to all parts."""
+
+    def __init__(self, count, outs):
+        self.numpy = refusal.numpy()
+        self.count, self.outs = count, outs
+        self.is_source = self.numpy.zeros(MOST_VERTICES, dtype=bool)
+        self.line, self.is_made = 0, False
+
+    def cut(self, stream):
+        """Writes the lines of a stream of bytes to those of the outs that they are for."""
+        rest = b""
+        while block := stream.read(BLOCK):
+            whole, end, rest = (rest + block).rpartition(b"\n")
+            self._cut_block(whole + end)
+        if rest:
+            self._cut_block(rest + b"\n")
+        if not self.is_made:
+            raise Refusal("no line makes a graph")
+
+    def sources(self):
+        """The sources of each part, ascending."""
+        vertices = self.numpy.flatnonzero(self.is_source)
+        return [vertices[part_of(vertices, self.count) == part].tolist() for part in range(self.count)]
+
+    def _cut_block(self, block):
+        numpy = self.numpy
+        letters = numpy.frombuffer(block + MARGIN, dtype=numpy.uint8)
+        ends = numpy.flatnonzero(letters == NEWLINE) + 1
+        starts = numpy.concatenate(([0], ends[:-1])) if len(ends) else ends
+        sources, is_plain = self._plain_edits(letters, starts)
+        part_of_line = numpy.where(is_plain, part_of(sources, self.count), EVERY).astype(numpy.int16)
+        self.is_source[sources[is_plain]] = True
+        for place in numpy.flatnonzero(~is_plain).tolist():
+            part_of_line[place] = self._part_of_other(block[starts[place] : ends[place]], place)
+        self.line += len(ends)
+        if self.outs:
+            self._write(block, part_of_line, starts, ends)
+
+    def _plain_edits(self, letters, starts):
+        """The source of each line, and whether it is `+ U V` or `- U V` with single blanks; what follows U is not looked at."""
+        signs = letters[starts]
+        sources, ends = decimals.numbers_at(letters, starts + 2)
+        is_edit = ((signs == ord("+")) | (signs == ord("-"))) & (letters[starts + 1] == BLANK)
+        has_source = (ends > starts + 2) & (letters[ends] == BLANK) & (sources < MOST_VERTICES)
+        return sources, is_edit & has_source
+
+    def _part_of_other(self, line, place):
+        """For which part another line is; refuses one that makes no graph."""
+        words = line.decode("utf-8", "replace").split()
+        if words and words[0] in ("+", "-") and len(words) == 3 and words[1].isascii() and words[1].isdecimal():
+            vertex = int(words[1])
+            if vertex < MOST_VERTICES:
+                self.is_source[vertex] = True
+            return part_of(vertex, self.count)
         if words and words[0] not in ("graph", "batch", "end") and not words[0].startswith("#"):
-            raise Refusal(f"line {number}: `{words[0]}` makes no graph; here are only graph, batches and comments")
-        is_made = is_made or words[:1] == ["graph"]
-        for out in outs:
-            out.write(line)
-    if not is_made:
-        raise Refusal("no line makes a graph")
-    return [sorted(part) for part in sources]
+            raise Refusal(f"line {self.line + place + 1}: `{words[0][:40]}` makes no graph; here are only graph, batches and comments")
+        self.is_made = self.is_made or words[:1] == ["graph"]
+        return EVERY
+
+    def _write(self, block, part_of_line, starts, ends):
+        """Writes lines, as many at once as follow each other and are for the same part."""
+        firsts = self.numpy.flatnonzero(self.numpy.diff(part_of_line, prepend=-2))
+        lasts = self.numpy.concatenate((firsts[1:], [len(starts)])) - 1 if len(firsts) else firsts
+        view = memoryview(block)
+        for part, start, end in zip(part_of_line[firsts].tolist(), starts[firsts].tolist(), ends[lasts].tolist()):
+            for out in self.outs if part == EVERY else (self.outs[part],):
+                out.write(view[start:end])
 
 
 @dataclass
 class Result:
-    """What a run wrote: how many edges it had, their reduction, and the numbers of the rows."""
+    """What a run wrote: how many edges it had, their reduction, and its rows as lines of bytes."""
 
-    edges: int = 0
-    total: int = 0
-    rows: dict = field(default_factory=dict)
+    edges: int
+    total: int
+    rows: memoryview
 
 
 def read_results(text):
     """The results of the runs in what a script wrote."""
-    results = []
-    for line in text.splitlines():
-        words = line.split()
-        if words[:1] == ["run"]:
-            results.append(Result(int(words[4]), int(words[6])))
-        elif words[:1] == ["row"] and results:
-            results[-1].rows[int(words[1])] = int(words[2])
-    if not results:
-        raise Refusal("no part ran the program: " + (text.splitlines() or ["nothing was written"])[-1])
+    results, at = [], text.find(b"\nrun ")
+    while at >= 0:
+        end = text.index(b"\n", at + 1) + 1
+        words = text[at + 1 : end].split()
+        at = text.find(b"\nrun ", end - 1)
+        results.append(Result(int(words[4]), int(words[6]), memoryview(text)[end : at + 1 if at >= 0 else len(text)]))
     return results
 
 
 def joined(results, reduction):
-    """One result of many over edges that are apart, and so in rows that are apart."""
-    whole = Result(total=IDENTITY[reduction])
+    """How many edges many runs had that are over edges that are apart, and the reduction of all."""
+    total = IDENTITY[reduction]
     for result in results:
-        whole.edges += result.edges
-        whole.total = JOIN[reduction](whole.total, result.total)
-        whole.rows.update(result.rows)
-    return whole
+        total = JOIN[reduction](total, result.total)
+    return sum(result.edges for result in results), total
+
+
+def rows_in_order(results):
+    """The rows of runs whose rows are apart, ascending, as pieces of bytes. Of each run they ascend, and each range of vertices
+    is of one run alone but for a cut in it, so that pieces within ranges are put into order."""
+    numpy, pieces = refusal.numpy(), []
+    for result in results:
+        letters = numpy.frombuffer(bytes(result.rows) + MARGIN, dtype=numpy.uint8)
+        ends = numpy.flatnonzero(letters == NEWLINE) + 1
+        if not len(ends):
+            continue
+        starts = numpy.concatenate(([0], ends[:-1]))
+        vertices, _ = decimals.numbers_at(letters, starts + len("row "))
+        firsts = numpy.flatnonzero(numpy.diff((vertices // RANGE).astype(numpy.int64), prepend=-1))
+        bounds = [*starts[firsts].tolist(), int(ends[-1])]
+        pieces += [(vertex, result.rows[start:end]) for vertex, start, end in zip(vertices[firsts].tolist(), bounds, bounds[1:])]
+    return [piece for _, piece in sorted(pieces, key=lambda piece: piece[0])]

@@ -1,18 +1,23 @@
 """A prompt for scripts: lines are looked at before they are sent, and answers are told in words."""
 import argparse
+import contextlib
+import io
 import pathlib
+import signal
 import subprocess
 import sys
 import time
 
-from edgebpf_tools import explain, store
+from edgebpf_tools import ends, explain, owned
+from edgebpf_tools.journal import Journal
 from edgebpf_tools.language import FORMS, Complaint, Language
+from edgebpf_tools.live_store import LiveStore
 from edgebpf_tools.refusal import Refusal
 from edgebpf_tools.words import in_words
 
 TOOLS = pathlib.Path(__file__).resolve().parent.parent
 DOTS = {
-    ".help": ".help [COMMAND]: what there is, or how a command goes",
+    ".help": ".help [COMMAND]: what there is, or how a command goes; also help and ?",
     ".import": ".import FILE: makes the graph of a file of edges, by edgebpf-import",
     ".load": ".load FILE.c [FUNCTION] LENGTH: compiles a function, by edgebpf-c, and sends its code line",
     ".explain": ".explain NAME: what is known at each place of a program that was sent, and why it is refused, by edgebpf-explain",
@@ -21,54 +26,24 @@ DOTS = {
     ".cancel": ".cancel: drops the batch or program that was begun",
     ".top": ".top K: shows the K greatest rows of a run, and 0 for all",
     ".timer": ".timer on|off: says how long an answer took",
-    ".quit": ".quit: ends, as the end of the input does",
+    ".quit": ".quit: ends, as the end of the input does; also quit and exit",
 }
 
 
-class Store:
-    """An edgebpf that answers line by line."""
-
-    def __init__(self):
-        self.process = subprocess.Popen(store.command(), stdin=subprocess.PIPE, stdout=subprocess.PIPE, text=True)
-
-    def ask(self, lines):
-        """What is written for the lines of one command."""
-        goes_on = lines[0].split()[0] in ("run", "list")
-        # A run ends with as many rows as it has, and a list with its edges: the answer to one question more says that they have ended.
-        sent = lines + ["home 0"] if goes_on else lines
-        try:
-            self.process.stdin.write("\n".join(sent) + "\n")
-            self.process.stdin.flush()
-        except BrokenPipeError:
-            raise Refusal("edgebpf has ended") from None
-        said = [self._line()]
-        while goes_on:
-            line = self._line()
-            if line.startswith("home "):
-                break
-            said.append(line)
-        return said
-
-    def _line(self):
-        line = self.process.stdout.readline()
-        if not line:
-            raise Refusal(f"edgebpf has ended, with status {self.process.wait()}")
-        if line.startswith("fault "):
-            raise Refusal(f"edgebpf has ended: {line.rstrip()}")
-        return line.rstrip("\n")
-
-    def close(self):
-        self.process.stdin.close()
-        self.process.wait()
+# Words that are no commands of a script, outside of blocks.
+PLAIN = {"help": ".help", "?": ".help", "quit": ".quit", "exit": ".quit"}
+# How many bytes of lines are read at a time, where there are so many.
+BLOCK = 1 << 20
+NOTE = b"\n(edgebpf is at work: its answer will be dropped, and its graph stays. Ctrl-\\ ends the session.)\n"
 
 
 class Shell:
     """A session at the prompt."""
 
-    def __init__(self, out, journal=None):
-        self.out, self.journal = out, journal
-        self.store, self.language = Store(), Language()
-        self.sent, self.top, self.has_timer = [], 10, False
+    def __init__(self, live, out):
+        self.store, self.out, self.journal = live, out, None
+        self.language = Language()
+        self.sent, self.top, self.has_timer, self.is_right = [], 10, False, True
 
     def prompt(self):
         return f"{self.language.block[0].split()[0] if self.language.block else 'edgebpf'}> "
@@ -79,32 +54,46 @@ class Shell:
     def line(self, line):
         """Does what a line asks for. Answers whether it was right."""
         try:
+            words = line.split()
             if line.startswith("."):
-                self.dot(line.split())
+                self.dot(words)
+            elif words and words[0] in PLAIN and not self.language.is_in_program():
+                self.dot([PLAIN[words[0]], *words[1:]])
             else:
                 self.command(line)
             return True
         except Complaint as complaint:
             self.say(complaint.shown(line))
         except OSError as error:
-            self.say(f"{error.filename}: {error.strerror}")
+            self.say(ends.in_words(error))
+        self.is_right = False
         return False
 
     def command(self, line):
         self.language.check(line)
-        lines = self.language.take(line)
-        if not lines:
-            return
         begun = time.monotonic()
-        said = self.store.ask(lines)
-        self.language.heard(lines, said[0])
-        self.sent += lines
-        if self.journal:
-            self.journal.write("\n".join(lines) + "\n")
-            self.journal.flush()
+        # A Ctrl-C waits until what was sent is answered and noted.
+        with ends.Signals.held({signal.SIGINT}):
+            lines = self.language.take(line)
+            if not lines:
+                return
+            said = self.store.ask(lines)
+            self.language.heard(lines, said[0])
+            self.sent += lines
+            self.keep(lines)
         self.show(said)
         if self.has_timer:
             self.say(f"({time.monotonic() - begun:.3f} s)")
+
+    def keep(self, lines):
+        """Keeps lines in the journal. Without a journal the session goes on, but does not end well."""
+        try:
+            if self.journal:
+                self.journal.add(lines)
+        except OSError as error:
+            self.is_right = False
+            self.say(f"{self.journal.path}: {error.strerror}; the session goes on without its journal")
+            self.journal = None
 
     def show(self, said):
         rows = [line for line in said if line.startswith("row ")]
@@ -118,11 +107,29 @@ class Shell:
         if meaning:
             self.say(meaning)
 
-    def lines(self, lines):
-        """Takes many lines, up to the first that is wrong."""
-        for number, line in enumerate(lines, 1):
-            if not self.line(line.rstrip("\n")):
-                raise Complaint(f"that was line {number}; what stands behind it was not sent")
+    def lines(self, stream, stops):
+        """Takes the lines of a stream of bytes as they come. If it stops, then at the first that is wrong."""
+        number, rest = 0, b""
+        while block := stream.read1(BLOCK):
+            whole, end, rest = (rest + block).rpartition(b"\n")
+            number = self.some_lines((whole + end).decode("utf-8", "surrogateescape"), number, stops)
+        if rest:
+            self.some_lines(rest.decode("utf-8", "surrogateescape") + "\n", number, stops)
+
+    def some_lines(self, text, number, stops):
+        """Takes whole lines, of which edits as many at once as can be. Answers how many lines there were until then."""
+        at = 0
+        while at < len(text):
+            end, count = self.language.take_edits(text, at)
+            if count:
+                at, number = end, number + count
+                continue
+            end = text.index("\n", at)
+            number += 1
+            if not self.line(text[at:end]) and stops:
+                raise Complaint(f"that was line {number}; what follows it was not sent")
+            at = end + 1
+        return number
 
     def dot(self, words):
         if words[0] not in DOTS:
@@ -139,19 +146,21 @@ class Shell:
             raise Complaint("nothing has this name; .help lists what there is", 1)
 
     def _companion(self, *words):
-        """The lines that a companion writes; what it says on standard error is passed on."""
-        run = subprocess.run([TOOLS / words[0], *words[1:]], stdout=subprocess.PIPE, text=True)
-        if run.returncode:
-            raise Complaint(f"{words[0]} answered nothing")
-        return run.stdout.splitlines()
+        """Takes the lines that a companion writes; what it says on standard error is passed on."""
+        with owned.child([TOOLS / words[0], *words[1:]], stdout=subprocess.PIPE) as process:
+            self.lines(process.stdout, True)
+            status = process.wait()
+        if status:
+            self.language.block = None
+            raise Complaint(f"{words[0]} ended with status {status}")
 
     def _import(self, words):
         self._wants(words, len(words) == 2)
-        self.lines(self._companion("edgebpf-import", words[1]))
+        self._companion("edgebpf-import", words[1])
 
     def _load(self, words):
         self._wants(words, len(words) in (3, 4))
-        self.lines(self._companion("edgebpf-c", *words[1:]))
+        self._companion("edgebpf-c", *words[1:])
 
     def _program(self, name):
         """The length of a program's records, its code and its text, of which one is None: the last that was sent by this name."""
@@ -166,13 +175,14 @@ class Shell:
 
     def _explain(self, words):
         self._wants(words, len(words) == 2)
-        told, _ = explain.explain(*self._program(words[1]))
+        length, code, text = self._program(words[1])
+        told, _ = explain.explain(length, code, text)
         self.say(told.rstrip("\n") or "there is nothing to explain")
 
     def _read(self, words):
         self._wants(words, len(words) == 2)
-        with open(words[1]) as stream:
-            self.lines(stream)
+        with open(words[1], "rb") as stream:
+            self.lines(stream, True)
 
     def _script(self, words):
         self.say("\n".join(self.sent))
@@ -201,22 +211,28 @@ def arguments(words):
     parser = argparse.ArgumentParser(
         prog="edgebpf-shell",
         description="A prompt for scripts. Each line is looked at before it is sent, so that a slip ends nothing; refusals are "
-        "told in words; a batch or a program is sent once it has ended. At the prompt, .help lists what there is.",
+        "told in words; a batch or a program is sent once it has ended. At the prompt, help lists what there is, and Ctrl-C drops a "
+        "line. If the input is no terminal, a line that is wrong makes the status 1.",
     )
     parser.add_argument("--journal", metavar="FILE", help="keep what was sent in FILE; where it has lines, take the session up again")
     return parser.parse_args(words)
 
 
 def take_up(shell, path):
-    """Sends the lines of a journal, whose answers were seen before."""
-    kept, shell.out = shell.out, open("/dev/null", "w")
-    with open(path) as stream:
-        lines = stream.read().splitlines()
-    shell.lines(lines)
-    shell.out.close()
-    shell.out = kept
-    if lines:
-        shell.say(f"taken up again: {len(lines)} lines of {path}")
+    """Sends the lines of a journal, whose answers were seen before, and keeps the session's lines there."""
+    journal = Journal(path)
+    if not pathlib.Path(path).is_file():
+        raise Refusal(f"{path} is no file")
+    kept, shell.out = shell.out, io.StringIO()
+    try:
+        with open(path, "rb") as stream:
+            shell.lines(stream, True)
+    except Complaint as complaint:
+        said = shell.out.getvalue().splitlines()
+        raise Refusal(f"{path} is no journal that can be taken up: {said[-1] if said else ''}; {complaint}") from None
+    shell.out, shell.journal = kept, journal
+    if shell.sent:
+        shell.say(f"taken up again: {sum(lines.count(chr(10)) + 1 for lines in shell.sent)} lines of {path}")
 
 
 def complete_names(shell):
@@ -235,30 +251,37 @@ def complete_names(shell):
     readline.parse_and_bind("tab: complete")
 
 
+def at_terminal(shell):
+    """Takes the lines that a person types. A Ctrl-C drops the line, or what it asked for, and the graph stays."""
+    ends.Signals.survived, ends.Signals.note = frozenset({signal.SIGINT}), NOTE
+    complete_names(shell)
+    while True:
+        try:
+            shell.line(input(shell.prompt()))
+        except EOFError:
+            shell.say("")
+            return
+        except ends.Interrupted as interrupt:
+            if interrupt.number != signal.SIGINT:
+                raise
+            shell.say("\n(dropped)" + (" .cancel drops the block that was begun" if shell.language.block else ""))
+
+
 def perform(words):
     options = arguments(words)
-    shell = Shell(sys.stdout)
-    is_terminal = sys.stdin.isatty()
-    if options.journal:
-        pathlib.Path(options.journal).touch()
-        take_up(shell, options.journal)
-        shell.journal = open(options.journal, "a")
-    if is_terminal:
-        complete_names(shell)
-    try:
-        while True:
-            shell.line(input(shell.prompt() if is_terminal else ""))
-    except EOFError:
-        pass
-    shell.store.close()
-    return 0
+    with LiveStore.started() as live:
+        shell = Shell(live, sys.stdout)
+        if options.journal:
+            take_up(shell, options.journal)
+        if ends.standard_input().isatty():
+            at_terminal(shell)
+            return 0
+        with contextlib.suppress(EOFError):
+            shell.lines(sys.stdin.buffer, False)
+        if shell.language.block:
+            raise Refusal(f"the input ended within a {shell.language.block[0].split()[0]}, which was not sent")
+    return 0 if shell.is_right else ends.FAILED
 
 
 def main():
-    try:
-        sys.exit(perform(sys.argv[1:]))
-    except Refusal as refusal:
-        print(f"edgebpf-shell: {refusal}", file=sys.stderr)
-        sys.exit(1)
-    except KeyboardInterrupt:
-        sys.exit(130)
+    ends.run("edgebpf-shell", perform)

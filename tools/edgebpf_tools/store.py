@@ -3,6 +3,8 @@ import os
 import pathlib
 import subprocess
 
+from edgebpf_tools import owned
+
 TOP = pathlib.Path(__file__).resolve().parent.parent.parent
 
 
@@ -13,7 +15,8 @@ def command():
 
 def serve(script):
     """What edgebpf writes for a script, and its status. Its standard error is passed on."""
-    run = subprocess.run(command(), input=script, stdout=subprocess.PIPE, text=True)
+    with owned.child(command(), stdin=subprocess.PIPE, stdout=subprocess.PIPE, text=True) as process:
+        written, status = process.communicate(script)[0], process.wait()
     # where the program was proved is said once
     os.environ.setdefault("EDGEBPF_PROVED", "elsewhere")
-    return run.stdout, run.returncode
+    return written, status

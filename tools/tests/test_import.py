@@ -27,11 +27,55 @@ class EdgebpfImport(unittest.TestCase):
     def test_matrix_market(self):
         head = "%%MatrixMarket matrix coordinate real "
         self.assertEqual(self.made(head + "general\n% c\n3 3 3\n1 2 5\n1 3 1\n2 3 1\n").stdout, FIRST)
-        back = self.made(head + "symmetric\n3 4 2\n2 1 1\n3 3 1\n").stdout
+        back = self.made(head + "symmetric\n4 4 2\n2 1 1\n3 3 1\n").stdout
         self.assertEqual(back, "graph 4\nbatch A\n+ 0 1\n+ 1 0\n+ 2 2\nend\n")
         self.refused(head + "general\n3 3 4\n1 2 5\n", "the file says 4 entries, and has 1")
         self.refused("%%MatrixMarket matrix array real general\n3 3\n", "line 1")
         self.refused(head + "general\n3 3 1\n0 1 1\n", "id 0 is below 1")
+
+    def test_what_is_not_read_is_said(self):
+        """Once each, also with --quiet."""
+        said = "columns after the second are not read; edges have no weights or labels\n"
+        for text, line in (("0 1 9.5\n0 2 -3\n1 2 x\n", 1), ("# c\n0 1\n0 2 7\n1 2 7\n", 3), ("0 1\t\n0 2\n1 2 # c\n", 3)):
+            run = self.made(text, "--quiet")
+            self.assertEqual((run.stdout, run.stderr), (FIRST, f"edgebpf-import: warning: standard input, line {line}: {said}"))
+        matrix = self.made("%%MatrixMarket matrix coordinate real general\n3 3 3\n1 2 5\n1 3 1\n2 3 1\n", "--quiet")
+        self.assertEqual((matrix.stdout, matrix.stderr), (FIRST, f"edgebpf-import: warning: standard input, line 3: {said}"))
+        pattern = self.made("%%MatrixMarket matrix coordinate pattern general\n3 3 3\n1 2\n1 3\n2 3\n", "--quiet")
+        self.assertEqual((pattern.stdout, pattern.stderr), (FIRST, ""))
+
+    def test_commas(self):
+        for text in ("0,1\n0,2\n1,2\n", "0, 1\r\n0 ,2\n# c\n1,2"):
+            run = self.made(text, "--quiet")
+            self.assertEqual((run.stdout, run.stderr), (FIRST, "edgebpf-import: warning: standard input: columns are separated by commas\n"))
+        self.assertIn("line 1: columns after the second", self.made("0,1,5\n0,2,\n1,2,x\n").stderr)
+        self.refused("0,1\n0 2\n", "line 2: an edge is two ids, and here is one word")
+        self.refused("0 1\n0,2\n", "line 2: an edge is two ids, and here is one word")
+        self.refused("0 1\n0, 2\n", "line 2: `0,` is no id")
+        self.refused("0,5 1,5\n", "line 1: `5 1` is no id")
+
+    def test_rectangular_matrix(self):
+        text = "%%MatrixMarket matrix coordinate pattern general\n2 3 2\n1 3\n2 1\n"
+        self.refused(text, "line 2: the matrix has 2 rows and 3 columns. Say what columns are: --rectangular same")
+        self.assertEqual(self.made(text, "--rectangular", "same").stdout, "graph 3\nbatch A\n+ 0 2\n+ 1 0\nend\n")
+        self.assertEqual(self.made(text, "--rectangular", "apart").stdout, "graph 5\nbatch A\n+ 0 4\n+ 1 2\nend\n")
+        self.refused(text.replace("1 3", "1 4"), "an entry lies outside the 2 rows and 3 columns", "--rectangular", "same")
+        self.refused(text.replace("2 1", "3 1"), "an entry lies outside the 2 rows and 3 columns", "--rectangular", "apart")
+        self.refused(text.replace("general", "symmetric"), "2 rows and 3 columns is not symmetric", "--rectangular", "same")
+
+    def test_blocks(self):
+        """Columns that a library reads and lines that are read one by one, in blocks of a file, give the same edges."""
+        edges = [(vertex * 7919 % 1_000_003, vertex) for vertex in range(400_000)]
+        plain = "".join(f"{source} {target}\n" for source, target in edges)
+        made = self.made(plain, "--quiet").stdout
+        wanted = [f"+ {source} {target}" for source, target in sorted(edges)]
+        self.assertTrue([line for line in made.splitlines() if line.startswith("+")] == wanted)
+        middle = plain.index("\n", len(plain) // 2) + 1
+        others = [plain.replace("\n", "\r\n"), plain.replace(" ", "\t\t"), plain.replace("\n", " 1\n")]
+        for other in (*others, plain[:middle] + "# c\n" + plain[middle:]):
+            self.assertTrue(self.made(other, "--quiet").stdout == made)
+        self.refused(plain[:-1] + " \n7\n", "line 400001: an edge is two ids")
+        self.refused(plain + "8 9 10\n7\n", "line 400002: an edge is two ids")
 
     def test_ids_are_numbered_anew(self):
         with tempfile.TemporaryDirectory() as folder:

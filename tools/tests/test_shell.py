@@ -2,12 +2,16 @@
 import os
 import pathlib
 import pty
+import select
 import subprocess
 import tempfile
+import time
 import unittest
 
 from programs import SOURCE
 from tools_here import MISSING, PYTHON, TOOLS, run_tool
+
+from edgebpf_tools.language import edits_below
 
 BEGUN = "graph 4\nbatch A\n+ 0 1\n+ 0 2\n+ 1 2\nend\npin a\n"
 BEGUN_SAID = "graph 4\nbatch A version 1 added 3 removed 0\npin a version 1 edges 3\n"
@@ -22,9 +26,9 @@ class EdgebpfShell(unittest.TestCase):
         self.addCleanup(folder.cleanup)
         self.folder = pathlib.Path(folder.name)
 
-    def said(self, text, *words):
+    def said(self, text, *words, status=0):
         run = run_tool("edgebpf-shell", *words, text=text)
-        self.assertEqual((run.stderr, run.returncode), ("", 0))
+        self.assertEqual((run.stderr, run.returncode), ("", status))
         return run.stdout
 
     def test_a_slip_ends_nothing(self):
@@ -48,7 +52,7 @@ class EdgebpfShell(unittest.TestCase):
             ("list t a 00", "         ^^ this program's argument has 0 bytes"),
         ]
         text = "pin a\n" + BEGUN + TARGET + "".join(line + "\n" for line, _ in slips) + "run t a sum -\n"
-        said = self.said(text)
+        said = self.said(text, status=1)
         self.assertTrue(said.startswith("pin a\n^^^ make a graph first: graph N\n" + BEGUN_SAID + TARGET_SAID), said)
         for line, told in slips:
             self.assertIn(f"{line}\n{told}", said)
@@ -64,7 +68,7 @@ class EdgebpfShell(unittest.TestCase):
     def test_blocks(self):
         """A wrong edit is not part of its batch, and a block that is dropped is not sent."""
         text = "graph 4\nbatch A\n+ 0 1\n+ 0 9\n* 0 1\n.cancel\nbatch A\n+ 0 2\nend\nprogram p 16\nmov r0, 7\nexit\nend\n.script\n"
-        said = self.said(text)
+        said = self.said(text, status=1)
         self.assertIn("+ 0 9\n    ^ a vertex is 0 to 3\n", said)
         self.assertIn("* 0 1\n^ a line of a batch is", said)
         sent = "graph 4\nbatch A\n+ 0 2\nend\nprogram p 16\nmov r0, 7\nexit\nend\n"
@@ -82,15 +86,16 @@ class EdgebpfShell(unittest.TestCase):
 
     def test_a_session_is_taken_up_again(self):
         journal = str(self.folder / "journal")
-        self.said(BEGUN + TARGET + "pin\nbatch B\n- 0 1\n", "--journal", journal)
+        begun = run_tool("edgebpf-shell", "--journal", journal, text=BEGUN + TARGET + "pin\nbatch B\n- 0 1\n")
+        self.assertEqual((begun.stderr, begun.returncode), ("edgebpf-shell: the input ended within a batch, which was not sent\n", 1))
         self.assertEqual(pathlib.Path(journal).read_text(), BEGUN + TARGET)
         again = self.said("run t a sum -\n", "--journal", journal)
         self.assertEqual(again, f"taken up again: 8 lines of {journal}\nrun t a edges 3 total 5\nrow 0 3\nrow 1 2\n")
 
     def test_other_files(self):
         (self.folder / "s").write_text(BEGUN + "pin a\npin b\n")
-        said = self.said(f".read {self.folder}/s\n.read {self.folder}/none\n.nothing\n.top x\n")
-        self.assertIn("that was line 8; what stands behind it was not sent\n", said)
+        said = self.said(f".read {self.folder}/s\n.read {self.folder}/none\n.nothing\n.top x\n", status=1)
+        self.assertIn("that was line 8; what follows it was not sent\n", said)
         self.assertIn("none: No such file or directory\n", said)
         self.assertIn(".nothing\n^^^^^^^^ nothing has this name", said)
 
@@ -103,16 +108,152 @@ class EdgebpfShell(unittest.TestCase):
         self.assertEqual(run.stderr, "edgebpf-import: 3 vertices, 3 edges, 1 batches\n")
         self.assertTrue(run.stdout.endswith("frames 1\nrun target a edges 3 total 5\nrow 0 3\nrow 1 2\n"), run.stdout)
 
-    def test_prompt(self):
+    def test_plain_words(self):
+        said = self.said("help\n? pin\nhelp .top\ngraph 4\nprogram p 16\nmov r0, 7\nexit\nend\nexit\ngraph 5\n")
+        self.assertIn("\ngraph N: makes the graph", "\n" + said)
+        self.assertIn("pin NAME: names the last version\n.top K: shows", said)
+        self.assertTrue(said.endswith("graph 4\nprogram p bound 2 frames 1\n"), said)
+        self.assertEqual(self.said("quit\ngraph 4\n"), "")
+
+    def test_edits_below(self):
+        """The pattern of edits takes what the check of a line lets pass, up to the last vertex and no further."""
+        for vertices in (1, 2, 9, 10, 11, 99, 100, 101, 109, 110, 1000, 1024, 65_537, 999_999, 1_000_000, 1_048_576):
+            pattern = edits_below(vertices)
+            numbers = [*range(min(vertices + 20, 1200)), vertices - 1, vertices, vertices + 1, 10 * vertices, vertices // 10, 2**64]
+            for number in numbers:
+                for line in (f"+ {number} 0\n", f"- 0 {number}\n"):
+                    self.assertEqual(pattern.match(line).end() > 0, number < vertices, (vertices, line))
+        for line in ("+ 1\n", "+ 1 2 3\n", "+  1 2\n", "* 1 2\n", "+ 1 2", "+ 1 x\n", "+ 1 \u0662\n", "end\n", "\n", "+1 2\n", "+ 1 2 \n"):
+            self.assertEqual(edits_below(10).match(line).end(), 0, line)
+
+    def test_many_edits(self):
+        """Blocks of edits that are taken at once are sent and kept as they are, up to the last one that a batch may have."""
+        edits = [f"+ {place // 300} {place % 300}\n" for place in range(65_536)]
+        text = "graph 300\nbatch A\n" + "".join(edits) + "end\npin a\n"
+        (self.folder / "graph").write_text(text)
+        said = self.said(f".read {self.folder}/graph\n.script\n")
+        self.assertEqual(said, "graph 300\nbatch A version 1 added 65536 removed 0\npin a version 1 edges 65536\n" + text)
+        run = run_tool("edgebpf-shell", text=text.replace("end\n", "+ 299 0\nend\n"))
+        self.assertEqual(run.returncode, 1)
+        self.assertIn("the block is full; end it\nbatch A version 1 added 65536", run.stdout)
+        mixed = self.said(text.replace("+ 100 7\n", "+ 100 300\n\t+  100   7\n"), status=1)
+        self.assertIn("+ 100 300\n      ^^^ a vertex is 0 to 299\n", mixed)
+        self.assertIn("version 1 added 65536 removed 0", mixed)
+
+    def test_journal_that_cannot_be_kept(self):
+        journal, lines = self.folder / "journal", "graph 4\nhome 0\n"
+        command = f"ulimit -f 0; exec {PYTHON} {TOOLS / 'edgebpf-shell'} --journal {journal}"
+        run = subprocess.run(["sh", "-c", command], input=lines, capture_output=True, text=True)
+        self.assertEqual((run.stderr, run.returncode, journal.read_text()), ("", 1, ""))
+        said = f"{journal}: File too large; the session goes on without its journal\n"
+        self.assertEqual(run.stdout, said + "graph 4\nhome 0 block degree 0\n")
+        self.assertIn("/dev/full is no file", run_tool("edgebpf-shell", "--journal", "/dev/full", text=lines).stderr)
+        (self.folder / "journal").write_text("graph 4\npin a\npin a\n")
+        run = run_tool("edgebpf-shell", "--journal", str(self.folder / "journal"), text="")
+        self.assertEqual((run.stdout, run.returncode, len(run.stderr.splitlines())), ("", 1, 1))
+        self.assertIn("no journal that can be taken up", run.stderr)
+
+    def test_store_that_ends(self):
+        (self.folder / "store").write_text("#!/bin/sh\nread line\necho \"$line\"\nexit 3\n")
+        (self.folder / "store").chmod(0o755)
+        os.environ["EDGEBPF"] = str(self.folder / "store")
+        run = run_tool("edgebpf-shell", text="graph 4\nhome 0\nhome 1\n")
+        self.assertEqual((run.stdout, run.returncode), ("graph 4\n", 1))
+        self.assertEqual(run.stderr, "edgebpf-shell: edgebpf has ended, with status 3\n")
+
+
+class Terminal(unittest.TestCase):
+    """A shell at a terminal of its own, as a person has it: a Ctrl-C goes to all processes that the terminal knows."""
+
+    def setUp(self):
+        folder = tempfile.TemporaryDirectory()
+        self.addCleanup(folder.cleanup)
+        self.folder = pathlib.Path(folder.name)
+        self.process, self.seen = None, ""
+
+    def start(self, store):
         try:
-            leader, follower = pty.openpty()
+            self.process, self.leader = pty.fork()
         except OSError as error:
             self.skipTest(f"there are no terminals here: {error}")
-        shell = subprocess.Popen([PYTHON, TOOLS / "edgebpf-shell"], stdin=follower, stdout=subprocess.PIPE, stderr=follower, text=True)
-        os.write(leader, b"graph 4\nbatch A\n.quit\n")
-        said, _ = shell.communicate(timeout=30)
-        os.close(leader)
-        os.close(follower)
-        self.assertIn("edgebpf> ", said)
-        self.assertIn("batch> ", said)
-        self.assertIn("graph 4\n", said)
+        if self.process == 0:
+            os.environ |= {"EDGEBPF": str(store), "TERM": "dumb"}
+            os.execv(PYTHON, [PYTHON, str(TOOLS / "edgebpf-shell")])
+        self.addCleanup(os.close, self.leader)
+
+    def until(self, part):
+        """What the terminal shows up to a part that is new."""
+        begun = time.monotonic()
+        while part not in self.seen:
+            self.assertLess(time.monotonic() - begun, 30, f"not seen: {part!r} in {self.seen!r}")
+            if select.select([self.leader], [], [], 1)[0]:
+                try:
+                    self.seen += os.read(self.leader, 4096).decode().replace("\r", "")
+                except OSError:
+                    self.assertIn(part, self.seen)
+        shown, _, self.seen = self.seen.partition(part)
+        return shown
+
+    def types(self, text):
+        os.write(self.leader, text.encode())
+
+    def status(self):
+        return os.waitstatus_to_exitcode(os.waitpid(self.process, 0)[1])
+
+    def test_prompt(self):
+        self.start(TOOLS / "tests" / "second_store.py")
+        self.until("edgebpf> ")
+        self.types("graph 4\nbatch A\n")
+        self.until("batch> ")
+        self.types(".quit\n")
+        self.assertEqual(self.status(), 0)
+
+    def test_interrupt_drops_the_line(self):
+        self.start(TOOLS / "tests" / "second_store.py")
+        self.until("edgebpf> ")
+        self.types("graph 4\n")
+        self.until("graph 4\nedgebpf> ")
+        self.types("pin x\x03")
+        self.until("(dropped)\nedgebpf> ")
+        for line in ("batch A\n", "+ 0 1\n"):
+            self.types(line)
+            self.until("batch> ")
+        self.types("+ 0 2\x03")
+        self.until(".cancel drops the block that was begun\nbatch> ")
+        self.types("end\npin x\n")
+        self.until("pin x version 1 edges 1\nedgebpf> ")
+        self.types("exit\n")
+        self.assertEqual(self.status(), 0)
+
+    def test_interrupt_of_an_answer(self):
+        """The answer to what was sent is awaited, and the next one is not taken for it."""
+        store = self.folder / "store"
+        store.write_text('#!/bin/sh\nwhile read line; do case "$line" in pin*) sleep 2;; esac; echo "said $line"; done\n')
+        store.chmod(0o755)
+        self.start(store)
+        self.until("edgebpf> ")
+        self.types("graph 4\npin a\n")
+        self.until("pin a\n")
+        time.sleep(0.5)
+        self.types("\x03\x03")
+        self.until("edgebpf is at work")
+        self.assertNotIn("said pin a", self.until("(dropped)"))
+        self.types("home 1\n")
+        self.until("said home 1\nedgebpf> ")
+        self.types("pin a\n")
+        self.until("a pin has this name")
+        self.types("\x04")
+        self.assertEqual(self.status(), 0)
+
+    def test_interrupt_of_an_import(self):
+        os.mkfifo(self.folder / "edges")
+        self.start(TOOLS / "tests" / "second_store.py")
+        self.until("edgebpf> ")
+        self.types(f".import {self.folder}/edges\n")
+        self.until("edges\n")
+        with open(self.folder / "edges", "w"):
+            self.types("\x03")
+            self.until("(dropped)\nedgebpf> ")
+        self.types("graph 4\nquit\n")
+        self.until("graph 4\n")
+        self.assertEqual(self.status(), 0)

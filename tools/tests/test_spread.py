@@ -1,15 +1,22 @@
 """edgebpf-spread: a run in parts, served by worker processes, and its errors."""
+import contextlib
 import importlib.util
 import os
 import pathlib
+import signal
+import socket
+import subprocess
 import tempfile
+import time
 import unittest
 
-from tools_here import TOOLS, run_tool
+from tools_here import PYTHON, TOOLS, run_tool
 
 # Of each edge its target, and the degree of its target by a call of the first helper.
 TARGET = "code t 16 61100400000000009500000000000000\n"
 DEGREE = "code d 16 611104000000000085000000010000009500000000000000\n"
+# The same of its source.
+OWN_DEGREE = "code o 16 611100000000000085000000010000009500000000000000\n"
 # The edges 0-1, 70-2, 299-3 and 299-4, and 256-0 that goes again.
 EDITS = ["batch A", "+ 0 1", "+ 299 4", "+ 256 0", "end", "batch B", "# more", "- 256 0", "+ 70 2", "+ 299 3", "end"]
 GRAPH = "\n".join(["graph 300", *EDITS[:6], *EDITS[7:], ""])
@@ -60,14 +67,154 @@ class EdgebpfSpread(unittest.TestCase):
     def test_other_vertices(self):
         """Vertex 299 leads to vertex 0, which has two neighbours, in another part."""
         graph = "graph 300\nbatch A\n+ 0 1\n+ 0 2\n+ 299 0\nend\n"
-        whole = self.spread("--whole", graph=graph, program=DEGREE)
-        self.assertEqual(whole.stdout, "run d last edges 3 total 2\nrow 0 0\nrow 299 2\n")
-        parts = self.spread(graph=graph, program=DEGREE)
-        self.assertEqual(parts.stdout, "run d last edges 3 total 0\nrow 0 0\nrow 299 0\n")
+        for words, told in ([["--whole"], ""], [[], "d may ask about other vertices than its edge's source"]):
+            whole = self.spread(*words, graph=graph, program=DEGREE)
+            self.assertEqual(whole.stdout, "run d last edges 3 total 2\nrow 0 0\nrow 299 2\n")
+            self.assertEqual(told in whole.stderr, True, whole.stderr)
+            self.assertEqual(len(whole.stderr.splitlines()), 1 if told else 0)
+        # The user's word is taken, and here it is wrong.
+        parts = self.spread("--own-source-only", graph=graph, program=DEGREE)
+        self.assertEqual((parts.stdout, parts.stderr), ("run d last edges 3 total 0\nrow 0 0\nrow 299 0\n", ""))
+        own = self.spread(graph=graph, program=OWN_DEGREE)
+        self.assertEqual((own.stdout, own.stderr), ("run o last edges 3 total 5\nrow 0 4\nrow 299 1\n", ""))
 
     def test_errors(self):
         self.assertIn("line 2: `pin` makes no graph", self.spread(graph="graph 3\npin a\n").stderr)
         self.assertIn("no line makes a graph", self.spread(graph="# nothing\n").stderr)
         self.assertIn("has to be one line", self.spread(program="program t 16\n").stderr)
-        self.assertIn("no part ran the program: fault", self.spread(program="code t 16 9500000000000000\n").stderr)
+        self.assertIn("t is refused at unit 0: a register", self.spread(program="code t 16 9500000000000000\n").stderr)
+        self.assertIn("cannot run t: fault 6 line 4", self.spread("--argument", "00").stderr)
+        self.assertIn("ended with status 1: fault 4 line 3", self.spread(graph="graph 3\nbatch A\n+ 0 7\nend\n").stderr)
         self.assertIn("--processes is 1 to 64", self.spread("--processes", "0").stderr)
+
+
+SLOW = """#!/bin/sh
+read first
+if [ "$first" = "graph 1" ]; then { echo "$first"; cat; } | %s/second_store.py; exit; fi
+echo $$ > "%s/served.$$"
+%s
+"""
+
+
+def commands():
+    """The words of the command lines of all processes."""
+    found = []
+    for path in pathlib.Path("/proc").glob("[0-9]*/cmdline"):
+        with contextlib.suppress(OSError):
+            found.append(path.read_text(errors="replace"))
+    return found
+
+
+@unittest.skipIf(importlib.util.find_spec("distributed") is None, "not there: python3-distributed")
+class SpreadEnds(unittest.TestCase):
+    """What goes wrong ends with one line and a status, and with no process or file that is left."""
+
+    def setUp(self):
+        folder = tempfile.TemporaryDirectory()
+        self.addCleanup(folder.cleanup)
+        self.folder = pathlib.Path(folder.name)
+        self.temporary = self.folder / "temporary"
+        self.temporary.mkdir()
+        self.environment = {**os.environ, "EDGEBPF": str(TOOLS / "tests" / "second_store.py"), "TMPDIR": str(self.temporary)}
+        (self.folder / "graph").write_text(GRAPH)
+        (self.folder / "program").write_text(TARGET)
+
+    def store(self, does):
+        """A store that serves the trial of the program, and does something else with a graph."""
+        path = self.folder / "store"
+        path.write_text(SLOW % (TOOLS / "tests", self.folder, does))
+        path.chmod(0o755)
+        self.environment["EDGEBPF"] = str(path)
+
+    def started(self, *words, **options):
+        command = [PYTHON, TOOLS / "edgebpf-spread", str(self.folder / "graph"), str(self.folder / "program"), *words]
+        options |= {"env": self.environment, "cwd": self.folder}
+        return subprocess.Popen(command, stdout=subprocess.PIPE, stderr=subprocess.PIPE, text=True, **options)
+
+    def ended(self, run, line, status=1):
+        out, said = run.communicate(timeout=120)
+        self.assertEqual((out, run.returncode), ("", status), said)
+        self.assertEqual(len(said.splitlines()), 1, said)
+        self.assertTrue(said.startswith("edgebpf-spread: " + line), said)
+        self.assertEqual(list(self.temporary.iterdir()), [])
+        self.assertEqual({path.name for path in self.folder.iterdir() if "served" not in path.name} - {"store"}, {"graph", "program", "temporary"})
+
+    def served(self):
+        """The processes that serve a graph."""
+        return [int(path.name.split(".")[1]) for path in self.folder.glob("served.*")]
+
+    def are_gone(self):
+        deadline = time.monotonic() + 20
+        while any(os.path.exists(f"/proc/{process}") for process in self.served()) and time.monotonic() < deadline:
+            time.sleep(0.05)
+        return not any(os.path.exists(f"/proc/{process}") for process in self.served())
+
+    def test_scheduler_that_does_not_answer(self):
+        self.ended(self.started("--scheduler", "tcp://127.0.0.1:9"), "the scheduler tcp://127.0.0.1:9 does not answer")
+        self.ended(self.started("--scheduler", "nowhere at all"), "the scheduler nowhere at all does not answer")
+        with socket.create_server(("127.0.0.1", 0)) as server:
+            address = f"tcp://127.0.0.1:{server.getsockname()[1]}"
+            self.ended(self.started("--scheduler", address), f"the scheduler {address} does not answer")
+
+    def test_scheduler_without_workers(self):
+        from distributed import LocalCluster
+
+        with LocalCluster(n_workers=0, protocol="tcp", dashboard_address=None) as cluster:
+            run = self.started("--scheduler", cluster.scheduler_address)
+            self.ended(run, f"the scheduler {cluster.scheduler_address} has no worker")
+
+    def test_part_that_fails(self):
+        self.store("echo 'graph 300'; echo 'run t last edges 4 total 9'; echo 'edgebpf: memory' >&2; exit 1")
+        self.ended(self.started(), "a part was not served; edgebpf ended with status 1: edgebpf: memory")
+
+    def test_signals(self):
+        """While workers start, and while parts are served. What is left would be seen in the folder and among the processes."""
+        self.store("exec sleep 300")
+        for place in range(5):
+            run = self.started()
+            while not list(self.temporary.iterdir()):
+                time.sleep(0.01)
+            if place < 3:
+                time.sleep(0.7 * place)
+            while place >= 3 and not self.served():
+                time.sleep(0.05)
+            number = (signal.SIGINT, signal.SIGTERM)[place % 2]
+            run.send_signal(number)
+            self.ended(run, ("interrupted", "terminated")[place % 2], 128 + number)
+            self.assertTrue(self.are_gone())
+            for path in self.folder.glob("served.*"):
+                path.unlink()
+            command = str(self.folder / "graph")
+            self.assertEqual([process for process in commands() if command in process], [])
+
+    def test_terminal(self):
+        """A Ctrl-C at a terminal reaches the whole group of processes."""
+        self.store("exec sleep 300")
+        run = self.started(process_group=0)
+        while not self.served():
+            time.sleep(0.05)
+        os.killpg(run.pid, signal.SIGINT)
+        self.ended(run, "interrupted", 130)
+        self.assertTrue(self.are_gone())
+
+    def test_workers_of_another_scheduler_stop(self):
+        from distributed import LocalCluster
+
+        self.store("exec sleep 300")
+        with LocalCluster(n_workers=2, processes=False, protocol="tcp", dashboard_address=None) as cluster:
+            run = self.started("--scheduler", cluster.scheduler_address)
+            while not self.served():
+                time.sleep(0.05)
+            run.send_signal(signal.SIGINT)
+            self.ended(run, "interrupted", 130)
+            self.assertTrue(self.are_gone())
+
+    def test_missing_package(self):
+        packages = self.folder / "temporary" / "packages"
+        packages.mkdir()
+        (packages / "distributed.py").write_text("raise ImportError('not here')")
+        self.environment["PYTHONPATH"] = str(packages)
+        run = self.started()
+        _, said = run.communicate()
+        self.assertEqual((run.returncode, len(said.splitlines())), (1, 1))
+        self.assertIn("apt-get install python3-distributed", said)

@@ -1,0 +1,55 @@
+"""Decimal numbers in arrays of bytes, many at a time."""
+from edgebpf_tools import refusal
+
+# The digits of the greatest vertex.
+WIDTH = 7
+NONE, TEN, ZERO = 0, 10, ord("0")
+
+
+def edits(sources, targets):
+    """The lines that add edges to a batch, as bytes."""
+    numpy = refusal.numpy()
+    line = numpy.frombuffer(b"+ " + bytes(WIDTH) + b" " + bytes(WIDTH) + b"\n", dtype=numpy.uint8)
+    text = numpy.tile(line, (len(sources), 1))
+    _write(text[:, 2 : 2 + WIDTH], sources)
+    _write(text[:, 3 + WIDTH : 3 + 2 * WIDTH], targets)
+    return text[text != NONE].tobytes()
+
+
+def _write(text, numbers):
+    """Writes each number to the end of a row. What stands before its first digit is left as it is."""
+    rest = numbers.astype(refusal.numpy().uint32)
+    for column in range(WIDTH - 1, -1, -1):
+        tenth = rest // TEN
+        digit = rest - TEN * tenth + ZERO
+        text[:, column] = digit if column == WIDTH - 1 else digit * (rest != 0)
+        rest = tenth
+
+
+def pairs(text):
+    """The numbers of a text whose lines are each two of them and one blank or tab between, as rows; None for another text."""
+    numpy = refusal.numpy()
+    if text.translate(None, b"0123456789 \t\n"):
+        return None
+    letters = numpy.frombuffer(text, dtype=numpy.uint8)
+    gaps = letters[letters <= ord(" ")]
+    if len(gaps) % 2 or (gaps[1::2] != ord("\n")).any() or (gaps[0::2] == ord("\n")).any():
+        return None
+    # A line with one gap has at most two numbers.
+    numbers = numpy.fromstring(text, dtype=numpy.int64, sep=" ")
+    is_cut = len(numbers) and numbers.max() == numpy.iinfo(numpy.int64).max
+    return None if len(numbers) != len(gaps) or is_cut else numbers.reshape(-1, 2)
+
+
+def numbers_at(letters, places):
+    """The decimal number that begins at each place of a text, and where it ends. A text has to go on for `WIDTH` + 1 bytes after
+    the last place; of a number with more digits only the first of them count, and the end is before its others."""
+    numpy = refusal.numpy()
+    numbers = numpy.zeros(len(places), dtype=numpy.uint32)
+    ends = places.copy()
+    for place in range(WIDTH):
+        digits = letters[ends] - ZERO
+        goes_on = (digits < TEN) & (ends - places == place)
+        numbers = numpy.where(goes_on, numbers * TEN + digits, numbers)
+        ends += goes_on
+    return numbers, ends

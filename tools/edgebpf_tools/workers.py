@@ -1,0 +1,123 @@
+"""The worker processes of Dask's distributed scheduler, which serve parts of a graph. What Dask says meanwhile is not the user's."""
+import contextlib
+import logging
+import multiprocessing
+import os
+import pathlib
+import time
+import warnings
+
+from edgebpf_tools import ends, part_server
+from edgebpf_tools.refusal import Refusal, needs_package
+
+# How long a scheduler has to answer, and to have its workers, and how long they have to stop what they do.
+ANSWER_SECONDS, STOP_SECONDS = 10, 5
+
+
+def serve_parts(command, parts, options, folder):
+    """What `serve_part` answers for each part, a graph's file and the lines after it, and how many seconds that took once there
+    were workers. The folder is one that workers see."""
+    asked = pathlib.Path(folder) / "asked"
+    asked.touch()
+    with silenced(f"{folder}/log"), client_of(options, folder) as client:
+        begun = time.monotonic()
+        workers = [None] * len(parts) if options.scheduler else list(client.scheduler_info()["workers"])
+        futures = [
+            client.submit(part_server.serve_part, command, *part, str(asked), pure=False, workers=worker, allow_other_workers=bool(worker))
+            for part, worker in zip(parts, workers)
+        ]
+        try:
+            with told_of_dask("a part was not served"):
+                return client.gather(futures), time.monotonic() - begun
+        except BaseException:
+            stop(futures, asked)
+            raise
+
+
+def stop(futures, asked):
+    """Has the workers stop what they serve."""
+    from distributed import wait
+
+    asked.unlink()
+    with contextlib.suppress(Exception):
+        wait(futures, timeout=STOP_SECONDS)
+
+
+@contextlib.contextmanager
+def told_of_dask(what):
+    """An error of Dask, in one line."""
+    from asyncio import CancelledError
+
+    try:
+        yield
+    except (Exception, CancelledError) as error:
+        words = " ".join(str(error).split()) or type(error).__name__
+        raise Refusal(f"{what}: {words[:300]}") from None
+
+
+@contextlib.contextmanager
+def silenced(log):
+    """What is written to standard error by this process and those that it starts goes to a file."""
+    logging.disable(logging.CRITICAL)
+    warnings.simplefilter("ignore")
+    kept = os.dup(2)
+    with open(log, "wb") as file:
+        os.dup2(file.fileno(), 2)
+    try:
+        yield
+    finally:
+        os.dup2(kept, 2)
+        os.close(kept)
+
+
+@contextlib.contextmanager
+def client_of(options, folder):
+    """A client of the scheduler that was named, or of one on this machine with as many worker processes."""
+    try:
+        import dask
+        from distributed import Client
+    except ImportError:
+        raise needs_package("Dask's distributed scheduler", "python3-distributed") from None
+    dask.config.set({"distributed.comm.timeouts.connect": f"{ANSWER_SECONDS}s"})
+    client = None
+    try:
+        if options.scheduler:
+            client = client_elsewhere(Client, options.scheduler)
+        else:
+            # A signal waits until the workers have started, as half of them cannot be ended.
+            with ends.Signals.held():
+                client = client_here(Client, options, folder)
+        with told_of_dask(f"the scheduler {options.scheduler} has no worker" if options.scheduler else "the workers did not start"):
+            client.wait_for_workers(1 if options.scheduler else options.processes, timeout=ANSWER_SECONDS)
+        yield client
+    finally:
+        with ends.Signals.held():
+            close(client)
+
+
+def client_elsewhere(client_class, address):
+    import cloudpickle
+
+    # Workers that were started elsewhere cannot import the module.
+    cloudpickle.register_pickle_by_value(part_server)
+    with told_of_dask(f"the scheduler {address} does not answer"):
+        return client_class(address, timeout=ANSWER_SECONDS)
+
+
+def client_here(client_class, options, folder):
+    with told_of_dask("no scheduler can be started here"):
+        return client_class(
+            n_workers=options.processes, threads_per_worker=1, processes=True, dashboard_address=None,
+            local_directory=f"{folder}/workers", memory_limit=0, silence_logs=logging.CRITICAL,
+        )
+
+
+def close(client):
+    """Ends a client, and its workers where they are its own."""
+    with contextlib.suppress(Exception):
+        if client:
+            client.close(timeout=STOP_SECONDS)
+    while processes := multiprocessing.active_children():
+        for process in processes:
+            process.kill()
+            process.join()

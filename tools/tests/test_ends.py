@@ -1,0 +1,134 @@
+"""How the companions end if they cannot write, read or go on, or if a signal asks them to: with one line and a status, and nothing
+stays behind."""
+import importlib.util
+import os
+import pathlib
+import signal
+import subprocess
+import tempfile
+import time
+import unittest
+
+from tools_here import MISSING, PYTHON, TOOLS, run_tool
+
+HAS_NUMPY = importlib.util.find_spec("numpy") is not None
+STORE = str(TOOLS / "tests" / "second_store.py")
+EDGES = "".join(f"{vertex} {vertex + 1}\n" for vertex in range(200_000))
+HELPS = ("edgebpf-c", "edgebpf-explain", "edgebpf-import", "edgebpf-shell", "edgebpf-spread")
+
+
+class Ends(unittest.TestCase):
+    def setUp(self):
+        folder = tempfile.TemporaryDirectory()
+        self.addCleanup(folder.cleanup)
+        self.folder = pathlib.Path(folder.name)
+        self.environment = {**os.environ, "EDGEBPF": STORE, "TMPDIR": str(self.folder / "temporary")}
+        (self.folder / "temporary").mkdir()
+        (self.folder / "edges").write_text(EDGES)
+
+    def run_with(self, name, *words, redirected="", unbuffered=True):
+        """Runs a companion with its files redirected by a shell."""
+        environment = {**self.environment, **({"PYTHONUNBUFFERED": "1"} if unbuffered else {})}
+        command = f'exec {PYTHON} {TOOLS / name} "$@" {redirected}'
+        return subprocess.run(["sh", "-c", command, "sh", *words], capture_output=True, text=True, env=environment)
+
+    def ended(self, run, program, part, status=1):
+        """The run said one line, with these words, and left nothing."""
+        self.assertEqual(run.returncode, status, run.stderr)
+        self.assertEqual(len(run.stderr.splitlines()), 1, run.stderr)
+        self.assertTrue(run.stderr.startswith(program + ": "), run.stderr)
+        self.assertIn(part, run.stderr)
+        self.assertEqual(list((self.folder / "temporary").iterdir()), [])
+
+    @unittest.skipUnless(HAS_NUMPY, "not there: python3-numpy")
+    def test_output_that_cannot_be_written(self):
+        edges = str(self.folder / "edges")
+        for unbuffered in (True, False):
+            full = self.run_with("edgebpf-import", "--quiet", edges, redirected="> /dev/full", unbuffered=unbuffered)
+            self.ended(full, "edgebpf-import", "standard output: No space left on device")
+            closed = self.run_with("edgebpf-import", "--quiet", edges, redirected=">&-", unbuffered=unbuffered)
+            self.ended(closed, "edgebpf-import", "standard output is closed")
+            text = self.run_with("edgebpf-import", "--quiet", edges, redirected="| head -c 10", unbuffered=unbuffered)
+            self.assertEqual((text.stdout, text.stderr), ("graph 2000", "edgebpf-import: standard output: Broken pipe\n"))
+
+    @unittest.skipUnless(HAS_NUMPY and os.geteuid() == 0, "needs root and python3-numpy")
+    def test_disk_that_is_full(self):
+        """The system takes a part of the output and no more: nothing but the status and the line say so."""
+        disk = self.folder / "disk"
+        disk.mkdir()
+        mount = subprocess.run(["mount", "-t", "tmpfs", "-o", "size=1m", "none", disk], capture_output=True)
+        if mount.returncode:
+            self.skipTest("nothing can be mounted here")
+        self.addCleanup(subprocess.run, ["umount", disk])
+        run = self.run_with("edgebpf-import", "--quiet", str(self.folder / "edges"), redirected=f"> {disk}/script")
+        self.ended(run, "edgebpf-import", "standard output: No space left on device")
+        if not MISSING:
+            (self.folder / "p.c").write_text("#include <edgebpf.h>\nu64 target(struct edge *edge, u64 length) { return edge->target; }\n")
+            (self.folder / "graph").write_text("graph 300000\nbatch A\n" + "".join(f"+ {vertex} 0\n" for vertex in range(200_000)) + "end\n")
+            words = [str(self.folder / "p.c"), "16", "--on", str(self.folder / "graph"), "--script"]
+            run = self.run_with("edgebpf-c", *words, redirected=f"> {disk}/script")
+            self.ended(run, "edgebpf-c", "standard output: No space left on device")
+        far = self.folder / "far"
+        far.write_text("".join(f"{7 * vertex} {10**15}\n" for vertex in range(200_000)))
+        run = self.run_with("edgebpf-import", "--quiet", "--table", f"{disk}/table", str(far))
+        self.ended(run, "edgebpf-import", f"{disk}/table: No space left on device")
+        self.assertEqual(sorted(path.name for path in disk.iterdir()), ["script"])
+
+    def test_help_that_cannot_be_written(self):
+        for name in HELPS:
+            self.ended(self.run_with(name, "--help", redirected="> /dev/full"), name, "standard output", 2 if "explain" in name else 1)
+
+    def test_standard_error_that_is_closed(self):
+        """What would go there does not go to standard output."""
+        run = self.run_with("edgebpf-import", str(self.folder / "none"), redirected="2>&-")
+        self.assertEqual((run.stdout, run.stderr, run.returncode), ("", "", 1))
+
+    @unittest.skipUnless(HAS_NUMPY, "not there: python3-numpy")
+    def test_files_that_cannot_be_used(self):
+        self.ended(self.run_with("edgebpf-import", str(self.folder)), "edgebpf-import", "Is a directory")
+        self.ended(self.run_with("edgebpf-import", "-", redirected="<&-"), "edgebpf-import", "standard input is closed")
+        (self.folder / "far").write_text("1 999999999\n")
+        run = self.run_with("edgebpf-import", "--quiet", "--table", f"{self.folder}/none/table", str(self.folder / "far"))
+        self.ended(run, "edgebpf-import", "none/table: No such file or directory")
+        self.environment["EDGEBPF"] = "/nowhere/edgebpf"
+        self.ended(self.run_with("edgebpf-shell", redirected="< /dev/null"), "edgebpf-shell", "/nowhere/edgebpf: No such file")
+
+    def test_missing_package(self):
+        (self.folder / "numpy.py").write_text("raise ImportError('not here')")
+        self.environment["PYTHONPATH"] = str(self.folder)
+        run = self.run_with("edgebpf-import", str(self.folder / "edges"))
+        self.ended(run, "edgebpf-import", "apt-get install python3-numpy")
+
+    @unittest.skipUnless(HAS_NUMPY, "not there: python3-numpy")
+    def test_signals_at_any_moment(self):
+        """From the first line of the companion's own code on: Python's start is not ours."""
+        for place in range(40):
+            started = self.folder / f"started{place}"
+            code = (
+                f"import sys; open({str(started)!r}, 'w').close(); sys.argv = ['edgebpf-import', '--renumber', {str(self.folder / 'edges')!r}];"
+                f"sys.path.insert(0, {str(TOOLS)!r}); from edgebpf_tools import ends; ends.begin('edgebpf-import'); print(end='');"
+                f"open({str(started)!r} + 'r', 'w').close(); from edgebpf_tools.import_edges import main; main()"
+            )
+            run = subprocess.Popen(
+                [PYTHON, "-c", code], stdout=subprocess.DEVNULL, stderr=subprocess.PIPE, text=True, env=self.environment
+            )
+            while not pathlib.Path(f"{started}r").exists():
+                time.sleep(0.001)
+            time.sleep(0.02 * place)
+            number = (signal.SIGINT, signal.SIGTERM)[place % 2]
+            run.send_signal(number)
+            _, said = run.communicate()
+            if run.returncode == 0:
+                break
+            self.assertEqual(run.returncode, 128 + number, said)
+            self.assertEqual([line for line in said.splitlines() if "edges read" not in line], [f"edgebpf-import: {'interrupted' if number == signal.SIGINT else 'terminated'}"])
+            self.assertEqual([path for path in self.folder.iterdir() if ".part" in path.name or path.name == "edges.ids"], [])
+        self.assertGreater(place, 3)
+
+
+class WordsOfEnds(unittest.TestCase):
+    def test_words_of_the_command_line(self):
+        for name in HELPS:
+            run = run_tool(name, "--nothing-of-this-name")
+            self.assertEqual((run.returncode, run.stdout), (2, ""))
+            self.assertNotIn("Traceback", run.stderr)

@@ -1,0 +1,111 @@
+"""Which programs ask the graph about their own edge's source alone: as text, and at random against the machine that runs them."""
+import pathlib
+import random
+import struct
+import sys
+import tempfile
+import unittest
+
+from tools_here import MISSING, TOOLS
+
+sys.path.insert(0, str(TOOLS.parent / "compared"))
+
+from assembler import assemble  # noqa: E402
+from bpf import Graph, Trap, run  # noqa: E402
+from programs import Programs  # noqa: E402
+from verifier import judged  # noqa: E402
+
+from edgebpf_tools.compile_c import code_of  # noqa: E402
+from edgebpf_tools.own_source import asks_of_others  # noqa: E402
+
+ASK = "ldxw r1, [r1+0]\ncall 1\nexit"
+OWN = {
+    "nothing": "mov r0, 7\nexit",
+    "count": "call 4\nexit",
+    "source": ASK,
+    "kept": "mov r6, r1\nmov r7, 3\nldxw r1, [r6+0]\nmov32 r2, r1\nmov r8, r2\nmov r1, r8\nmov r2, 0\ncall 3\nexit",
+    "moved": "add r1, 4\nldxw r2, [r1+0]\nsub r1, 4\nldxw r1, [r1]\ncall 2\nexit",
+    "written": "mov r6, r1\nstw [r1+4], 9\nstdw [r10-8], 9\nldxw r1, [r6+0]\ncall 1\nexit",
+    "both": "ldxw r2, [r1+4]\nldxw r6, [r1+0]\njeq r2, 1, out\nmov r2, 7\nout:\nmov r1, r6\ncall 1\nexit",
+    "gathered": "mov r6, r1\nldxw r1, [r6+0]\nmov r2, 0\nmov r3, r10\nadd r3, -16\nmov r4, 16\ncall 5\nldxw r1, [r6+0]\ncall 1\nexit",
+    "passed": "calllocal f\nexit\nf:\n" + ASK,
+}
+OTHER = {
+    "target": ASK.replace("+0", "+4"),
+    "constant": "mov r1, 0\ncall 1\nexit",
+    "edges of the target": "ldxw r2, [r1+0]\nldxw r1, [r1+4]\ncall 2\nexit",
+    "neighbour": "ldxw r1, [r1+4]\nmov r2, 0\ncall 3\nexit",
+    "gather": "ldxw r1, [r1+4]\nmov r2, 0\nmov r3, r10\nadd r3, -16\nmov r4, 16\ncall 5\nexit",
+    "a part of the source": "ldxb r1, [r1+0]\ncall 1\nexit",
+    "more than the source": "ldxdw r1, [r1+0]\ncall 1\nexit",
+    "the source plus 1": "ldxw r1, [r1+0]\nadd r1, 1\ncall 1\nexit",
+    "either": "ldxw r2, [r1+8]\nldxw r6, [r1+0]\njeq r2, 1, out\nldxw r6, [r1+4]\nout:\nmov r1, r6\ncall 1\nexit",
+    "a record that was written": "stw [r1+0], 9\n" + ASK,
+    "half a record that was written": "stb [r1+3], 9\n" + ASK,
+    "written by a gather": "mov r6, r1\nldxw r1, [r6]\nmov r2, 0\nmov r3, r6\nmov r4, 16\ncall 5\nldxw r1, [r6]\ncall 1\nexit",
+    "written at an index": "ldxw r3, [r1+8]\nand r3, 7\nmov r6, r1\nadd r6, r3\nstb [r6+4], 1\n" + ASK,
+    "what a helper answered": "ldxw r1, [r1]\nmov r2, 0\ncall 3\nmov r1, r0\ncall 1\nexit",
+    "passed by one of two": "mov r6, r1\nldxw r1, [r6]\ncalllocal f\nldxw r1, [r6+4]\ncalllocal f\nexit\nf:\ncall 1\nexit",
+    "written by a function": "mov r6, r1\ncalllocal f\nldxw r1, [r6]\ncall 1\nexit\nf:\nstw [r1], 9\nmov r0, 0\nexit",
+}
+IN_C = """
+#include <edgebpf.h>
+u64 lead_back(struct edge *edge, u64 length) { return has_edge(edge->target, edge->source); }
+u64 next(struct edge *edge, u64 length) { return has_edge(edge->source, edge->target + 1) + degree(edge->source); }
+FUNCTION u64 second(u64 x) { return neighbour(x, 1) + degree(x); }
+u64 nested(struct edge *edge, u64 length) { return second(edge->source) + second(edge->source); }
+u64 both(struct edge *edge, u64 length) { return second(edge->source) + second(edge->target); }
+"""
+
+
+class Watched(Graph):
+    """A graph that notes which vertices a program asks about."""
+
+    def __init__(self):
+        super().__init__(4, {0: {1, 2}, 1: {2}}, 3)
+        self.asked = set()
+
+    def neighbours(self, vertex):
+        self.asked.add(vertex)
+        return super().neighbours(vertex)
+
+
+class OwnSource(unittest.TestCase):
+    def test_programs(self):
+        for programs, asks in ((OWN, False), (OTHER, True)):
+            for name, text in programs.items():
+                code = assemble(text)
+                self.assertIsInstance(judged(code, 16), tuple, f"{name} is refused")
+                self.assertEqual(asks_of_others(code), asks, name)
+
+    def test_no_programs(self):
+        for digits in ("", "95", "85000000060000009500000000000000", "0500ffff00000000", "6311000000000000"):
+            self.assertTrue(asks_of_others(bytes.fromhex(digits)))
+
+    def test_random_programs(self):
+        """An accepted program that is said to ask about its source alone does so whenever it is run."""
+        programs, accepted, asking = Programs(random.Random(51)), 0, 0
+        for _ in range(4000):
+            code, graph = programs.code(16), Watched()
+            if not isinstance(judged(code, 16), tuple) or asks_of_others(code):
+                continue
+            accepted += 1
+            for source in (0, 1):
+                graph.asked.clear()
+                with self.subTest(code=code.hex(), source=source):
+                    try:
+                        run(code, struct.pack("<IIII", source, 2, 0, 1), graph, 2000)
+                    except Trap as trap:
+                        self.assertIn("fuel", str(trap))
+                    self.assertLessEqual(graph.asked, {source})
+                asking += bool(graph.asked)
+        self.assertGreater(accepted, 500)
+        self.assertGreater(asking, 50)
+
+    @unittest.skipIf(MISSING, f"not there: {MISSING}")
+    def test_functions_in_c(self):
+        with tempfile.TemporaryDirectory() as folder:
+            source = pathlib.Path(folder) / "p.c"
+            source.write_text(IN_C)
+            for name, asks in (("lead_back", True), ("next", False), ("nested", False), ("both", True)):
+                self.assertEqual(asks_of_others(code_of(str(source), name)[1]), asks, name)
