@@ -67,7 +67,7 @@ def code_of(file, function):
             sys.stderr.write(clang.compile_to_bpf(file, compiled, [HEADERS]))
         objects = ObjectFile(compiled, clang.lines_of(compiled))
         entry = objects.function_named(function) if function else objects.only_function()
-        code = link(objects, entry)
+        code = link(objects, entry).code
         warn_of_result(compiled, entry.name)
         return entry.name, code
 

@@ -1,14 +1,11 @@
 """Takes one function, with those that it calls, out of an object file that clang made for BPF."""
 import dataclasses
 
+from edgebpf_tools.blocks import CALL, LOCAL_CALL, UNIT, Circle, Instruction, Stray, cut, in_order, joined, placed
 from edgebpf_tools.refusal import Refusal, needs_package
 
-UNIT = 8
 MOST_UNITS = 4096
 EM_BPF = 247
-CALL = 0x85
-LOCAL_CALL, HELPER_CALL = 1, 0
-WIDE = 0x18
 # Opcodes of instructions outside RFC 9669's groups base64 and divmul64, with what a person calls them.
 OUTSIDE = {
     0x8D: "a call through a pointer to a function",
@@ -110,9 +107,13 @@ class ObjectFile:
         names = ", ".join(function.name for function in known)
         raise Refusal(f"the file has several functions: {names}; say which one the program is")
 
+    def line(self, function, offset):
+        """The file and line of an instruction, where they are known."""
+        return self.lines.get((self.names[function.section], function.start + offset))
+
     def place(self, function, offset):
-        """The file and line of an instruction, where they are known, for the beginning of a message."""
-        line = self.lines.get((self.names[function.section], function.start + offset))
+        """The same for the beginning of a message, which else has the function and the unit."""
+        line = self.line(function, offset)
         return f"{line}: " if line else f"{function.name}, unit {offset // UNIT}: "
 
     def function_at(self, section, start):
@@ -121,15 +122,6 @@ class ObjectFile:
             if function.section == section and function.start == start:
                 return function
         return None
-
-
-def _units_of(objects, function):
-    """The offsets of a function's instructions, with the eight bytes of each, over both units of a wide one."""
-    code = objects.code[function.section][function.start : function.start + function.size]
-    offset = 0
-    while offset < len(code):
-        yield offset, code[offset : offset + UNIT]
-        offset += 2 * UNIT if code[offset] == WIDE else UNIT
 
 
 def _refuse_relocation(objects, function, offset, unit, symbol):
@@ -166,57 +158,96 @@ def _callee(objects, function, offset, unit):
     return callee
 
 
-def _calls(objects, function):
-    """The local calls of a function by offset; refuses what no program of edgebpf may have."""
-    calls = {}
-    for offset, unit in _units_of(objects, function):
-        symbol = objects.relocations.get(function.section, {}).get(function.start + offset)
-        if unit[0] in OUTSIDE:
-            raise Refusal(f"{objects.place(function, offset)}{OUTSIDE[unit[0]]}, which edgebpf does not have")
-        if unit[0] == CALL and unit[1] >> 4 == LOCAL_CALL:
-            calls[offset] = _callee(objects, function, offset, unit)
-        elif symbol is not None:
-            _refuse_relocation(objects, function, offset, unit, symbol)
-    return calls
+def _refuse_circle(objects, function, circle):
+    """A loop is told at the jump that leads back, or else where it begins."""
+    places = [circle.last.end_place, *(each.place for each in circle.last.instructions[::-1] + circle.first.instructions)]
+    known = [place for place in places if objects.line(function, place)]
+    where = objects.place(function, (known or places)[0])
+    raise Refusal(
+        f"{where}this loop in {function.name} is left as a loop, and programs have none. Write EDGEBPF_UNROLL(64) before it, with "
+        "the greatest number of its rounds, which a constant has to bound; or go over neighbours by for_each_neighbour"
+    )
+
+
+def _instructions(objects, function):
+    """The instructions of a function, each of whose jumps goes forward."""
+    code = objects.code[function.section][function.start : function.start + function.size]
+    blocks = cut(code, lambda at: UNIT * at)
+    try:
+        order = in_order(blocks)
+    except Circle as circle:
+        _refuse_circle(objects, function, circle)
+    except Stray as stray:
+        where = objects.place(function, stray.block.end_place or (stray.block.body or [Instruction(b"", 0)])[-1].place)
+        raise Refusal(
+            f"{where}{function.name} goes on behind its end here: it lacks a return, or does what C leaves undefined"
+        ) from None
+    for label in order:
+        for instruction in blocks[label].instructions:
+            _look_at(objects, function, instruction)
+    return joined(*placed(blocks, order))
+
+
+def _look_at(objects, function, instruction):
+    """Notes which function a local call goes to, and refuses what no program of edgebpf may have."""
+    offset, unit = instruction.place, instruction.units
+    symbol = objects.relocations.get(function.section, {}).get(function.start + offset)
+    if unit[0] in OUTSIDE:
+        raise Refusal(f"{objects.place(function, offset)}{OUTSIDE[unit[0]]}, which edgebpf does not have")
+    if unit[0] == CALL and unit[1] >> 4 == LOCAL_CALL:
+        instruction.callee = _callee(objects, function, offset, unit)
+    elif symbol is not None:
+        _refuse_relocation(objects, function, offset, unit, symbol)
 
 
 def _in_order(objects, entry):
-    """The functions that the entry reaches, each behind all that call it, with their calls."""
-    calls, order, open_now = {}, [], []
+    """The functions that the entry reaches, each behind all that call it, with their instructions."""
+    parts, order, open_now = {}, [], []
 
     def visit(function):
         if function in open_now:
             way = open_now[open_now.index(function) :] + [function]
             raise Refusal(f"{' calls '.join(each.name for each in way)}: functions may not call themselves")
-        if function in calls:
+        if function in parts:
             return
         open_now.append(function)
-        found = _calls(objects, function)
-        for callee in found.values():
-            visit(callee)
+        found = _instructions(objects, function)
+        for instruction in found:
+            if instruction.callee is not None:
+                visit(instruction.callee)
         open_now.pop()
-        calls[function] = found
+        parts[function] = found
         order.append(function)
 
     visit(entry)
-    return list(reversed(order)), calls
+    return [(function, parts[function]) for function in reversed(order)]
+
+
+@dataclasses.dataclass(frozen=True)
+class Program:
+    """The code of a program, and the function and offset of the object file from which each instruction comes, by its pc."""
+
+    code: bytes
+    places: dict
 
 
 def link(objects, entry):
-    """The code of a program that begins with a function: it, and behind it those that it calls."""
-    order, calls = _in_order(objects, entry)
-    starts, at = {}, 0
-    for function in order:
-        starts[function] = at
-        at += function.size
-    if at > MOST_UNITS * UNIT:
-        raise Refusal(f"{entry.name} has {at // UNIT} units with what it calls; a program has at most {MOST_UNITS}")
-    code = bytearray()
-    for function in order:
-        part = bytearray(objects.code[function.section][function.start : function.start + function.size])
-        for offset, callee in calls[function].items():
-            distance = (starts[callee] - starts[function] - offset) // UNIT - 1
-            part[offset + 1] = LOCAL_CALL << 4
-            part[offset + 4 : offset + 8] = distance.to_bytes(4, "little", signed=True)
-        code += part
-    return bytes(code)
+    """The program that begins with a function: it, and behind it those that it calls."""
+    parts = _in_order(objects, entry)
+    starts, size = {}, 0
+    for function, instructions in parts:
+        starts[function] = size
+        size += sum(instruction.size for instruction in instructions)
+    if size > MOST_UNITS:
+        raise Refusal(f"{entry.name} has {size} units with what it calls; a program has at most {MOST_UNITS}")
+    code, places = bytearray(), {}
+    for function, instructions in parts:
+        for instruction in instructions:
+            at = len(code) // UNIT
+            places[at] = (function, instruction.place)
+            units = instruction.units
+            if instruction.callee is not None:
+                distance = starts[instruction.callee] - at - 1
+                units = bytes([CALL, LOCAL_CALL << 4, 0, 0]) + distance.to_bytes(4, "little", signed=True)
+            code += units
+    return Program(bytes(code), places)
