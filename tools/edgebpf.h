@@ -92,6 +92,20 @@ INLINE u64 lowest_bit(u64 number) { return __builtin_popcountll(opaque(number & 
 #define __builtin_ctzl(number) ((int)lowest_bit(number))
 #define __builtin_ctzll(number) ((int)lowest_bit(number))
 
+/* Copies and comparisons of a constant number of bytes. */
+#define memcpy __builtin_memcpy
+#define memmove __builtin_memmove
+#define memset __builtin_memset
+INLINE int compare_bytes(const void *left, const void *right, u64 bytes) {
+    for (u64 at = 0; at < bytes; at++) {
+        int gap = ((const u8 *)left)[at] - ((const u8 *)right)[at];
+        if (gap) return gap;
+    }
+    return 0;
+}
+#define memcmp compare_bytes
+#define __builtin_memcmp compare_bytes
+
 /* Hashes: of a number, and of two in their order. */
 INLINE u64 hash(u64 number) {
     number = (number ^ number >> 32) * 0xd6e8feb86659fd93ULL;

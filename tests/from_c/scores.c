@@ -29,7 +29,15 @@ for_each_neighbour(adamic_of, word, total, other) {
     for (int i = 0; i < 20; i++) if (many >> i > 1) log++;
     return total + 100000 / log;
 }
+// refused: adamic_adar has [0-9]+ units with what it calls, [0-9]+ of them here
 u64 adamic_adar(struct edge *edge, u64 length) { return adamic_of(edge->source, 0, edge->target); }
+FUNCTION u64 log_of(u64 many) {
+    u64 log = 1;
+    for (; many > 1; many >>= 1) log++;
+    return log;
+}
+for_1024_neighbours(adamic_called, word, total, other) { return has_edge(other, word) ? total + 100000 / log_of(degree(word)) : total; }
+u64 adamic_adar_called(struct edge *edge, u64 length) { return adamic_called(edge->source, 0, edge->target); }
 for_each_neighbour(resource_of, word, total, other) { return has_edge(other, word) ? total + 1000000 / (degree(word) + 1) : total; }
 u64 resource_allocation(struct edge *edge, u64 length) { return resource_of(edge->source, 0, edge->target); }
 u64 preferential(struct edge *edge, u64 length) { return mul_saturated(edge->degree, degree(edge->target)); }

@@ -80,8 +80,8 @@ u64 moved_by_memmove(struct edge *edge, u64 length) {
     return *(u64 *)edge->argument ^ *(u64 *)(edge->argument + 12);
 }
 u64 equal_by_memcmp(struct edge *edge, u64 length) {
-    edge->argument[0] = edge->argument[8] = 7;
-    return __builtin_memcmp(edge->argument, edge->argument + 8, 1) == 0;
+    edge->argument[0] = edge->argument[8];
+    return memcmp(edge->argument, edge->argument + 8, 1) == 0 && memcmp(edge->argument, edge->argument + 4, 4) > 0;
 }
 static struct point sum_of(struct point one, struct point other) { return (struct point){one.x + other.x, one.y + other.y, one.z + other.z}; }
 u64 points(struct edge *edge, u64 length) {
@@ -101,10 +101,12 @@ u64 long_array_of_constants(struct edge *edge, u64 length) {
     for (int i = 0; i < 16; i++) sum += weights[i] * (u64)edge->argument[i];
     return sum;
 }
+// refused: uses constant data
 u64 table_by_index(struct edge *edge, u64 length) {
     static const u8 table[8] = {3, 1, 4, 1, 5, 9, 2, 6};
     return table[edge->target & 7];
 }
+// refused: cause 10
 u64 local_array_by_index(struct edge *edge, u64 length) {
     u8 table[8];
     for (int i = 0; i < 8; i++) table[i] = edge->argument[i] ^ i;

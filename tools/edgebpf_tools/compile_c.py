@@ -58,16 +58,16 @@ def is_object_file(path):
         return stream.read(4) == b"\x7fELF"
 
 
-def code_of(file, function):
+def code_of(file, function, length):
     """The name and the code of a function of a file."""
     with tempfile.TemporaryDirectory() as folder:
         compiled = file
         if not is_object_file(file):
             compiled = f"{folder}/program.o"
             sys.stderr.write(clang.compile_to_bpf(file, compiled, [HEADERS]))
-        objects = ObjectFile(compiled, clang.lines_of(compiled))
+        objects = ObjectFile(compiled)
         entry = objects.function_named(function) if function else objects.only_function()
-        code = link(objects, entry).code
+        code = link(objects, entry, length).code
         warn_of_result(compiled, entry.name)
         return entry.name, code
 
@@ -110,7 +110,7 @@ def perform(words):
     if not LEAST_LENGTH <= options.length <= MOST_LENGTH:
         raise Refusal(f"a record has {LEAST_LENGTH} to {MOST_LENGTH} bytes, not {options.length}")
     try:
-        function, code = code_of(options.file, options.function)
+        function, code = code_of(options.file, options.function, options.length)
     except OSError as error:
         raise Refusal(f"{options.file}: {error.strerror}") from None
     name = options.name or function

@@ -1,11 +1,16 @@
 """Takes one function, with those that it calls, out of an object file that clang made for BPF."""
 import dataclasses
+import functools
 
 from edgebpf_tools.blocks import CALL, LOCAL_CALL, UNIT, Circle, Instruction, Stray, cut, in_order, joined, placed
+from edgebpf_tools.clang import lines_of
+from edgebpf_tools.flow import Flow, called_state, entry_state
 from edgebpf_tools.refusal import Refusal, needs_package
+from edgebpf_tools.rewriting import Rewriting
 
 MOST_UNITS = 4096
 EM_BPF = 247
+DEBUG_SECTIONS = (".debug", ".BTF", ".eh_frame")
 # Opcodes of instructions outside RFC 9669's groups base64 and divmul64, with what a person calls them.
 OUTSIDE = {
     0x8D: "a call through a pointer to a function",
@@ -45,12 +50,12 @@ class Symbol:
 class ObjectFile:
     """The functions of an object file, their bytes, and what its relocations name."""
 
-    def __init__(self, path, lines=None):
+    def __init__(self, path):
         try:
             from elftools.elf.elffile import ELFFile
         except ImportError:
             raise needs_package("pyelftools, which reads object files,", "python3-pyelftools") from None
-        self.lines = lines or {}
+        self.path = path
         with open(path, "rb") as stream:
             elf = ELFFile(stream)
             if elf.header["e_machine"] not in ("EM_BPF", EM_BPF):
@@ -74,7 +79,7 @@ class ObjectFile:
                     Function(symbol.name, symbol["st_shndx"], symbol["st_value"], symbol["st_size"], is_static)
                 )
         for section in elf.iter_sections():
-            if section["sh_type"] != "SHT_REL":
+            if section["sh_type"] != "SHT_REL" or self.names[section["sh_info"]].startswith(DEBUG_SECTIONS):
                 continue
             places = self.relocations.setdefault(section["sh_info"], {})
             for relocation in section.iter_relocations():
@@ -106,6 +111,10 @@ class ObjectFile:
             raise Refusal("the file has no function that is not static, so nothing to begin with")
         names = ", ".join(function.name for function in known)
         raise Refusal(f"the file has several functions: {names}; say which one the program is")
+
+    @functools.cached_property
+    def lines(self):
+        return lines_of(self.path)
 
     def line(self, function, offset):
         """The file and line of an instruction, where they are known."""
@@ -169,8 +178,8 @@ def _refuse_circle(objects, function, circle):
     )
 
 
-def _instructions(objects, function):
-    """The instructions of a function, each of whose jumps goes forward."""
+def _blocks(objects, function):
+    """The blocks of a function that a run reaches."""
     code = objects.code[function.section][function.start : function.start + function.size]
     blocks = cut(code, lambda at: UNIT * at)
     try:
@@ -185,7 +194,7 @@ def _instructions(objects, function):
     for label in order:
         for instruction in blocks[label].instructions:
             _look_at(objects, function, instruction)
-    return joined(*placed(blocks, order))
+    return {label: blocks[label] for label in order}
 
 
 def _look_at(objects, function, instruction):
@@ -201,7 +210,7 @@ def _look_at(objects, function, instruction):
 
 
 def _in_order(objects, entry):
-    """The functions that the entry reaches, each behind all that call it, with their instructions."""
+    """The functions that the entry reaches, each behind all that call it, with their blocks."""
     parts, order, open_now = {}, [], []
 
     def visit(function):
@@ -211,16 +220,29 @@ def _in_order(objects, entry):
         if function in parts:
             return
         open_now.append(function)
-        found = _instructions(objects, function)
-        for instruction in found:
-            if instruction.callee is not None:
-                visit(instruction.callee)
+        found = _blocks(objects, function)
+        for block in found.values():
+            for instruction in block.body:
+                if instruction.callee is not None:
+                    visit(instruction.callee)
         open_now.pop()
         parts[function] = found
         order.append(function)
 
     visit(entry)
     return [(function, parts[function]) for function in reversed(order)]
+
+
+def _rewritten(parts, length):
+    """The instructions of each function, written so that the verifier follows them."""
+    calls = {}
+    for function, blocks in parts:
+        state = called_state(calls[function]) if function in calls else entry_state(length)
+        rewriting = Rewriting(blocks, state)
+        if any(instruction.callee for block in rewriting.blocks.values() for instruction in block.body):
+            for callee, states in Flow(rewriting.blocks, rewriting.order, state).calls.items():
+                calls.setdefault(callee, []).extend(states)
+        yield function, joined(*placed(rewriting.blocks, rewriting.order))
 
 
 @dataclasses.dataclass(frozen=True)
@@ -231,15 +253,25 @@ class Program:
     places: dict
 
 
-def link(objects, entry):
-    """The program that begins with a function: it, and behind it those that it calls."""
-    parts = _in_order(objects, entry)
+def _refuse_size(objects, entry, parts, size):
+    """A program that is too large is told at the function that has most of it."""
+    units = {function: sum(instruction.size for instruction in instructions) for function, instructions in parts}
+    largest = max(units, key=units.get)
+    raise Refusal(
+        f"{objects.place(largest, 0)}{entry.name} has {size} units with what it calls, {units[largest]} of them here; a program has at "
+        f"most {MOST_UNITS}. Unroll fewer rounds, or let a FUNCTION do what each round repeats"
+    )
+
+
+def link(objects, entry, length=None):
+    """The program that begins with a function: it, and behind it those that it calls. Its records have a length, if that is known."""
+    parts = list(_rewritten(_in_order(objects, entry), length))
     starts, size = {}, 0
     for function, instructions in parts:
         starts[function] = size
         size += sum(instruction.size for instruction in instructions)
     if size > MOST_UNITS:
-        raise Refusal(f"{entry.name} has {size} units with what it calls; a program has at most {MOST_UNITS}")
+        _refuse_size(objects, entry, parts, size)
     code, places = bytearray(), {}
     for function, instructions in parts:
         for instruction in instructions:

@@ -1,4 +1,4 @@
-"""The layout of blocks: random acyclic graphs of blocks, in any order, keep their numbers, and each jump goes forward. The machine
+"""Layout and rewriting: random acyclic graphs of blocks, in any order, keep their numbers, and each jump goes forward. The machine
 of the second implementation runs them. BLOCK_GRAPHS in the environment says how many graphs are tried."""
 import os
 import random
@@ -14,11 +14,17 @@ sys.path.insert(0, str(TOOLS.parent / "compared"))
 from bpf import Graph, run  # noqa: E402
 from verifier import judged  # noqa: E402
 
-from edgebpf_tools.blocks import Circle, Stray, cut, in_order, laid_out, split, target_of  # noqa: E402
+from edgebpf_tools.blocks import Circle, Stray, cut, in_order, joined, laid_out, placed, split, target_of  # noqa: E402
+from edgebpf_tools.flow import entry_state  # noqa: E402
+from edgebpf_tools.rewriting import Rewriting  # noqa: E402
 
 GRAPHS = int(os.environ.get("BLOCK_GRAPHS", "2000"))
+REWRITTEN = GRAPHS // 2
 NO_GRAPH = Graph(4, {}, 0)
 ALU = [0x07, 0x0F, 0x04, 0x0C, 0x17, 0x1F, 0x27, 0x2F, 0x47, 0x4F, 0x57, 0x5F, 0xA7, 0xAF, 0xAC, 0xB7, 0xBF, 0xB4, 0xBC]
+ALU += [0x57, 0x54, 0x44, 0x4C, 0xC7, 0xC4, 0x77, 0x74, 0x67, 0xB4, 0xBF]
+# Extensions by the sign, and signed division and modulo, by opcode and offset.
+SIGNED = [(0xBF, 8), (0xBF, 16), (0xBF, 32), (0xBC, 8), (0x37, 1), (0x34, 1), (0x97, 1)]
 COMPARED = [1, 2, 3, 4, 5, 6, 7, 10, 11, 12, 13]
 
 
@@ -59,6 +65,12 @@ class RandomCode:
             return unit(0x7B, 10, source, -8 * self.random.randint(1, 2))
         if kind < 0.3:
             return unit(0x79, target, 10, -8 * self.random.randint(1, 2))
+        if kind < 0.4:
+            opcode, registers = self.random.choice([(0x63, (10, source)), (0x61, (target, 10)), (0x62, (10, 0))])
+            return unit(opcode, *registers, self.random.choice([-20, -24, -28]), self.random.choice([5, -5]) if opcode == 0x62 else 0)
+        if kind < 0.45:
+            opcode, offset = self.random.choice(SIGNED)
+            return unit(opcode, target, source, offset) if opcode & 8 else unit(opcode, target, 0, offset, self.value())
         opcode = self.random.choice(ALU)
         return unit(opcode, target, source) if opcode & 8 else unit(opcode, target, 0, 0, self.value())
 
@@ -67,7 +79,8 @@ class RandomCode:
         body = b"".join(self.instruction() for _ in range(self.random.randint(0, 4)))
         if number == 0:
             start = b"".join(unit(0x61, register, 1, 4 * (register % 4)) for register in (0, 2, 3, 4, 5))
-            body = start + unit(0xBF, 1, 3) + unit(0x7B, 10, 2, -8) + unit(0x7B, 10, 4, -16) + body
+            kept = unit(0x7B, 10, 2, -8) + unit(0x7B, 10, 4, -16) + b"".join(unit(0x63, 10, 3, place) for place in (-20, -24, -28))
+            body = start + unit(0xBF, 1, 3) + kept + body
         later = range(number + 1, self.count)
         if not later or self.random.random() < 0.1:
             return body, [(unit(0x95), None)]
@@ -103,6 +116,20 @@ class Layout(unittest.TestCase):
         # Most of the graphs have a jump that goes back at first, and many have blocks that nothing reaches.
         self.assertGreater(backward, GRAPHS // 2)
         self.assertGreater(dropped, GRAPHS // 4)
+
+    def test_rewritten_code_computes_the_same(self):
+        changed = 0
+        for seed in range(REWRITTEN):
+            made = RandomCode(seed + 1_000_000)
+            plain, length = code_of(laid_out(cut(made.code))), len(made.code)
+            rewriting = Rewriting(cut(made.code), entry_state(16))
+            code = code_of(joined(*placed(rewriting.blocks, rewriting.order)))
+            changed += code != plain
+            self.assertIsInstance(judged(code, 16), tuple, seed)
+            for number in range(4):
+                record = made.random.randbytes(16) if number % 2 else bytes(made.random.choice([0, 0, 1, 7, 255]) for _ in range(16))
+                self.assertEqual(run(code, record, NO_GRAPH, length), run(plain, record, NO_GRAPH, length), (seed, record))
+        self.assertGreater(changed, REWRITTEN // 4)
 
     def test_blocks_that_are_in_order_stay(self):
         # if r1 != 0 goto +1; r0 = 1; exit, as clang would write it.

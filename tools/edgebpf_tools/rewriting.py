@@ -1,0 +1,146 @@
+"""Writes code so that the verifier follows it, without a change to what it computes: each instruction is replaced where what is known
+there makes another one equal, and equal registers are copied after a test of one of them."""
+from dataclasses import replace
+
+from edgebpf_tools.blocks import Block, Instruction, in_order
+from edgebpf_tools.flow import FRAME_REGISTER, Fields, Flow, backward
+from edgebpf_tools.spills import widen_spills
+
+ADD, SUB, OR, XOR, MOVE, SHIFT_SIGNED, SHIFT = 0x0, 0x1, 0x4, 0xA, 0xB, 0xC, 0x7
+MOVE_64 = 0xBF
+# Codes of signed comparisons, each with the unsigned one that says the same of numbers that are not negative.
+UNSIGNED = {0x6: 0x2, 0x7: 0x3, 0xC: 0xA, 0xD: 0xB}
+GREATER, LESS_OR_EQUAL = 0x2, 0xB
+# Comparisons with a constant that ask whether a number is negative, and whether they hold for negative numbers.
+SIGN_TESTS = {("slt", 0): True, ("sge", 0): False, ("sgt", -1): False, ("sle", -1): True}
+LEAST_IMMEDIATE, MOST_IMMEDIATE = -(2**31), 2**31 - 1
+
+
+def with_code(fields, code, **changes):
+    return replace(fields, opcode=code << 4 | fields.opcode & 15, **changes)
+
+
+def move(destination, source):
+    return Fields(MOVE_64, destination, source, 0, 0)
+
+
+def _of_arithmetic(fields, left, right):
+    """Another instruction that computes the same of these values, and of which more is known; or None."""
+    operation, bits = fields.operation, fields.bits
+    if operation is None:
+        is_extension = fields.opcode >> 4 == MOVE
+        # `right` is what is extended: where its sign is not set, nothing changes.
+        if is_extension and bits == 64 and right.is_number and right.high < 2 ** (fields.offset - 1):
+            return move(fields.destination, fields.source)
+        return None
+    if not (left.is_number and right.is_number):
+        return None
+    if operation == "add" and not fields.by_register and LEAST_IMMEDIATE < fields.immediate < 0 and left.fits(bits):
+        if left.low >= -fields.immediate:
+            return with_code(fields, SUB, immediate=-fields.immediate)
+    if operation in ("or", "xor") and left.fits(bits) and right.fits(bits) and left.bits & right.bits == 0:
+        if left.high + right.high < 1 << max(left.high, right.high).bit_length():
+            return with_code(fields, ADD)
+    if left.high < 2 ** (bits - 1):
+        if operation == "arsh":
+            return with_code(fields, SHIFT)
+        if operation in ("sdiv", "smod") and right.high < 2 ** (bits - 1):
+            return replace(fields, offset=0)
+    return None
+
+
+def _of_branch(fields, left, right):
+    """A comparison that holds of the same values, and that narrows them more; or None."""
+    if not (left.is_number and right.is_number) or fields.opcode >> 4 not in UNSIGNED:
+        return None
+    signed, other = left.of_width(fields.bits), right.of_width(fields.bits)
+    if signed[0] >= 0 and other[0] >= 0:
+        return with_code(fields, UNSIGNED[fields.opcode >> 4])
+    holds_below = None if fields.by_register else SIGN_TESTS.get((fields.comparison, fields.immediate))
+    if holds_below is None or not 0 <= signed[1] <= MOST_IMMEDIATE:
+        return None
+    return with_code(fields, GREATER if holds_below else LESS_OR_EQUAL, immediate=signed[1])
+
+
+def _exchanged(fields, state, live):
+    """A number plus a pointer, as the pointer plus the number: three instructions at most."""
+    free = [register for register in range(FRAME_REGISTER) if register not in live and register not in (fields.destination, fields.source)]
+    if fields.source not in live and fields.source != FRAME_REGISTER:
+        return [replace(fields, destination=fields.source, source=fields.destination), move(fields.destination, fields.source)]
+    if not free:
+        return None
+    kept = free[0]
+    return [move(kept, fields.destination), move(fields.destination, fields.source), replace(fields, source=kept)]
+
+
+def _rewritten(instruction, state, live):
+    """The instructions that stand for one, where it is no branch."""
+    fields = Fields.of(instruction.units)
+    if not fields.is_arithmetic:
+        return [instruction]
+    left = state.registers[fields.destination]
+    right = state.registers[fields.source] if fields.by_register else Flow.operand(None, state, fields)
+    made = None
+    if fields.operation == "add" and fields.bits == 64 and fields.by_register and right.is_pointer and left.is_number:
+        made = _exchanged(fields, state, live)
+    elif other := _of_arithmetic(fields, left, right):
+        made = [other]
+    return [Instruction(each.units(), instruction.place) for each in made] if made else [instruction]
+
+
+class Rewriting:
+    """One function that is written anew."""
+
+    def __init__(self, blocks, entry):
+        self.blocks, self.entry = blocks, entry
+        self.order = in_order(blocks)
+        widen_spills(self.blocks, self.order, self.entry)
+        self._replace()
+        self._copy_after_tests()
+        self.order = in_order(self.blocks)
+
+    def _flow(self):
+        return Flow(self.blocks, self.order, self.entry)
+
+    def _replace(self):
+        """Instructions by others that compute the same."""
+        flow, (live, _) = self._flow(), backward(self.blocks, self.order)
+        for label, states in flow.before.items():
+            block, body = self.blocks[label], []
+            for place, instruction in enumerate(block.body):
+                body += _rewritten(instruction, states[place], live[label][place + 1])
+            if len(block.ways) == 2:
+                fields = Fields.of(block.ending.units)
+                state = states[-1]
+                other = _of_branch(fields, state.registers[fields.destination], flow.operand(state, fields))
+                if other:
+                    block.ending = Instruction(other.units(), block.ending.place)
+            block.body = body
+
+    def _copy_after_tests(self):
+        """After a test of one register, copies it to equal ones from which an address is made."""
+        flow, (_, addresses) = self._flow(), backward(self.blocks, self.order)
+        new = max(self.blocks) + 1
+        for label in list(flow.before):
+            block = self.blocks[label]
+            if len(block.ways) != 2:
+                continue
+            for side, way in enumerate(block.ways):
+                copies = self._copies(flow, block, flow.before[label][-1], side == 0, addresses[way][0])
+                if copies:
+                    self.blocks[new] = Block(copies, None, [way], block.end_place)
+                    block.ways[side] = new
+                    new += 1
+
+    def _copies(self, flow, block, state, taken, addressing):
+        fields = Fields.of(block.ending.units)
+        after = flow.after_branch(state, block.ending, taken)
+        tested = [fields.destination] + ([fields.source] if fields.by_register else [])
+        found = []
+        for register in tested if after else []:
+            before, now = state.registers[register], after.registers[register]
+            is_learned = now.is_number and (now.low, now.high) != (before.low, before.high)
+            for other in addressing if is_learned else ():
+                if other not in tested and other != FRAME_REGISTER and state.registers[other].mark == before.mark:
+                    found.append(Instruction(move(other, register).units(), block.end_place))
+        return found
