@@ -109,8 +109,10 @@ class Flow:
         self.blocks, self.order = blocks, order
         self.marks, self.meetings = itertools.count(1), {}
         self.before, self.starts = {}, {order[0]: entry}
-        # The state at each call of another function, by the function.
+        # The state at each call of another function, and where the call stands, by the function.
         self.calls = {}
+        # The sides of branches that no run takes: the block and which of its ways.
+        self.dead = []
         for label in order:
             if label in self.starts:
                 self._walk(label)
@@ -122,12 +124,12 @@ class Flow:
             states.append(state.copy())
             if instruction is not block.ending:
                 self.step(state, instruction)
-        for taken, way in enumerate(block.ways[::-1]):
-            self._go(label, way, self.after_branch(state, block.ending, bool(taken)) if len(block.ways) == 2 else state.copy())
-
-    def _go(self, label, way, state):
-        if state is not None:
-            self.starts[way] = self._meet(way, self.starts[way], state) if way in self.starts else state
+        for side, way in enumerate(block.ways):
+            after = self.after_branch(state, block.ending, side == 0) if len(block.ways) == 2 else state
+            if after is None:
+                self.dead.append((label, side))
+            else:
+                self.starts[way] = self._meet(way, self.starts[way], after) if way in self.starts else after
 
     def _meet(self, label, one, other):
         def mark(left, right):
@@ -212,7 +214,7 @@ class Flow:
     def _call(self, state, instruction, fields):
         answer = number()
         if fields.source == LOCAL_CALL:
-            self.calls.setdefault(instruction.callee, []).append(state.copy())
+            self.calls.setdefault(instruction.callee, []).append((state.copy(), instruction.place))
         else:
             answer = number(0, HELPER_ANSWERS.get(fields.immediate, ALL_64))
             base = state.registers[3]

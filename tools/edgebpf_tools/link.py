@@ -7,6 +7,7 @@ from edgebpf_tools.clang import lines_of
 from edgebpf_tools.flow import Flow, called_state, entry_state
 from edgebpf_tools.refusal import Refusal, needs_package
 from edgebpf_tools.rewriting import Rewriting
+from edgebpf_tools.values import STACK
 
 MOST_UNITS = 4096
 EM_BPF = 247
@@ -233,24 +234,30 @@ def _in_order(objects, entry):
     return [(function, parts[function]) for function in reversed(order)]
 
 
-def _rewritten(parts, length):
-    """The instructions of each function, written so that the verifier follows them."""
+def _rewritten(parts, length, lent):
+    """The instructions of each function, written so that the verifier follows them. Notes which arguments are addresses of a
+    caller's variables, and where such a call stands."""
     calls = {}
     for function, blocks in parts:
-        state = called_state(calls[function]) if function in calls else entry_state(length)
+        state = called_state([state for state, _ in calls[function]]) if function in calls else entry_state(length)
         rewriting = Rewriting(blocks, state)
         if any(instruction.callee for block in rewriting.blocks.values() for instruction in block.body):
-            for callee, states in Flow(rewriting.blocks, rewriting.order, state).calls.items():
-                calls.setdefault(callee, []).extend(states)
+            for callee, found in Flow(rewriting.blocks, rewriting.order, state).calls.items():
+                calls.setdefault(callee, []).extend(found)
+                for known, place in found:
+                    handed = [register for register in range(1, 6) if known.registers[register].kind == STACK]
+                    lent.setdefault(callee, {}).update({register: (function, place) for register in handed})
         yield function, joined(*placed(rewriting.blocks, rewriting.order))
 
 
 @dataclasses.dataclass(frozen=True)
 class Program:
-    """The code of a program, and the function and offset of the object file from which each instruction comes, by its pc."""
+    """The code of a program; the function and offset of the object file from which each instruction comes, by its pc; and by function
+    and register, where it is handed the address of a caller's variable."""
 
     code: bytes
     places: dict
+    lent: dict
 
 
 def _refuse_size(objects, entry, parts, size):
@@ -265,7 +272,8 @@ def _refuse_size(objects, entry, parts, size):
 
 def link(objects, entry, length=None):
     """The program that begins with a function: it, and behind it those that it calls. Its records have a length, if that is known."""
-    parts = list(_rewritten(_in_order(objects, entry), length))
+    lent = {}
+    parts = list(_rewritten(_in_order(objects, entry), length, lent))
     starts, size = {}, 0
     for function, instructions in parts:
         starts[function] = size
@@ -282,4 +290,4 @@ def link(objects, entry, length=None):
                 distance = starts[instruction.callee] - at - 1
                 units = bytes([CALL, LOCAL_CALL << 4, 0, 0]) + distance.to_bytes(4, "little", signed=True)
             code += units
-    return Program(bytes(code), places)
+    return Program(bytes(code), places, lent)

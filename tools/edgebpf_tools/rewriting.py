@@ -93,33 +93,48 @@ class Rewriting:
 
     def __init__(self, blocks, entry):
         self.blocks, self.entry = blocks, entry
-        self.order = in_order(blocks)
-        widen_spills(self.blocks, self.order, self.entry)
-        self._replace()
+        self._take_stock()
+        if self.flow.dead:
+            self._prune()
+        if widen_spills(self.blocks, self.flow):
+            self._take_stock()
+        if self._replace():
+            self._take_stock()
         self._copy_after_tests()
         self.order = in_order(self.blocks)
 
-    def _flow(self):
-        return Flow(self.blocks, self.order, self.entry)
+    def _take_stock(self):
+        self.order = in_order(self.blocks)
+        self.flow = Flow(self.blocks, self.order, self.entry)
+
+    def _prune(self):
+        """A branch of which no run takes one side becomes a way to the other."""
+        for label, side in self.flow.dead:
+            block = self.blocks[label]
+            block.ending, block.ways = None, [block.ways[1 - side]]
+        self._take_stock()
 
     def _replace(self):
-        """Instructions by others that compute the same."""
-        flow, (live, _) = self._flow(), backward(self.blocks, self.order)
-        for label, states in flow.before.items():
+        """Instructions by others that compute the same. Returns whether there were any."""
+        (live, _), changed = backward(self.blocks, self.order), False
+        for label, states in self.flow.before.items():
             block, body = self.blocks[label], []
             for place, instruction in enumerate(block.body):
                 body += _rewritten(instruction, states[place], live[label][place + 1])
             if len(block.ways) == 2:
                 fields = Fields.of(block.ending.units)
                 state = states[-1]
-                other = _of_branch(fields, state.registers[fields.destination], flow.operand(state, fields))
+                other = _of_branch(fields, state.registers[fields.destination], self.flow.operand(state, fields))
                 if other:
                     block.ending = Instruction(other.units(), block.ending.place)
+                    changed = True
+            changed = changed or body != block.body
             block.body = body
+        return changed
 
     def _copy_after_tests(self):
         """After a test of one register, copies it to equal ones from which an address is made."""
-        flow, (_, addresses) = self._flow(), backward(self.blocks, self.order)
+        flow, (_, addresses) = self.flow, backward(self.blocks, self.order)
         new = max(self.blocks) + 1
         for label in list(flow.before):
             block = self.blocks[label]

@@ -2,7 +2,7 @@
 from dataclasses import dataclass, replace
 
 from edgebpf_tools.blocks import CALL, LOCAL_CALL, UNIT, Instruction, is_branch
-from edgebpf_tools.flow import FRAME_REGISTER, GATHER, MOST_ROOM, Fields, Flow, State, access_of
+from edgebpf_tools.flow import FRAME_REGISTER, GATHER, MOST_ROOM, Fields, State, access_of
 from edgebpf_tools.values import STACK
 
 FRAME_BYTES = 512
@@ -85,18 +85,20 @@ def _place(uses, first, free):
     return first if is_shared else None
 
 
-def widen_spills(blocks, order, entry):
-    if not any(_keeps_word(instruction) for label in order for instruction in blocks[label].body):
-        return
-    uses = _uses(blocks, Flow(blocks, order, entry))
-    lowest = min((first for first, _ in uses or ()), default=0)
-    for first, size in uses or ():
+def widen_spills(blocks, flow):
+    """Changes accesses in the blocks. Returns whether there were any."""
+    if not any(_keeps_word(instruction) for label in flow.before for instruction in blocks[label].body):
+        return False
+    uses, changed = _uses(blocks, flow) or {}, False
+    lowest = min((first for first, _ in uses), default=0)
+    for first, size in uses:
         free = (lowest - UNIT) // UNIT * UNIT
         place = _place(uses, first, free) if size == WORD else None
         if place is None or place < -FRAME_BYTES:
             continue
-        lowest = min(lowest, place)
+        lowest, changed = min(lowest, place), True
         for use in uses[first, size]:
             old = blocks[use.label].body[use.index]
             wide = replace(use.fields, opcode=DOUBLES[use.fields.opcode], offset=place)
             blocks[use.label].body[use.index] = Instruction(wide.units(), old.place)
+    return changed

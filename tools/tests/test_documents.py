@@ -114,7 +114,7 @@ class ProgramsOfTheDocuments(unittest.TestCase):
                 self.assertIn(f"run {name} last edges 3", run.stdout, name)
             else:
                 self.assertRegex(run.stdout, f"^refused {name} {said.removeprefix('refused: ')} pc [0-9]+\n$")
-                self.assertRegex(run.stderr, f"^edgebpf-c: {name} is refused at unit [0-9]+: ")
+                self.assertRegex(run.stderr, rf"^edgebpf-c: {name} is refused: .*programs\.c:[0-9]+: ")
 
     def test_the_first_program_in_c(self):
         source, (tool, _, *words) = documents.c_program()
