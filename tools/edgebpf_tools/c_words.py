@@ -17,6 +17,9 @@ LENT_VARIABLE = (
     "{function} is handed the address of a local variable, at {place}. Hand it the value and return the new one, or declare it INLINE in "
     "place of FUNCTION or static"
 )
+UNDEFINED = (
+    "set the variable on each way that leads here; clang also leaves out what C does not define, as a shift by more bits than there are"
+)
 INDEX = (
     "compare the index with a constant before it is used, as in `if (index >= N) return 0;`, and use what was compared; at_most(index, N - 1) "
     "of edgebpf.h does both. The record has {length} bytes, and its argument {argument}"
@@ -78,6 +81,8 @@ class CWords:
             if cause == UNSET_REGISTER and value == "nothing" and int(register[1:]) in lent:
                 place = self.objects.place(*lent[int(register[1:])]).removesuffix(": ")
                 return LENT_VARIABLE.format(function=function.name, place=place)
+        if cause == UNSET_REGISTER:
+            return UNDEFINED
         if cause == OUT_OF_RANGE and any(" to " in value and not value.startswith("record") for value in known.values()):
             return INDEX.format(length=self.length, argument=self.length - 16)
         return usual

@@ -20,6 +20,7 @@ STORES = {0x62: 4, 0x6A: 2, 0x72: 1, 0x7A: 8}
 REGISTER_STORES = {0x63: 4, 0x6B: 2, 0x73: 1, 0x7B: 8}
 HELPER_ANSWERS = {1: ALL_32, 2: 1, 4: ALL_32, 5: 64}
 HELPER_ARGUMENTS = {1: 1, 2: 2, 3: 2, 4: 0, 5: 4}
+DOUBLE_LOAD, DOUBLE_STORE = 0x79, 0x7B
 GATHER = 5
 MOST_ROOM = 256
 
@@ -80,13 +81,14 @@ def access_of(fields):
 
 @dataclass
 class State:
-    """What is known of registers, and of places of the frame by offset and size."""
+    """What is known of registers, of places of the frame by offset and size, and of values that were tested, by their marks."""
 
     registers: list
     places: dict = field(default_factory=dict)
+    tested: dict = field(default_factory=dict)
 
     def copy(self):
-        return State(self.registers[:], dict(self.places))
+        return State(self.registers[:], dict(self.places), self.tested)
 
     def forget(self, first, end):
         """Drops what is known of the places that touch these bytes of the frame."""
@@ -98,6 +100,7 @@ class State:
         """Notes of all equal values what is known of one."""
         if mark is None:
             return
+        self.tested = self.tested | {mark: value}
         self.registers = [value if known.mark == mark else known for known in self.registers]
         self.places = {place: value if known.mark == mark else known for place, known in self.places.items()}
 
@@ -107,8 +110,11 @@ class Flow:
 
     def __init__(self, blocks, order, entry):
         self.blocks, self.order = blocks, order
-        self.marks, self.meetings = itertools.count(1), {}
-        self.before, self.starts = {}, {order[0]: entry}
+        # Marks of values: the same for values that are computed alike of the same ones.
+        self.marks, self.meetings, self.results = itertools.count(1), {}, {}
+        # The mark of the number whose low half a value is.
+        self.wholes = {}
+        self.before, self.ends, self.starts = {}, {}, {order[0]: entry}
         # The state at each call of another function, and where the call stands, by the function.
         self.calls = {}
         # The sides of branches that no run takes: the block and which of its ways.
@@ -124,6 +130,7 @@ class Flow:
             states.append(state.copy())
             if instruction is not block.ending:
                 self.step(state, instruction)
+        self.ends[label] = state
         for side, way in enumerate(block.ways):
             after = self.after_branch(state, block.ending, side == 0) if len(block.ways) == 2 else state
             if after is None:
@@ -139,7 +146,8 @@ class Flow:
 
         registers = [joined(left, right, mark(left, right)) for left, right in zip(one.registers, other.registers)]
         places = {key: joined(value, other.places[key], mark(value, other.places[key])) for key, value in one.places.items() if key in other.places}
-        return State(registers, places)
+        tested = {key: joined(value, other.tested[key], key) for key, value in one.tested.items() if key in other.tested}
+        return State(registers, places, tested)
 
     def marked(self, value):
         return value._replace(mark=next(self.marks))
@@ -203,7 +211,24 @@ class Flow:
             return self.marked(Value() if unknown else number(0, 2**bits - 1))
         if operation == "and" and left.bits & right.low == left.bits and right.low == right.high and left.mark is not None:
             return left
-        return self.marked(computed(bits, operation, left, right))
+        result = self._result(state, computed(bits, operation, left, right), self._key(fields, left, right))
+        if operation == "mov":
+            self.wholes[result.mark] = right.mark
+        return result
+
+    def _key(self, fields, left, right):
+        """What makes two results of an operation equal."""
+        operation, bits = fields.operation, fields.bits
+        other = right.mark if fields.by_register else fields.immediate
+        if operation == "and" and not fields.by_register and fields.immediate >= 0:
+            # The low half alone matters, in either width.
+            return operation, self.wholes.get(left.mark, left.mark), other
+        return operation, bits, None if operation == "mov" else left.mark, other, fields.by_register
+
+    def _result(self, state, value, key):
+        """A value with the mark of an equal one, and with what tests of that have shown."""
+        mark = self.results.setdefault(key, next(self.marks))
+        return state.tested.get(mark) or value._replace(mark=mark)
 
     def _moved(self, pointer, value, operation):
         offset = None
@@ -303,11 +328,17 @@ def writes_of(instruction):
 
 
 def _addressing(instruction, after):
-    """The registers from which an address is made at or after an instruction, by those after it."""
+    """The registers from which an address is made at or after an instruction, by those after it; and places of the frame that are
+    loaded for it, by their offsets, which are negative."""
     fields = Fields.of(instruction.units)
     kept = after - writes_of(instruction)
-    if access_of(fields):
-        return kept | {access_of(fields)[0]}
+    if access := access_of(fields):
+        base, offset, _ = access
+        if base == FRAME_REGISTER and fields.opcode == DOUBLE_LOAD:
+            return kept | {offset} if fields.destination in after else kept
+        if base == FRAME_REGISTER and fields.opcode == DOUBLE_STORE:
+            return kept - {offset} | ({fields.source} if offset in after else set())
+        return kept | {base}
     if fields.opcode == CALL:
         return kept | (set(range(1, 6)) if fields.source == LOCAL_CALL else {3} if fields.immediate == GATHER else set())
     if fields.is_arithmetic and fields.destination in after:

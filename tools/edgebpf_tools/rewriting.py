@@ -3,11 +3,12 @@ there makes another one equal, and equal registers are copied after a test of on
 from dataclasses import replace
 
 from edgebpf_tools.blocks import Block, Instruction, in_order
-from edgebpf_tools.flow import FRAME_REGISTER, Fields, Flow, backward
+from edgebpf_tools.flow import DOUBLE_STORE, FRAME_REGISTER, Fields, Flow, backward
 from edgebpf_tools.spills import widen_spills
+from edgebpf_tools.values import constant
 
 ADD, SUB, OR, XOR, MOVE, SHIFT_SIGNED, SHIFT = 0x0, 0x1, 0x4, 0xA, 0xB, 0xC, 0x7
-MOVE_64 = 0xBF
+MOVE_64, AND_32 = 0xBF, 0x54
 # Codes of signed comparisons, each with the unsigned one that says the same of numbers that are not negative.
 UNSIGNED = {0x6: 0x2, 0x7: 0x3, 0xC: 0xA, 0xD: 0xB}
 GREATER, LESS_OR_EQUAL = 0x2, 0xB
@@ -62,30 +63,57 @@ def _of_branch(fields, left, right):
     return with_code(fields, GREATER if holds_below else LESS_OR_EQUAL, immediate=signed[1])
 
 
-def _exchanged(fields, state, live):
-    """A number plus a pointer, as the pointer plus the number: three instructions at most."""
-    free = [register for register in range(FRAME_REGISTER) if register not in live and register not in (fields.destination, fields.source)]
-    if fields.source not in live and fields.source != FRAME_REGISTER:
-        return [replace(fields, destination=fields.source, source=fields.destination), move(fields.destination, fields.source)]
-    if not free:
-        return None
-    kept = free[0]
-    return [move(kept, fields.destination), move(fields.destination, fields.source), replace(fields, source=kept)]
-
-
-def _rewritten(instruction, state, live):
-    """The instructions that stand for one, where it is no branch."""
+def _rewritten(instruction, state, after, addressing):
+    """The instructions that stand for one that is no branch. `after` is the state after it."""
     fields = Fields.of(instruction.units)
     if not fields.is_arithmetic:
         return [instruction]
     left = state.registers[fields.destination]
-    right = state.registers[fields.source] if fields.by_register else Flow.operand(None, state, fields)
-    made = None
-    if fields.operation == "add" and fields.bits == 64 and fields.by_register and right.is_pointer and left.is_number:
-        made = _exchanged(fields, state, live)
-    elif other := _of_arithmetic(fields, left, right):
-        made = [other]
-    return [Instruction(each.units(), instruction.place) for each in made] if made else [instruction]
+    right = state.registers[fields.source] if fields.by_register else constant(fields.immediate)
+    result = after.registers[fields.destination]
+    made = _of_arithmetic(fields, left, right)
+    if fields.destination in addressing and fields.operation != "mov" and (kept := _kept(fields, state, result)) is not None:
+        made = move(fields.destination, kept)
+    elif fields.operation == "and" and not fields.by_register and result.is_number and 0 <= fields.immediate & result.bits < fields.immediate:
+        made = replace(fields, immediate=fields.immediate & result.bits)
+    elif fields.destination in addressing and _is_tested_half(fields, right, result):
+        # The verifier learns nothing of the low half of a wider number that is tested.
+        cut = Fields(AND_32, fields.destination, 0, 0, (1 << result.high.bit_length()) - 1)
+        return [instruction, Instruction(cut.units(), instruction.place)]
+    return [Instruction(made.units(), instruction.place) if made else instruction]
+
+
+def _is_tested_half(fields, right, result):
+    return fields.operation == "mov" and fields.bits == 32 and right.is_number and not right.fits(32) and result.high < 2**31
+
+
+def _kept(fields, state, result):
+    """A register that has what an instruction computes already."""
+    if not result.is_number or result.low == result.high:
+        return None
+    same = [register for register, known in enumerate(state.registers) if known.mark == result.mark and register != fields.destination]
+    return same[0] if same else None
+
+
+def _is_from_the_left(instruction, state):
+    """Whether it adds a pointer to a number."""
+    fields = Fields.of(instruction.units)
+    if not fields.is_arithmetic or fields.operation != "add" or fields.bits != 64 or not fields.by_register:
+        return False
+    return state.registers[fields.source].is_pointer and state.registers[fields.destination].is_number
+
+
+def _exchanged(instruction, live):
+    """A number plus a pointer, as the pointer plus the number: three instructions at most."""
+    fields = Fields.of(instruction.units)
+    free = [register for register in range(FRAME_REGISTER) if register not in live and register not in (fields.destination, fields.source)]
+    if fields.source not in live and fields.source != FRAME_REGISTER:
+        made = [replace(fields, destination=fields.source, source=fields.destination), move(fields.destination, fields.source)]
+    elif free:
+        made = [move(free[0], fields.destination), move(fields.destination, fields.source), replace(fields, source=free[0])]
+    else:
+        return [instruction]
+    return [Instruction(each.units(), instruction.place) for each in made]
 
 
 class Rewriting:
@@ -99,6 +127,8 @@ class Rewriting:
         if widen_spills(self.blocks, self.flow):
             self._take_stock()
         if self._replace():
+            self._take_stock()
+        if self._exchange():
             self._take_stock()
         self._copy_after_tests()
         self.order = in_order(self.blocks)
@@ -116,11 +146,12 @@ class Rewriting:
 
     def _replace(self):
         """Instructions by others that compute the same. Returns whether there were any."""
-        (live, _), changed = backward(self.blocks, self.order), False
+        (_, addresses), changed = backward(self.blocks, self.order), False
         for label, states in self.flow.before.items():
             block, body = self.blocks[label], []
             for place, instruction in enumerate(block.body):
-                body += _rewritten(instruction, states[place], live[label][place + 1])
+                after = states[place + 1] if place + 1 < len(states) else self.flow.ends[label]
+                body += _rewritten(instruction, states[place], after, addresses[label][place + 1])
             if len(block.ways) == 2:
                 fields = Fields.of(block.ending.units)
                 state = states[-1]
@@ -131,6 +162,20 @@ class Rewriting:
             changed = changed or body != block.body
             block.body = body
         return changed
+
+    def _exchange(self):
+        """Numbers to which a pointer is added. Returns whether there were any."""
+        found = [
+            (label, place)
+            for label, states in self.flow.before.items()
+            for place, instruction in enumerate(self.blocks[label].body)
+            if _is_from_the_left(instruction, states[place])
+        ]
+        live, _ = backward(self.blocks, self.order) if found else ({}, {})
+        for label, place in reversed(found):
+            body = self.blocks[label].body
+            body[place : place + 1] = _exchanged(body[place], live[label][place + 1])
+        return bool(found)
 
     def _copy_after_tests(self):
         """After a test of one register, copies it to equal ones from which an address is made."""
@@ -156,6 +201,17 @@ class Rewriting:
             before, now = state.registers[register], after.registers[register]
             is_learned = now.is_number and (now.low, now.high) != (before.low, before.high)
             for other in addressing if is_learned else ():
-                if other not in tested and other != FRAME_REGISTER and state.registers[other].mark == before.mark:
-                    found.append(Instruction(move(other, register).units(), block.end_place))
+                copy = self._copy(state, register, other, tested, before.mark)
+                if copy:
+                    found.append(Instruction(copy.units(), block.end_place))
         return found
+
+    @staticmethod
+    def _copy(state, register, other, tested, mark):
+        """The copy of a register to an equal one, or to an equal place of the frame, which is named by its offset; else None."""
+        if other < 0:
+            kept = state.places.get((other, 8))
+            return Fields(DOUBLE_STORE, FRAME_REGISTER, register, other, 0) if kept and kept.mark == mark else None
+        if other in tested or other == FRAME_REGISTER or state.registers[other].mark != mark:
+            return None
+        return move(other, register)

@@ -206,4 +206,8 @@ def narrowed(value, other, bits, comparison):
             short = limited(short, other.short, plain)
     if not is_signed and (bits == 64 or value.fits(32) and other.fits(32)):
         low, high = limited((low, high), (other.low, other.high), plain)
+    elif not is_signed and other.fits(32):
+        # Of a wider number the low half is compared, and what is known of it is kept as a signed range.
+        half = limited(short if short[0] >= 0 else (0, ALL_32), (other.low, other.high), plain)
+        short = meet(short, half) if half[1] < 2**31 else short
     return settled(value._replace(low=low, high=high, signed=signed, short=short))

