@@ -5,7 +5,7 @@ from dataclasses import dataclass, field
 from functools import lru_cache
 
 from edgebpf_tools.blocks import CALL, EXIT, LOCAL_CALL, WIDE, is_branch
-from edgebpf_tools.values import ALL_32, ALL_64, ANYTHING, NUMBER, RECORD, STACK, Value, computed, constant, extended, joined, narrowed, number
+from edgebpf_tools.values import ALL_32, ALL_64, ANYTHING, NUMBER, RECORD, STACK, Value, computed, constant, extended, joined, narrowed, number, settled
 
 FRAME_REGISTER = 10
 OPERATIONS = {0: "add", 1: "sub", 2: "mul", 4: "or", 5: "and", 6: "lsh", 7: "rsh", 10: "xor", 11: "mov", 12: "arsh"}
@@ -114,6 +114,8 @@ class Flow:
         self.marks, self.meetings, self.results = itertools.count(1), {}, {}
         # The mark of the number whose low half a value is.
         self.wholes = {}
+        # Of a value that is another one's bits under a mask, the mark of that one and the mask.
+        self.masked = {}
         self.before, self.ends, self.starts = {}, {}, {order[0]: entry}
         # The state at each call of another function, and where the call stands, by the function.
         self.calls = {}
@@ -172,10 +174,19 @@ class Flow:
             return None
         state.replace_marked(left.mark, both[0])
         state.registers[fields.destination] = both[0]
+        if both[0].high == 0 and left.mark in self.masked:
+            self._clear_bits(state, *self.masked[left.mark])
         if fields.by_register:
             state.replace_marked(right.mark, both[1])
             state.registers[fields.source] = both[1]
         return state
+
+    def _clear_bits(self, state, mark, mask):
+        """Notes that a value has none of the bits of a mask."""
+        for of in {mark, self.wholes.get(mark, mark)}:
+            known = [value for value in state.registers + list(state.places.values()) if value.mark == of and value.is_number]
+            for value in known[:1]:
+                state.replace_marked(of, settled(value._replace(bits=value.bits & ~mask)))
 
     def step(self, state, instruction):
         """Changes a state as an instruction that is no branch does."""
@@ -214,6 +225,8 @@ class Flow:
         result = self._result(state, computed(bits, operation, left, right), self._key(fields, left, right))
         if operation == "mov":
             self.wholes[result.mark] = right.mark
+        elif operation == "and" and not fields.by_register and fields.immediate >= 0:
+            self.masked[result.mark] = left.mark, fields.immediate
         return result
 
     def _key(self, fields, left, right):

@@ -3,12 +3,16 @@ there makes another one equal, and equal registers are copied after a test of on
 from dataclasses import replace
 
 from edgebpf_tools.blocks import Block, Instruction, in_order
-from edgebpf_tools.flow import DOUBLE_STORE, FRAME_REGISTER, Fields, Flow, backward
+from edgebpf_tools.flow import DOUBLE_LOAD, DOUBLE_STORE, FRAME_REGISTER, Fields, Flow, backward
 from edgebpf_tools.spills import widen_spills
 from edgebpf_tools.values import constant
 
 ADD, SUB, OR, XOR, MOVE, SHIFT_SIGNED, SHIFT = 0x0, 0x1, 0x4, 0xA, 0xB, 0xC, 0x7
-MOVE_64, AND_32 = 0xBF, 0x54
+MOVE_64, MOVE_32, AND_32 = 0xBF, 0xBC, 0x54
+LEFT_BY_CONSTANT = 0x67
+NARROW_LOADS = (0x61, 0x69, 0x71)
+# Shifts back to the right by a constant, each with the move that extends by zeros or by the sign.
+EXTENSIONS = {0x77: (MOVE_32, 0), 0xC7: (MOVE_64, 32)}
 # Codes of signed comparisons, each with the unsigned one that says the same of numbers that are not negative.
 UNSIGNED = {0x6: 0x2, 0x7: 0x3, 0xC: 0xA, 0xD: 0xB}
 GREATER, LESS_OR_EQUAL = 0x2, 0xB
@@ -23,6 +27,25 @@ def with_code(fields, code, **changes):
 
 def move(destination, source):
     return Fields(MOVE_64, destination, source, 0, 0)
+
+
+def with_extensions(body):
+    """Instructions where a shift to the left and one back by 32 bits are one extension: of what is shifted more is known then."""
+    body = iter(body)
+    for instruction in body:
+        fields = Fields.of(instruction.units)
+        while fields.opcode == LEFT_BY_CONSTANT and fields.immediate == 32:
+            after = next(body, None)
+            back = after and Fields.of(after.units)
+            if back and (back.destination, back.immediate) == (fields.destination, 32) and back.opcode in EXTENSIONS:
+                opcode, offset = EXTENSIONS[back.opcode]
+                instruction, after = Instruction(Fields(opcode, fields.destination, fields.destination, offset, 0).units(), after.place), None
+            yield instruction
+            if after is None:
+                break
+            instruction, fields = after, Fields.of(after.units)
+        else:
+            yield instruction
 
 
 def _of_arithmetic(fields, left, right):
@@ -83,6 +106,22 @@ def _rewritten(instruction, state, after, addressing):
     return [Instruction(made.units(), instruction.place) if made else instruction]
 
 
+def _needs_width(fields, state, body, addressing):
+    """Whether a number that is tested in 32 bits, and from which an address is made, has to be shown to have no more of them."""
+    known = state.registers[fields.destination]
+    if fields.bits == 64 or fields.by_register or fields.destination not in addressing or not (known.is_number and known.fits(32)):
+        return False
+    made = [each for each in map(_fields, body) if each.destination == fields.destination and each.opcode & 7 in (0, 1, 4, 7)]
+    if made and (made[-1].opcode & 7 == 4 or made[-1].opcode in NARROW_LOADS):
+        return False
+    # Whole values that come from other blocks, or of 64 bits.
+    return not made or made[-1].opcode & 7 == 7 and made[-1].operation not in ("mov", "and") or made[-1].opcode == DOUBLE_LOAD
+
+
+def _fields(instruction):
+    return Fields.of(instruction.units)
+
+
 def _is_tested_half(fields, right, result):
     return fields.operation == "mov" and fields.bits == 32 and right.is_number and not right.fits(32) and result.high < 2**31
 
@@ -121,6 +160,8 @@ class Rewriting:
 
     def __init__(self, blocks, entry):
         self.blocks, self.entry = blocks, entry
+        for block in blocks.values():
+            block.body = list(with_extensions(block.body))
         self._take_stock()
         if self.flow.dead:
             self._prune()
@@ -155,6 +196,8 @@ class Rewriting:
             if len(block.ways) == 2:
                 fields = Fields.of(block.ending.units)
                 state = states[-1]
+                if _needs_width(fields, state, body, set().union(*(addresses[way][0] for way in block.ways))):
+                    body.append(Instruction(Fields(MOVE_32, fields.destination, fields.destination, 0, 0).units(), block.ending.place))
                 other = _of_branch(fields, state.registers[fields.destination], self.flow.operand(state, fields))
                 if other:
                     block.ending = Instruction(other.units(), block.ending.place)

@@ -49,8 +49,8 @@ class RandomFunction:
             f"degree({one})",
             f"has_edge({one}, {other})",
             f"neighbour({one}, ({other}) & 7)",
-            f"edge->argument[({one}) {self.choice([f'& {ARGUMENT - 1}', '% 13', '& 7'])}]",
-            f"((u16 *)edge->argument)[({one}) & 7]",
+            f"(u64)edge->argument[({one}) {self.choice([f'& {ARGUMENT - 1}', '% 13', '& 7'])}]",
+            f"(u64)((u16 *)edge->argument)[({one}) & 7]",
         ]
         return self.choice(forms)
 
