@@ -8,7 +8,16 @@ from edgebpf_tools.refusal import Refusal, needs_package
 VERSIONS = [""] + [f"-{number}" for number in range(25, 13, -1)]
 # The first processor that clang knows is taken: later ones have more of RFC 9669's instructions.
 PROCESSORS = ["v4", "v3"]
-FLAGS = ["-O2", "-g", "-target", "bpf", "-ffreestanding", "-fno-strict-aliasing", "-fno-stack-protector", "-Wall", "-c"]
+OPTIMIZATION = "-O2"
+# A program has no tables, so a `switch` is made of branches.
+TO_IR = ["-g", "-ffreestanding", "-fno-strict-aliasing", "-fno-stack-protector", "-fno-jump-tables", "-Wall", "-S", "-emit-llvm"]
+TO_IR += ["-Xclang", "-disable-llvm-passes"]
+# Each loop whose number of rounds is at most a constant is unrolled, as far as a program has room for it.
+TO_CODE = ["-Wno-pass-failed", "-c"]
+for option in ("unroll-max-upperbound=4096", "unroll-full-max-count=4096", "unroll-threshold=40000", "pragma-unroll-threshold=40000"):
+    TO_CODE += ["-mllvm", f"-{option}"]
+# What clang notes of each loop that ends, and a note in its place that has the loop unrolled.
+LOOP_NOTE, UNROLLED_NOTE = '!"llvm.loop.mustprogress"', '!"llvm.loop.unroll.enable"'
 
 
 def newest(tool):
@@ -19,21 +28,29 @@ def newest(tool):
     return None
 
 
-def compile_to_bpf(source, target, folders):
-    """Compiles a file of C to an object file. What clang says of the source goes to standard error."""
+def compile_to_bpf(source, target, folders, optimization=OPTIMIZATION):
+    """Compiles a file of C to an object file. Returns what clang says of the source."""
     clang = newest("clang")
     if clang is None:
         raise needs_package("clang, which compiles C,", "clang-19 llvm-19")
-    said = ""
     for processor in PROCESSORS:
-        command = [clang, *FLAGS, f"-mcpu={processor}", *[f"-I{folder}" for folder in folders], source, "-o", target]
-        run = subprocess.run(command, capture_output=True, text=True)
-        said = run.stderr
-        if run.returncode == 0:
-            return said
-        if "unknown target CPU" not in said:
+        common = [clang, "-target", "bpf", f"-mcpu={processor}"]
+        folder_words = [f"-I{folder}" for folder in folders]
+        # With -O1 clang would note of each loop that it is not to be unrolled.
+        ir = _run([*common, "-O2" if optimization == "-O1" else optimization, *TO_IR, *folder_words, source, "-o", "-"])
+        if ir.returncode == 0:
+            unrolled = ir.stdout.replace(LOOP_NOTE, UNROLLED_NOTE)
+            made = _run([*common, optimization, *TO_CODE, "-x", "ir", "-", "-o", target], unrolled)
+            if made.returncode == 0:
+                return ir.stderr + made.stderr
+            raise Refusal(f"clang made no code of {source}:\n{made.stderr.rstrip()}")
+        if "unknown target CPU" not in ir.stderr:
             break
-    raise Refusal(f"clang refused {source}:\n{said.rstrip()}")
+    raise Refusal(f"clang refused {source}:\n{ir.stderr.rstrip()}")
+
+
+def _run(command, text=None):
+    return subprocess.run(command, input=text, capture_output=True, text=True)
 
 
 def lines_of(object_file):

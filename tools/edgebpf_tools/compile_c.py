@@ -5,10 +5,11 @@ import re
 import sys
 import tempfile
 
-from edgebpf_tools import clang, ends, store
+from edgebpf_tools import clang, ends, explain
+from edgebpf_tools.c_words import CWords
 from edgebpf_tools.link import ObjectFile, link
 from edgebpf_tools.refusal import Refusal
-from edgebpf_tools.words import in_words
+from edgebpf_tools.run_c import Run, argument_words, run_on
 
 LEAST_LENGTH, MOST_LENGTH = 16, 256
 NAME = re.compile(r"[A-Za-z0-9_-]{1,32}")
@@ -32,6 +33,12 @@ def arguments(words):
     parser.add_argument("--reduce", default="sum", choices=["min", "max", "sum"], help="with --on; else sum")
     parser.add_argument("--argument", default=None, metavar="HEX", help="with --on: the record's end; else zeros")
     parser.add_argument("--vertices", nargs="*", default=[], metavar="U", help="with --on: the sources; else all")
+    parser.add_argument("--workers", type=int, metavar="N", help="with --on: how many threads of edgebpf share the work")
+    parser.add_argument("--explain", action="store_true", help="print the source with the verifier's state before each line, and "
+                        "why the program is refused or how long its runs are")
+    parser.add_argument("--html", metavar="FILE", help="write the same as a page, with the instructions of each line")
+    parser.add_argument("--optimize", default=clang.OPTIMIZATION, choices=["-O1", "-O2", "-O3", "-Os", "-Oz"],
+                        help="clang's level of optimization; else -O2. Write it as --optimize=-Os")
     return parser.parse_args(words)
 
 
@@ -58,69 +65,85 @@ def is_object_file(path):
         return stream.read(4) == b"\x7fELF"
 
 
-def code_of(file, function):
-    """The name and the code of a function of a file."""
-    with tempfile.TemporaryDirectory() as folder:
-        compiled = file
-        if not is_object_file(file):
-            compiled = f"{folder}/program.o"
-            sys.stderr.write(clang.compile_to_bpf(file, compiled, [HEADERS]))
-        objects = ObjectFile(compiled, clang.lines_of(compiled))
-        entry = objects.function_named(function) if function else objects.only_function()
-        code = link(objects, entry)
-        warn_of_result(compiled, entry.name)
-        return entry.name, code
+def linked(options, folder):
+    """The object file, the function that the program begins with, and the program."""
+    compiled = options.file
+    if not is_object_file(options.file):
+        compiled = f"{folder}/program.o"
+        sys.stderr.write(clang.compile_to_bpf(options.file, compiled, [HEADERS], options.optimize))
+    objects = ObjectFile(compiled)
+    entry = objects.function_named(options.function) if options.function else objects.only_function()
+    program = link(objects, entry, options.length)
+    warn_of_result(compiled, entry.name)
+    return objects, entry, program
 
 
-def run_script(graph, line, name, options):
-    """The script that makes the graph, loads the program and runs it."""
-    argument = options.argument
-    if argument is None:
-        argument = "00" * (options.length - LEAST_LENGTH) or "-"
-    vertices = "".join(f" {vertex}" for vertex in options.vertices)
-    return f"{graph}\n{line}\npin last\nrun {name} last {options.reduce} {argument}{vertices}\n"
+def explained(words, name, length, code):
+    """Why a program is refused, at its line of C: `edgebpf_explain` knows the values, if it is there."""
+
+    def explain_refusal(verdict, meaning):
+        if explain.is_ready():
+            told, _ = explain.explain(length, code.hex())
+            if told:
+                lines = words.refusal(told)
+                return "\n".join([f"{name} is refused: {lines[0]}", *lines[1:]])
+        pc = int(verdict.split()[5]) if verdict.startswith("refused") else 0
+        return f"{name} is {meaning.partition(' at unit')[0]}: {words.place(pc)}{meaning.partition(': ')[2]}"
+
+    return explain_refusal
 
 
-def run_on(graph_file, line, name, options):
-    """Prints what loading and running the program writes, without the graph's own lines."""
-    try:
-        graph = pathlib.Path(graph_file).read_text().rstrip("\n")
-    except OSError as error:
-        raise Refusal(f"{graph_file}: {error.strerror}") from None
-    if options.script:
-        sys.stdout.write(run_script(graph, line, name, options))
-        return 0
-    before, status = store.serve(graph + "\n")
-    if status != 0:
-        raise Refusal(f"{graph_file} is no graph that edgebpf reads: {before.splitlines()[-1] if before else 'no output'}")
-    after, status = store.serve(run_script(graph, line, name, options))
-    said = after[len(before) :]
-    verdict = said.partition("\n")[0]
-    meaning = in_words(verdict) if verdict else None
-    if meaning is not None:
-        # What follows is a fault alone: a program that is not kept cannot be run.
-        print(verdict, flush=True)
-        raise Refusal(f"{name} is {meaning}")
-    sys.stdout.write(said)
+def show(options, words, code):
+    """Prints the source with the verifier's state, or writes a page of it. Returns 1 for a refused program."""
+    told, status = explain.explain(options.length, code.hex())
+    if not told:
+        raise Refusal("edgebpf_explain wrote nothing")
+    if options.html:
+        pathlib.Path(options.html).write_text(words.page(told))
+    if options.explain:
+        sys.stdout.write(words.listing(told))
+    if status == 1:
+        raise Refusal("\n".join(words.refusal(told)))
     return status
+
+
+def read_graph(path):
+    try:
+        return pathlib.Path(path).read_text().rstrip("\n")
+    except (OSError, UnicodeDecodeError) as error:
+        raise Refusal(f"{path}: {getattr(error, 'strerror', None) or 'it is no text'}") from None
 
 
 def perform(words):
     options = arguments(words)
     if not LEAST_LENGTH <= options.length <= MOST_LENGTH:
         raise Refusal(f"a record has {LEAST_LENGTH} to {MOST_LENGTH} bytes, not {options.length}")
-    try:
-        function, code = code_of(options.file, options.function)
-    except OSError as error:
-        raise Refusal(f"{options.file}: {error.strerror}") from None
+    with tempfile.TemporaryDirectory() as folder:
+        try:
+            objects, entry, program = linked(options, folder)
+        except OSError as error:
+            raise Refusal(f"{options.file}: {error.strerror}") from None
+        return finish(options, objects, entry.name, program)
+
+
+def finish(options, objects, function, program):
+    """Prints the line of a linked program, its source with the verifier's state, or what a run over a graph writes."""
     name = options.name or function
     if not NAME.fullmatch(name):
         raise Refusal(f"{name} is no name of a script (1 to 32 of A-Z a-z 0-9 _ -); give one by --name")
-    line = f"code {name} {options.length} {code.hex()}"
+    words = CWords(objects, program, options.length)
+    if options.explain or options.html:
+        return show(options, words, program.code)
+    line = f"code {name} {options.length} {program.code.hex()}"
     if options.on is None:
         print(line)
         return 0
-    return run_on(options.on, line, name, options)
+    run = Run(name, line, argument_words(options))
+    graph = read_graph(options.on)
+    if options.script:
+        print("\n".join([graph, *run.lines]))
+        return 0
+    return run_on(options.on, graph, run, options.workers, explained(words, name, options.length, program.code))
 
 
 def main():

@@ -10,12 +10,18 @@ from edgebpf_tools.explain_page import page
 from edgebpf_tools.refusal import Refusal
 
 TOOLS = pathlib.Path(__file__).resolve().parent.parent
+BUILT = TOOLS.parent / "crates" / "edgebpf_explain" / "out" / "edgebpf_explain"
 
 
 def command():
     """How the program is started: EDGEBPF_EXPLAIN in the environment, or the checkout's own, which is built where needed."""
     given = os.environ.get("EDGEBPF_EXPLAIN")
     return [given] if given else [TOOLS / "proved_program", "edgebpf_explain"]
+
+
+def is_ready():
+    """Whether the program is there, so that nothing has to be built."""
+    return "EDGEBPF_EXPLAIN" in os.environ or BUILT.exists()
 
 
 def explain(length, code=None, text=None):

@@ -1,14 +1,17 @@
 """Takes one function, with those that it calls, out of an object file that clang made for BPF."""
 import dataclasses
+import functools
 
+from edgebpf_tools.blocks import CALL, LOCAL_CALL, UNIT, Circle, Instruction, Stray, cut, in_order, joined, placed
+from edgebpf_tools.clang import lines_of
+from edgebpf_tools.flow import Flow, called_state, entry_state
 from edgebpf_tools.refusal import Refusal, needs_package
+from edgebpf_tools.rewriting import Rewriting
+from edgebpf_tools.values import STACK
 
-UNIT = 8
 MOST_UNITS = 4096
 EM_BPF = 247
-CALL = 0x85
-LOCAL_CALL, HELPER_CALL = 1, 0
-WIDE = 0x18
+DEBUG_SECTIONS = (".debug", ".BTF", ".eh_frame")
 # Opcodes of instructions outside RFC 9669's groups base64 and divmul64, with what a person calls them.
 OUTSIDE = {
     0x8D: "a call through a pointer to a function",
@@ -48,12 +51,12 @@ class Symbol:
 class ObjectFile:
     """The functions of an object file, their bytes, and what its relocations name."""
 
-    def __init__(self, path, lines=None):
+    def __init__(self, path):
         try:
             from elftools.elf.elffile import ELFFile
         except ImportError:
             raise needs_package("pyelftools, which reads object files,", "python3-pyelftools") from None
-        self.lines = lines or {}
+        self.path = path
         with open(path, "rb") as stream:
             elf = ELFFile(stream)
             if elf.header["e_machine"] not in ("EM_BPF", EM_BPF):
@@ -77,7 +80,7 @@ class ObjectFile:
                     Function(symbol.name, symbol["st_shndx"], symbol["st_value"], symbol["st_size"], is_static)
                 )
         for section in elf.iter_sections():
-            if section["sh_type"] != "SHT_REL":
+            if section["sh_type"] != "SHT_REL" or self.names[section["sh_info"]].startswith(DEBUG_SECTIONS):
                 continue
             places = self.relocations.setdefault(section["sh_info"], {})
             for relocation in section.iter_relocations():
@@ -110,9 +113,17 @@ class ObjectFile:
         names = ", ".join(function.name for function in known)
         raise Refusal(f"the file has several functions: {names}; say which one the program is")
 
+    @functools.cached_property
+    def lines(self):
+        return lines_of(self.path)
+
+    def line(self, function, offset):
+        """The file and line of an instruction, where they are known."""
+        return self.lines.get((self.names[function.section], function.start + offset))
+
     def place(self, function, offset):
-        """The file and line of an instruction, where they are known, for the beginning of a message."""
-        line = self.lines.get((self.names[function.section], function.start + offset))
+        """The same for the beginning of a message, which else has the function and the unit."""
+        line = self.line(function, offset)
         return f"{line}: " if line else f"{function.name}, unit {offset // UNIT}: "
 
     def function_at(self, section, start):
@@ -121,15 +132,6 @@ class ObjectFile:
             if function.section == section and function.start == start:
                 return function
         return None
-
-
-def _units_of(objects, function):
-    """The offsets of a function's instructions, with the eight bytes of each, over both units of a wide one."""
-    code = objects.code[function.section][function.start : function.start + function.size]
-    offset = 0
-    while offset < len(code):
-        yield offset, code[offset : offset + UNIT]
-        offset += 2 * UNIT if code[offset] == WIDE else UNIT
 
 
 def _refuse_relocation(objects, function, offset, unit, symbol):
@@ -166,57 +168,126 @@ def _callee(objects, function, offset, unit):
     return callee
 
 
-def _calls(objects, function):
-    """The local calls of a function by offset; refuses what no program of edgebpf may have."""
-    calls = {}
-    for offset, unit in _units_of(objects, function):
-        symbol = objects.relocations.get(function.section, {}).get(function.start + offset)
-        if unit[0] in OUTSIDE:
-            raise Refusal(f"{objects.place(function, offset)}{OUTSIDE[unit[0]]}, which edgebpf does not have")
-        if unit[0] == CALL and unit[1] >> 4 == LOCAL_CALL:
-            calls[offset] = _callee(objects, function, offset, unit)
-        elif symbol is not None:
-            _refuse_relocation(objects, function, offset, unit, symbol)
-    return calls
+def _refuse_circle(objects, function, circle):
+    """A loop is told at the jump that leads back, or else where it begins."""
+    places = [circle.last.end_place, *(each.place for each in circle.last.instructions[::-1] + circle.first.instructions)]
+    known = [place for place in places if objects.line(function, place)]
+    where = objects.place(function, (known or places)[0])
+    raise Refusal(
+        f"{where}this loop in {function.name} is left as a loop, and programs have none. Write EDGEBPF_UNROLL(64) before it, with "
+        "the greatest number of its rounds, which a constant has to bound; or go over neighbours by for_each_neighbour"
+    )
+
+
+def _blocks(objects, function):
+    """The blocks of a function that a run reaches."""
+    code = objects.code[function.section][function.start : function.start + function.size]
+    blocks = cut(code, lambda at: UNIT * at)
+    try:
+        order = in_order(blocks)
+    except Circle as circle:
+        _refuse_circle(objects, function, circle)
+    except Stray as stray:
+        where = objects.place(function, stray.block.end_place or (stray.block.body or [Instruction(b"", 0)])[-1].place)
+        raise Refusal(
+            f"{where}{function.name} goes on behind its end here: it lacks a return, or does what C leaves undefined"
+        ) from None
+    for label in order:
+        for instruction in blocks[label].instructions:
+            _look_at(objects, function, instruction)
+    return {label: blocks[label] for label in order}
+
+
+def _look_at(objects, function, instruction):
+    """Notes which function a local call goes to, and refuses what no program of edgebpf may have."""
+    offset, unit = instruction.place, instruction.units
+    symbol = objects.relocations.get(function.section, {}).get(function.start + offset)
+    if unit[0] in OUTSIDE:
+        raise Refusal(f"{objects.place(function, offset)}{OUTSIDE[unit[0]]}, which edgebpf does not have")
+    if unit[0] == CALL and unit[1] >> 4 == LOCAL_CALL:
+        instruction.callee = _callee(objects, function, offset, unit)
+    elif symbol is not None:
+        _refuse_relocation(objects, function, offset, unit, symbol)
 
 
 def _in_order(objects, entry):
-    """The functions that the entry reaches, each behind all that call it, with their calls."""
-    calls, order, open_now = {}, [], []
+    """The functions that the entry reaches, each behind all that call it, with their blocks."""
+    parts, order, open_now = {}, [], []
 
     def visit(function):
         if function in open_now:
             way = open_now[open_now.index(function) :] + [function]
             raise Refusal(f"{' calls '.join(each.name for each in way)}: functions may not call themselves")
-        if function in calls:
+        if function in parts:
             return
         open_now.append(function)
-        found = _calls(objects, function)
-        for callee in found.values():
-            visit(callee)
+        found = _blocks(objects, function)
+        for block in found.values():
+            for instruction in block.body:
+                if instruction.callee is not None:
+                    visit(instruction.callee)
         open_now.pop()
-        calls[function] = found
+        parts[function] = found
         order.append(function)
 
     visit(entry)
-    return list(reversed(order)), calls
+    return [(function, parts[function]) for function in reversed(order)]
 
 
-def link(objects, entry):
-    """The code of a program that begins with a function: it, and behind it those that it calls."""
-    order, calls = _in_order(objects, entry)
-    starts, at = {}, 0
-    for function in order:
-        starts[function] = at
-        at += function.size
-    if at > MOST_UNITS * UNIT:
-        raise Refusal(f"{entry.name} has {at // UNIT} units with what it calls; a program has at most {MOST_UNITS}")
-    code = bytearray()
-    for function in order:
-        part = bytearray(objects.code[function.section][function.start : function.start + function.size])
-        for offset, callee in calls[function].items():
-            distance = (starts[callee] - starts[function] - offset) // UNIT - 1
-            part[offset + 1] = LOCAL_CALL << 4
-            part[offset + 4 : offset + 8] = distance.to_bytes(4, "little", signed=True)
-        code += part
-    return bytes(code)
+def _rewritten(parts, length, lent):
+    """The instructions of each function, written so that the verifier follows them. Notes which arguments are addresses of a
+    caller's variables, and where such a call stands."""
+    calls = {}
+    for function, blocks in parts:
+        state = called_state([state for state, _ in calls[function]]) if function in calls else entry_state(length)
+        rewriting = Rewriting(blocks, state)
+        if any(instruction.callee for block in rewriting.blocks.values() for instruction in block.body):
+            for callee, found in Flow(rewriting.blocks, rewriting.order, state).calls.items():
+                calls.setdefault(callee, []).extend(found)
+                for known, place in found:
+                    handed = [register for register in range(1, 6) if known.registers[register].kind == STACK]
+                    lent.setdefault(callee, {}).update({register: (function, place) for register in handed})
+        yield function, joined(*placed(rewriting.blocks, rewriting.order))
+
+
+@dataclasses.dataclass(frozen=True)
+class Program:
+    """The code of a program; the function and offset of the object file from which each instruction comes, by its pc; and by function
+    and register, where it is handed the address of a caller's variable."""
+
+    code: bytes
+    places: dict
+    lent: dict
+
+
+def _refuse_size(objects, entry, parts, size):
+    """A program that is too large is told at the function that has most of it."""
+    units = {function: sum(instruction.size for instruction in instructions) for function, instructions in parts}
+    largest = max(units, key=units.get)
+    raise Refusal(
+        f"{objects.place(largest, 0)}{entry.name} has {size} units with what it calls, {units[largest]} of them here; a program has at "
+        f"most {MOST_UNITS}. Unroll fewer rounds, or let a FUNCTION do what each round repeats"
+    )
+
+
+def link(objects, entry, length=None):
+    """The program that begins with a function: it, and behind it those that it calls. Its records have a length, if that is known."""
+    lent = {}
+    parts = list(_rewritten(_in_order(objects, entry), length, lent))
+    starts, size = {}, 0
+    for function, instructions in parts:
+        starts[function] = size
+        size += sum(instruction.size for instruction in instructions)
+    if size > MOST_UNITS:
+        _refuse_size(objects, entry, parts, size)
+    code, places = bytearray(), {}
+    for function, instructions in parts:
+        for instruction in instructions:
+            at = len(code) // UNIT
+            places[at] = (function, instruction.place)
+            units = instruction.units
+            if instruction.callee is not None:
+                distance = starts[instruction.callee] - at - 1
+                units = bytes([CALL, LOCAL_CALL << 4, 0, 0]) + distance.to_bytes(4, "little", signed=True)
+            code += units
+    return Program(bytes(code), places, lent)

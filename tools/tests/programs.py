@@ -29,6 +29,19 @@ u64 large(struct edge *edge, u64 length) {
     volatile u32 *place = &edge->place;
     TWICE(TWICE(TWICE(TWICE(TWICE(TWICE(TWICE(TWICE(TWICE(TWICE(TWICE(TWICE(*place += 7))))))))))))
     return 0; }
+u64 halved(struct edge *edge, u64 length) { u64 rounds = 0;
+    for (u64 left = edge->source, right = edge->target; left < right; rounds++) if ((left + right) / 2 < 7) left = (left + right) / 2 + 1; else right = (left + right) / 2;
+    return rounds; }
+FUNCTION u64 raised(u64 *place) { return ++*place; }
+u64 lending(struct edge *edge, u64 length) { u64 kept = edge->source;
+    return raised(&kept); }
+u64 any_byte(struct edge *edge, u64 length) { u32 place = edge->argument[0];
+    return edge->argument[place]; }
+u64 local_array(struct edge *edge, u64 length) { u8 bytes[8];
+    for (int i = 0; i < 8; i++) bytes[i] = 3 * i + edge->source;
+    return bytes[edge->place & 7]; }
+u64 from_the_left(struct edge *edge, u64 length) { return edge->argument[length - 17]; }
+u64 signed_place(struct edge *edge, u64 length) { int place = edge->place; return place < 0 || place >= 8 ? 1 : edge->argument[place]; }
 __attribute__((naked, section("nothing_here"))) u64 bare(struct edge *edge, u64 length) {}
 """
 

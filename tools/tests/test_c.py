@@ -4,9 +4,12 @@ import pathlib
 import subprocess
 import tempfile
 import unittest
+import unittest.mock
 
 from programs import GRAPH, RUNS, SOURCE
 from tools_here import MISSING, TOOLS, run_tool
+
+from edgebpf_tools.clang import newest
 
 @unittest.skipIf(MISSING, f"not there: {MISSING}")
 class EdgebpfC(unittest.TestCase):
@@ -63,6 +66,7 @@ class EdgebpfC(unittest.TestCase):
         self.refused("large", "a program has at most 4096")
         self.refused("absent", "there is no function absent")
         self.refused("bare", "its section nothing_here is empty")
+        self.refused("halved", "programs.c:30: this loop in halved is left as a loop", "for_each_neighbour")
 
     def test_several_functions_without_a_name(self):
         run = self.compiled("16")
@@ -79,8 +83,117 @@ class EdgebpfC(unittest.TestCase):
     def test_object_files(self):
         made = f"{self.folder.name}/programs.o"
         flags = ["-O2", "-target", "bpf", "-mcpu=v3", f"-I{TOOLS}", "-c"]
-        subprocess.run([os.environ.get("CLANG", "clang"), *flags, self.file, "-o", made], check=True, capture_output=True)
+        subprocess.run([newest("clang"), *flags, self.file, "-o", made], check=True, capture_output=True)
         self.assertIn("code target 16 6110", run_tool("edgebpf-c", made, "target", "16").stdout)
         other = f"{self.folder.name}/other.o"
-        subprocess.run(["clang", "-c", "-x", "c", "/dev/null", "-o", other], check=True)
+        subprocess.run([newest("clang"), "-c", "-x", "c", "/dev/null", "-o", other], check=True)
         self.assertIn("of another machine", run_tool("edgebpf-c", other, "target", "16").stderr)
+
+    def test_faults_in_words(self):
+        for words, said in (
+            (["--argument", "00"], "--argument has 1 bytes; records of 16 bytes have an argument of 0"),
+            (["--argument", "xy"], "pairs of hexadecimal digits"),
+            (["--vertices", "2", "1"], "--vertices ascend"),
+            (["--vertices", "x"], "--vertices are numbers"),
+        ):
+            run = self.compiled("target", "16", "--on", self.graph, *words)
+            self.assertEqual((run.returncode, run.stdout), (1, ""))
+            self.assertIn(said, run.stderr)
+
+
+class StoreStandIn:
+    """Serves by the second implementation, and counts how often it was started, with which words."""
+
+    TEXT = """#!/bin/sh
+echo "$*" >> {folder}/started
+exec /usr/bin/python3 {store}
+"""
+
+    def __init__(self, folder):
+        self.folder, self.path = folder, f"{folder}/store"
+        pathlib.Path(self.path).write_text(self.TEXT.format(folder=folder, store=TOOLS / "tests" / "second_store.py"))
+        os.chmod(self.path, 0o755)
+
+    def starts(self):
+        started = pathlib.Path(self.folder) / "started"
+        return started.read_text().splitlines() if started.exists() else []
+
+
+@unittest.skipIf(MISSING, f"not there: {MISSING}")
+class WordsAtTheLine(unittest.TestCase):
+    """Runs with the second implementation as the store, and refusals by the second implementation of edgebpf_explain."""
+
+    def setUp(self):
+        folder = tempfile.TemporaryDirectory()
+        self.addCleanup(folder.cleanup)
+        self.folder = folder.name
+        self.store = StoreStandIn(self.folder)
+        environment = {"EDGEBPF": self.store.path, "EDGEBPF_EXPLAIN": str(TOOLS / "tests" / "second_explain.py")}
+        patch = unittest.mock.patch.dict(os.environ, environment)
+        patch.start()
+        self.addCleanup(patch.stop)
+        self.file = f"{self.folder}/programs.c"
+        pathlib.Path(self.file).write_text(SOURCE)
+
+    def run_on(self, graph, *words):
+        path = pathlib.Path(self.folder) / "graph.script"
+        path.write_text(graph)
+        return run_tool("edgebpf-c", self.file, *words, "--on", str(path))
+
+    def test_the_graph_is_loaded_once(self):
+        run = self.run_on(GRAPH, "target", "16", "--workers", "2")
+        self.assertEqual((run.stdout, run.stderr, run.returncode), (RUNS["target"][1], "", 0))
+        self.assertEqual(self.store.starts(), ["--workers 2"])
+
+    def test_faults_of_the_graph_and_of_the_lines_that_are_added(self):
+        for graph, words, said in (
+            ("graph 4\nbatch A\n+ 0 9\nend\n", [], "graph.script:3: a number of vertices, a record length or a vertex that is out of range"),
+            (GRAPH + "pin last\n", [], "it has a pin named last already"),
+            (GRAPH + "code target 16 9500000000000000\ncode target 16 b7000000000000009500000000000000\n", [], "a program named target already"),
+            (GRAPH, ["--vertices", "7"], "one of --vertices is no vertex of it"),
+            ("", [], "it makes no graph"),
+        ):
+            run = self.run_on(graph, "target", "16", *words)
+            self.assertEqual(run.returncode, 1)
+            self.assertIn(said, run.stderr)
+            self.assertEqual(len(run.stderr.splitlines()), 1)
+
+    def refusal(self, function):
+        run = self.run_on(GRAPH, function, "24")
+        self.assertEqual(run.returncode, 1)
+        self.assertRegex(run.stdout, f"^refused {function} cause [0-9]+ pc [0-9]+\n$")
+        return run.stderr
+
+    def test_refusals_at_their_lines(self):
+        index = self.refusal("any_byte")
+        self.assertRegex(index, r"any_byte is refused: .*programs\.c:36: bytes may lie outside")
+        self.assertIn("\n    return edge->argument[place]; }\n", index)
+        self.assertIn("place (r2): 0 to 255", index)
+        self.assertIn("The record has 24 bytes, and its argument 8", index)
+        array = self.refusal("local_array")
+        self.assertRegex(array, r"programs\.c:39: a pointer stands")
+        self.assertIn("what helps: a local array cannot be indexed by a variable", array)
+        lent = self.refusal("lending")
+        self.assertRegex(lent, r"programs\.c:32: a register is read that may be unset")
+        self.assertRegex(lent, r"raised is handed the address of a local variable, at .*programs\.c:34\.")
+
+    def test_without_the_program_that_explains(self):
+        os.environ["EDGEBPF_EXPLAIN"] = f"{self.folder}/nothing"
+        # A path that is named has to be there.
+        self.assertIn("No such file", self.refusal("any_byte"))
+
+    def test_programs_that_were_refused_before(self):
+        """An addition from the left, and a signed index that is compared with both ends."""
+        for function in ("from_the_left", "signed_place"):
+            run = self.run_on(GRAPH, function, "24")
+            self.assertEqual((run.stderr, run.returncode), ("", 0))
+
+    def test_the_source_with_the_state(self):
+        listing = run_tool("edgebpf-c", self.file, "any_byte", "24", "--explain")
+        self.assertEqual(listing.returncode, 1)
+        self.assertIn("   35 | u64 any_byte(struct edge *edge, u64 length) { u32 place = edge->argument[0];\n", listing.stdout)
+        self.assertRegex(listing.stdout, r"\n   36 \|     return edge->argument\[place\]; }\n      \|     \[.*\] .*place \(r2\) 0 to 255")
+        page = f"{self.folder}/page.html"
+        run = run_tool("edgebpf-c", self.file, "target", "16", "--html", page)
+        self.assertEqual((run.stdout, run.stderr, run.returncode), ("", "", 0))
+        self.assertIn("u64 target(struct edge *edge, u64 length)", pathlib.Path(page).read_text())

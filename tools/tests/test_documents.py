@@ -21,7 +21,12 @@ from script import serve  # noqa: E402
 SECOND_STORE = str(TOOLS / "tests" / "second_store.py")
 BUILT = os.environ.get("EDGEBPF")
 BLOCKS = re.findall(r"^```c\n(.*?)^```", documents.BPF, re.M | re.S)
-FUNCTIONS = re.findall(r"^// (refused: cause [0-9]+|no code|accepted)\nu64 (\w+)\(", "\n".join(BLOCKS), re.M)
+FUNCTIONS = re.findall(r"^// (refused: cause [0-9]+|no code: .*|accepted)\nu64 (\w+)\(", "\n".join(BLOCKS), re.M)
+# What edgebpf-c writes of a function of which it makes no code.
+NO_CODE = {
+    "no code: data": r"programs\.c:[0-9]+: .* A program has no data of its own",
+    "no code: a loop": r"programs\.c:[0-9]+: this loop in \w+ is left as a loop",
+}
 # How many cases each part of the documents has: a row or a block that is not found is missed here.
 COUNTS = {"faults": 10, "assembler_faults": 6, "answers_of_code": 2, "zeros": 1, "line_tables": 3, "home_moves": 12, "readme_lines": 4}
 COUNTS |= {"helper_programs": 5, "gathering": 3, "causes": 17, "bounds": 1, "narrowing": 4, "assembler_lines": 5}
@@ -101,14 +106,15 @@ class ProgramsOfTheDocuments(unittest.TestCase):
         self.source.write_text("#include <edgebpf.h>\n" + "\n".join(BLOCKS))
         for said, name in FUNCTIONS:
             run = run_tool("edgebpf-c", str(self.source), name, "24", "--on", str(self.graph))
-            if said == "no code":
-                self.assertIn("A program has no data of its own", run.stderr, name)
+            if said in NO_CODE:
+                self.assertEqual((run.stdout, run.returncode), ("", 1), name)
+                self.assertRegex(run.stderr, NO_CODE[said], name)
             elif said == "accepted":
                 self.assertIn(f"program {name} bound", run.stdout, name)
                 self.assertIn(f"run {name} last edges 3", run.stdout, name)
             else:
                 self.assertRegex(run.stdout, f"^refused {name} {said.removeprefix('refused: ')} pc [0-9]+\n$")
-                self.assertRegex(run.stderr, f"^edgebpf-c: {name} is refused at unit [0-9]+: ")
+                self.assertRegex(run.stderr, rf"^edgebpf-c: {name} is refused: .*programs\.c:[0-9]+: ")
 
     def test_the_first_program_in_c(self):
         source, (tool, _, *words) = documents.c_program()

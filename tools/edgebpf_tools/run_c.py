@@ -1,0 +1,115 @@
+"""Runs a program that was made of C over a graph, and says what goes wrong in words."""
+import re
+import subprocess
+import sys
+from dataclasses import dataclass
+
+from edgebpf_tools import store
+from edgebpf_tools.refusal import Refusal
+from edgebpf_tools.words import in_words
+
+PIN = "last"
+FAULTS = {
+    1: "a line of more than 70,000 bytes",
+    2: "a byte that no line may have, an unknown command, or wrong words",
+    3: "a command before `graph`, or a second `graph`",
+    4: "a number of vertices, a record length or a vertex that is out of range",
+    5: "a name that is used already, or unknown",
+    6: "an argument of the wrong length",
+    7: "vertices that do not ascend",
+    8: "more edits, programs or pins than there may be",
+    9: "more batches than there may be",
+    10: "a block that never ends",
+}
+# What a fault of one of our own lines means, by the line's first word and the number.
+OWN_FAULTS = {
+    ("code", 3): "it makes no graph",
+    ("code", 5): "it has a program named {name} already; give this one another name by --name",
+    ("code", 8): "it has as many programs as there may be",
+    ("code", 10): "it ends inside a block",
+    ("pin", 5): "it has a pin named " + PIN + " already, which edgebpf-c would make",
+    ("pin", 8): "it has as many pins as there may be",
+    ("run", 4): "one of --vertices is no vertex of it",
+}
+
+
+@dataclass
+class Run:
+    """What is run: the name, the code line, and the words of the command `run` behind the pin."""
+
+    name: str
+    line: str
+    words: str
+
+    @property
+    def lines(self):
+        return [self.line, f"pin {PIN}", f"run {self.name} {PIN} {self.words}"]
+
+
+def argument_words(options):
+    """The words of `run` behind the pin, from the options; refuses what would be a fault."""
+    room = options.length - 16
+    argument = options.argument
+    if argument is None:
+        argument = "00" * room or "-"
+    if argument != "-" and not re.fullmatch(r"([0-9a-fA-F]{2})+", argument):
+        raise Refusal("--argument is pairs of hexadecimal digits, or - for none")
+    given = 0 if argument == "-" else len(argument) // 2
+    if given != room:
+        raise Refusal(f"--argument has {given} bytes; records of {options.length} bytes have an argument of {room}")
+    if not all(vertex.isascii() and vertex.isdecimal() for vertex in options.vertices):
+        raise Refusal("--vertices are numbers in decimal digits")
+    numbers = [int(vertex) for vertex in options.vertices]
+    if any(one >= other for one, other in zip(numbers, numbers[1:])):
+        raise Refusal("--vertices ascend, and none stands twice")
+    return " ".join([options.reduce, argument, *map(str, numbers)])
+
+
+def _fault(graph_file, graph, run, said):
+    """The refusal of a script that ended in a fault."""
+    number, line = map(int, re.fullmatch(r"fault (\d+) line (\d+)", said).groups())
+    behind = line - len(graph.splitlines()) - 1
+    if not 0 <= behind < len(run.lines):
+        return Refusal(f"{graph_file}:{line}: {FAULTS.get(number, f'fault {number}')}")
+    word = run.lines[behind].split()[0]
+    known = OWN_FAULTS.get((word, number), FAULTS.get(number, f"fault {number}"))
+    return Refusal(f"{graph_file}: {known.format(name=run.name)}")
+
+
+def _split(text, name):
+    """What a script wrote of its graph, and what it wrote from the verdict of our program on."""
+    lines = text.splitlines(keepends=True)
+    for place in range(len(lines) - 1, -1, -1):
+        if re.match(rf"(program {name} bound|refused {name} cause|image {name} error) ", lines[place]):
+            return "".join(lines[:place]), "".join(lines[place:])
+    return text, ""
+
+
+def serve(graph, run, workers):
+    """Serves the graph and the run by one process. Returns what it writes, and its status."""
+    words = store.command() + ([] if workers is None else ["--workers", str(workers)])
+    try:
+        served = subprocess.run(words, input="\n".join([*graph.splitlines(), *run.lines, ""]), stdout=subprocess.PIPE, text=True)
+    except OSError as error:
+        raise Refusal(f"{error.filename}: {error.strerror}") from None
+    return served.stdout, served.returncode
+
+
+def run_on(graph_file, graph, run, workers, explain):
+    """Prints what loading and running the program writes, without the graph's own lines. `explain` says in words why the verifier
+    refuses the program, given the pc and the words that the verdict alone has."""
+    text, status = serve(graph, run, workers)
+    _, said = _split(text, run.name)
+    verdict = said.partition("\n")[0]
+    meaning = in_words(verdict) if verdict else None
+    if meaning is not None:
+        # What follows is a fault alone: a program that is not kept cannot be run.
+        print(verdict, flush=True)
+        raise Refusal(explain(verdict, meaning))
+    last = text.rstrip("\n").rpartition("\n")[2]
+    if last.startswith("fault "):
+        raise _fault(graph_file, graph, run, last)
+    if not said:
+        raise Refusal(f"edgebpf ended with status {status} before the program was loaded")
+    sys.stdout.write(said)
+    return status

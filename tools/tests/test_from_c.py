@@ -1,0 +1,161 @@
+"""The functions of tests/from_c: which are accepted at each level of optimization, and that they give the numbers of native code."""
+import ctypes
+import os
+import pathlib
+import random
+import re
+import subprocess
+import tempfile
+import unittest
+from array import array
+
+import random_c
+from tools_here import MISSING, TOOLS
+
+import sys
+
+sys.path.insert(0, str(TOOLS.parent / "compared"))
+
+from bpf import Graph, run  # noqa: E402
+from verifier import Refused, judged  # noqa: E402
+
+from edgebpf_tools import clang  # noqa: E402
+from edgebpf_tools.compile_c import HEADERS  # noqa: E402
+from edgebpf_tools.link import ObjectFile, link  # noqa: E402
+from edgebpf_tools.refusal import Refusal  # noqa: E402
+
+FOLDER = TOOLS.parent / "tests" / "from_c"
+FILES = sorted(path for path in FOLDER.glob("*.c") if path.name != "native.c")
+LEVELS = ["-O1", "-O2", "-Os"]
+NATIVE_FLAGS = ["-fwrapv", "-fno-strict-aliasing", "-ffreestanding", "-fPIC", "-shared", "-w"]
+RECORDS = int(os.environ.get("FROM_C_RECORDS", "3"))
+RANDOM_FUNCTIONS = int(os.environ.get("RANDOM_FUNCTIONS", "150"))
+VERTICES = 90
+
+
+class OneGraph:
+    """A graph for both: a hub, a vertex with more than 64 neighbours, some with a few, some with none."""
+
+    def __init__(self):
+        chance = random.Random(5)
+        self.lists = {}
+        for vertex in range(VERTICES):
+            count = 80 if vertex == 0 else 70 if vertex == 7 else 0 if vertex % 9 == 4 else chance.choice([1, 2, 3, 5, 8, 12, 20])
+            self.lists[vertex] = sorted(chance.sample(range(VERTICES), count))
+        self.edges = [(source, target, place) for source, all_of in self.lists.items() for place, target in enumerate(all_of)]
+        self.graph = Graph(VERTICES, self.lists, len(self.edges))
+        self.targets = array("I", [target for all_of in self.lists.values() for target in all_of])
+        self.starts = array("I", [0])
+        for all_of in self.lists.values():
+            self.starts.append(self.starts[-1] + len(all_of))
+
+    def hand_to(self, library):
+        """Makes the helpers of the native code ask this graph."""
+        pointers = [ctypes.cast(words.buffer_info()[0], ctypes.c_void_p) for words in (self.starts, self.targets)]
+        library.set_graph(ctypes.c_uint64(VERTICES), *pointers)
+
+    def records(self, length, seed):
+        """Records of some edges with a random argument, and some with an argument of small numbers."""
+        chance = random.Random(seed)
+        for place in range(RECORDS):
+            source, target, index = chance.choice(self.edges)
+            words = array("I", [source, target, index, len(self.lists[source])]).tobytes()
+            argument = chance.randbytes(length - 16) if place % 2 else bytes(chance.choice([0, 1, 2, 5, 8]) for _ in range(length - 16))
+            yield words + argument
+
+
+def native_library(folder, level, files=FILES):
+    """All functions of some files as one native library."""
+    path = f"{folder}/{files[0].stem}{level}.so"
+    command = [clang.newest("clang"), level, *NATIVE_FLAGS, f"-I{HEADERS}", *map(str, files), str(FOLDER / "native.c"), "-o", path]
+    subprocess.run(command, check=True)
+    return ctypes.CDLL(path)
+
+
+def native_number(library, name, record):
+    function = getattr(library, name)
+    function.restype, function.argtypes = ctypes.c_uint64, [ctypes.c_void_p, ctypes.c_uint64]
+    # The record stands alone, so that a write past its end is not one into another.
+    room = ctypes.create_string_buffer(record, len(record))
+    return function(ctypes.addressof(room), len(record))
+
+
+def objects_of(path, folder, level=clang.OPTIMIZATION):
+    made = f"{folder}/{path.stem}{level}.o"
+    clang.compile_to_bpf(str(path), made, [HEADERS], level)
+    return ObjectFile(made)
+
+
+def expected_refusals(text):
+    """The words of each refusal, by the function."""
+    return {name: words for words, name in re.findall(r"^// refused: (.*)\nu64 (\w+)\(", text, re.M)}
+
+
+@unittest.skipIf(MISSING, f"not there: {MISSING}")
+class FromC(unittest.TestCase):
+    @classmethod
+    def setUpClass(cls):
+        cls.folder = tempfile.TemporaryDirectory()
+        cls.graph = OneGraph()
+
+    @classmethod
+    def tearDownClass(cls):
+        cls.folder.cleanup()
+
+    def test_numbers_of_native_code(self):
+        for level in LEVELS:
+            library = native_library(self.folder.name, level)
+            self.graph.hand_to(library)
+            accepted = refused = 0
+            for path in FILES:
+                text = path.read_text()
+                length, refusals = int(re.match(r"// Records of ([0-9]+) bytes\.", text)[1]), expected_refusals(text)
+                objects = objects_of(path, self.folder.name, level)
+                for function in objects.functions:
+                    if function.is_static:
+                        continue
+                    with self.subTest(level=level, function=function.name):
+                        if function.name in refusals:
+                            refused += 1
+                            self.refused(objects, function, length, path, refusals[function.name])
+                        else:
+                            accepted += 1
+                            self.equal(link(objects, function, length), length, library, function.name)
+            self.assertGreaterEqual(accepted, 200)
+            # 190 of 200 are to be accepted.
+            self.assertLessEqual(20 * refused, accepted + refused)
+
+    def test_random_functions(self):
+        """Each is accepted, but for one of which more instructions may run than the bound allows, and gives the numbers of native code."""
+        path = pathlib.Path(self.folder.name) / "random.c"
+        path.write_text(random_c.source(0, RANDOM_FUNCTIONS))
+        library = native_library(self.folder.name, "-O1", [path])
+        self.graph.hand_to(library)
+        objects = objects_of(path, self.folder.name)
+        functions = [function for function in objects.functions if not function.is_static]
+        self.assertEqual(len(functions), RANDOM_FUNCTIONS)
+        for function in functions:
+            with self.subTest(function=function.name):
+                self.equal(link(objects, function, random_c.LENGTH), random_c.LENGTH, library, function.name)
+
+    def refused(self, objects, function, length, path, words):
+        if words.startswith("cause "):
+            program = link(objects, function, length)
+            verdict = judged(program.code, length)
+            self.assertEqual(f"cause {verdict.cause}", words)
+            self.assertRegex(objects.place(*program.places[verdict.pc]), rf"^{re.escape(str(path))}:[0-9]+: ")
+            return
+        with self.assertRaises(Refusal) as told:
+            link(objects, function, length)
+        self.assertRegex(str(told.exception), rf"^{re.escape(str(path))}:[0-9]+: .*{words}")
+
+    def equal(self, program, length, library, name):
+        verdict = judged(program.code, length)
+        self.assertNotIsInstance(verdict, Refused, f"{name}: {verdict}")
+        for record in self.graph.records(length, name):
+            number = run(program.code, record, self.graph.graph, verdict[0])
+            self.assertEqual(number, native_number(library, name, record), f"{name} of {record.hex()}")
+
+
+if __name__ == "__main__":
+    unittest.main()
