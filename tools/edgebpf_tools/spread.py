@@ -150,6 +150,7 @@ def perform(words):
     sys.stdout.flush()
     for piece in parts.rows_in_order(results):
         sys.stdout.buffer.write(piece)
+    sys.stdout.flush()
     times.tell(options)
     return 0
 
