@@ -1,9 +1,11 @@
 """One run over a graph in parts, each served by a process of its own, by Dask's distributed scheduler."""
 import argparse
 import contextlib
+import functools
 import pathlib
 import sys
 import time
+from dataclasses import dataclass
 
 from edgebpf_tools import ends, owned, parts, store, workers
 from edgebpf_tools.own_source import asks_of_others
@@ -11,6 +13,8 @@ from edgebpf_tools.refusal import Refusal
 from edgebpf_tools.words import in_words
 
 MOST_PROCESSES = 64
+# So many threads may one edgebpf have.
+MOST_THREADS = 16
 # A line has at most 70,000 bytes, and a vertex at most 7 digits.
 VERTICES_OF_A_LINE = 8_000
 
@@ -96,8 +100,29 @@ def results_of(served):
     return results
 
 
-def served_results(options, name, code, line, folder):
-    """The results of the program over all parts, and how many seconds cutting and serving took."""
+@dataclass
+class Times:
+    """How many seconds the steps of a run in parts took."""
+
+    cut: float
+    start: float
+    serve: float
+
+    def tell(self, options):
+        """Says the times if they are asked for, and what is faster if all of it was on this machine."""
+        say = functools.partial(print, "edgebpf-spread:", file=sys.stderr)
+        if options.timer:
+            say(f"cut in {self.cut:.2f} s, workers started in {self.start:.2f} s, served in {self.serve:.2f} s")
+        if not options.scheduler and options.processes <= MOST_THREADS:
+            say(
+                f"on one machine `edgebpf --workers {options.processes}` is faster: it has no graph to cut, which took "
+                f"{self.cut:.1f} s, and no worker processes to start, which took {self.start:.1f} s"
+            )
+
+
+def served_results(options, folder):
+    """The name of the program, its results over all parts, and the times."""
+    name, code, line = code_line(options.program)
     length = int(line.split()[2])
     argument = options.argument or ("-" if length <= 16 else "00" * (length - 16))
     run = f"run {name} last {options.reduce} {argument}"
@@ -106,28 +131,27 @@ def served_results(options, name, code, line, folder):
     begun = time.monotonic()
     files, sources = cut_graph(options, is_whole, folder)
     cut_in = time.monotonic() - begun
+    each = [(file, f"\n{line}\npin last\n{run}\n".encode()) for file in files]
     if is_whole:
         each = [(options.graph, f"\n{line}\npin last\n{runs_over(run, part)}".encode()) for part in sources if part]
-    if not is_whole or not each:
-        each = [(file, f"\n{line}\npin last\n{run}\n".encode()) for file in files or [options.graph]]
-    served, served_in = workers.serve_parts(store.command(), each, options, folder)
-    return results_of(served), cut_in, served_in
+        each = each or [(options.graph, f"\n{line}\npin last\n{run}\n".encode())]
+    served, started_in, served_in = workers.serve_parts(store.command(), each, options, folder)
+    return name, results_of(served), Times(cut_in, started_in, served_in)
 
 
 def perform(words):
     options = arguments(words)
     if not 1 <= options.processes <= MOST_PROCESSES:
         raise Refusal(f"--processes is 1 to {MOST_PROCESSES}, not {options.processes}")
-    name, code, line = code_line(options.program)
     with owned.folder() as folder:
-        results, cut_in, served_in = served_results(options, name, code, line, folder)
+        name, results, times = served_results(options, folder)
     edges, total = parts.joined(results, options.reduce)
     print(f"run {name} last edges {edges} total {total}")
     sys.stdout.flush()
     for piece in parts.rows_in_order(results):
         sys.stdout.buffer.write(piece)
-    if options.timer:
-        print(f"edgebpf-spread: cut in {cut_in:.2f} s, served in {served_in:.2f} s", file=sys.stderr)
+    sys.stdout.flush()
+    times.tell(options)
     return 0
 
 

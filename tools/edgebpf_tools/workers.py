@@ -15,10 +15,11 @@ ANSWER_SECONDS, STOP_SECONDS = 10, 5
 
 
 def serve_parts(command, parts, options, folder):
-    """What `serve_part` answers for each part, a graph's file and the lines after it, and how many seconds that took once there
-    were workers. The folder is one that workers see."""
+    """What `serve_part` answers for each part, a graph's file and the lines after it, and how many seconds the start of workers
+    took, and then their work. The folder is one that workers see."""
     asked = pathlib.Path(folder) / "asked"
     asked.touch()
+    started = time.monotonic()
     with silenced(f"{folder}/log"), client_of(options, folder) as client:
         begun = time.monotonic()
         workers = [None] * len(parts) if options.scheduler else list(client.scheduler_info()["workers"])
@@ -28,7 +29,7 @@ def serve_parts(command, parts, options, folder):
         ]
         try:
             with told_of_dask("a part was not served"):
-                return client.gather(futures), time.monotonic() - begun
+                return client.gather(futures), begun - started, time.monotonic() - begun
         except BaseException:
             stop(futures, asked)
             raise

@@ -3,6 +3,7 @@ import os
 import pathlib
 import pty
 import select
+import signal
 import subprocess
 import tempfile
 import time
@@ -198,6 +199,12 @@ class Terminal(unittest.TestCase):
         os.write(self.leader, text.encode())
 
     def status(self):
+        for _ in range(300):
+            process, status = os.waitpid(self.process, os.WNOHANG)
+            if process:
+                return os.waitstatus_to_exitcode(status)
+            time.sleep(0.1)
+        os.kill(self.process, signal.SIGKILL)
         return os.waitstatus_to_exitcode(os.waitpid(self.process, 0)[1])
 
     def test_prompt(self):
@@ -241,7 +248,7 @@ class Terminal(unittest.TestCase):
         self.types("home 1\n")
         self.until("said home 1\nedgebpf> ")
         self.types("pin a\n")
-        self.until("a pin has this name")
+        self.until("a pin has this name\nedgebpf> ")
         self.types("\x04")
         self.assertEqual(self.status(), 0)
 

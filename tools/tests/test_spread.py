@@ -54,7 +54,10 @@ class EdgebpfSpread(unittest.TestCase):
         for words in (["--processes", "1"], ["--processes", "3", "--whole"]):
             run = self.spread(*words)
             self.assertEqual((run.stdout, run.returncode), (SUM, 0), run.stderr)
-        self.assertEqual(self.spread_by_its_own("--processes", "2").stdout, SUM)
+        own = self.spread_by_its_own("--processes", "2")
+        self.assertEqual(own.stdout, SUM)
+        # Of Dask nothing is said.
+        self.assertRegex(own.stderr, r"^edgebpf-spread: on one machine `edgebpf --workers 2` is faster: .*\n$")
 
     def test_reductions(self):
         least = "run t last edges 4 total 1\nrow 0 1\nrow 70 2\nrow 299 3\n"
