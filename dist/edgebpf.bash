@@ -8,7 +8,7 @@ _edgebpf() {
     case "$word" in
     -*)
         # each program lists its options in its help
-        options=$("${COMP_WORDS[0]}" --help 2>/dev/null | grep -o -- '--[a-z-]*' | sort -u)
+        options=$("${COMP_WORDS[0]}" --help 2>&1 | grep -o -- '--[a-z-]*' | sort -u)
         COMPREPLY=($(compgen -W "$options" -- "$word"))
         ;;
     *) COMPREPLY=($(compgen -f -- "$word")) ;;

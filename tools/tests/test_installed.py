@@ -77,7 +77,7 @@ class Installed(unittest.TestCase):
         self.assertIn(facts["sources of edgebpf"], proved)
 
     def test_help_shows_lines_that_work(self):
-        text = self.run_as_user("edgebpf", "--help").stdout
+        text = self.run_as_user("edgebpf", "--help").stderr
         lines = [line.strip() for line in text.splitlines() if line.startswith("  printf") or line.startswith("  cat")]
         self.assertEqual(len(lines), 3)
         for line in lines:

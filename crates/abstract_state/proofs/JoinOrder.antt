@@ -41,8 +41,8 @@ same_parts registers others bytes flags slots values first second third =
 
 pub join_is_orderless : JoinIsOrderless
 join_is_orderless = (
-    λ a b. same_parts _ _ _ _ _ _ (commutes join_of join_commutes a.registers b.registers)
-        (commutes (λ x y. x && y) both_commute a.bytes_set b.bytes_set) (commutes join_of join_commutes a.slots b.slots),
-    λ a b c. same_parts _ _ _ _ _ _ (associates join_of join_associates a.registers b.registers c.registers)
-        (associates (λ x y. x && y) both_associate a.bytes_set b.bytes_set c.bytes_set) (associates join_of join_associates a.slots b.slots c.slots),
-  )
+  λ a b. same_parts _ _ _ _ _ _ (commutes join_of join_commutes a.registers b.registers)
+      (commutes (λ x y. x && y) both_commute a.bytes_set b.bytes_set) (commutes join_of join_commutes a.slots b.slots),
+  λ a b c. same_parts _ _ _ _ _ _ (associates join_of join_associates a.registers b.registers c.registers)
+      (associates (λ x y. x && y) both_associate a.bytes_set b.bytes_set c.bytes_set) (associates join_of join_associates a.slots b.slots c.slots),
+)

@@ -2,6 +2,7 @@
 #![tactic(auto)]
 
 use clap::Error;
+use clap::error::ErrorKind as Kind;
 use command_line::options;
 use service::{OpenGate, StdInput, StdOutput, Workers, report, serve};
 use std::io::ErrorKind;
@@ -10,21 +11,22 @@ use std::{env, io};
 
 /// The status if a read, a write, memory or a thread failed.
 const FAILED: u8 = 1;
-/// The status if the words of the command line are not allowed.
+/// The status if the words of the command line are not allowed, or ask for help.
 const WRONG_WORDS: u8 = 2;
 
-/// Prints what clap answers in place of options, which is help, the version or what is wrong with the words, and returns
-/// the status.
+/// Prints what clap answers in place of options, and returns the status. The version goes to standard output; help and
+/// what is wrong with the words go to standard error.
 fn status_of_words(rt: &HostRuntime, answer: &Error) -> u8 {
-    match (answer.use_stderr(), answer.print(rt)) {
+    if !matches!(answer.kind(), Kind::DisplayVersion) {
         // If standard error takes nothing, only the status is left.
-        (true, _) => WRONG_WORDS,
-        (false, Ok(())) => 0,
-        (false, Err(_)) => {
-            let _ = eprintln!(rt; "edgebpf: write");
-            FAILED
-        }
+        let _ = eprint!(rt; "{answer}");
+        return WRONG_WORDS;
     }
+    if answer.print(rt).is_err() {
+        let _ = eprintln!(rt; "edgebpf: write");
+        return FAILED;
+    }
+    0
 }
 
 fn main(rt: HostRuntime) -> ExitCode {
