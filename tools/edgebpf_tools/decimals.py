@@ -1,5 +1,5 @@
 """Decimal numbers in arrays of bytes, many at a time."""
-from edgebpf_tools import refusal
+from edgebpf_tools import packages
 
 # The digits of the greatest vertex.
 WIDTH = 7
@@ -8,7 +8,7 @@ NONE, TEN, ZERO = 0, 10, ord("0")
 
 def edits(sources, targets):
     """The lines that add edges to a batch, as bytes."""
-    numpy = refusal.numpy()
+    numpy = packages.numpy()
     line = numpy.frombuffer(b"+ " + bytes(WIDTH) + b" " + bytes(WIDTH) + b"\n", dtype=numpy.uint8)
     text = numpy.tile(line, (len(sources), 1))
     _write(text[:, 2 : 2 + WIDTH], sources)
@@ -18,7 +18,7 @@ def edits(sources, targets):
 
 def _write(text, numbers):
     """Writes each number to the end of a row. What stands before its first digit is left as it is."""
-    rest = numbers.astype(refusal.numpy().uint32)
+    rest = numbers.astype(packages.numpy().uint32)
     for column in range(WIDTH - 1, -1, -1):
         tenth = rest // TEN
         digit = rest - TEN * tenth + ZERO
@@ -28,7 +28,7 @@ def _write(text, numbers):
 
 def pairs(text):
     """The numbers of a text whose lines are each two of them and one blank or tab between, as rows; None for another text."""
-    numpy = refusal.numpy()
+    numpy = packages.numpy()
     if text.translate(None, b"0123456789 \t\n"):
         return None
     letters = numpy.frombuffer(text, dtype=numpy.uint8)
@@ -44,7 +44,7 @@ def pairs(text):
 def numbers_at(letters, places):
     """The decimal number that begins at each place of a text, and where it ends. A text has to go on for `WIDTH` + 1 bytes after
     the last place; of a number with more digits only the first of them count, and the end is before its others."""
-    numpy = refusal.numpy()
+    numpy = packages.numpy()
     numbers = numpy.zeros(len(places), dtype=numpy.uint32)
     ends = places.copy()
     for place in range(WIDTH):

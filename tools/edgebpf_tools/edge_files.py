@@ -4,7 +4,7 @@ import re
 import sys
 import warnings
 
-from edgebpf_tools import decimals, refusal
+from edgebpf_tools import decimals, packages
 from edgebpf_tools.refusal import Refusal
 
 # How many bytes are read at a time, and of how many edges each the progress is told.
@@ -17,7 +17,7 @@ class EdgeFile:
     """The edges of a file as columns of ids, and what its header said."""
 
     def __init__(self, name, options, warn):
-        self.numpy = refusal.numpy()
+        self.numpy = packages.numpy()
         self.name, self.base, self.quiet = name, options.base, options.quiet
         self.rectangle = options.rectangular
         self.is_symmetric = options.undirected

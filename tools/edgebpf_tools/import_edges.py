@@ -3,7 +3,7 @@ import argparse
 import contextlib
 import sys
 
-from edgebpf_tools import decimals, ends, owned, refusal
+from edgebpf_tools import decimals, ends, owned, packages
 from edgebpf_tools.edge_files import EdgeFile
 from edgebpf_tools.refusal import Refusal
 
@@ -58,7 +58,7 @@ class Numbering:
     """Which vertex an id becomes: the id less the least one, or its place among all ids."""
 
     def __init__(self, file, sources, targets, renumbers):
-        self.numpy = refusal.numpy()
+        self.numpy = packages.numpy()
         self.base = file.base or 0
         least, most = min(sources.min(), targets.min()), max(sources.max(), targets.max())
         if least < self.base:
@@ -84,7 +84,7 @@ class Numbering:
 
 def sorted_edges(sources, targets, is_symmetric):
     """The edges in order, each once, as numbers: the source's bits above those of the target."""
-    numpy = refusal.numpy()
+    numpy = packages.numpy()
     edges = sources.astype(numpy.int64)
     edges <<= VERTEX_BITS
     edges |= targets

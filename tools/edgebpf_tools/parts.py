@@ -1,7 +1,7 @@
 """A graph in parts: its script cut by the sources of its edits, and what the parts' runs write joined to one."""
 from dataclasses import dataclass
 
-from edgebpf_tools import decimals, refusal
+from edgebpf_tools import decimals, packages
 from edgebpf_tools.refusal import Refusal
 
 # Vertices follow each other in a part by ranges, as the store keeps them.
@@ -26,7 +26,7 @@ class Cutter:
     """Cuts the script of a graph: an edit goes to the part of its source, and every other line to all parts."""
 
     def __init__(self, count, outs):
-        self.numpy = refusal.numpy()
+        self.numpy = packages.numpy()
         self.count, self.outs = count, outs
         self.is_source = self.numpy.zeros(MOST_VERTICES, dtype=bool)
         self.line, self.is_made = 0, False
@@ -123,7 +123,7 @@ def joined(results, reduction):
 def rows_in_order(results):
     """The rows of runs whose rows are apart, ascending, as pieces of bytes. Of each run they ascend, and each range of vertices
     is of one run alone but for a cut in it, so that pieces within ranges are put into order."""
-    numpy, pieces = refusal.numpy(), []
+    numpy, pieces = packages.numpy(), []
     for result in results:
         letters = numpy.frombuffer(bytes(result.rows) + MARGIN, dtype=numpy.uint8)
         ends = numpy.flatnonzero(letters == NEWLINE) + 1

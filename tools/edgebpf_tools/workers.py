@@ -7,8 +7,8 @@ import pathlib
 import time
 import warnings
 
-from edgebpf_tools import ends, part_server
-from edgebpf_tools.refusal import Refusal, needs_package
+from edgebpf_tools import ends, packages, part_server
+from edgebpf_tools.refusal import Refusal
 
 # How long a scheduler has to answer, and to have its workers, and how long they have to stop what they do.
 ANSWER_SECONDS, STOP_SECONDS = 10, 5
@@ -74,20 +74,16 @@ def silenced(log):
 @contextlib.contextmanager
 def client_of(options, folder):
     """A client of the scheduler that was named, or of one on this machine with as many worker processes."""
-    try:
-        import dask
-        from distributed import Client
-    except ImportError:
-        raise needs_package("Dask's distributed scheduler", "python3-distributed") from None
-    dask.config.set({"distributed.comm.timeouts.connect": f"{ANSWER_SECONDS}s"})
+    distributed = packages.distributed()
+    packages.package("dask", "Dask", "python3-distributed").config.set({"distributed.comm.timeouts.connect": f"{ANSWER_SECONDS}s"})
     client = None
     try:
         if options.scheduler:
-            client = client_elsewhere(Client, options.scheduler)
+            client = client_elsewhere(distributed.Client, options.scheduler)
         else:
             # A signal waits until the workers have started, as half of them cannot be ended.
             with ends.Signals.held():
-                client = client_here(Client, options, folder)
+                client = client_here(distributed.Client, options, folder)
         with told_of_dask(f"the scheduler {options.scheduler} has no worker" if options.scheduler else "the workers did not start"):
             client.wait_for_workers(1 if options.scheduler else options.processes, timeout=ANSWER_SECONDS)
         yield client

@@ -1,4 +1,5 @@
 """Which programs ask the graph about their own edge's source alone: as text, and at random against the machine that runs them."""
+import importlib.util
 import pathlib
 import random
 import struct
@@ -12,7 +13,6 @@ sys.path.insert(0, str(TOOLS.parent / "compared"))
 
 from assembler import assemble  # noqa: E402
 from bpf import Graph, Trap, run  # noqa: E402
-from programs import Programs  # noqa: E402
 from verifier import judged  # noqa: E402
 
 from edgebpf_tools.compile_c import code_of  # noqa: E402
@@ -58,6 +58,14 @@ u64 both(struct edge *edge, u64 length) { return second(edge->source) + second(e
 """
 
 
+def random_programs():
+    """The programs of the comparison, whose module has the name of one here."""
+    found = importlib.util.spec_from_file_location("random_programs", TOOLS.parent / "compared" / "programs.py")
+    module = importlib.util.module_from_spec(found)
+    found.loader.exec_module(module)
+    return module.Programs(random.Random(51))
+
+
 class Watched(Graph):
     """A graph that notes which vertices a program asks about."""
 
@@ -84,7 +92,7 @@ class OwnSource(unittest.TestCase):
 
     def test_random_programs(self):
         """An accepted program that is said to ask about its source alone does so whenever it is run."""
-        programs, accepted, asking = Programs(random.Random(51)), 0, 0
+        programs, accepted, asking = random_programs(), 0, 0
         for _ in range(4000):
             code, graph = programs.code(16), Watched()
             if not isinstance(judged(code, 16), tuple) or asks_of_others(code):
