@@ -4,6 +4,7 @@
 mod crew;
 mod gate;
 mod holding;
+pub mod laws;
 mod limits;
 mod refusal;
 mod workers;
