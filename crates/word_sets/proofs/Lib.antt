@@ -4,3 +4,4 @@ pub mod Parts
 pub mod WordPlaces
 pub mod Targets
 pub mod Changes
+mod FewWords

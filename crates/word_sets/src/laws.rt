@@ -1,5 +1,9 @@
-//! The laws of the definitions. Each function does nothing: its contract is the law.
+//! The laws of the definitions, and of `place`. A function of the first does nothing: its contract is the law. One of
+//! the others only calls `place`, and is proved from its contract alone.
+ghost use Rattle.std.specs.Prelude.{◌≡◌};
 ghost use Rattle.word_sets.specs.Laws.{SetsAscend, MembersAreFound, OneWordMore, OneWordLess, OnePartDecides, NeighboursAreASet, InsertionIsOneWordMore, RemovalIsOneWordLess};
+
+use crate::places::{WORD_LIMIT, place};
 
 /// A set's list is strictly ascending and below the limit, and each such list is a set's.
 pub fn sets_ascend()
@@ -40,3 +44,17 @@ pub fn insertion_is_one_word_more()
 pub fn removal_is_one_word_less()
     ensures { RemovalIsOneWordLess }
 {}
+
+/// The greatest word stands at the only place of its own list.
+pub fn greatest_word_is_found() -> Result<usize, usize>
+    ensures { result ≡ Ok 0 }
+{
+    place(&[WORD_LIMIT - 1], WORD_LIMIT - 1)
+}
+
+/// A word that is missing belongs before the next greater one.
+pub fn missing_word_belongs_between() -> Result<usize, usize>
+    ensures { result ≡ Err 1 }
+{
+    place(&[3, 5], 4)
+}
