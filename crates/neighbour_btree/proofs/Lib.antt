@@ -4,3 +4,4 @@ pub mod Lent
 pub mod Below
 pub mod RowLists
 pub mod Roots
+pub mod Undone

@@ -1,6 +1,7 @@
 //! A set of words in a tree whose versions share their unchanged parts.
 #![tactic(auto)]
 
+pub mod laws;
 mod levels;
 mod root;
 mod slices;

@@ -1,0 +1,63 @@
+//! What follows of a tree's calls, one after another. Each function only makes public calls, and is proved from their
+//! contracts alone.
+ghost use Rattle.std.specs.Prelude.{◌≡◌, ◌<◌, true, false, IfOk, OnOk};
+ghost use Rattle.word_sets.specs.Words.{has_word};
+
+use crate::tree::NeighbourTree;
+use std::alloc::{AllocError, Global};
+use word_sets::WORD_LIMIT;
+
+/// An inserted word is there, and a tree that shared the words from before is as it was.
+pub fn inserted_is_contained(
+    tree: &mut NeighbourTree,
+    alloc: Global,
+    word: u32,
+) -> Result<(bool, bool), AllocError>
+    requires { word < WORD_LIMIT }
+    ensures own { IfOk result (λ found. found.0 ≡ true) }
+    ensures other { IfOk result (λ found. found.1 ≡ has_word word tree.old) }
+{
+    let other = tree.share()?;
+    tree.insert(alloc, word)?;
+    Ok((tree.contains(word), other.contains(word)))
+}
+
+/// Removing an inserted word that was not there before gives the words from before.
+pub fn removal_undoes_insertion(
+    tree: &mut NeighbourTree,
+    alloc: Global,
+    word: u32,
+) -> Result<(), AllocError>
+    requires { word < WORD_LIMIT }
+    ensures { OnOk result (tree.new ≡ tree.old) }
+{
+    tree.len();
+    if tree.insert(alloc, word)? {
+        tree.remove(alloc, word)?;
+    }
+    Ok(())
+}
+
+/// A new tree has the change, and the tree that it was made of does not.
+pub fn new_tree_has_the_change(alloc: Global) -> Result<(bool, bool, bool), AllocError>
+    ensures { IfOk result (λ found. found ≡ (false, true, false)) }
+{
+    let empty = NeighbourTree::new(alloc)?;
+    let (more, _) = empty.with(alloc, 7)?;
+    let (less, _) = more.without(alloc, 7)?;
+    Ok((empty.contains(7), more.contains(7), less.contains(7)))
+}
+
+/// One word is lent in one slice, and after it none.
+pub fn one_word_is_one_slice(alloc: Global) -> Result<(u32, bool), AllocError>
+    ensures word { IfOk result (λ lent. lent.0 ≡ 7) }
+    ensures end { IfOk result (λ lent. lent.1 ≡ true) }
+{
+    let tree = NeighbourTree::of(alloc, &[7])?;
+    let mut slices = tree.slices();
+    let word = match slices.next_slice() {
+        Some(slice) => slice[0],
+        None => 0,
+    };
+    Ok((word, slices.next_slice().is_none()))
+}
