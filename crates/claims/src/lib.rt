@@ -4,6 +4,7 @@
 mod claimant;
 mod counter;
 mod hand;
+pub mod laws;
 mod limits;
 mod rule;
 
