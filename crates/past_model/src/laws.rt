@@ -1,6 +1,14 @@
-//! The laws of the definitions. Each function does nothing: its contract is the law.
+//! The laws of the definitions, and of the calls. A function of the first does nothing: its contract is the law. One of
+//! the others only makes public calls, and is proved from their contracts alone.
+ghost use Rattle.std.specs.Prelude.{◌≡◌, IfOk};
 ghost use Rattle.past_model.specs.Laws.{OneEdit, EditsInTurn, ChangeOfSize, ReplayIsGraph};
 ghost use Rattle.past_model.specs.HomeLaws.{HomesHold, HomesStay, HomeOfLonger, HomesAtLimits};
+
+use crate::batch::Batch;
+use crate::edit::Edit;
+use crate::entry::Entry;
+use crate::home::{ARRAY_MOST, BLOCK_MOST, Home};
+use std::alloc::{AllocError, Global};
 
 /// One edit decides its own pair and leaves every other.
 pub fn one_edit()
@@ -41,3 +49,29 @@ pub fn home_of_longer()
 pub fn homes_at_limits()
     ensures { HomesAtLimits }
 {}
+
+/// A list stays at the last degree of its home.
+pub fn lists_stay_at_the_last_degree() -> (Home, Home)
+    ensures block { result.0 ≡ Home.Block }
+    ensures array { result.1 ≡ Home.Gapped }
+{
+    (
+        Home::Block.after(BLOCK_MOST),
+        Home::Gapped.after(ARRAY_MOST),
+    )
+}
+
+/// A shared batch has the edits that the batch was made of.
+pub fn shared_batch_has_its_edits(alloc: Global, edits: Vec<Edit>) -> Result<Batch, AllocError>
+    ensures { IfOk result (λ batch. batch ≡ edits.items) }
+{
+    Batch::new(alloc, edits)?.share()
+}
+
+/// A shared entry is of the same feed.
+pub fn shared_entry_is_of_its_feed(entry: &Entry) -> Result<u8, AllocError>
+    ensures { IfOk result (λ feed. feed ≡ entry.now.feed) }
+{
+    let shared = entry.share()?;
+    Ok(shared.feed)
+}
