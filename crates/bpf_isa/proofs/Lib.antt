@@ -3,3 +3,4 @@ pub mod RowLaws
 pub mod FieldLaws
 pub mod DecodedLaws
 pub mod ErrorLaws
+pub mod EncodedLaws
