@@ -3,6 +3,7 @@
 
 mod array;
 mod cells;
+pub mod laws;
 mod packing;
 mod run;
 
