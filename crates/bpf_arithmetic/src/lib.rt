@@ -4,6 +4,7 @@
 
 mod arithmetic;
 mod comparison;
+pub mod laws;
 mod long;
 mod short;
 

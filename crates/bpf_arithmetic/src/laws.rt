@@ -1,0 +1,51 @@
+//! Arithmetic at the limits of a width. Each function only makes public calls, and is proved from their contracts
+//! alone.
+ghost use Rattle.std.specs.Prelude.{◌≡◌, ◌-◌, ◌^◌, true, false};
+
+use crate::arithmetic::{calculate, extend_sign, negate, swap};
+use crate::comparison::holds;
+use bpf_isa::{ByteOrder, Comparison, Extension, Operation, SwapBits, Width};
+
+/// A comparison of 64 bits looks at all bits, and one of 32 bits at the low ones.
+pub fn comparisons_look_at_their_width() -> (bool, bool)
+    ensures { result ≡ (true, false) }
+{
+    let (x, y) = (0x1_0000_0000, 1);
+    (
+        holds(Width::Bits64, Comparison::Greater, x, y),
+        holds(Width::Bits32, Comparison::Greater, x, y),
+    )
+}
+
+/// A result of 32 bits has a zero upper half.
+pub fn short_results_are_short() -> (u64, u64)
+    ensures { result ≡ (2 ^ 32 - 1, 0) }
+{
+    let x = 0x1_0000_0001;
+    let negative = negate(Width::Bits32, x);
+    (
+        negative,
+        calculate(Width::Bits32, Operation::Add, negative, 1),
+    )
+}
+
+/// A sign extends from the highest bit that is taken, and from no other.
+pub fn signs_extend_from_their_bit() -> (u64, u64)
+    ensures { result ≡ (2 ^ 64 - 2 ^ 15, 128) }
+{
+    (
+        extend_sign(Extension::From16To64, 0x8000),
+        extend_sign(Extension::From16To64, 0x80),
+    )
+}
+
+/// A swap keeps the low bytes alone, in the order that is asked for.
+pub fn swaps_keep_the_low_bytes() -> (u64, u64)
+    ensures { result ≡ (13330, 4660) }
+{
+    let x = 0x56_1234;
+    (
+        swap(ByteOrder::Big, SwapBits::Low16, x),
+        swap(ByteOrder::Little, SwapBits::Low16, x),
+    )
+}
