@@ -2,3 +2,4 @@ mod Places
 mod Asking
 mod Written
 mod Read
+mod Live

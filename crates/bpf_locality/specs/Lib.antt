@@ -1,1 +1,2 @@
 pub mod Locality
+pub mod Live

@@ -1,5 +1,12 @@
 //! The laws of what a step touches. Each function does nothing: its contract is the law.
+ghost use Rattle.bpf_locality.specs.Live.{SomeBytesAreLive};
 ghost use Rattle.bpf_locality.specs.Locality.{WritesLiveBytes, ReadsLiveBytes};
+
+/// In each state the bytes of the record and of the current frame are live, and address 0 is not. So the two laws below
+/// speak of some bytes, and not of all.
+pub fn some_bytes_are_live()
+    ensures { SomeBytesAreLive }
+{}
 
 /// A step of any program leaves each byte as it is that is live neither before the step nor after it. (Where a function is
 /// called, its frame is laid out: it is live after the step.)
