@@ -14,8 +14,8 @@ ODD_EDITS = ["- 0", "-0 0", "", "# c", "+ 0", "+ 0 0 0", "end x", "+ 0 999999999
 MUTATIONS = b" \n\t#+-09afxzAZ[];:,.\r\x00\xff"
 
 
-# How many targets a list is to have, so that it moves from home to home.
-FEW = [0, 1, 8, 9, 12, 13, 14, 40]
+# How many targets a list is to have, so that it moves from home to home, and its edges are run in blocks of up to 64.
+FEW = [0, 1, 7, 8, 9, 12, 13, 14, 40, 63, 64, 65, 128, 130, 200]
 MANY = [0, 8, 9, 12, 13, 700, 767, 768, 769, 800, 1024, 1025, 1026, 1030]
 # A run of a program executes no more instructions than this, and all runs of a command no more than that.
 LONG_RUN, LONG_COMMAND = 2_000, 100_000

@@ -16,7 +16,9 @@ from script import Session  # noqa: E402
 
 # Programs of one script: no more are kept.
 IN_ONE = 250
-OPENING = ["graph 5", "batch A", "+ 0 1", "+ 0 2", "+ 1 2", "+ 2 2", "+ 2 4", "+ 4 0", "end", "pin a"]
+# Vertex 3 has so many neighbours that some of its edges are run in a block, and others one by one.
+MANY = [f"+ 3 {target}" for target in range(66)]
+OPENING = ["graph 70", "batch A", "+ 0 1", "+ 0 2", "+ 1 2", "+ 2 2", "+ 2 4", "+ 4 0", *MANY, "end", "pin a"]
 ALLOWED = [9, *range(32, 127)]
 
 

@@ -2,7 +2,7 @@
 use Rattle.std.proofs.Common.{◌≡◌, ℕ, suc, ◌+◌, ◌-◌, ◌^◌, ◌<◌, ◌≤◌, List, Option, None, [], ◌∷◌, ◌++◌, length, take, drop, get_or, Some, refl, length-drop, sym, ap, ◌∙◌, add-zero, arith}
 use Rattle.std.specs.List.{filter_map}
 use Rattle.std.specs.Int.{w32, to_le_bytes}
-use Rattle.std.proofs.lemmas.List.{take_more, take_all, drop-drop, length_push, length-append, length-take-le}
+use Rattle.std.proofs.lemmas.List.{take-append-drop, take_more, take_all, drop-drop, length_push, length-append, length-take-le}
 use Rattle.std.proofs.Math.Seq.{take-add, take-append_seam, drop-append_seam}
 use Rattle.std.proofs.lemmas.List.Elements.{filter_map-append}
 use Rattle.bpf_image.specs.Program.{Program}
@@ -159,3 +159,23 @@ pub record IsBegun (source degree : ℕ) (argument bytes : List ℕ) : Type 0 wh
 
 pub begin_alike : (e : Edge) (argument bytes : List ℕ) → IsBegun e.source e.degree argument bytes → BeginAlike e argument bytes
 begin_alike e argument bytes begun = (begun.edge, begun.same_source, begun.same_degree, begun.record_is)
+
+-- the edges from a place on, beside those before it
+pub rest_folded : (r : Reduction) (p : Program) (g : Graph) (argument : List ℕ) (source first : ℕ) (targets : List ℕ) (place so_far value next : ℕ)
+    → IsFolded r p g argument source first targets place so_far
+    → value ≡ reduction_of_numbers r (found p g argument source (first + place) (drop place targets)) → length (found p g argument source (first + place) (drop place targets)) ≡ length (drop place targets)
+    → next ≡ combination r so_far value
+    → (next ≡ reduction_of_numbers r (found p g argument source first targets)) × (length (found p g argument source first targets) ≡ length targets)
+rest_folded r p g argument source first targets place so_far value next done row count combines =
+    let early = found p g argument source first (take place targets) in
+    let late = found p g argument source (first + place) (drop place targets) in
+    let long : first + length (take place targets) ≡ first + place = ap (λ n. first + n) (length-take-le place targets done.within) in
+    let more : found p g argument source first targets ≡ early ++ late =
+    ap (found p g argument source first) (sym (take-append-drop place targets))
+    ∙ ap (filter_map (λ number. number)) (numbers_from-append p (longest p) g argument source first (take place targets) (drop place targets)
+    ∙ ap (λ n. numbers_from p (longest p) g argument source first (take place targets) ++ numbers_from p (longest p) g argument source n (drop place targets)) long)
+    ∙ filter_map-append (λ number. number) (numbers_from p (longest p) g argument source first (take place targets)) (numbers_from p (longest p) g argument source (first + place) (drop place targets)) in (
+      combines ∙ ap (λ k. combination r k value) done.value ∙ ap (combination r (reduction_of_numbers r early)) row
+          ∙ sym (reduced-append r early late) ∙ ap (reduction_of_numbers r) (sym more),
+      ap length more ∙ length-append early late ∙ ap (λ n. n + length late) done.count ∙ ap (λ n. place + n) count ∙ omega (arith, length-drop place targets, done.within),
+    )

@@ -2,17 +2,19 @@
 //! does it, in one pass over these edges.
 #![tactic(auto)]
 
+mod blocks;
 mod edge;
 mod fold;
 pub mod laws;
+mod memory;
 mod outcome;
 mod rows;
 mod span;
 
-pub use bpf_runs::Memory;
 pub use edge::Edge;
 pub use fold::{combine, map_frontier, nothing, number_for_edge};
 pub use map_model::{EDGE_BYTES, Reduction, Row};
+pub use memory::Memory;
 pub use outcome::MapOutcome;
 pub use rows::Rows;
 pub use verifier::Verified;

@@ -20,7 +20,7 @@ slices-preserved c =
     let ahead = c.slices.invariant.rest ∙ c.in-Some.ensures.lent.1 in
     record {
       rest = (row_behind all c.in-Some.targets.now c.next_slice.new.self c.slices.place ahead c.slices.invariant.folded.within).1;
-      folded = row_folded c.args.reduction c.args.program.now (graph_of c.args.version.now.past) c.args.argument.now c.args.source all c.in-Some.targets.now c.next_slice.new.self c.slices.place c.slices.so_far c.fold_span-value.result c.combine-so_far.result c.slices.invariant.folded ahead c.fold_span-value.ensures.value c.fold_span-value.ensures.count c.combine-so_far.ensures;
+      folded = row_folded c.args.reduction c.args.program.now (graph_of c.args.version.now.past) c.args.argument.now c.args.source all c.in-Some.targets.now c.next_slice.new.self c.slices.place c.slices.so_far c.fold_slice-value.result c.combine-so_far.result c.slices.invariant.folded ahead c.fold_slice-value.ensures.value c.fold_slice-value.ensures.count c.combine-so_far.ensures;
     }
 
 -- no neighbour, so no edge
@@ -57,8 +57,8 @@ unreachable-requires c =
     let test = c.slices-test.true in
     omega (arith, past, test, c.requires.count)
 
-pub fold_span-value-requires-clause-few : goal.fold_span-value-requires-clause-few
-fold_span-value-requires-clause-few c =
+pub fold_slice-value-requires-clause-few : goal.fold_slice-value-requires-clause-few
+fold_slice-value-requires-clause-few c =
     omega (arith, few_in_row (neighbours (graph_of c.args.version.now.past) c.args.source) c.in-Some.targets.now c.next_slice.new.self c.slices.place c.args.neighbour_count (c.slices.invariant.rest ∙ c.in-Some.ensures.lent.1) c.slices.invariant.folded.within c.requires.count c.requires.small)
 
 pub overflow_cast-place : goal.overflow_cast-place
