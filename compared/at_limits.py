@@ -20,10 +20,13 @@ def expanded(recipe):
     lines = [""]
     for line in recipe.splitlines():
         word, *rest = line.split(" ")
-        if word in SIGNS and len(rest) == 7:
+        edits, _, singly = word.partition("_")
+        if edits in SIGNS and len(rest) == 7:
             count, *numbers = map(int, rest)
             sources, targets = steps(*numbers[:3]), steps(*numbers[3:])
-            lines += [f"{SIGNS[word]} {sources(place)} {targets(place)}" for place in range(count)]
+            for place in range(count):
+                edit = f"{SIGNS[edits]} {sources(place)} {targets(place)}"
+                lines += ["batch A", edit, "end"] if singly else [edit]
         elif word == "words":
             count, *numbers = map(int, rest)
             lines[-1] += "".join(f" {steps(*numbers)(place)}" for place in range(count))

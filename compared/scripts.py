@@ -17,6 +17,8 @@ MUTATIONS = b" \n\t#+-09afxzAZ[];:,.\r\x00\xff"
 # How many targets a list is to have, so that it moves from home to home, and its edges are run in blocks of up to 64.
 FEW = [0, 1, 7, 8, 9, 12, 13, 14, 40, 63, 64, 65, 128, 130, 200]
 MANY = [0, 8, 9, 12, 13, 700, 767, 768, 769, 800, 1024, 1025, 1026, 1030]
+# The numbers from here on are of scripts about hubs: all are of long lists, and most of their batches have one edit of one of these.
+HUBS = 1_000_000_000
 # A run of a program executes no more instructions than this, and all runs of a command no more than that.
 LONG_RUN, LONG_COMMAND = 2_000, 100_000
 
@@ -24,6 +26,7 @@ LONG_RUN, LONG_COMMAND = 2_000, 100_000
 class Writer:
     def __init__(self, number):
         self.number, self.random = number, random.Random(number)
+        self.has_hubs = number >= HUBS
         self.writing = Programs(self.random)
         self.programs, self.pins, self.count = {}, {}, 0
         self.targets, self.homes = {}, {}
@@ -66,6 +69,8 @@ class Writer:
             return self.run() if kind == "r" else self.list_edges()
         if kind == "h":
             return [f"home {self.vertex()}"]
+        if self.has_hubs and self.often(0.7):
+            return self.single_edits()
         if self.vertices > 12 and self.often(0.8 if self.is_big else 0.4):
             return self.burst()
         return self.batch([self.edit() for _ in range(self.random.randrange(9))])
@@ -115,6 +120,19 @@ class Writer:
             edits += [self.edit() for _ in range(3)]
         return [*self.batch(edits), f"home {source}"]
 
+    def single_edits(self):
+        """A few batches, each with one edit or a few of one vertex, which often say what is so."""
+        source = self.choice(self.hubs)
+        sign, lines = self.choice("+-"), []
+        for _ in range(self.random.randrange(1, 7)):
+            there = sorted(self.targets.get(source, ()))
+            edits = []
+            for _ in range(self.choice([1, 1, 1, 2, 5])):
+                target = self.choice(there) if there and self.often(0.8 if sign == "-" else 0.1) else self.random.randrange(self.vertices)
+                edits.append((sign if self.often(0.9) else self.choice("+-"), source, target))
+            lines += self.batch(edits)
+        return [*lines, f"home {source}"]
+
     def few_enough(self, program, degrees):
         """The vertices that a command may run over."""
         left, kept = LONG_COMMAND // self.programs[program][1], []
@@ -149,7 +167,7 @@ class Writer:
 
     def choose_graph(self):
         """How many vertices there are, and on which of them most happens."""
-        self.is_big, self.kinds = self.often(0.02), "tttccccppprrrrrllbbbbh"
+        self.is_big, self.kinds = self.often(0.02) or self.has_hubs, "tttccccppprrrrrllbbbbh"
         if self.is_big:
             self.vertices, self.kinds = self.choice([1030, 1100, 1500]), "tccpprrlbbbbbbbbbh"
         elif self.often(0.25):

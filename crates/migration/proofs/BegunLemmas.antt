@@ -18,10 +18,11 @@ use Rattle.migration.specs.Groups.{Grouped, edits_of}
 use Rattle.migration.specs.Lists.{rows_of, homes_of, list_at, home_of}
 use Rattle.migration.specs.Merge.{AreEditsFrom, IsMerged}
 use Rattle.migration.specs.Pages.{rows_in, homes_in, part_in, ArePages}
-use Rattle.migration.specs.Part.{Part, row_at, home_at, AreEditsOf, IsShard}
+use Rattle.migration.specs.Part.{Part, vertex_at, row_at, home_at, AreEditsOf, IsShard}
+use Rattle.migration.specs.Put.{AreOwnEdits}
 use Rattle.migration.proofs.HomeLemmas.{none_moved, one_moved, same_home}
 use Rattle.migration.proofs.PageLemmas.{row_in_page, home_in_page, page_inside, rows_push, homes_push}
-use Rattle.migration.proofs.PartLemmas.{own_edits, nothing_done, merged_own, row_kept, row_edited}
+use Rattle.migration.proofs.PartLemmas.{own_edits, own_edits_from, below_graph, nothing_done, merged_own, row_in, row_kept, row_edited}
 
 -- the edits of a group are those of a vertex
 pub edits_in : (groups : Grouped) (p : Part) (i : ℕ) → groups.grouping ≡ ByVertex → edits_of groups i ≡ own_edits p groups.edits i
@@ -81,6 +82,22 @@ pub merged_of_page : (groups : Grouped) (p : Part) (page : Lists) (first place :
     → (u n : ℕ) (q : ℕ → Bool) → AreEditsFrom u n (own_edits p groups.edits (first + place)) → row_at p (first + place) ≡ filter q (numbers_below n) → IsMerged (own_edits p groups.edits (first + place)) u n q row more
 merged_of_page groups p page first place own row more by_vertex its inside read merged =
     merged_own groups.edits own p row more (first + place) (read ∙ edits_in groups p (first + place) by_vertex) (λ u n q from same. merged u n q from (its.rows place inside ∙ same))
+
+-- the edits that were read for a list of a page are its vertex's own
+pub own_of_page : (groups : Grouped) (p : Part) (page : Lists) (first place : ℕ) (own : List Edit) → groups.grouping ≡ ByVertex → IsPageOf groups.edits p first page → place < length (rows_of page) → own ≡ edits_of groups (first + place) → AreOwnEdits own (get_or (rows_of page) place [])
+own_of_page groups p page first place own by_vertex its inside read =
+    let within = its.within in
+    let shard = its.shard in
+    let g = shard.graph in
+    let v = vertex_at p (first + place) in
+    record {
+      vertex = v;
+      limit = g.vertex_count;
+      has_target = g.has_edge v;
+      small = shard.small;
+      edits = subst (AreEditsFrom v g.vertex_count) (sym (read ∙ edits_in groups p (first + place) by_vertex)) (own_edits_from g.vertex_count p groups.edits (first + place) shard.few its.own (below_graph g.vertex_count p groups.edits shard.small shard.part.within its.own));
+      list = row_in g p (first + place) (get_or (rows_of page) place []) shard.part (omega arith) (its.rows place inside);
+    }
 
 -- a page of a shard, from its first vertex on
 pub page_of_shard : (es : List Edit) (range : ℕ) (pages : List (Arc Lists Global)) (i : ℕ) (d : Arc Lists Global) → ArePages pages → IsShard (part_in range pages) → AreEditsOf (part_in range pages) es → i < length pages → IsPageOf es (part_in range pages) (64 * i) (arc_value (get_or pages i d))

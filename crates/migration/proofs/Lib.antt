@@ -12,6 +12,7 @@ pub mod ListLemmas
 pub mod PageLemmas
 pub mod BegunLemmas
 pub mod HomeLemmas
+pub mod PutLemmas
 pub mod HousedLemmas
 pub mod FilledLemmas
 pub mod MadeLemmas

@@ -106,10 +106,10 @@ decided_later : (es : List Edit) (u i : ℕ) (test : ℕ → Bool) (d : Edit) (v
 decided_later es u i test d v inside own =
     sym (ap (λ l. decision l u test v) (drop_more es i d inside) ∙ decided_after (last_word (drop (i + 1) es) u v) (get_or es i d) u test v own)
 
-test_after-own : (e : Edit) (test : ℕ → Bool) → test_after e test (target_of e) ≡ inserts e
+pub test_after-own : (e : Edit) (test : ℕ → Bool) → test_after e test (target_of e) ≡ inserts e
 test_after-own e test = ap (λ b. if b then inserts e else test (target_of e)) (eq-eqb (target_of e) (target_of e) refl)
 
-test_after-other : (e : Edit) (test : ℕ → Bool) (v : ℕ) → (v ≡ target_of e → ⊥) → test_after e test v ≡ test v
+pub test_after-other : (e : Edit) (test : ℕ → Bool) (v : ℕ) → (v ≡ target_of e → ⊥) → test_after e test v ≡ test v
 test_after-other e test v ne = ap (λ b. if b then inserts e else test v) (ne_eqb (target_of e) v (λ same. ne (sym same)))
 
 test_after-idle : (e : Edit) (test : ℕ → Bool) (v : ℕ) → test (target_of e) ≡ inserts e → test_after e test v ≡ test v
@@ -120,7 +120,7 @@ test_after-idle e test v so =
     ]
 
 -- an edit that says what is so
-idle_edit : (n : ℕ) (p : ℕ → Bool) (es : List Edit) (u i : ℕ) (m : Merging) (d : Edit) → (is : IsMerging n p es u i m) → i < length es → source_of (get_or es i d) ≡ u → is.test (target_of (get_or es i d)) ≡ inserts (get_or es i d) → IsMerging n p es u (i + 1) m
+pub idle_edit : (n : ℕ) (p : ℕ → Bool) (es : List Edit) (u i : ℕ) (m : Merging) (d : Edit) → (is : IsMerging n p es u i m) → i < length es → source_of (get_or es i d) ≡ u → is.test (target_of (get_or es i d)) ≡ inserts (get_or es i d) → IsMerging n p es u (i + 1) m
 idle_edit n p es u i m d is inside own so = record {
   test = is.test;
   list = is.list;
@@ -135,11 +135,11 @@ idle_edit n p es u i m d is inside own so = record {
 }
 
 -- how the counts change where the test does
-count_after : (n t : ℕ) (f g : ℕ → Bool) → t < n → ((x : ℕ) → (x ≡ t → ⊥) → f x ≡ g x) → length (filter f (numbers_below n)) + one (g t) ≡ length (filter g (numbers_below n)) + one (f t)
+pub count_after : (n t : ℕ) (f g : ℕ → Bool) → t < n → ((x : ℕ) → (x ≡ t → ⊥) → f x ≡ g x) → length (filter f (numbers_below n)) + one (g t) ≡ length (filter g (numbers_below n)) + one (f t)
 count_after n t f g low agree = lengths_differ (filters_differ f g n t low agree)
 
 -- an edit that changes the list
-changing_edit : (n : ℕ) (p : ℕ → Bool) (es : List Edit) (u i : ℕ) (m k : Merging) (e d : Edit) → (is : IsMerging n p es u i m) → i < length es → e ≡ get_or es i d → source_of e ≡ u → target_of e < n
+pub changing_edit : (n : ℕ) (p : ℕ → Bool) (es : List Edit) (u i : ℕ) (m k : Merging) (e d : Edit) → (is : IsMerging n p es u i m) → i < length es → e ≡ get_or es i d → source_of e ≡ u → target_of e < n
     → ((j : ℕ) (q : Edit) → i + 1 ≤ j → j < length es → target_of e < target_of (get_or es j q))
     → k.merged ++ k.rest ≡ filter (test_after e is.test) (numbers_below n)
     → ((y : ℕ) → target_of e < y → All (λ x. x < y) k.merged)

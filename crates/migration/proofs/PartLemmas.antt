@@ -20,9 +20,7 @@ use Rattle.migration.specs.Part.{Part, vertex_at, row_at, IsPart, IsEditOf, AreE
 use Rattle.migration.specs.Merge.{decision, AreEditsFrom, IsMerged}
 use Rattle.migration.specs.Blocks.{is_new, is_gone}
 use Rattle.migration.specs.Begun.{IsDone}
-use Rattle.word_sets.specs.Words.{IsSet}
 use Rattle.migration.proofs.WordLemmas.{last_word-filter}
-use Rattle.migration.proofs.HomeLemmas.{set_merged}
 
 -- the edits of the i-th vertex
 abbrev pub own_edits : Part → List Edit → ℕ → List Edit
@@ -317,16 +315,6 @@ pub merged_own : (es own : List Edit) (p : Part) (row : List ℕ) (more : Counts
     → (u n : ℕ) (q : ℕ → Bool) → AreEditsFrom u n (own_edits p es i) → row_at p i ≡ filter q (numbers_below n) → IsMerged (own_edits p es i) u n q row more
 merged_own es own p row more i is merged u n q from same =
     subst (λ l. IsMerged l u n q row more) is (merged u n q (subst (AreEditsFrom u n) (sym is) from) same)
-
--- such a list is a set
-pub set_more : (es : List Edit) (p : Part) (row : List ℕ) (more : Counts) (i : ℕ) → IsShard p → AreEditsOf p es → i < length p.rows
-    → ((u n : ℕ) (q : ℕ → Bool) → AreEditsFrom u n (own_edits p es i) → row_at p i ≡ filter q (numbers_below n) → IsMerged (own_edits p es i) u n q row more)
-    → IsSet row
-set_more es p row more i is own inside merged =
-    let g = is.graph in
-    let below = below_graph g.vertex_count p es is.small is.part.within own in
-    set_merged (own_edits p es i) (vertex_at p i) g.vertex_count (g.has_edge (vertex_at p i)) row more is.small
-    (merged (vertex_at p i) g.vertex_count (g.has_edge (vertex_at p i)) (own_edits_from g.vertex_count p es i is.few own below) (row_in g p i (row_at p i) is.part inside refl))
 
 -- and a vertex that edits are of is done with it
 pub row_edited : (es : List Edit) (p : Part) (g : Graph) (rows : List (List ℕ)) (row : List ℕ) (counts more : Counts) (i : ℕ) → length rows ≡ i → i < length p.rows → length p.rows ≤ 256 → AreEditsOf p es → AreEditsBelow g.vertex_count es → IsPart g p → IsDone es p g rows counts

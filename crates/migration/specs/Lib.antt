@@ -4,6 +4,7 @@ pub mod Table
 pub mod Blocks
 pub mod Lent
 pub mod Merge
+pub mod Put
 pub mod ShortBlocks
 pub mod Lists
 pub mod Pages

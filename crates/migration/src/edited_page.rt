@@ -7,7 +7,7 @@ ghost use Rattle.migration.specs.Lists.{AreKept, rows_of, homes_of};
 ghost use Rattle.migration.specs.Part.{Part};
 
 use crate::counts::Counts;
-use crate::edited::edited_list;
+use crate::edited_vertex::push_edited;
 use crate::groups::Groups;
 use crate::lists::Lists;
 use crate::scratch::Scratch;
@@ -43,16 +43,7 @@ pub(crate) fn edited_page(
             continue;
         }
         groups.read(vertex, &mut scratch.own)?;
-        let more = edited_list(
-            page,
-            place,
-            &mut scratch.own,
-            &mut scratch.gathered,
-            &mut scratch.merged,
-        )?;
-        let words = scratch.merged.words();
-        let home = page.home(place).after(words.len() as u32);
-        scratch.lists.push(alloc, home, words)?;
+        let more = push_edited(alloc, page, place, scratch)?;
         counts = counts.plus(more);
     }
     let next = scratch.lists.taken(alloc)?;

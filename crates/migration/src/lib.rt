@@ -8,6 +8,8 @@ mod counts;
 mod edited;
 mod edited_page;
 mod edited_shard;
+mod edited_tree;
+mod edited_vertex;
 mod groups;
 mod letting_go;
 mod lists;

@@ -1,5 +1,5 @@
 //! The lists of a range's vertices, each in its home.
-ghost use Rattle.std.specs.Prelude.{◌≡◌, ◌<◌, ◌≤◌, [], length, replicate, slice_index_or, IfOk};
+ghost use Rattle.std.specs.Prelude.{◌≡◌, ◌<◌, ◌≤◌, [], length, replicate, slice_index_or, IfOk, IfSome};
 ghost use Rattle.migration.specs.declared.pages.TheConstants.{PAGE_VERTICES};
 ghost use Rattle.past_model.specs.declared.home.Home.TheVariants.{Block, Gapped, Tree};
 ghost use Rattle.past_model.specs.Homes.{IsHomeOf};
@@ -151,6 +151,22 @@ impl Lists {
         ensures { result.now ≡ list_at self.now (InTree number) }
     {
         &self.trees[usize::from(number)]
+    }
+
+    /// The tree in which a vertex's list stands, if that is its home.
+    pub(crate) fn tree_of(&self, vertex: usize) -> Option<&NeighbourTree>
+        requires kept { AreKept self.now }
+        requires inside { vertex < length (rows_of self.now) }
+        ensures list { IfSome result (λ tree. tree.now ≡ slice_index_or (rows_of self.now) vertex []) }
+        ensures home { IfSome result (λ _. slice_index_or (homes_of self.now) vertex Block ≡ Tree) }
+    {
+        match self.place(vertex) {
+            Place::Nowhere => None,
+            Place::InShort(_) => None,
+            Place::InBlock(_) => None,
+            Place::InArray(_) => None,
+            Place::InTree(number) => Some(self.tree(number)),
+        }
     }
 
     /// The home of a vertex's list.
@@ -333,6 +349,48 @@ impl Lists {
             }
             Home::Gapped => self.push_run(words),
             Home::Tree => self.push_tree(NeighbourTree::of(alloc, words)?),
+        }
+    }
+
+    // Puts the words of a tree behind the others, copied by way of a list into another home.
+    fn push_words_of(
+        &mut self,
+        alloc: Global,
+        home: Home,
+        tree: &NeighbourTree,
+        words: &mut Vec<u32>,
+    ) -> Result<(), AllocError>
+        requires kept { AreKept self.old }
+        requires room { length (rows_of self.old) < PAGE_VERTICES }
+        requires fits { IsHomeOf home (length tree.now) }
+        ensures { IfOk result (λ _. IsPushed self.old self.new tree.now home) }
+    {
+        words.clear();
+        let degree = tree.len() as usize;
+        while words.len() < degree {
+            words.extend_from_slice(tree.slice_at(words.len() as u32))?;
+        }
+        self.push(alloc, home, words)
+    }
+
+    /// Puts the words of a tree behind the others, in this home: as this very tree, or in a home that is made of them.
+    /// `words` is lent for that.
+    pub(crate) fn push_moved(
+        &mut self,
+        alloc: Global,
+        home: Home,
+        tree: NeighbourTree,
+        words: &mut Vec<u32>,
+    ) -> Result<(), AllocError>
+        requires kept { AreKept self.old }
+        requires room { length (rows_of self.old) < PAGE_VERTICES }
+        requires fits { IsHomeOf home (length tree) }
+        ensures { IfOk result (λ _. IsPushed self.old self.new tree home) }
+    {
+        match home {
+            Home::Tree => self.push_tree(tree),
+            Home::Block => self.push_words_of(alloc, home, &tree, words),
+            Home::Gapped => self.push_words_of(alloc, home, &tree, words),
         }
     }
 

@@ -2,12 +2,14 @@
 #![tactic(auto)]
 
 mod calls;
+mod editing;
 mod homes;
 mod publishing;
 mod stop;
 mod texts;
 
 use calls::{apply, list_and_map, run_events};
+use editing::edit_lists;
 use homes::change_homes;
 use publishing::publish_twice;
 use std::alloc::Global;
@@ -19,6 +21,7 @@ use texts::assemble_and_verify;
 
 fn call_all<R: Threads + Wait>(rt: &R, alloc: Global) -> Result<(), Stop> {
     change_homes(alloc)?;
+    edit_lists(rt, alloc)?;
     assemble_and_verify(alloc)?;
     publish_twice(rt, alloc)?;
     run_events(alloc)?;

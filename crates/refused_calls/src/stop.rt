@@ -9,6 +9,8 @@ pub enum Stop {
     ArrayUnchanged,
     /// A change of the tree was refused, and it is as it was.
     TreeUnchanged,
+    /// A batch was refused, and each list of the table is as it was.
+    ListsUnchanged,
     /// `assemble` answered so.
     NotAssembled,
     /// `disassemble` answered so.
@@ -36,6 +38,7 @@ impl Stop {
             Stop::NotBegun => "not begun",
             Stop::ArrayUnchanged => "array unchanged",
             Stop::TreeUnchanged => "tree unchanged",
+            Stop::ListsUnchanged => "lists unchanged",
             Stop::NotAssembled => "not assembled",
             Stop::NotDisassembled => "not disassembled",
             Stop::NotVerified => "not verified",

@@ -30,19 +30,39 @@ fn push_line(script: &mut String, line: &str) -> Result<(), AllocError> {
 }
 
 /// So many edits of one sign, with the sources and the targets that these steps go to.
-fn push_edits(
-    script: &mut String,
-    sign: &str,
+#[derive(Clone, Copy)]
+struct Edits<'a> {
+    sign: &'a str,
     count: u64,
     sources: Steps,
     targets: Steps,
-) -> Result<(), AllocError> {
-    for steps in 0..count {
-        push_line(script, sign)?;
-        push_number(script, sources.at(steps))?;
-        push_number(script, targets.at(steps))?;
+}
+
+impl Edits<'_> {
+    /// Puts one of them, by its number, on a line of its own.
+    fn push_one(self, script: &mut String, number: u64) -> Result<(), AllocError> {
+        push_line(script, self.sign)?;
+        push_number(script, self.sources.at(number))?;
+        push_number(script, self.targets.at(number))
     }
-    Ok(())
+
+    /// Puts all of them into the batch that the script has begun.
+    fn push_all(self, script: &mut String) -> Result<(), AllocError> {
+        for number in 0..self.count {
+            self.push_one(script, number)?;
+        }
+        Ok(())
+    }
+
+    /// Puts each of them into a batch of its own.
+    fn push_singly(self, script: &mut String) -> Result<(), AllocError> {
+        for number in 0..self.count {
+            push_line(script, "batch A")?;
+            self.push_one(script, number)?;
+            push_line(script, "end")?;
+        }
+        Ok(())
+    }
 }
 
 /// So many numbers at the end of the last line.
@@ -95,31 +115,50 @@ fn steps_of(numbers: &[u64]) -> Steps {
     }
 }
 
-/// Writes what a line stands for at the end of a script. `insert` and `remove` have a count of edits, and the first number, the
-/// step and the limit of their sources and of their targets; `words` the same of numbers at the end of the line before;
-/// `batches` a count of batches without an edit; `lines` a count of lines, and the line. Any other line is itself.
+/// The edits that a line says: a count, and the first number, the step and the limit of their sources and of their targets.
+fn edits_of<'a>(sign: &'a str, numbers: &[u64]) -> Option<Edits<'a>> {
+    match numbers {
+        [count, steps @ ..] if steps.len() == 6 => Some(Edits {
+            sign,
+            count: *count,
+            sources: steps_of(&steps[..3]),
+            targets: steps_of(&steps[3..]),
+        }),
+        _ => None,
+    }
+}
+
+/// Writes the edits that a line stands for at the end of a script, if it stands for edits. `insert` and `remove` put them into the
+/// open batch, `insert_singly` and `remove_singly` each into a batch of its own.
+fn push_edits(script: &mut String, word: &str, numbers: &[u64]) -> Result<bool, AllocError> {
+    let (sign, is_single) = match word {
+        "insert" => ("+", false),
+        "remove" => ("-", false),
+        "insert_singly" => ("+", true),
+        "remove_singly" => ("-", true),
+        _ => return Ok(false),
+    };
+    let Some(edits) = edits_of(sign, numbers) else {
+        return Ok(false);
+    };
+    if is_single {
+        edits.push_singly(script)?;
+    } else {
+        edits.push_all(script)?;
+    }
+    Ok(true)
+}
+
+/// Writes what a line stands for at the end of a script: edits; `words`, a count of numbers at the end of the line before, by their
+/// first, their step and their limit; `batches`, a count of batches without an edit; `lines`, a count of lines, and the line. Any
+/// other line is itself.
 fn push_what_is_meant(alloc: Global, script: &mut String, line: &str) -> Result<(), AllocError> {
     let (word, rest) = line.split_once(' ').unwrap_or((line, ""));
     let numbers = numbers_of(alloc, rest)?;
+    if push_edits(script, word, &numbers)? {
+        return Ok(());
+    }
     match (word, numbers.as_slice()) {
-        ("insert", [count, steps @ ..]) if steps.len() == 6 => {
-            push_edits(
-                script,
-                "+",
-                *count,
-                steps_of(&steps[..3]),
-                steps_of(&steps[3..]),
-            )
-        }
-        ("remove", [count, steps @ ..]) if steps.len() == 6 => {
-            push_edits(
-                script,
-                "-",
-                *count,
-                steps_of(&steps[..3]),
-                steps_of(&steps[3..]),
-            )
-        }
         ("words", [count, steps @ ..]) => push_words(script, *count, steps_of(steps)),
         ("batches", [count]) => push_batches(script, *count),
         ("lines", [count, ..]) => {

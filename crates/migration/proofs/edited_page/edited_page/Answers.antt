@@ -1,16 +1,14 @@
-use Rattle.std.proofs.Common.{◌≡◌, ℕ, ◌+◌, ◌<◌, ◌++◌, ◌∷◌, List, [], length, get_or, sym, ap, ap₂, subst, subst₂, ◌∙◌, length-append, append-nil, ◌^◌, arith}
+use Rattle.std.proofs.Common.{◌≡◌, ℕ, ◌+◌, ◌<◌, ◌++◌, List, [], length, get_or, sym, ap, subst, subst₂, ◌∙◌, length-append, append-nil, ◌^◌, arith}
 use Rattle.std.proofs.lemmas.List.{length_push}
 use Rattle.past_model.specs.declared.home.Home.TheVariants.{Block}
 use Rattle.past_model.specs.Homes.{home_after}
-use Rattle.word_sets.specs.Words.{IsSet}
 use Rattle.migration.specs.Begun.{AreBegun}
 use Rattle.migration.specs.Lists.{rows_of, homes_of}
 use Rattle.migration.specs.Part.{home_at}
-use Rattle.migration.proofs.ListLemmas.{few_words}
-use Rattle.migration.proofs.PartLemmas.{own_edits, set_more, few_more}
-use Rattle.migration.proofs.BegunLemmas.{edits_in, one_kept, one_edited, behind, merged_of_page}
+use Rattle.migration.proofs.PartLemmas.{own_edits, few_more}
+use Rattle.migration.proofs.BegunLemmas.{edits_in, one_kept, one_edited, behind, merged_of_page, own_of_page}
 use Rattle.migration.proofs.edited_page.edited_page.Goals as goal
-use Rattle.migration.proofs.edited_page.edited_page.Goals.{In_ok-push}
+use Rattle.migration.proofs.edited_page.edited_page.Goals.{In_ok-more}
 
 pub loop-place-init : goal.loop-place-init
 loop-place-init c = record {
@@ -47,30 +45,13 @@ loop-place-preserved-then-is_empty c =
           (c.loop-place.invariant.begun p rows homes its start begun)));
     }
 
-pub overflow_cast-words : goal.overflow_cast-words
-overflow_cast-words c =
-    let groups = c.args.groups.now in
-    let place = c.loop-place.place in
-    let its = c.requires.next.its in
-    let within = its.within in
-    let row = c.edited_list.new.merged in
-    let inside : place < length (rows_of c.args.page.now) = (let count = c.count-place-end.ensures.rows in let test = c.loop-place-test.true in omega arith) in
-    let set : IsSet row = set_more groups.edits c.requires.next.part row c.in_ok-more.more (c.args.first + place) its.shard its.own (omega arith) (merged_of_page groups c.requires.next.part c.args.page.now c.args.first place c.read.new.edits.items row c.in_ok-more.more c.requires.vertices its inside c.in_ok-read.ensures c.in_ok-more.ensures) in
-    omega (arith, few_words c.words-words.result.now (subst IsSet (sym c.words-words.ensures) set))
-
-pub push-requires-clause-set : goal.push-requires-clause-set
-push-requires-clause-set c =
-    let groups = c.args.groups.now in
-    let place = c.loop-place.place in
-    let its = c.requires.next.its in
-    let within = its.within in
-    let row = c.edited_list.new.merged in
-    let inside : place < length (rows_of c.args.page.now) = (let count = c.count-place-end.ensures.rows in let test = c.loop-place-test.true in omega arith) in
-    let set : IsSet row = set_more groups.edits c.requires.next.part row c.in_ok-more.more (c.args.first + place) its.shard its.own (omega arith) (merged_of_page groups c.requires.next.part c.args.page.now c.args.first place c.read.new.edits.items row c.in_ok-more.more c.requires.vertices its inside c.in_ok-read.ensures c.in_ok-more.ensures) in
-    subst IsSet (sym c.words-words.ensures) set
+pub push_edited-requires-clause-edits : goal.push_edited-requires-clause-edits
+push_edited-requires-clause-edits c =
+    let inside : c.loop-place.place < length (rows_of c.args.page.now) = (let count = c.count-place-end.ensures.rows in let test = c.loop-place-test.true in omega arith) in
+    own_of_page c.args.groups.now c.requires.next.part c.args.page.now c.args.first c.loop-place.place c.read.new.edits.items c.requires.vertices c.requires.next.its inside c.in_ok-read.ensures
 
 -- the counts fit
-few : (c : In_ok-push) → (c.loop-place.counts.added + c.in_ok-more.more.added < 2 ^ 64) × (c.loop-place.counts.removed + c.in_ok-more.more.removed < 2 ^ 64)
+few : (c : In_ok-more) → (c.loop-place.counts.added + c.in_ok-more.more.added < 2 ^ 64) × (c.loop-place.counts.removed + c.in_ok-more.more.removed < 2 ^ 64)
 few c =
     let groups = c.args.groups.now in
     let place = c.loop-place.place in
@@ -78,11 +59,11 @@ few c =
     let its = next.its in
     let within = its.within in
     let lists = c.loop-place.scratch.lists in
-    let row = c.edited_list.new.merged in
+    let edited = c.in_ok-more.ensures in
     let inside : place < length (rows_of c.args.page.now) = (let count = c.count-place-end.ensures.rows in let test = c.loop-place-test.true in omega arith) in
-    few_more groups.edits next.part (next.rows ++ rows_of lists) row c.loop-place.counts c.in_ok-more.more (c.args.first + place) its.shard its.own (made next.rows (rows_of lists) c.args.first place next.start c.loop-place.invariant.count) (omega arith)
+    few_more groups.edits next.part (next.rows ++ rows_of lists) edited.after c.loop-place.counts c.in_ok-more.more (c.args.first + place) its.shard its.own (made next.rows (rows_of lists) c.args.first place next.start c.loop-place.invariant.count) (omega arith)
     (c.loop-place.invariant.begun next.part next.rows next.homes its next.start next.begun).done
-    (merged_of_page groups next.part c.args.page.now c.args.first place c.read.new.edits.items row c.in_ok-more.more c.requires.vertices its inside c.in_ok-read.ensures c.in_ok-more.ensures)
+    (merged_of_page groups next.part c.args.page.now c.args.first place c.read.new.edits.items edited.after c.in_ok-more.more c.requires.vertices its inside c.in_ok-read.ensures edited.merged)
 
 pub plus-counts-requires-clause-added : goal.plus-counts-requires-clause-added
 plus-counts-requires-clause-added c = (few c).0
@@ -96,21 +77,23 @@ loop-place-preserved c =
     let page = c.args.page.now in
     let place = c.loop-place.place in
     let lists = c.loop-place.scratch.lists in
-    let row = c.edited_list.new.merged in
+    let new = c.push_edited.new.scratch.lists in
+    let more = c.in_ok-more.more in
+    let edited = c.in_ok-more.ensures in
+    let row = edited.after in
+    let pushed = edited.pushed in
     let inside : place < length (rows_of page) = (let count = c.count-place-end.ensures.rows in let test = c.loop-place-test.true in omega arith) in
-    let pushed = c.in_ok-push.ensures in
-    let new_rows : rows_of c.push.new.self ≡ rows_of lists ++ row ∷ [] = pushed.rows ∙ ap (λ l. rows_of lists ++ l ∷ []) c.words-words.ensures in
     record {
       kept = pushed.kept;
-      count = ap length new_rows ∙ length_push (rows_of lists) row ∙ ap (λ n. n + 1) c.loop-place.invariant.count;
+      count = ap length pushed.rows ∙ length_push (rows_of lists) row ∙ ap (λ n. n + 1) c.loop-place.invariant.count;
       begun = λ p rows homes its start begun. (
           let within = its.within in
-          let home : c.after-home.result ≡ home_after (home_at p (c.args.first + place)) (length row) = c.after-home.ensures ∙ ap₂ home_after (c.home.ensures ∙ its.homes place inside) (ap length c.words-words.ensures) in
-          subst (AreBegun groups.edits p (rows ++ rows_of c.push.new.self) (homes ++ homes_of c.push.new.self)) (sym c.plus-counts.ensures)
-          (subst₂ (λ l h. AreBegun groups.edits p l h record { added = c.loop-place.counts.added + c.in_ok-more.more.added; removed = c.loop-place.counts.removed + c.in_ok-more.more.removed })
-          (sym (ap (λ l. rows ++ l) new_rows ∙ behind rows (rows_of lists) row)) (sym (ap (λ h. homes ++ h) pushed.homes ∙ behind homes (homes_of lists) c.after-home.result))
-          (one_edited groups.edits p (rows ++ rows_of lists) (homes ++ homes_of lists) c.loop-place.counts c.in_ok-more.more row c.after-home.result (c.args.first + place) its.shard its.own (made rows (rows_of lists) c.args.first place start c.loop-place.invariant.count) (omega arith) home
-          (merged_of_page groups p page c.args.first place c.read.new.edits.items row c.in_ok-more.more c.requires.vertices its inside c.in_ok-read.ensures c.in_ok-more.ensures)
+          let home : edited.to ≡ home_after (home_at p (c.args.first + place)) (length row) = edited.moved ∙ ap (λ h. home_after h (length row)) (its.homes place inside) in
+          subst (AreBegun groups.edits p (rows ++ rows_of new) (homes ++ homes_of new)) (sym c.plus-counts.ensures)
+          (subst₂ (λ l h. AreBegun groups.edits p l h record { added = c.loop-place.counts.added + more.added; removed = c.loop-place.counts.removed + more.removed })
+          (sym (ap (λ l. rows ++ l) pushed.rows ∙ behind rows (rows_of lists) row)) (sym (ap (λ h. homes ++ h) pushed.homes ∙ behind homes (homes_of lists) edited.to))
+          (one_edited groups.edits p (rows ++ rows_of lists) (homes ++ homes_of lists) c.loop-place.counts more row edited.to (c.args.first + place) its.shard its.own (made rows (rows_of lists) c.args.first place start c.loop-place.invariant.count) (omega arith) home
+          (merged_of_page groups p page c.args.first place c.read.new.edits.items row more c.requires.vertices its inside c.in_ok-read.ensures edited.merged)
           (c.loop-place.invariant.begun p rows homes its start begun))));
     }
 

@@ -1,0 +1,12 @@
+use Rattle.past_model.specs.Edits.{after_batch}
+use Rattle.refused_calls.proofs.editing.applied.Goals as goal
+
+pub returns : goal.returns
+returns c =
+    let before = c.requires in
+    let done = c.in_ok-next.ensures in
+    record {
+      graph = after_batch c.args.batch.now before.graph;
+      small = before.small;
+      table = done.1.0.table before.graph (done.0.1 before.graph before.table) before.table;
+    }
