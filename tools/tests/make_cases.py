@@ -9,7 +9,7 @@ import documents
 from programs import GRAPH, RUNS, SOURCE
 from tools_here import MISSING, TOOLS, run_tool
 
-sys.path.insert(0, str(TOOLS.parent / "compared"))
+sys.path.insert(0, str(TOOLS.parent / "tests/second_implementation"))
 
 from script import serve  # noqa: E402
 

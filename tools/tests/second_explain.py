@@ -5,7 +5,7 @@ import pathlib
 import sys
 
 HERE = pathlib.Path(__file__).resolve().parent
-sys.path[:0] = [str(HERE.parent.parent / "compared"), str(HERE.parent)]
+sys.path[:0] = [str(HERE.parent.parent / "tests/second_implementation"), str(HERE.parent)]
 
 from bpf import FRAME_BYTES  # noqa: E402
 from verifier import Broken, Refused, State, UNSET, listed, verify, ways_from  # noqa: E402

@@ -4,7 +4,7 @@ line by line."""
 import pathlib
 import sys
 
-sys.path.insert(0, str(pathlib.Path(__file__).resolve().parent.parent.parent / "compared"))
+sys.path.insert(0, str(pathlib.Path(__file__).resolve().parent.parent.parent / "tests/second_implementation"))
 
 from script import Fault, Session  # noqa: E402
 

@@ -9,7 +9,7 @@ from tools_here import TOOLS  # noqa: F401
 
 import sys
 
-sys.path.insert(0, str(TOOLS.parent / "compared"))
+sys.path.insert(0, str(TOOLS.parent / "tests/second_implementation"))
 
 from bpf import Graph, run  # noqa: E402
 from verifier import judged  # noqa: E402

@@ -12,7 +12,7 @@ import documents
 from programs import GRAPH
 from tools_here import MISSING, TOOLS, run_tool
 
-sys.path.insert(0, str(TOOLS.parent / "compared"))
+sys.path.insert(0, str(TOOLS.parent / "tests/second_implementation"))
 
 from assembler import KINDS, assemble  # noqa: E402
 from bpf import Graph, Machine, NoInstruction, Trap, decode  # noqa: E402

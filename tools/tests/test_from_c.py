@@ -14,7 +14,7 @@ from tools_here import MISSING, TOOLS
 
 import sys
 
-sys.path.insert(0, str(TOOLS.parent / "compared"))
+sys.path.insert(0, str(TOOLS.parent / "tests/second_implementation"))
 
 from bpf import Graph, run  # noqa: E402
 from verifier import Refused, judged  # noqa: E402

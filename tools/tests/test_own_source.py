@@ -9,7 +9,7 @@ import unittest
 
 from tools_here import MISSING, TOOLS
 
-sys.path.insert(0, str(TOOLS.parent / "compared"))
+sys.path.insert(0, str(TOOLS.parent / "tests/second_implementation"))
 
 from assembler import assemble  # noqa: E402
 from bpf import Graph, Trap, run  # noqa: E402

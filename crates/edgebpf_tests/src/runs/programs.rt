@@ -1,4 +1,4 @@
-//! The programs of `examples/` and the accepted ones of `compiled/`, which `tools/write_run_programs.py` wrote.
+//! The programs of `examples/` and the accepted ones of `tests/native_numbers/`, which `tools/dev/write_run_programs.py` wrote.
 
 /// Of each program: its name, its record length and its code, with a bar between.
 pub const PROGRAMS: &str = "\

@@ -6,7 +6,7 @@ import sys
 
 from script import serve
 
-RECIPES = pathlib.Path(__file__).parent.parent / "crates/script_rows/stdin"
+RECIPES = pathlib.Path(__file__).parent.parent.parent / "crates/script_rows/stdin"
 SIGNS = {"insert": "+", "remove": "-"}
 
 

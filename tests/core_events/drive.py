@@ -13,7 +13,7 @@ import sys
 import tempfile
 
 HERE = os.path.dirname(os.path.abspath(__file__))
-TOP = os.path.dirname(HERE)
+TOP = os.path.dirname(os.path.dirname(HERE))
 BELOW = ["graph_model", "past_model", "migration", "cursors", "store_model", "stream_core"]
 EVENTS = 100_000
 

@@ -1,8 +1,8 @@
 #!/usr/bin/env python3
 """Writes scripts of changed programs, each with what is to be written: make_cases.py FOLDER [COUNT]
 
-COUNT programs, 10,000 without it, differ from the valid ones of examples/ and compiled/ in one byte of their code or of their text. Each
-that is accepted is run. What is to be written comes from the second implementation, compared/. The same place always has the
+COUNT programs, 10,000 without it, differ from the valid ones of examples/ and tests/native_numbers/ in one byte of their code or of their text. Each
+that is accepted is run. What is to be written comes from the second implementation, tests/second_implementation/. The same place always has the
 same program. See README.md.
 """
 import pathlib
@@ -10,8 +10,8 @@ import random
 import re
 import sys
 
-ROOT = pathlib.Path(__file__).parent.parent
-sys.path.insert(0, str(ROOT / "compared"))
+ROOT = pathlib.Path(__file__).parent.parent.parent
+sys.path.insert(0, str(ROOT / "tests/second_implementation"))
 from script import Session  # noqa: E402
 
 # Programs of one script: no more are kept.

@@ -14,7 +14,7 @@ from script import serve
 from scripts import HUBS, Writer
 from serving import served
 
-PROGRAM = pathlib.Path(__file__).parent.parent / "crates/edgebpf/out/edgebpf"
+PROGRAM = pathlib.Path(__file__).parent.parent.parent / "crates/edgebpf/out/edgebpf"
 PIECE = 100
 
 

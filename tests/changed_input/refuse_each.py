@@ -146,7 +146,7 @@ def main():
             print(*[f"{line}: never said" for line in missing], sep="\n", end="\n" if missing else "")
             sys.exit(1 if wrong or missing else 0)
         own = {"homes": homes(), "ranges": ranges()}
-        first = os.path.join(os.path.dirname(os.path.abspath(__file__)), "../examples/first.script")
+        first = os.path.join(os.path.dirname(os.path.abspath(__file__)), "../../examples/first.script")
         for path in asked.scripts or [first]:
             own[os.path.basename(path)] = open(path, "rb").read()
         for name, script in own.items():

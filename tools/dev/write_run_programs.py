@@ -1,16 +1,16 @@
 #!/usr/bin/env python3
 """Writes the programs that the tests of bpf_runs run both ways: those of examples/, and those that clang compiled.
 
-Run it at the top of the repository, behind compiled/make.py. An example's text is assembled by compared/assembler.py.
+Run it at the top of the repository, behind tests/native_numbers/make.py. An example's text is assembled by tests/second_implementation/assembler.py.
 """
 import sys
 from pathlib import Path
 
-sys.path.insert(0, "compared")
+sys.path.insert(0, "tests/second_implementation")
 from assembler import assemble  # noqa: E402
 
 HEAD = '''\
-//! The programs of `examples/` and the accepted ones of `compiled/`, which `tools/write_run_programs.py` wrote.
+//! The programs of `examples/` and the accepted ones of `tests/native_numbers/`, which `tools/dev/write_run_programs.py` wrote.
 
 /// Of each program: its name, its record length and its code, with a bar between.
 pub const PROGRAMS: &str = "\\

@@ -92,7 +92,7 @@ def main():
                          f"program {name} {extent(program)}\n" + "".join(run[1] for run in runs).replace("/", "\n")))
         for name, (length, cause, pc) in REFUSED.items():
             rows.append((name, [f"code {name} {length} {code(name).hex()}"], f"refused {name} cause {cause} pc {pc}\n"))
-    crate = here.parent / "crates/script_rows"
+    crate = here.parent.parent / "crates/script_rows"
     # Scripts at the limits stand behind the section, and stay.
     before, _, behind = (crate / "stdin").read_text().partition(f"%^ {SECTION}\n")
     limits = behind.partition("\n%! ")[2]
