@@ -60,7 +60,7 @@ u64 both(struct edge *edge, u64 length) { return second(edge->source) + second(e
 
 def random_programs():
     """The programs of the comparison, whose module has the name of one here."""
-    found = importlib.util.spec_from_file_location("random_programs", TOOLS.parent / "compared" / "programs.py")
+    found = importlib.util.spec_from_file_location("random_programs", TOOLS.parent / "tests/second_implementation" / "programs.py")
     module = importlib.util.module_from_spec(found)
     found.loader.exec_module(module)
     return module.Programs(random.Random(51))
