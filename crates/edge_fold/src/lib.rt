@@ -10,6 +10,7 @@ mod memory;
 mod outcome;
 mod rows;
 mod span;
+mod worth;
 
 pub use edge::Edge;
 pub use fold::{combine, map_frontier, nothing, number_for_edge};

@@ -28,7 +28,7 @@ pub(crate) fn work<Ga: Gate>(
     ensures { IfOk result (λ done. IsWork (task_of plan.entry) me.parts done.claimant done.pieces.items) }
 {
     let mut claimant = me;
-    let mut memory = Memory::new();
+    let mut memory = Memory::for_program(plan.program);
     let mut pieces = Vec::new(alloc);
     let count = count_pieces(&plan);
     'claims: loop {
