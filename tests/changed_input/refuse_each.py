@@ -63,11 +63,12 @@ int posix_memalign(void **out, size_t a, size_t n)
 
 
 def homes():
-    """A vertex that goes from its block to the array, to a tree and back to its block."""
+    """A vertex that goes from its block to the array, to a tree, which is edited twice where it stands, and back to its block."""
     def batch(sign, begin, end):
         return ["batch A", *[f"{sign} 0 {target}" for target in range(begin, end)], "end", "home 0"]
 
-    lines = ["graph 2000", *batch("+", 0, 12), *batch("+", 12, 1025), "pin a", *batch("-", 769, 1025), *batch("-", 8, 769)]
+    lines = ["graph 2000", *batch("+", 0, 12), *batch("+", 12, 1025), "pin a", *batch("+", 1025, 1026), *batch("-", 1025, 1026)]
+    lines += [*batch("-", 769, 1025), *batch("-", 8, 769)]
     return "".join(f"{line}\n" for line in [*lines, TARGET, "pin b", "run t a sum -", "run t b max - 0", "list t b -"]).encode()
 
 
