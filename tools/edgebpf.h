@@ -5,8 +5,8 @@
        u64 score(struct edge *edge, u64 length) { return edge->degree + degree(edge->target); }
 
    It may write its record, and each function has 512 bytes of stack. It has no globals and no loops that run at run time:
-   loops are unrolled. It calls static functions and the helpers below. Compiled for another machine, the helpers are functions that the
-   file is linked with, so a program can be tested natively. */
+   loops are unrolled. It calls static functions and the helpers below. Compiled for another machine, the helpers are
+   functions that the file is linked with, so a program can be tested natively. */
 #ifndef EDGEBPF_H
 #define EDGEBPF_H
 
@@ -142,7 +142,9 @@ INLINE u64 hash_pair(u64 first, u64 second) { return hash(hash(first + 0x9e3779b
 #define for_1024_neighbours_until(name, limit, word, total, given) \
     EDGEBPF_64(name, name##_of_64, word, total, given) \
     EDGEBPF_1024(name, limit, total, given) \
-    INLINE u64 name(u64 edgebpf_vertex, u64 total, u64 given) { return name##_of_1024(edgebpf_vertex, 0, degree(edgebpf_vertex), total, given); } \
+    INLINE u64 name(u64 edgebpf_vertex, u64 total, u64 given) { \
+        return name##_of_1024(edgebpf_vertex, 0, degree(edgebpf_vertex), total, given); \
+    } \
     EDGEBPF_STEP(name, word, total, given)
 #define for_64_neighbours(name, word, total, given) \
     EDGEBPF_64(name, name##_of_64, word, total, given) \

@@ -4,11 +4,14 @@ from dataclasses import replace
 
 from edgebpf_tools.blocks import Block, Instruction, in_order
 from edgebpf_tools.flow import DOUBLE_LOAD, DOUBLE_STORE, FRAME_REGISTER, Fields, Flow, backward
+from edgebpf_tools.plain_flow import PlainFlow
 from edgebpf_tools.spills import widen_spills
-from edgebpf_tools.values import constant
+from edgebpf_tools.values import RECORD, constant
 
 ADD, SUB, OR, XOR, MOVE, SHIFT_SIGNED, SHIFT = 0x0, 0x1, 0x4, 0xA, 0xB, 0xC, 0x7
-MOVE_64, MOVE_32, AND_32 = 0xBF, 0xBC, 0x54
+MOVE_64, MOVE_32, AND_32, AND_64 = 0xBF, 0xBC, 0x54, 0x57
+# No record has more bytes, so that a larger index is refused whatever is known of it.
+MOST_INDEX = 255
 LEFT_BY_CONSTANT = 0x67
 NARROW_LOADS = (0x61, 0x69, 0x71)
 # Shifts back to the right by a constant, each with the move that extends by zeros or by the sign.
@@ -118,6 +121,22 @@ def _needs_width(fields, state, body, addressing):
     return not made or made[-1].opcode & 7 == 7 and made[-1].operation not in ("mov", "and") or made[-1].opcode == DOUBLE_LOAD
 
 
+def _is_indexing(fields, state):
+    """Whether an instruction adds a number in a register to a pointer into the record."""
+    is_sum = fields.is_arithmetic and fields.operation in ("add", "sub") and fields.bits == 64 and fields.by_register
+    return is_sum and state.registers[fields.destination].kind == RECORD and state.registers[fields.source].is_number
+
+
+def _shown(instruction, index, states, place):
+    """The instruction that cuts an index, if the verifier would know less of it."""
+    fields = _fields(instruction)
+    mask = (1 << index.high.bit_length()) - 1
+    known = states[place].registers[fields.source] if states else None
+    if known is None or not known.is_number or known.high <= mask or mask > MOST_INDEX:
+        return []
+    return [Instruction(Fields(AND_64, fields.source, 0, 0, mask).units(), instruction.place)]
+
+
 def _fields(instruction):
     return Fields.of(instruction.units)
 
@@ -172,7 +191,8 @@ class Rewriting:
         if self._exchange():
             self._take_stock()
         self._copy_after_tests()
-        self.order = in_order(self.blocks)
+        self._take_stock()
+        self._show_indices()
 
     def _take_stock(self):
         self.order = in_order(self.blocks)
@@ -234,6 +254,19 @@ class Rewriting:
                     self.blocks[new] = Block(copies, None, [way], block.end_place)
                     block.ways[side] = new
                     new += 1
+
+    def _show_indices(self):
+        """An index of which the verifier would know too little is cut to the bits that it has, before it is added to a pointer."""
+        known = None
+        for label, states in self.flow.before.items():
+            body = []
+            for place, instruction in enumerate(self.blocks[label].body):
+                fields, state = _fields(instruction), states[place]
+                if _is_indexing(fields, state):
+                    known = known or PlainFlow(self.blocks, self.order, self.entry)
+                    body += _shown(instruction, state.registers[fields.source], known.before.get(label), place)
+                body.append(instruction)
+            self.blocks[label].body = body
 
     def _copies(self, flow, block, state, taken, addressing):
         fields = Fields.of(block.ending.units)

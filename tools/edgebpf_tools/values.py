@@ -60,6 +60,8 @@ def settled(value):
             short = meet(short, (low, high))
         if short[0] >= 0 and high < 2**32:
             low, high = meet((low, high), short)
+        if signed[0] >= -(2**31) and signed[1] < 2**31:
+            signed = short = meet(signed, short)
         bits &= (1 << max(high, 0).bit_length()) - 1
         if before == (low, high, signed, short, bits):
             return Value(kind, low, high, signed, short, bits, mark, offset)
@@ -121,7 +123,8 @@ def _subtracted(bits, left, right):
 
 def _shifted(bits, operation, left, right):
     if right.low != right.high:
-        return number(0, left.high if operation == "rsh" else 2**bits - 1)
+        least = right.low if right.high < bits else 0
+        return number(0, left.high >> least if operation == "rsh" else 2**bits - 1)
     count = right.low % bits
     if operation == "rsh":
         return number(left.low >> count, left.high >> count, left.bits >> count)
