@@ -6,6 +6,7 @@ is added, moved or left out, so that an assembler makes the same sections of it,
     object_text.py --same-sections FILE OTHER    whether two linked programs have the same loaded sections
 """
 import collections
+import functools
 import sys
 
 from elftools.elf.constants import SH_FLAGS
@@ -35,7 +36,8 @@ KINDS = {
 BINDINGS = {"STB_LOCAL": None, "STB_GLOBAL": ".globl", "STB_WEAK": ".weak"}
 TYPES = {"STT_NOTYPE": None, "STT_FUNC": "@function", "STT_OBJECT": "@object", "STT_TLS": "@tls_object"}
 VISIBILITIES = {"STV_DEFAULT": None, "STV_HIDDEN": ".hidden", "STV_PROTECTED": ".protected", "STV_INTERNAL": ".internal"}
-QUADS_A_LINE = 4
+BYTES_A_LINE = 32
+BYTE_TEXTS = [chr(byte) if 0x20 <= byte < 0x7F and chr(byte) not in "\"\\" else f"\\{byte:03o}" for byte in range(256)]
 
 
 class Unknown(Exception):
@@ -77,13 +79,9 @@ def symbol_lines(symbol):
 
 
 def data_lines(data):
-    """Bytes as quadwords, the rest one by one."""
-    whole = len(data) // 8 * 8
-    quads = [f"0x{int.from_bytes(data[at : at + 8], 'little'):x}" for at in range(0, whole, 8)]
-    lines = ["\t.quad " + ",".join(quads[at : at + QUADS_A_LINE]) for at in range(0, len(quads), QUADS_A_LINE)]
-    if whole < len(data):
-        lines.append("\t.byte " + ",".join(f"{byte:#x}" for byte in data[whole:]))
-    return lines
+    """Bytes in their order: what is a character of ASCII as that, and the others as octal numbers of three digits."""
+    for start in range(0, len(data), BYTES_A_LINE):
+        yield '\t.ascii "{}"'.format("".join(map(BYTE_TEXTS.__getitem__, data[start : start + BYTES_A_LINE])))
 
 
 class Object:
@@ -94,13 +92,26 @@ class Object:
         if self.elf["e_machine"] != "EM_X86_64" or self.elf["e_type"] != "ET_REL":
             raise Unknown("this is no relocatable object file for x86-64")
         numbered = list(enumerate(self.elf.iter_sections()))
-        self.sections = [(at, section) for at, section in numbered if section["sh_flags"] & SH_FLAGS.SHF_ALLOC and section.data_size]
         self.table = next(section for _, section in numbered if isinstance(section, SymbolTableSection))
         self.relocations = {section["sh_info"]: section for _, section in numbered if isinstance(section, RelocationSection)}
         self.symbols = collections.defaultdict(list)
         self.weak = []
         self._read_symbols()
+        self.sections = [(at, section) for at, section in numbered if self._is_kept(at, section)]
         self._refuse_names_twice()
+
+    def _is_kept(self, at, section):
+        """Whether a section is loaded. An empty one has a text only if something names it: an assembler adds some of its own."""
+        if not section["sh_flags"] & SH_FLAGS.SHF_ALLOC:
+            return False
+        return section["sh_size"] > 0 or at in self.symbols or at in self._named_sections()
+
+    @functools.cache
+    def _named_sections(self):
+        """The sections that relocations name by their own symbols."""
+        symbols = [symbol for symbol in self.table.iter_symbols()]
+        named = {relocation["r_info_sym"] for table in self.relocations.values() for relocation in table.iter_relocations()}
+        return {symbols[number]["st_shndx"] for number in named if symbols[number]["st_info"]["type"] == "STT_SECTION"}
 
     def _read_symbols(self):
         for symbol in self.table.iter_symbols():
