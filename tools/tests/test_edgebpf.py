@@ -8,6 +8,8 @@ import subprocess
 import tempfile
 import time
 import unittest
+from importlib.machinery import SourceFileLoader
+from unittest import mock
 
 from tools_here import TOOLS
 
@@ -208,6 +210,13 @@ class Proving(Checkout):
         objects[1].write_text("another\n")
         self.assertNotIn("nothing has changed", self.prove("--objects")[1])
         self.assertEqual(objects[1].read_text(), "object\n")
+
+    def test_a_full_disk(self):
+        prove = SourceFileLoader("prove", str(TOOLS / "prove")).load_module()
+        with mock.patch("shutil.disk_usage", return_value=mock.Mock(free=62 * 10**6)):
+            with self.assertRaisesRegex(prove.Stop, "has 62 MB left, and proofs need 3000: make room, or set TMPDIR"):
+                with prove.copy_of([]):
+                    self.fail("a copy was made")
 
     def test_words_that_mean_nothing(self):
         for words in (["nowhere"], ["--all"], ["--built", "edgebpf"]):
