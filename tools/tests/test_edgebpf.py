@@ -284,7 +284,7 @@ class Released(Checkout):
             (self.top / taken).write_text("this is no folder\n")
         for _ in range(2):
             self.assertEqual(self.serve().stdout, "of dist: text\n")
-        self.assertTrue(list((self.room / "cache/edgebpf").glob("edgebpf-*")))
+        self.assertTrue(list((self.room / "cache/edgebpf").glob("*/edgebpf")))
 
     def test_two_at_once(self):
         words = {"stdin": subprocess.DEVNULL, "stdout": subprocess.PIPE, "stderr": subprocess.PIPE, "env": self.environment()}

@@ -20,7 +20,7 @@ u64 loop(struct edge *edge, u64 length) {
     return sum;
 }
 """
-BACKWARD = "a: ja a\n"
+BACKWARD = "again:\n    ja again\n"
 
 
 def make(*words):
