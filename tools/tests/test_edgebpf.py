@@ -259,6 +259,13 @@ class Released(Checkout):
         self.assertEqual((self.serve().stdout, self.serve().stderr), ("text\n", ""))
         self.assertIn("prover of the test", self.serve("--version").stdout)
 
+    def test_what_was_proved_since_is_taken(self):
+        self.settle()
+        self.assertIn(BESIDE, self.serve().stderr)
+        subprocess.run([self.top / "tools/prove", "edgebpf"], env=self.environment(), capture_output=True, check=True)
+        run = self.serve()
+        self.assertEqual((run.stdout, run.stderr), ("text\n", ""))
+
     def test_changed_sources_are_never_those_of_dist(self):
         self.settle()
         (self.top / "crates/other/src/lib.rt").write_text("//! changed\n")
