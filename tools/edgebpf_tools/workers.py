@@ -1,17 +1,19 @@
 """The worker processes of Dask's distributed scheduler, which serve parts of a graph. What Dask says meanwhile is not the user's."""
+import atexit
 import contextlib
 import logging
-import multiprocessing
+import multiprocessing.util
 import os
 import pathlib
+import signal
 import time
 import warnings
 
 from edgebpf_tools import ends, packages, part_server
 from edgebpf_tools.refusal import Refusal
 
-# How long a scheduler has to answer, and to have its workers, and how long they have to stop what they do.
-ANSWER_SECONDS, STOP_SECONDS = 10, 5
+# How long a scheduler has to answer, its own workers to start, and workers to stop what they do.
+ANSWER_SECONDS, START_SECONDS, STOP_SECONDS = 10, 60, 5
 
 
 def serve_parts(command, parts, options, folder):
@@ -75,7 +77,6 @@ def silenced(log):
 def client_of(options, folder):
     """A client of the scheduler that was named, or of one on this machine with as many worker processes."""
     distributed = packages.distributed()
-    packages.package("dask", "Dask", "python3-distributed").config.set({"distributed.comm.timeouts.connect": f"{ANSWER_SECONDS}s"})
     client = None
     try:
         if options.scheduler:
@@ -97,16 +98,28 @@ def client_elsewhere(client_class, address):
 
     # Workers that were started elsewhere cannot import the module.
     cloudpickle.register_pickle_by_value(part_server)
+    dask = packages.package("dask", "Dask", "python3-distributed")
+    dask.config.set({"distributed.comm.timeouts.connect": f"{ANSWER_SECONDS}s"})
     with told_of_dask(f"the scheduler {address} does not answer"):
         return client_class(address, timeout=ANSWER_SECONDS)
 
 
 def client_here(client_class, options, folder):
-    with told_of_dask("no scheduler can be started here"):
-        return client_class(
-            n_workers=options.processes, threads_per_worker=1, processes=True, dashboard_address=None,
-            local_directory=f"{folder}/workers", memory_limit=0, silence_logs=logging.CRITICAL,
-        )
+    """A client of a scheduler of its own, if its workers start in time: Dask would wait for them without end."""
+
+    def give_up(*_):
+        raise Refusal(f"its workers did not start within {START_SECONDS} seconds")
+
+    signal.signal(signal.SIGALRM, give_up)
+    signal.alarm(START_SECONDS)
+    try:
+        with told_of_dask("no scheduler can be started here"):
+            return client_class(
+                n_workers=options.processes, threads_per_worker=1, processes=True, dashboard_address=None,
+                local_directory=f"{folder}/workers", memory_limit=0, silence_logs=logging.CRITICAL,
+            )
+    finally:
+        signal.alarm(0)
 
 
 def close(client):
@@ -114,7 +127,10 @@ def close(client):
     with contextlib.suppress(Exception):
         if client:
             client.close(timeout=STOP_SECONDS)
-    while processes := multiprocessing.active_children():
+    deadline = time.monotonic() + STOP_SECONDS
+    while (processes := multiprocessing.active_children()) and time.monotonic() < deadline:
         for process in processes:
             process.kill()
-            process.join()
+            process.join(STOP_SECONDS)
+    # Python would wait for workers that Dask starts again. They end by themselves, as this process does.
+    atexit.unregister(multiprocessing.util._exit_function)
