@@ -9,6 +9,7 @@ import collections
 import functools
 import sys
 
+from elftools.common.exceptions import ELFError
 from elftools.elf.constants import SH_FLAGS
 from elftools.elf.elffile import ELFFile
 from elftools.elf.enums import ENUM_RELOC_TYPE_x64
@@ -209,5 +210,5 @@ def main(words):
 if __name__ == "__main__":
     try:
         main(sys.argv[1:])
-    except (Unknown, OSError) as error:
+    except (Unknown, ELFError, OSError) as error:
         sys.exit(f"object_text: {error}")

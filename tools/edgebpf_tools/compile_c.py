@@ -102,6 +102,8 @@ def show(options, words, code):
         pathlib.Path(options.html).write_text(words.page(told))
     if options.explain:
         sys.stdout.write(words.listing(told))
+        # What is told of a refusal drops what is not written yet.
+        sys.stdout.flush()
     if status == 1:
         raise Refusal("\n".join(words.refusal(told)))
     return status

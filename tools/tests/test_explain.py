@@ -133,7 +133,8 @@ class Explain(unittest.TestCase):
         """The last program of a name, refused or not, by its code or its text."""
         sent = "graph 4\ncode c 16 61100d00000000009500000000000000\nprogram p 17\nmov r0, 7\nexit\nend\n"
         run = run_tool("edgebpf-shell", text=sent + ".explain c\n.explain p\n.explain q\n.explain\n")
-        self.assertEqual((run.stderr, run.returncode), ("", 0))
+        # The third question is about a program that was not sent.
+        self.assertEqual((run.stderr, run.returncode), ("", 1))
         self.assertIn("asked with 2 words, 61100d00000000009500000000000000, and the text \n", run.stdout)
         self.assertIn("records of 17 bytes\n", run.stdout)
         self.assertIn("asked with 1 words, , and the text mov r0, 7/exit/\n", run.stdout)

@@ -15,7 +15,7 @@ from assembler import assemble  # noqa: E402
 from bpf import Graph, Trap, run  # noqa: E402
 from verifier import judged  # noqa: E402
 
-from edgebpf_tools.compile_c import code_of  # noqa: E402
+from edgebpf_tools.compile_c import arguments, linked  # noqa: E402
 from edgebpf_tools.own_source import asks_of_others  # noqa: E402
 
 ASK = "ldxw r1, [r1+0]\ncall 1\nexit"
@@ -116,4 +116,5 @@ class OwnSource(unittest.TestCase):
             source = pathlib.Path(folder) / "p.c"
             source.write_text(IN_C)
             for name, asks in (("lead_back", True), ("next", False), ("nested", False), ("both", True)):
-                self.assertEqual(asks_of_others(code_of(str(source), name)[1]), asks, name)
+                program = linked(arguments([str(source), name, "16"]), folder)[2]
+                self.assertEqual(asks_of_others(program.code), asks, name)
