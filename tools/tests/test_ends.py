@@ -112,7 +112,7 @@ class Ends(unittest.TestCase):
             run = subprocess.Popen(
                 [PYTHON, "-c", code], stdout=subprocess.DEVNULL, stderr=subprocess.PIPE, text=True, env=self.environment
             )
-            while not pathlib.Path(f"{started}r").exists():
+            while not pathlib.Path(f"{started}r").exists() and run.poll() is None:
                 time.sleep(0.001)
             time.sleep(0.02 * place)
             number = (signal.SIGINT, signal.SIGTERM)[place % 2]

@@ -91,6 +91,8 @@ class EdgebpfSpread(unittest.TestCase):
         self.assertIn("--processes is 1 to 64", self.spread("--processes", "0").stderr)
 
 
+# Seconds within which a process of a spread starts or ends, on a machine that is busy.
+LONGEST = 240
 SLOW = """#!/bin/sh
 read first
 if [ "$first" = "graph 1" ]; then { echo "$first"; cat; } | %s/second_store.py; exit; fi
@@ -135,7 +137,7 @@ class SpreadEnds(unittest.TestCase):
         return subprocess.Popen(command, stdout=subprocess.PIPE, stderr=subprocess.PIPE, text=True, **options)
 
     def ended(self, run, line, status=1):
-        out, said = run.communicate(timeout=120)
+        out, said = run.communicate(timeout=LONGEST)
         self.assertEqual((out, run.returncode), ("", status), said)
         self.assertEqual(len(said.splitlines()), 1, said)
         self.assertTrue(said.startswith("edgebpf-spread: " + line), said)
@@ -146,11 +148,15 @@ class SpreadEnds(unittest.TestCase):
         """The processes that serve a graph."""
         return [int(path.name.split(".")[1]) for path in self.folder.glob("served.*")]
 
+    def is_soon(self, holds, run=None):
+        """Waits until something holds, for as long as the run goes on, and at most some minutes."""
+        deadline = time.monotonic() + LONGEST
+        while not holds() and (run is None or run.poll() is None) and time.monotonic() < deadline:
+            time.sleep(0.01)
+        return holds()
+
     def are_gone(self):
-        deadline = time.monotonic() + 20
-        while any(os.path.exists(f"/proc/{process}") for process in self.served()) and time.monotonic() < deadline:
-            time.sleep(0.05)
-        return not any(os.path.exists(f"/proc/{process}") for process in self.served())
+        return self.is_soon(lambda: not any(os.path.exists(f"/proc/{process}") for process in self.served()))
 
     def test_scheduler_that_does_not_answer(self):
         self.ended(self.started("--scheduler", "tcp://127.0.0.1:9"), "the scheduler tcp://127.0.0.1:9 does not answer")
@@ -175,12 +181,11 @@ class SpreadEnds(unittest.TestCase):
         self.store("exec sleep 300")
         for place in range(5):
             run = self.started()
-            while not list(self.temporary.iterdir()):
-                time.sleep(0.01)
+            self.is_soon(lambda: list(self.temporary.iterdir()), run)
             if place < 3:
                 time.sleep(0.7 * place)
-            while place >= 3 and not self.served():
-                time.sleep(0.05)
+            else:
+                self.is_soon(self.served, run)
             number = (signal.SIGINT, signal.SIGTERM)[place % 2]
             run.send_signal(number)
             self.ended(run, ("interrupted", "terminated")[place % 2], 128 + number)
@@ -194,8 +199,7 @@ class SpreadEnds(unittest.TestCase):
         """A Ctrl-C at a terminal reaches the whole group of processes."""
         self.store("exec sleep 300")
         run = self.started(process_group=0)
-        while not self.served():
-            time.sleep(0.05)
+        self.is_soon(self.served, run)
         os.killpg(run.pid, signal.SIGINT)
         self.ended(run, "interrupted", 130)
         self.assertTrue(self.are_gone())
@@ -206,8 +210,7 @@ class SpreadEnds(unittest.TestCase):
         self.store("exec sleep 300")
         with LocalCluster(n_workers=2, processes=False, protocol="tcp", dashboard_address=None) as cluster:
             run = self.started("--scheduler", cluster.scheduler_address)
-            while not self.served():
-                time.sleep(0.05)
+            self.is_soon(self.served, run)
             run.send_signal(signal.SIGINT)
             self.ended(run, "interrupted", 130)
             self.assertTrue(self.are_gone())
