@@ -2,7 +2,7 @@ use Rattle.past_model.specs.Edits.{after_batch}
 use Rattle.refused_calls.proofs.editing.applied.Goals as goal
 
 pub returns : goal.returns
-returns c =
+returns g c =
     let before = c.requires in
     let done = c.in_ok-next.ensures in
     record {
