@@ -85,9 +85,11 @@ fn a_long_script_byte_by_byte(rt: HostRuntime) -> Result<(), Fail> {
     let workers = Workers::one();
     let answer = served(&rt, rt.alloc(), input, &mut output, workers, &OpenGate);
     let (said, _) = SAID.split_at(SAID.len() - "15\n".len());
+    let mut wanted = String::new(rt.alloc());
+    wanted.push_str(said)?;
+    wanted.push_str("115\n")?;
     assert_eq!(rt; answer, Ok(Ending::Fault));
-    assert_eq!(rt; &output.bytes[..said.len()], said.as_bytes());
-    assert_eq!(rt; &output.bytes[said.len()..], "115\n".as_bytes());
+    assert_eq!(rt; output.bytes.as_slice(), wanted.as_str().as_bytes());
     Ok(())
 }
 

@@ -82,10 +82,10 @@ fn a_batch_of_any_size_takes_the_last_place(rt: HostRuntime) -> Result<(), Fail>
 
 // How many of so many steps publish nothing because nothing waits.
 fn steps_in_vain<R: Threads + Wait>(rt: &R, shop: &mut Shop, count: u32) -> u32 {
-    let mut idle = 0;
+    let mut idle = 0u32;
     for _ in 0..count {
         if matches!(shop.step(rt), Ok(None)) {
-            idle += 1;
+            idle = idle.saturating_add(1);
         }
     }
     idle

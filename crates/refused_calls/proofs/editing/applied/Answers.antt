@@ -8,5 +8,5 @@ returns g c =
     record {
       graph = after_batch c.args.batch.now before.graph;
       small = before.small;
-      table = done.1.0.table before.graph (done.0.1 before.graph before.table) before.table;
+      table = done.1.table before.graph (done.0.1 before.graph before.table) before.table;
     }
