@@ -6,7 +6,7 @@ import sys
 import tempfile
 
 import documents
-from programs import GRAPH, RUNS, SOURCE
+from sample_programs import GRAPH, RUNS, SOURCE
 from tools_here import MISSING, TOOLS, run_tool
 
 sys.path.insert(0, str(TOOLS.parent / "tests/second_implementation"))

@@ -6,7 +6,7 @@ import tempfile
 import unittest
 import unittest.mock
 
-from programs import GRAPH, RUNS, SOURCE
+from sample_programs import GRAPH, RUNS, SOURCE
 from tools_here import MISSING, TOOLS, run_tool
 
 from edgebpf_tools.clang import newest

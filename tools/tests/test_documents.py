@@ -9,7 +9,7 @@ import tempfile
 import unittest
 
 import documents
-from programs import GRAPH
+from sample_programs import GRAPH
 from tools_here import MISSING, TOOLS, run_tool
 
 sys.path.insert(0, str(TOOLS.parent / "tests/second_implementation"))

@@ -170,7 +170,7 @@ class Proving(Checkout):
             while "crate 1 of 4" not in run.stderr.readline():
                 self.assertIsNone(run.poll())
             run.send_signal(sign)
-            self.assertEqual(run.wait(30), status)
+            self.assertEqual(run.wait(240), status)
             run.stderr.close()
             self.assertTrue(self.is_clean())
             self.assertFalse((self.top / "out/edgebpf.proved").exists())

@@ -9,7 +9,7 @@ import tempfile
 import time
 import unittest
 
-from programs import SOURCE
+from sample_programs import SOURCE
 from tools_here import MISSING, PYTHON, TOOLS, run_tool
 
 from edgebpf_tools.language import edits_below
