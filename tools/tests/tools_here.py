@@ -1,6 +1,7 @@
 """Where the companions are, and what of their packages is missing."""
 import importlib.util
 import pathlib
+import signal
 import subprocess
 import sys
 
@@ -9,6 +10,11 @@ PYTHON = "/usr/bin/python3"
 sys.path.insert(0, str(TOOLS))
 
 from edgebpf_tools.clang import newest  # noqa: E402
+
+# What a test starts is sent these signals. A shell may have started the tests to ignore them, and so would all that they start.
+for sent in (signal.SIGINT, signal.SIGTERM, signal.SIGHUP):
+    if signal.getsignal(sent) == signal.SIG_IGN:
+        signal.signal(sent, signal.SIG_DFL)
 
 
 def missing():
