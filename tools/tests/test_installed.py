@@ -20,6 +20,7 @@ u64 loop(struct edge *edge, u64 length) {
     return sum;
 }
 """
+OUTSIDE = "#include <edgebpf.h>\nu64 outside(struct edge *edge, u64 length) { return edge->argument[0]; }\n"
 BACKWARD = "again:\n    ja again\n"
 
 
@@ -51,7 +52,7 @@ class Installed(unittest.TestCase):
         cls.work = cls.room / "work"
         cls.work.mkdir()
         cls.work.chmod(0o777)
-        for name, text in (("graph.script", GRAPH), ("score.c", SCORE), ("loop.c", LOOP), ("edges.txt", "10 20\n20 30\n"), ("back.asm", BACKWARD)):
+        for name, text in (("graph.script", GRAPH), ("score.c", SCORE), ("loop.c", LOOP), ("outside.c", OUTSIDE), ("edges.txt", "10 20\n20 30\n"), ("back.asm", BACKWARD)):
             (cls.work / name).write_text(text)
             (cls.work / name).chmod(0o644)
 
@@ -80,8 +81,12 @@ class Installed(unittest.TestCase):
         text = self.run_as_user("edgebpf", "--help").stderr
         lines = [line.strip() for line in text.splitlines() if line.startswith("  printf") or line.startswith("  cat")]
         self.assertEqual(len(lines), 3)
+        # The lines write files, and what the other tests read stays.
+        room = self.work / "help"
+        room.mkdir()
+        room.chmod(0o777)
         for line in lines:
-            run = subprocess.run(["sh", "-ec", line], cwd=self.work, env={"PATH": f"{self.links}:/usr/bin:/bin"}, capture_output=True, text=True, **NOBODY)
+            run = subprocess.run(["sh", "-ec", line], cwd=room, env={"PATH": f"{self.links}:/usr/bin:/bin"}, capture_output=True, text=True, **NOBODY)
             self.assertEqual((run.returncode, run.stderr), (0, ""))
         self.assertTrue(run.stdout.endswith("run p now edges 1 total 7\nrow 0 7\n"), run.stdout)
 
@@ -97,7 +102,10 @@ class Installed(unittest.TestCase):
         self.assertIn("run score last edges 3 total 5\nrow 0 3\nrow 1 2\n", run.stdout)
         refused = self.run_as_user("edgebpf-c", "loop.c", "loop", "16", "--on", "graph.script")
         self.assertEqual(refused.returncode, 1)
-        self.assertIn("a jump leads back", refused.stderr)
+        self.assertIn("this loop in loop is left as a loop", refused.stderr)
+        refused = self.run_as_user("edgebpf-c", "outside.c", "outside", "16", "--on", "graph.script")
+        self.assertEqual(refused.returncode, 1)
+        self.assertIn("bytes may lie outside the record", refused.stderr)
 
     @unittest.skipIf(MISSING, f"missing: {MISSING}")
     def test_import(self):
