@@ -1,0 +1,253 @@
+#!/usr/bin/env python3
+"""Writes docs/CONTRACTS.md and docs/DEFINITIONS.md of what stands in the sources.
+
+    tools/dev/write_pages.py          writes both
+    tools/dev/write_pages.py --check  writes nothing, and fails if a page would change
+
+CONTRACTS has each public item of each library, with its `///`. DEFINITIONS has each public definition in `specs/`, with its comment.
+"""
+import re
+import sys
+import textwrap
+from pathlib import Path
+
+TOP = Path(__file__).resolve().parent.parent.parent
+CRATES = TOP / "crates"
+COMMAND = "tools/dev/write_pages.py"
+COLUMNS = 120
+
+CONTRACTS_HEAD = f"""\
+# Contracts
+
+What each public call promises, in the words of its source. `{COMMAND}` writes this page of the `///` in `crates/*/src`.
+The clauses under each signature say the same exactly, and are proved. No contract says how long a call takes.
+
+- "Takes no memory" means that the call has no allocator, and so no answer for want of it. Where a call may answer want of memory, it
+  may do so at any growth. That it does so only then is not claimed.
+- `From<AllocError>` and `From<AllocFailed<T>>` of an error make its answer for want of memory.
+- A law is a call that does nothing: its contract states a theorem. A law of calls only makes public calls, often at their limits, and
+  is proved from their contracts.
+- A value whose type has private fields was made by one of the calls below, and keeps what the type's text says.
+"""
+
+DEFINITIONS_HEAD = f"""\
+# Definitions
+
+The contracts speak in words that `crates/*/specs/*.antt` define. Definitions are not proved: read them to know what is claimed.
+[HEADLINE.md](HEADLINE.md) lists the few that have to be believed for the main claim, in reading order. `{COMMAND}` writes this page
+of the comments in `specs/`. A definition of one line without a comment stands here itself.
+"""
+
+ITEM = re.compile(r"pub (?:const )?(struct|enum|trait|fn|const|type) (\w+)")
+METHOD = re.compile(r"    (pub )?(?:const )?fn (\w+)")
+IMPLEMENTS = re.compile(r"(?:unsafe )?impl(?:<.*?>)? (?:(\w+)(?:<.*?>)? for )?(\w+)")
+VARIANT = re.compile(r"    (\w+)(?:\(.*\)| \{.*)?(?: = (\d+))?,?$")
+CLAUSE = re.compile(r"\s*((requires|ensures|decreases|measure|ghost|where)\b|\{|//)")
+DEFINITION = re.compile(r"(?:abbrev|opaque|def|record|data|enum) pub (\S+)|pub (?:abbrev|record|data) (\S+)")
+
+
+class Item:
+    """A public item: its kind, its name, its signature, its `///` in one line, and what belongs to it."""
+
+    def __init__(self, kind, name, said, docs):
+        self.kind, self.name, self.said, self.docs = kind, name, said, docs
+        self.parts = []
+
+
+def signature(lines, at):
+    """The signature of the function whose first line is at `at`, in one line."""
+    words = []
+    for line in lines[at:]:
+        if words and CLAUSE.match(line):
+            break
+        words.append(line.strip())
+        if line.rstrip().endswith(("{", ";")):
+            break
+    text = re.sub(r"\s*[{;]$", "", " ".join(words))
+    text = re.sub(r"\( ", "(", re.sub(r",? \)", ")", text))
+    return re.sub(r"^pub ", "", text)
+
+
+def paragraphs(docs):
+    """Doc lines as one line of text; an empty line parts sentences as a blank does."""
+    return " ".join(word for word in (line.strip() for line in docs) if word)
+
+
+def items_of(path):
+    """The items of one source, by name."""
+    found, owner, docs = {}, None, []
+    lines = path.read_text().splitlines()
+    for at, line in enumerate(lines):
+        text = line.strip()
+        if text.startswith("///"):
+            docs.append(text[3:])
+            continue
+        if text.startswith("#["):
+            continue
+        top, method, begun = ITEM.match(line), METHOD.match(line), IMPLEMENTS.match(line)
+        if top:
+            kind, name = top.groups()
+            said = signature(lines, at) if kind == "fn" else f"{kind} {name}"
+            if kind == "const":
+                said = re.sub(r"^pub ", "", text.rstrip(";"))
+            owner = found.setdefault(name, Item(kind, name, said, paragraphs(docs)))
+            if kind in ("fn", "const", "type"):
+                owner = None
+        elif begun and not line.startswith(" "):
+            trait, name = begun.groups()
+            owner = None if trait else found.setdefault(name, Item("impl", name, name, ""))
+        elif line.startswith("}"):
+            owner = None
+        elif owner and method and docs and (method.group(1) or owner.kind == "trait"):
+            owner.parts.append(Item("fn", method.group(2), signature(lines, at), paragraphs(docs)))
+        elif owner and owner.kind == "enum" and (variant := VARIANT.match(line)):
+            number = f" = {variant.group(2)}" if variant.group(2) else ""
+            owner.parts.append(Item("variant", variant.group(1), variant.group(1) + number, paragraphs(docs)))
+        docs = []
+    return found
+
+
+def module(folder, name):
+    """The source of a module."""
+    beside = folder / f"{name}.rt"
+    return beside if beside.exists() else folder / name / "mod.rt"
+
+
+def listed(text):
+    """The names of a `pub use`, without those that it brings from other crates' paths."""
+    return [name.strip().split(" as ")[-1] for name in text.strip("{}").split(",") if name.strip()]
+
+
+def sources_below(path):
+    """A module's source and those of its inner modules."""
+    yield path
+    inner = path.with_suffix("")
+    if inner.is_dir():
+        yield from sorted(inner.rglob("*.rt"))
+
+
+def public_items(crate):
+    """The public items of a library with the source of each, in the order of its `lib.rt`."""
+    folder = CRATES / crate / "src"
+    text = (folder / "lib.rt").read_text()
+    modules = re.findall(r"^(?:pub )?mod (\w+);", text, re.M)
+    known = {name: [(path, items_of(path)) for path in sources_below(module(folder, name))] for name in modules}
+    for name in re.findall(r"^pub mod (\w+);", text, re.M):
+        for path, items in known[name]:
+            yield from ((path, item) for item in items.values() if item.kind != "impl")
+    for name, names in re.findall(r"^pub use (\w+)(?:::\w+)*::(\{[^}]*\}|\w+);", text, re.M):
+        if name not in known:
+            continue
+        for wanted in listed(names):
+            for path, items in known[name]:
+                if wanted in items:
+                    yield path, items[wanted]
+    yield from ((folder / "lib.rt", item) for item in items_of(folder / "lib.rt").values())
+
+
+def head_of(path):
+    """What a source says of itself."""
+    return paragraphs(line[3:] for line in path.read_text().splitlines() if line.startswith("//!"))
+
+
+def wrapped(text, later=""):
+    return textwrap.fill(text, COLUMNS, subsequent_indent=later, break_long_words=False, break_on_hyphens=False)
+
+
+def line_of(item, owner=""):
+    said = f"{owner}{item.said.removeprefix('fn ')}" if item.kind == "fn" else item.said
+    return wrapped(f"- `{said}`" + (f": {item.docs}" if item.docs else ""), "  ")
+
+
+def only_named(names):
+    """The names that say all themselves, in one line."""
+    names = list(names)
+    return [wrapped("- " + ", ".join(f"`{name}`" for name in names), "  ")] if names else []
+
+
+def section_of(item):
+    """A type or a trait, and the lines of what belongs to it."""
+    lines = [f"### `{item.name}`", "", *([wrapped(item.docs), ""] if item.docs else [])]
+    lines.extend(line_of(part, f"{item.name}::" if part.kind == "fn" else "") for part in item.parts if part.docs)
+    lines.extend(only_named(part.name for part in item.parts if not part.docs))
+    return [*lines, ""] if item.parts else lines
+
+
+def contracts():
+    """The page on contracts."""
+    page = [CONTRACTS_HEAD]
+    for crate in crates():
+        library = CRATES / crate / "src" / "lib.rt"
+        if not library.exists():
+            continue
+        page.extend([f"## `{crate}`", "", wrapped(head_of(library)), ""])
+        items = list(public_items(crate))
+        laws = [line_of(item) for path, item in items if path.stem == "laws"]
+        loose = [line_of(item) for path, item in items if item.kind in ("fn", "const") and path.stem != "laws"]
+        for _, item in items:
+            if item.kind not in ("fn", "const"):
+                page.extend(section_of(item))
+        if loose:
+            page.extend(["### Functions and limits", "", *loose, ""])
+        if laws:
+            page.extend(["### `laws`", "", *laws, ""])
+    return "\n".join(page)
+
+
+def crates():
+    lines = (TOP / "crates.txt").read_text().splitlines()
+    return [line.split(":")[0].split()[0] for line in lines if ":" in line and not line.startswith("#")]
+
+
+def definitions_of(path):
+    """Of each public definition of a file: its name, its comment, and its body where it has one line."""
+    comment = []
+    lines = path.read_text().splitlines()
+    for at, line in enumerate(lines):
+        if line.startswith("--"):
+            comment.append(line[2:])
+            continue
+        begun = DEFINITION.match(line)
+        if begun:
+            name = begun.group(1) or begun.group(2)
+            body = [text for text in lines[at + 1:at + 3] if text.strip()]
+            yield name, paragraphs(comment), body[0] if len(body) == 1 else None
+        comment = []
+
+
+def definitions():
+    """The page on definitions."""
+    page = [DEFINITIONS_HEAD]
+    for crate in crates():
+        files = [path for path in sorted((CRATES / crate / "specs").glob("*.antt")) if path.name != "Lib.antt"]
+        if not files:
+            continue
+        page.extend([f"## `{crate}/specs`", ""])
+        for path in files:
+            first = []
+            for line in path.read_text().splitlines():
+                if not line.startswith("--"):
+                    break
+                first.append(line[2:])
+            page.extend([f"### `{path.name}`", "", *([wrapped(paragraphs(first)), ""] if first else [])])
+            known = list(definitions_of(path))
+            page.extend(wrapped(f"- `{name}`: {comment}" if comment else f"- `{body}`", "  ")
+                        for name, comment, body in known if comment or body)
+            page.extend(only_named(name for name, comment, body in known if not comment and not body))
+            page.extend([""] if known else [])
+    return "\n".join(page)
+
+
+def main():
+    pages = {TOP / "docs" / "CONTRACTS.md": contracts(), TOP / "docs" / "DEFINITIONS.md": definitions()}
+    for path, text in pages.items():
+        text = text.rstrip() + "\n"
+        if "--check" not in sys.argv[1:]:
+            path.write_text(text)
+        elif path.read_text() != text:
+            print(f"{path.relative_to(TOP)} is not what the sources say: {COMMAND} writes it", file=sys.stderr)
+            sys.exit(1)
+
+
+if __name__ == "__main__":
+    main()
