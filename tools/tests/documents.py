@@ -1,11 +1,11 @@
-"""The scripts and programs that README.md, docs/SCRIPT.md and docs/BPF.md show, as they stand there, each with what the document says
+"""The scripts and programs that README.md, docs/TOUR.md, docs/SCRIPT.md and docs/BPF.md show, as they stand there, each with what the document says
 that comes of it."""
 import pathlib
 import re
 from collections import namedtuple
 
 ROOT = pathlib.Path(__file__).resolve().parent.parent.parent
-README, SCRIPT, BPF = [(ROOT / name).read_text() for name in ("README.md", "docs/SCRIPT.md", "docs/BPF.md")]
+README, TOUR, SCRIPT, BPF = [(ROOT / name).read_text() for name in ("README.md", "docs/TOUR.md", "docs/SCRIPT.md", "docs/BPF.md")]
 FIRST = (ROOT / "examples/first.script").read_text()
 GRAPH = "graph 4\nbatch A\n+ 0 1\n+ 0 2\n+ 1 2\nend\npin a\n"
 
@@ -96,7 +96,8 @@ def line_tables():
     for name, text, start, end in (
         ("table_script", SCRIPT, "`examples/first.script`, and what it writes, `examples/first.output`:", "\nThe program loads"),
         ("table_text", SCRIPT, "One of them gives an edge as many points as its source has edges:", "\nThe lines between"),
-        ("table_readme", README, "reads the target out of an edge's record, pins the version, and sums the program's numbers:", "\nThe program is two"),
+        ("table_readme", README, "pins the version, and sums the program's numbers:", "\nA program that reads past"),
+        ("table_tour", TOUR, "reads the target out of an edge's record, pins the version, and sums the program's numbers:", "\nThe whole output"),
     ):
         lines, said = [], []
         for row in rows(between(text, start, end))[1:]:
@@ -120,29 +121,31 @@ def home_moves():
                 yield f"home_{before}_{degree}", Case("\n".join(lines) + "\n", said, said[1])
 
 
-# README.md
+# README.md and docs/TOUR.md
 
 
 def readme_lines():
-    for code, said in re.findall(r"`(code u 16 [0-9a-f]+)` reads four bytes.*\nof 16, and is answered `([^`]*)`", README):
-        yield "readme_refused", Case(FIRST + code + "\n", [said], said)
-    part = between(README, "A later batch changes nothing that `pin a` holds: ", ", and the same run")
+    for place, text in enumerate((README, TOUR)):
+        code = re.search(r"`(code u 16 [0-9a-f]+)`", text)[1]
+        said = re.search(r"`(refused u cause [0-9]+ pc [0-9]+)`", text)[1]
+        yield f"readme_refused_{place}", Case(FIRST + code + "\n", [said], said)
+    part = between(TOUR, "A later batch changes nothing that `pin a` holds: ", ", and the same run")
     *lines, said = codes(part.replace("\n", " "))
     rows_before = ["run t a edges 3 total 5", "row 0 3", "row 1 2"]
     yield "readme_removal", Case(FIRST + "\n".join(lines) + "\nrun t a sum -\n", [*rows_before, said, *rows_before], rows_before[-1])
-    block = re.search(r"^```\n(program degree .*?)^```$", README, re.M | re.S)[1]
-    said = re.search(r"answered with its line, as `(.*?)`", README)[1]
+    block = re.search(r"^```\n(program degree .*?)^```$", TOUR, re.M | re.S)[1]
+    said = re.search(r"answered with its line, as `(.*?)`", TOUR)[1]
     yield "readme_faulty_text", Case("graph 4\n" + block.replace("ldxw r0, ", "ldxw ") + "pin a\n", [said, "pin a version 0 edges 0"])
-    least = re.search(r"^\| `(edges 0 total [0-9]+)` \| `min` of no edges", README, re.M)[1]
+    least = re.search(r"^\| `(edges 0 total [0-9]+)` \| `min` over zero edges", README, re.M)[1]
     yield "readme_least_of_none", Case("graph 4\npin a\ncode t 16 61100400000000009500000000000000\nrun t a min -\n", ["run t a " + least])
 
 
 def shown_of_examples():
-    """What README shows of examples: the example, lines that stand there together, and whether they stand in its output."""
-    shown = [block for language, block in re.findall(r"^```(\w*)\n(.*?)^```$", README, re.M | re.S) if not language]
+    """What the tour shows of examples: the example, lines that stand there together, and whether they stand in its output."""
+    shown = [block for language, block in re.findall(r"^```(\w*)\n(.*?)^```$", TOUR, re.M | re.S) if not language]
     for name, block, is_output in zip(("first", "score", "weights", "weights", "mutual"), shown, (True, False, False, True, False), strict=True):
         yield name, block, is_output
-    for said in re.findall(r"`(program degree bound .*?|program weights bound .*?|refused careless .*?)`", README):
+    for said in re.findall(r"`(program degree bound .*?|program weights bound .*?|refused careless .*?)`", TOUR):
         yield "score" if "degree" in said else "weights", said + "\n", True
 
 

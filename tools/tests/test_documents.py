@@ -1,4 +1,4 @@
-"""The scripts and programs of README.md, docs/SCRIPT.md and docs/BPF.md, as they stand there: what the document says of each comes of
+"""The scripts and programs of README.md, docs/TOUR.md, docs/SCRIPT.md and docs/BPF.md, as they stand there: what the document says of each comes of
 it. The second implementation serves them here, and the program itself where EDGEBPF names it; `.ci/examples` serves them from source."""
 import os
 import pathlib
@@ -28,7 +28,7 @@ NO_CODE = {
     "no code: a loop": r"programs\.c:[0-9]+: this loop in \w+ is left as a loop",
 }
 # How many cases each part of the documents has: a row or a block that is not found is missed here.
-COUNTS = {"faults": 10, "assembler_faults": 6, "answers_of_code": 2, "zeros": 1, "line_tables": 3, "home_moves": 12, "readme_lines": 4}
+COUNTS = {"faults": 10, "assembler_faults": 6, "answers_of_code": 2, "zeros": 1, "line_tables": 4, "home_moves": 12, "readme_lines": 5}
 COUNTS |= {"helper_programs": 5, "gathering": 3, "causes": 17, "bounds": 1, "narrowing": 4, "assembler_lines": 5}
 
 
