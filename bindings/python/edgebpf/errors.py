@@ -1,0 +1,81 @@
+"""The errors of this package. All are below `Error`."""
+
+CAUSES = {
+    1: "no instruction stands there",
+    2: "a jump goes to no instruction, or out of its function",
+    3: "a jump goes back, and there are no loops",
+    4: "a call goes to no instruction after itself",
+    5: "a function does not end in an exit",
+    6: "more than eight functions may be live at once",
+    7: "more than 1,000,000 instructions may run",
+    8: "a register is read that may be unset",
+    9: "the frame register r10 is written",
+    10: "a pointer is used where only a number may be, or a number where only a pointer may be",
+    11: "bytes may lie outside the record or the frame, or a pointer may leave them",
+    12: "a stack byte is read that may be unset",
+    13: "an argument of a helper is not as the helper wants it",
+    14: "no helper has this number",
+    15: "a function may end with a pointer in r0",
+    16: "out of memory",
+}
+
+TEXT_ERRORS = {
+    1: "the line is no statement and no label, or these are not the arguments of its word",
+    2: "no statement has this word",
+    3: "an earlier line has this label",
+    4: "no line has the label to which the statement goes",
+    5: "a number is outside its range, or a label is too far away",
+    6: "the code has more than 4,096 units",
+}
+
+
+class Error(Exception):
+    """What this package raises."""
+
+
+class Refused(Error):
+    """The verifier refused a program. `cause` is its rule, and `unit` the place in the code, in units of 8 bytes."""
+
+    def __init__(self, cause, unit, program):
+        super().__init__(f"refused, cause {cause} at unit {unit}: {CAUSES[cause]}")
+        self.cause, self.unit, self.words, self._program = cause, unit, CAUSES[cause], program
+
+    def explain(self):
+        """The verifier's state before each instruction, the rule that failed, and the usual fix, as text."""
+        return self._program._explain()
+
+
+class WrongText(Error):
+    """A text is no program. `line` is counted from 1."""
+
+    def __init__(self, cause, line):
+        super().__init__(f"line {line}: {TEXT_ERRORS[cause]}")
+        self.cause, self.line = cause, line
+
+
+class VertexRange(Error):
+    """A vertex is not in the graph."""
+
+
+class TooManyEdits(Error):
+    """A batch has more than 65,536 edits."""
+
+
+class LogFull(Error):
+    """4,096 batches were published, and the store takes no more."""
+
+
+class ArgumentLength(Error):
+    """The argument of a run does not have the record's length less 16 bytes."""
+
+
+class TooManyNames(Error):
+    """The process keeps 256 programs and 256 pins at most, and none of them can be dropped."""
+
+
+class NoMemory(Error):
+    """The process ran out of memory, or a thread could not be started, and ended."""
+
+
+class Closed(Error):
+    """The store or the version was closed, or its process has ended."""

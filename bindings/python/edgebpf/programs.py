@@ -1,0 +1,95 @@
+"""Programs: BPF code or text that the verifier has accepted."""
+import os
+import pathlib
+import shutil
+import subprocess
+
+from edgebpf.errors import Error, Refused, WrongText
+
+EDGE_BYTES = 16
+MOST_RECORD = 256
+CHECKOUT = pathlib.Path(__file__).resolve().parents[3]
+
+
+def command(name):
+    """The path of a program of edgebpf: for `edgebpf` what EDGEBPF names, else what stands in a checkout, or what is installed."""
+    if name == "edgebpf" and os.environ.get("EDGEBPF"):
+        return os.environ["EDGEBPF"]
+    for path in (CHECKOUT / name, CHECKOUT / "tools" / name):
+        if path.is_file() and (CHECKOUT / "crates.txt").is_file():
+            return str(path)
+    found = shutil.which(name)
+    if not found:
+        raise Error(f"{name} is not on PATH: install edgebpf")
+    return found
+
+
+class Program:
+    """A verified program.
+
+    code: bytes of RFC 9669 instructions, in units of 8. record: the length of the record of each run, 16 to 256 bytes.
+    The argument of a run has the bytes from 16 on. `bound` is the greatest number of instructions that a run executes, and
+    `frames` the greatest number of functions that are live at once. Raises `Refused`.
+    """
+
+    def __init__(self, code, record=EDGE_BYTES):
+        self._take(bytes(code), None, record)
+
+    @classmethod
+    def _of_text(cls, text, record):
+        program = cls.__new__(cls)
+        program._take(None, text, record)
+        return program
+
+    def _take(self, code, text, record):
+        if not EDGE_BYTES <= record <= MOST_RECORD:
+            raise ValueError(f"a record has {EDGE_BYTES} to {MOST_RECORD} bytes, not {record}")
+        self.code, self.text, self.record = code, text, record
+        run = subprocess.run([command("edgebpf")], input=b"graph 1\n" + self._lines("p"), capture_output=True)
+        words = run.stdout.decode().splitlines()[-1].split() if run.stdout else []
+        if words[:2] == ["program", "p"]:
+            self.bound, self.frames = int(words[3]), int(words[5])
+        elif words[:2] == ["refused", "p"]:
+            raise Refused(int(words[3]), int(words[5]), self)
+        elif words[:2] == ["assembler", "p"]:
+            raise WrongText(int(words[3]), int(words[5]))
+        elif words[:2] == ["image", "p"]:
+            raise ValueError("code has 1 to 4,096 whole units of 8 bytes")
+        else:
+            raise Error(f"edgebpf could not verify the program: {run.stderr.decode().strip() or ' '.join(words)}")
+
+    def _lines(self, name):
+        """The lines of a script that load the program under a name."""
+        if self.text is None:
+            return f"code {name} {self.record} {self.code.hex() or '-'}\n".encode()
+        return f"program {name} {self.record}\n{self.text}\nend\n".encode()
+
+    def _explain(self):
+        words = [command("edgebpf-explain"), str(self.record)]
+        given = None if self.text is None else self.text + "\n"
+        run = subprocess.run(words + ([self.code.hex()] if self.text is None else []), input=given, capture_output=True, text=True)
+        return run.stdout or run.stderr
+
+
+def assemble(text, record=EDGE_BYTES):
+    """The program of an assembler text, whose statements stand one on a line or between semicolons.
+
+    Raises `WrongText`, whose line counts statements so, and `Refused`.
+    """
+    lines = text.replace(";", "\n").splitlines()
+    if any(line.strip() == "end" for line in lines):
+        raise ValueError("a line `end` would end the program; a label of that name is written `end:`")
+    if not text.isascii():
+        raise ValueError("a program's text is ASCII")
+    return Program._of_text("\n".join(lines), record)
+
+
+def compile_c(path, function, record=EDGE_BYTES):
+    """The program of a function in C, `u64 FUNCTION(struct edge *edge, u64 length)`, by `edgebpf-c` and clang.
+
+    Raises `Error` with the compiler's or the linker's words, and `Refused`.
+    """
+    run = subprocess.run([command("edgebpf-c"), str(path), function, str(record)], capture_output=True, text=True)
+    if run.returncode or not run.stdout:
+        raise Error(run.stderr.strip())
+    return Program(bytes.fromhex(run.stdout.split()[3]), record)

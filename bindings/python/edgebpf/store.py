@@ -1,0 +1,294 @@
+"""A store in a process of its own, its versions, and what runs give."""
+import dataclasses
+import functools
+import itertools
+import subprocess
+import threading
+
+import numpy as np
+
+from edgebpf.errors import ArgumentLength, Closed, Error, LogFull, NoMemory, TooManyEdits, TooManyNames, VertexRange
+from edgebpf.programs import EDGE_BYTES, Program, command
+
+MOST_VERTICES = 1 << 20
+MOST_EDITS = 65_536
+MOST_BATCHES = 4_096
+MOST_NAMES = 256
+# A line of a script has at most 70,000 bytes; the vertices of a run get what its other words leave.
+FRONTIER_BYTES = 68_000
+REDUCTIONS = {"sum": (0, np.add), "min": (2**64 - 1, np.minimum), "max": (0, np.maximum)}
+CHUNK = 1 << 20
+
+
+@dataclasses.dataclass(frozen=True)
+class Counts:
+    """What a batch did: the number of the version that it made, and how many edges it added and removed."""
+
+    version: int
+    added: int
+    removed: int
+
+
+@dataclasses.dataclass(frozen=True)
+class Result:
+    """What a run gave. `values` is a uint64 array with one number for each vertex of the frontier, `edges` the number of runs, and
+    `total` the reduction of all numbers. A vertex without neighbours has 0, and 2^64 - 1 for `min`."""
+
+    values: np.ndarray
+    edges: int
+    total: int
+
+
+def vertices_of(values, count):
+    """An array of vertices as int64, if all are in the graph."""
+    array = np.asarray(values)
+    if array.ndim != 1 or (array.size and array.dtype.kind not in "iu"):
+        raise TypeError("vertices are an array of whole numbers with one dimension")
+    if array.size and (array.min() < 0 or array.max() >= count):
+        raise VertexRange(f"a vertex is not below {count}")
+    return array.astype(np.int64)
+
+
+def edit_lines(sign, edges, count):
+    sources, targets = (vertices_of(ends, count) for ends in edges)
+    if len(sources) != len(targets):
+        raise ValueError("there are as many targets as sources")
+    return [f"{sign} {source} {target}\n" for source, target in zip(sources.tolist(), targets.tolist())]
+
+
+class Process:
+    """The `edgebpf` process of a store. One command at a time is under way."""
+
+    def __init__(self, words):
+        self.lock = threading.Lock()
+        self.child = subprocess.Popen(words, stdin=subprocess.PIPE, stdout=subprocess.PIPE, stderr=subprocess.PIPE)
+
+    def ask(self, text, has_rows=False):
+        """The first line of the answer as words, and the rest as bytes if it has rows."""
+        with self.lock:
+            if self.child.stdin.closed:
+                raise Closed("the store is closed")
+            try:
+                # The answer to one question more says that the rows have ended.
+                self.child.stdin.write(text + (b"home 0\n" if has_rows else b""))
+                self.child.stdin.flush()
+            except BrokenPipeError:
+                raise self.ended() from None
+            head = self.child.stdout.readline()
+            if not head or head.startswith(b"fault "):
+                raise self.ended(head)
+            return head.decode().split(), self.rows() if has_rows else b""
+
+    def rows(self):
+        parts, tail = [], b""
+        while not (tail.startswith(b"home 0 ") or b"\nhome 0 " in tail) or not tail.endswith(b"\n"):
+            part = self.child.stdout.read1(CHUNK)
+            if not part:
+                raise self.ended()
+            parts.append(part)
+            # As many bytes as hold the last line, wherever a read has cut it.
+            tail = (tail + part)[-200:]
+        text = b"".join(parts)
+        return text[:text.rfind(b"home 0 ")]
+
+    def ended(self, said=b""):
+        """The error of a process that has ended."""
+        words = (said or self.child.stderr.read()).decode().strip()
+        self.close()
+        return (NoMemory if words in ("edgebpf: memory", "edgebpf: worker") else Closed)(f"edgebpf has ended: {words}")
+
+    def close(self):
+        if not self.child.stdin.closed:
+            try:
+                self.child.stdin.close()
+            except BrokenPipeError:
+                pass
+        self.child.wait()
+        self.child.stdout.close()
+        self.child.stderr.close()
+
+
+class Store:
+    """A graph that is edited by batches. Made by `connect`; may be used by several threads, and is a context manager."""
+
+    def __init__(self, process, vertices):
+        self._process, self.vertices = process, vertices
+        self._batches, self._pins, self._names = 0, 0, itertools.count()
+        self._programs = {}
+        process.ask(f"graph {vertices}\n".encode())
+
+    def batch(self, feed="A", inserts=((), ()), removes=((), ())):
+        """Publishes one batch by feed "A" or "B", and returns its `Counts`.
+
+        inserts, removes: pairs of arrays (sources, targets), each of whole numbers below `vertices`. Insertions are applied
+        before removals. Raises `TooManyEdits`, `VertexRange` and `LogFull`; then nothing was published.
+        """
+        if feed not in ("A", "B"):
+            raise ValueError("a feed is A or B")
+        lines = edit_lines("+", inserts, self.vertices) + edit_lines("-", removes, self.vertices)
+        if len(lines) > MOST_EDITS:
+            raise TooManyEdits(f"{len(lines)} edits; a batch has at most {MOST_EDITS}")
+        if self._batches >= MOST_BATCHES:
+            raise LogFull(f"{MOST_BATCHES} batches were published")
+        words, _ = self._process.ask(f"batch {feed}\n{''.join(lines)}end\n".encode())
+        self._batches += 1
+        return Counts(int(words[3]), int(words[5]), int(words[7]))
+
+    def pin(self):
+        """The last version. It stays as it is while batches come. A process keeps at most 256 (`TooManyNames`)."""
+        if self._pins >= MOST_NAMES:
+            raise TooManyNames(f"the process keeps at most {MOST_NAMES} pins")
+        self._pins += 1
+        name = f"v{next(self._names)}"
+        words, _ = self._process.ask(f"pin {name}\n".encode())
+        return Version(self, name, int(words[3]), int(words[5]))
+
+    def _name_of(self, program):
+        """The name under which the process has a program; it is loaded at its first use."""
+        if not isinstance(program, Program):
+            raise TypeError("a program is made by Program, assemble or compile_c")
+        if program not in self._programs:
+            if len(self._programs) >= MOST_NAMES:
+                raise TooManyNames(f"the process keeps at most {MOST_NAMES} programs")
+            name = f"p{next(self._names)}"
+            words, _ = self._process.ask(program._lines(name))
+            if words[0] != "program":
+                raise Error(f"edgebpf did not load the program: {' '.join(words)}")
+            self._programs[program] = name
+        return self._programs[program]
+
+    def close(self):
+        """Ends the process, and with it the graph and its versions. May be called twice."""
+        self._process.close()
+
+    def __enter__(self):
+        return self
+
+    def __exit__(self, *_):
+        self.close()
+
+
+class Version:
+    """A version of a store's graph. `number` is how many batches it has, `vertices` and `edges` how large it is."""
+
+    def __init__(self, store, name, number, edges):
+        self._store, self._name, self.number, self.edges = store, name, number, edges
+        self.vertices = store.vertices
+        self._csr, self._is_closed = None, False
+
+    def run(self, program, reduction="sum", frontier=None, argument=b""):
+        """Runs a program for each edge of some vertices, and reduces the numbers.
+
+        reduction: "sum" (modulo 2^64), "min" or "max". frontier: an ascending array of vertices, or None for all.
+        argument: as many bytes as the program's record has beyond 16.
+        """
+        start, combine = REDUCTIONS[reduction]
+        argument = self._argument(program, argument)
+        if frontier is None:
+            values, edges, total = self._part(program, reduction, argument, "")
+            return Result(self._filled(np.arange(self.vertices), values, start), edges, total)
+        frontier = vertices_of(frontier, self.vertices)
+        if np.any(frontier[1:] <= frontier[:-1]):
+            raise ValueError("a frontier ascends, and has no vertex twice")
+        found, edges, total = [np.empty((0, 2), np.uint64)], 0, start
+        for words in frontier_parts(frontier):
+            rows, some, part = self._part(program, reduction, argument, words)
+            found.append(rows)
+            edges, total = edges + some, int(combine(np.uint64(total), np.uint64(part)))
+        return Result(self._filled(frontier, np.concatenate(found), start), edges, total)
+
+    def numbers(self, program, argument=b""):
+        """The number of each edge, a uint64 array in the order of `csr`."""
+        return self._list(program, argument)[:, 2]
+
+    def csr(self):
+        """All edges: `starts`, an int64 array of `vertices` + 1 places, and `targets`, a uint32 array, ascending for each source. Both
+        are read-only, for `scipy.sparse.csr_array((ones, targets, starts))`."""
+        if self._csr is None:
+            edges = self._list(zero_program(), b"")
+            degrees = np.bincount(edges[:, 0].astype(np.int64), minlength=self.vertices)
+            starts, targets = np.concatenate(([0], np.cumsum(degrees))), edges[:, 1].astype(np.uint32)
+            for array in (starts, targets):
+                array.flags.writeable = False
+            self._csr = starts, targets
+        return self._csr
+
+    def neighbours(self, vertex):
+        """The targets of a vertex, ascending: a read-only uint32 view of `csr`, which the first call makes."""
+        if not 0 <= vertex < self.vertices:
+            raise VertexRange(f"a vertex is not below {self.vertices}")
+        starts, targets = self.csr()
+        return targets[starts[vertex]:starts[vertex + 1]]
+
+    def close(self):
+        """Gives the version up: no run is made on it from now on. The process keeps it until the store is closed."""
+        self._is_closed = True
+
+    def __enter__(self):
+        return self
+
+    def __exit__(self, *_):
+        self.close()
+
+    def _argument(self, program, argument):
+        if self._is_closed:
+            raise Closed("the version is closed")
+        if not isinstance(program, Program):
+            raise TypeError("a program is made by Program, assemble or compile_c")
+        if len(argument) != program.record - EDGE_BYTES:
+            raise ArgumentLength(f"the argument has {program.record - EDGE_BYTES} bytes, not {len(argument)}")
+        return bytes(argument).hex() or "-"
+
+    def _part(self, program, reduction, argument, vertices):
+        name = self._store._name_of(program)
+        words, rows = self._store._process.ask(f"run {name} {self._name} {reduction} {argument}{vertices}\n".encode(), has_rows=True)
+        return numbers_in(rows, b"row ", 2), int(words[4]), int(words[6])
+
+    def _list(self, program, argument):
+        argument = self._argument(program, argument)
+        name = self._store._name_of(program)
+        _, rows = self._store._process.ask(f"list {name} {self._name} {argument}\n".encode(), has_rows=True)
+        return numbers_in(rows, b"edge ", 3)
+
+    def _filled(self, frontier, rows, start):
+        """One number for each vertex of a frontier, where only some have a row."""
+        values = np.full(len(frontier), start, np.uint64)
+        values[np.searchsorted(frontier, rows[:, 0].astype(np.int64))] = rows[:, 1]
+        return values
+
+
+def numbers_in(rows, word, columns):
+    """The numbers of lines that begin with a word."""
+    return np.fromstring(rows.replace(word, b"").decode(), np.uint64, sep=" ").reshape(-1, columns)
+
+
+def frontier_parts(frontier):
+    """The vertices of a frontier as words, each part short enough for a line. An empty frontier has no part."""
+    part, size = [], 0
+    for vertex in map(str, frontier.tolist()):
+        if size + len(vertex) + 1 > FRONTIER_BYTES:
+            yield " " + " ".join(part)
+            part, size = [], 0
+        part.append(vertex)
+        size += len(vertex) + 1
+    if part:
+        yield " " + " ".join(part)
+
+
+@functools.cache
+def zero_program():
+    """The program that returns 0 for each edge: by it edges are listed."""
+    return Program(bytes.fromhex("b7000000000000009500000000000000"))
+
+
+def connect(vertices, workers=1, program=None):
+    """Starts an `edgebpf` process with a graph of `vertices` vertices and no edge, and returns its `Store`.
+
+    vertices: 1 to 1,048,576. workers: 1 to 16 threads that apply batches and make runs. program: the path of `edgebpf`; by default the
+    variable EDGEBPF, the checkout's launcher, or what is on PATH.
+    """
+    if not 1 <= vertices <= MOST_VERTICES:
+        raise ValueError(f"a graph has 1 to {MOST_VERTICES} vertices")
+    if not 1 <= workers <= 16:
+        raise ValueError("there are 1 to 16 workers")
+    return Store(Process([program or command("edgebpf"), "--workers", str(workers)]), vertices)

@@ -1,0 +1,251 @@
+"""The Python package over an `edgebpf` process: what README shows, answers against sets and scipy, and each error."""
+import os
+import pathlib
+import random
+import re
+import subprocess
+import sys
+import tempfile
+import threading
+import unittest
+
+FOLDER = pathlib.Path(__file__).resolve().parent.parent
+TOP = FOLDER.parent.parent
+sys.path.insert(0, str(FOLDER))
+
+try:
+    import numpy as np
+
+    import edgebpf
+except ImportError:
+    np = None
+try:
+    import scipy.sparse
+except ImportError:
+    scipy = None
+
+TARGET = "ldxw r0, [r1+4]; exit"
+BATCHES = int(os.environ.get("RANDOM_BATCHES", "60"))
+
+
+def python_blocks(path):
+    return re.findall(r"^```python\n(.*?)^```", path.read_text(), re.M | re.S)
+
+
+@unittest.skipIf(np is None, "not there: numpy")
+class Package(unittest.TestCase):
+    def store(self, vertices, **words):
+        store = edgebpf.connect(vertices, **words)
+        self.addCleanup(store.close)
+        return store
+
+    def test_documents(self):
+        """Each example in Python runs as printed, and its `assert`s hold."""
+        blocks = python_blocks(TOP / "README.md") + python_blocks(FOLDER / "README.md")
+        self.assertGreaterEqual(len(blocks), 2)
+        for block in blocks:
+            exec(compile(block, "README.md", "exec"), {})
+
+    def test_random_batches(self):
+        """After each batch the pinned version has the edges of a set, and an earlier pin those of its own moment."""
+        chance, count = random.Random(11), 400
+        store, edges, kept = self.store(count, workers=2), set(), []
+        target = edgebpf.assemble(TARGET)
+        for number in range(1, BATCHES + 1):
+            inserts, removes = ([(chance.randrange(count), chance.randrange(30)) for _ in range(chance.randrange(90))] for _ in range(2))
+            counts = store.batch(chance.choice("AB"), zip_ends(inserts), zip_ends(removes))
+            later = (edges | set(inserts)) - set(removes)
+            self.assertEqual(counts, edgebpf.Counts(number, len(later - edges), len(edges - later)))
+            edges = later
+            version = store.pin()
+            kept.append((version, sorted(edges)))
+            self.assertEqual((version.number, version.edges, version.vertices), (number, len(edges), count))
+        for version, wanted in random.Random(3).sample(kept, 12):
+            starts, targets = version.csr()
+            sources = np.repeat(np.arange(count), np.diff(starts))
+            self.assertEqual(list(zip(sources.tolist(), targets.tolist())), wanted)
+            result = version.run(target)
+            self.assertEqual(result.values.tolist(), np.bincount(sources, targets, count).astype(int).tolist())
+            self.assertEqual((result.edges, result.total), (len(wanted), sum(to for _, to in wanted)))
+            self.assertEqual(version.numbers(target).tolist(), targets.tolist())
+            frontier = sorted(random.Random(version.number).sample(range(count), 50))
+            least = version.run(target, "min", frontier)
+            self.assertEqual(least.values.tolist(), [min((to for fro, to in wanted if fro == vertex), default=2**64 - 1) for vertex in frontier])
+
+    @unittest.skipIf(scipy is None, "not there: scipy")
+    def test_beside_scipy(self):
+        """Edges that have an edge back, as scipy counts them."""
+        chance, count = np.random.default_rng(4), 300
+        store = self.store(count)
+        sources, targets = chance.integers(0, count, (2, 6_000))
+        store.batch("A", (sources, targets))
+        version = store.pin()
+        mutual = edgebpf.assemble("ldxw r2, [r1+0]; ldxw r1, [r1+4]; call 2; exit")
+        starts, ends = version.csr()
+        matrix = scipy.sparse.csr_array((np.ones(len(ends), np.int64), ends, starts), shape=(count, count))
+        self.assertEqual(version.run(mutual).values.tolist(), np.asarray(matrix.multiply(matrix.T).sum(axis=1)).ravel().tolist())
+
+    def test_long_frontier(self):
+        """A frontier that no line holds is run in parts."""
+        count = 40_000
+        store = self.store(count, workers=4)
+        store.batch("A", (np.arange(count), np.arange(count)[::-1]))
+        version, target = store.pin(), edgebpf.assemble(TARGET)
+        for reduction in ("sum", "min", "max"):
+            whole, parts = version.run(target, reduction), version.run(target, reduction, np.arange(count))
+            self.assertEqual((whole.values.tolist(), whole.edges, whole.total), (parts.values.tolist(), parts.edges, parts.total))
+        none = version.run(target, "min", [])
+        self.assertEqual((none.values.tolist(), none.edges, none.total), ([], 0, 2**64 - 1))
+
+    def test_views(self):
+        store = self.store(5)
+        store.batch("A", ([1, 1, 4], [0, 3, 2]))
+        version = store.pin()
+        view = version.neighbours(1)
+        self.assertEqual(view.tolist(), [0, 3])
+        self.assertEqual(version.neighbours(0).tolist(), [])
+        with self.assertRaises(ValueError):
+            view[0] = 7
+        store.batch("A", removes=([1], [0]))
+        self.assertEqual(version.neighbours(1).tolist(), [0, 3])
+        self.assertEqual(store.pin().neighbours(1).tolist(), [3])
+
+    def test_arguments(self):
+        store = self.store(3)
+        store.batch("A", ([0, 1], [1, 2]))
+        scaled = edgebpf.assemble("ldxw r0, [r1+4]; ldxb r2, [r1+16]; mul r0, r2; exit", record=17)
+        self.assertEqual(store.pin().run(scaled, argument=b"\x05").values.tolist(), [5, 10, 0])
+        with self.assertRaises(edgebpf.ArgumentLength):
+            store.pin().run(scaled)
+
+    def test_refused(self):
+        with self.assertRaises(edgebpf.Refused) as told:
+            edgebpf.assemble("ldxw r0, [r1+13]; exit")
+        self.assertEqual((told.exception.cause, told.exception.unit), (11, 0))
+        self.assertIn("rule 11", told.exception.explain())
+        with self.assertRaises(edgebpf.Refused) as told:
+            edgebpf.Program(bytes.fromhex("9500000000000000"))
+        self.assertEqual(told.exception.cause, 8)
+        self.assertIn("rule 8", told.exception.explain())
+        with self.assertRaises(edgebpf.WrongText) as told:
+            edgebpf.assemble("mov r0, 7\njmp x")
+        self.assertEqual((told.exception.cause, told.exception.line), (2, 2))
+        for code in (b"", bytes(7), bytes(8 * 4_097)):
+            with self.assertRaises(ValueError):
+                edgebpf.Program(code)
+        for record in (15, 257):
+            with self.assertRaises(ValueError):
+                edgebpf.assemble(TARGET, record)
+
+    def test_wrong_batches(self):
+        """After each error nothing was published, and the store goes on."""
+        store = self.store(4)
+        outside = edgebpf.VertexRange
+        for edges, error in ((([4], [0]), outside), (([0], [-1]), outside), (([0, 1], [0]), ValueError), (([0.5], [1]), TypeError), ((["a"], [1]), TypeError)):
+            with self.assertRaises(error):
+                store.batch("A", edges)
+        with self.assertRaises(edgebpf.TooManyEdits):
+            store.batch("A", (np.zeros(65_537, int), np.zeros(65_537, int)))
+        with self.assertRaises(ValueError):
+            store.batch("C", ([0], [1]))
+        self.assertEqual(store.batch("B", (np.zeros(65_536, np.uint8), np.zeros(65_536, np.int64))), edgebpf.Counts(1, 1, 0))
+        version = store.pin()
+        for frontier in ([1, 0], [0, 0]):
+            with self.assertRaises(ValueError):
+                version.run(edgebpf.assemble(TARGET), "sum", frontier)
+        with self.assertRaises(edgebpf.VertexRange):
+            version.run(edgebpf.assemble(TARGET), "sum", [4])
+        with self.assertRaises(edgebpf.VertexRange):
+            version.neighbours(-1)
+
+    def test_limits(self):
+        store = self.store(1)
+        for number in range(4_096):
+            self.assertEqual(store.batch("A").version, number + 1)
+        with self.assertRaises(edgebpf.LogFull):
+            store.batch("A")
+        for _ in range(256):
+            store.pin()
+        with self.assertRaises(edgebpf.TooManyNames):
+            store.pin()
+
+    def test_closed(self):
+        store = self.store(2)
+        version = store.pin()
+        version.close()
+        with self.assertRaises(edgebpf.Closed):
+            version.run(edgebpf.assemble(TARGET))
+        store.close()
+        store.close()
+        with self.assertRaises(edgebpf.Closed):
+            store.batch("A", ([0], [1]))
+        for vertices, workers in ((0, 1), (1 << 20 | 1, 1), (4, 0), (4, 17)):
+            with self.assertRaises(ValueError):
+                edgebpf.connect(vertices, workers)
+
+    def test_ended(self):
+        """A process that ends is an error with its words, and not a wait."""
+        with tempfile.TemporaryDirectory() as folder:
+            for words, error in (("edgebpf: memory", edgebpf.NoMemory), ("edgebpf: write", edgebpf.Closed)):
+                ends = pathlib.Path(folder) / "ends"
+                ends.write_text(f"#!/bin/sh\nread line; echo graph 4; read line; echo '{words}' >&2; exit 1\n")
+                ends.chmod(0o755)
+                store = edgebpf.connect(4, program=str(ends))
+                with self.assertRaises(error):
+                    store.batch("A", ([0], [1]))
+
+    def test_threads(self):
+        """Two threads on one store: each answer is of one version, and numbers never go back."""
+        store, target, wrong = self.store(8, workers=2), edgebpf.assemble(TARGET), []
+
+        def reads():
+            last = 0
+            for _ in range(40):
+                version = store.pin()
+                total = version.run(target).total
+                if version.number < last or version.edges != version.number or total != sum(range(version.number)):
+                    wrong.append((version.number, version.edges, total))
+                last = version.number
+
+        readers = [threading.Thread(target=reads) for _ in range(2)]
+        for reader in readers:
+            reader.start()
+        for number in range(8):
+            store.batch("A", ([0], [number]))
+        for reader in readers:
+            reader.join()
+        self.assertEqual(wrong, [])
+
+    def test_from_c(self):
+        try:
+            import elftools  # noqa: F401
+        except ImportError:
+            self.skipTest("not there: elftools")
+        with tempfile.TemporaryDirectory() as folder:
+            source = pathlib.Path(folder) / "score.c"
+            source.write_text("#include <edgebpf.h>\nu64 score(struct edge *edge, u64 length) { return has_edge(edge->target, edge->source); }\n")
+            mutual = edgebpf.compile_c(source, "score")
+            with self.assertRaises(edgebpf.Error):
+                edgebpf.compile_c(source, "missing")
+        store = self.store(3)
+        store.batch("A", ([0, 1, 2], [1, 0, 0]))
+        self.assertEqual(store.pin().run(mutual).values.tolist(), [1, 1, 0])
+
+    def test_installed(self):
+        """`pip install` needs no network and no compiler, and gives the same package."""
+        with tempfile.TemporaryDirectory() as folder:
+            words = [sys.executable, "-m", "pip", "install", "-q", "--root-user-action=ignore", "--disable-pip-version-check", "--no-index", "--no-deps", "--target", folder, str(FOLDER)]
+            run = subprocess.run(words, capture_output=True, text=True, cwd=folder)
+            if "No module named pip" in run.stderr:
+                self.skipTest("not there: pip")
+            self.assertEqual((run.returncode, run.stderr), (0, ""))
+            names = {path.name for path in (pathlib.Path(folder) / "edgebpf").iterdir()} - {"__pycache__"}
+            self.assertEqual(names, {path.name for path in (FOLDER / "edgebpf").iterdir()} - {"__pycache__"})
+
+
+def zip_ends(edges):
+    return [source for source, _ in edges], [target for _, target in edges]
+
+
+if __name__ == "__main__":
+    unittest.main()
