@@ -1,14 +1,12 @@
 //! A batch's edits by ranges, as the batch alone tells.
-ghost use Rattle.std.specs.Prelude.{◌≡◌, IfOk};
-ghost use Rattle.past_model.specs.declared.limits.TheConstants.{MOST_VERTICES};
-ghost use Rattle.past_model.specs.Edits.{AreEditsBelow};
-ghost use Rattle.batch_apply.specs.Splits.{IsSplit, IsSplitBatch, by_ranges};
+ghost use Rattle.std.specs.Prelude.{◌≡◌, IfOk, IfErr};
+ghost use Rattle.batch_apply.specs.Splits.{IsSplitByRange};
 
 use crate::apply::are_below;
 use crate::errors::ApplyError;
 use crate::grouped::linked;
 use crate::runs::{cut, sorted};
-use past_model::{Batch, Edit, MOST_EDITS, MOST_VERTICES};
+use past_model::{Batch, Edit, MOST_VERTICES};
 use std::alloc::{AllocError, Global};
 use std::thread::Threads;
 
@@ -21,47 +19,38 @@ fn threaded<R: Threads + Sync>(
     alloc: Global,
     edits: &[Edit],
 ) -> Result<Vec<(u32, Vec<Edit>)>, AllocError>
-    requires { AreEditsBelow MOST_VERTICES edits.now }
-    ensures { IfOk result (λ pieces. IsSplit (by_ranges edits.now) pieces.items) }
+    ensures { IfOk result (λ pieces. IsSplitByRange edits.now pieces.items) }
 {
     let ascending = sorted(rt, alloc, edits)?;
     cut(alloc, &ascending)
 }
 
-/// The split, where the edits are few enough and of vertices that a graph may have.
-fn split_allowed<R: Threads + Sync>(
+/// The split of some edits: by links if they are few and of vertices that a graph may have, else by a sort.
+fn split_edits<R: Threads + Sync>(
     rt: &R,
     alloc: Global,
     edits: &[Edit],
 ) -> Result<Vec<(u32, Vec<Edit>)>, AllocError>
-    requires { AreEditsBelow MOST_VERTICES edits.now }
-    ensures { IfOk result (λ pieces. IsSplit (by_ranges edits.now) pieces.items) }
+    ensures { IfOk result (λ pieces. IsSplitByRange edits.now pieces.items) }
 {
-    if edits.len() < SORTED_FROM {
+    if edits.len() < SORTED_FROM && are_below(edits, MOST_VERTICES) {
         linked(alloc, edits)
     } else {
         threaded(rt, alloc, edits)
     }
 }
 
-/// Each range that a batch edits, once and ascending, with its edits in the batch's order. `TooManyEdits` exactly above
-/// 65,536 edits; else `VertexRange` exactly where an edit names a vertex that no graph may have; then `OutOfMemory`
-/// where there is no memory. From 2,048 edits on threads sort them, if there are any to be had: without one the
-/// caller's own sorts all.
+/// Each range that a batch edits, once and ascending, with its edits in the batch's order. A batch may be of any length
+/// and name any vertices. The only error is `OutOfMemory`. From 2,048 edits on threads sort them, and it may wait for
+/// these; if no thread can be started, the caller's own sorts all.
 pub fn split<R: Threads + Sync>(
     rt: &R,
     alloc: Global,
     batch: &Batch,
 ) -> Result<Vec<(u32, Vec<Edit>)>, ApplyError>
-    ensures { IsSplitBatch batch.now result }
+    ensures split { IfOk result (λ pieces. IsSplitByRange batch.now pieces.items) }
+    ensures only { IfErr result (λ error. error ≡ ApplyError.OutOfMemory) }
 {
-    let edits = batch.edits();
-    if edits.len() > MOST_EDITS {
-        return Err(ApplyError::TooManyEdits);
-    }
-    if !are_below(edits, MOST_VERTICES) {
-        return Err(ApplyError::VertexRange);
-    }
-    let pieces = split_allowed(rt, alloc, edits)?;
+    let pieces = split_edits(rt, alloc, batch.edits())?;
     Ok(pieces)
 }

@@ -40,6 +40,8 @@ fn a_batch_is_split(rt: HostRuntime) -> Result<(), Fail> {
         (2_048, 1, (8, Some((7, 256)))),
         (65_536, 16, (4_096, Some((4_095, 16)))),
         (65_536, 0, (1, Some((0, 65_536)))),
+        (65_537, 1, (257, Some((256, 1)))),
+        (3, 1 << 30, (3, Some((8_388_608, 1)))),
     ] {
         let batch = spread(rt.alloc(), count, apart)?;
         let pieces = pieces_of(&rt, rt.alloc(), &batch);
