@@ -1,7 +1,10 @@
-//! The numbers of errors, as the documents have them.
+//! The numbers of errors, as the documents have them, and the words that they print.
 use batch_apply::ApplyError;
 use edge_map::MapError;
 use service::ServeError;
+use std::alloc::Global;
+use std::fmt::Display;
+use std::test::Fail;
 use versions::{PinError, PublishError, StoreError, SubmitCause};
 
 #[test]
@@ -48,4 +51,112 @@ fn of_batches_maps_and_scripts(rt: HostRuntime) {
         ServeError::Store as u8,
     ];
     assert_eq!(rt; serving, [1, 2, 3, 4, 5]);
+}
+
+// The text that an error prints.
+fn text_of<E: Display>(alloc: Global, error: &E) -> Result<String, Fail> {
+    let text = format!(in alloc; "{}", error)?;
+    Ok(text)
+}
+
+#[test]
+fn words_of_stores(rt: HostRuntime) -> Result<(), Fail> {
+    assert_eq!(rt;
+        text_of(rt.alloc(), &StoreError::VertexCount)?.as_str(),
+        "the number of vertices is not from 1 to 1048576"
+    );
+    assert_eq!(rt;
+        text_of(rt.alloc(), &StoreError::OutOfMemory)?.as_str(),
+        "out of memory"
+    );
+    assert_eq!(rt;
+        text_of(rt.alloc(), &SubmitCause::Full)?.as_str(),
+        "64 batches wait in the queue"
+    );
+    assert_eq!(rt;
+        text_of(rt.alloc(), &SubmitCause::VertexRange)?.as_str(),
+        "an edit names a vertex that the graph does not have"
+    );
+    assert_eq!(rt;
+        text_of(rt.alloc(), &SubmitCause::TooManyEdits)?.as_str(),
+        "there are more than 65536 edits"
+    );
+    assert_eq!(rt;
+        text_of(rt.alloc(), &PublishError::OutOfMemory)?.as_str(),
+        "out of memory"
+    );
+    assert_eq!(rt;
+        text_of(rt.alloc(), &PublishError::LogFull)?.as_str(),
+        "4096 batches were published, and there is room for no more"
+    );
+    assert_eq!(rt;
+        text_of(rt.alloc(), &PublishError::WorkerRefused)?.as_str(),
+        "a worker could not be started"
+    );
+    assert_eq!(rt;
+        text_of(rt.alloc(), &PinError::Closed)?.as_str(),
+        "the store is closed"
+    );
+    assert_eq!(rt;
+        text_of(rt.alloc(), &PinError::NoShare)?.as_str(),
+        "the version cannot have one owner more"
+    );
+    Ok(())
+}
+
+#[test]
+fn words_of_batches_maps_and_scripts(rt: HostRuntime) -> Result<(), Fail> {
+    assert_eq!(rt;
+        text_of(rt.alloc(), &ApplyError::VertexRange)?.as_str(),
+        "an edit names a vertex that the graph does not have"
+    );
+    assert_eq!(rt;
+        text_of(rt.alloc(), &ApplyError::TooManyEdits)?.as_str(),
+        "there are more than 65536 edits"
+    );
+    assert_eq!(rt;
+        text_of(rt.alloc(), &ApplyError::OutOfMemory)?.as_str(),
+        "out of memory"
+    );
+    assert_eq!(rt;
+        text_of(rt.alloc(), &ApplyError::WorkerRefused)?.as_str(),
+        "a worker could not be started"
+    );
+    assert_eq!(rt;
+        text_of(rt.alloc(), &MapError::ArgumentLength)?.as_str(),
+        "the argument does not have the record's length less 16 bytes"
+    );
+    assert_eq!(rt;
+        text_of(rt.alloc(), &MapError::Frontier)?.as_str(),
+        "the frontier does not ascend, or has a vertex outside the graph"
+    );
+    assert_eq!(rt;
+        text_of(rt.alloc(), &MapError::OutOfMemory)?.as_str(),
+        "out of memory"
+    );
+    assert_eq!(rt;
+        text_of(rt.alloc(), &MapError::WorkerRefused)?.as_str(),
+        "a worker could not be started"
+    );
+    assert_eq!(rt;
+        text_of(rt.alloc(), &ServeError::Read)?.as_str(),
+        "a read failed"
+    );
+    assert_eq!(rt;
+        text_of(rt.alloc(), &ServeError::Write)?.as_str(),
+        "a write failed"
+    );
+    assert_eq!(rt;
+        text_of(rt.alloc(), &ServeError::OutOfMemory)?.as_str(),
+        "out of memory"
+    );
+    assert_eq!(rt;
+        text_of(rt.alloc(), &ServeError::WorkerRefused)?.as_str(),
+        "a worker could not be started"
+    );
+    assert_eq!(rt;
+        text_of(rt.alloc(), &ServeError::Store)?.as_str(),
+        "a version cannot have one owner more"
+    );
+    Ok(())
 }
