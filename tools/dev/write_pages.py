@@ -1,10 +1,11 @@
 #!/usr/bin/env python3
-"""Writes docs/CONTRACTS.md and docs/DEFINITIONS.md of what stands in the sources.
+"""Writes docs/CONTRACTS.md, docs/DEFINITIONS.md and docs/CRATES.md of what stands in the sources.
 
-    tools/dev/write_pages.py          writes both
+    tools/dev/write_pages.py          writes them
     tools/dev/write_pages.py --check  writes nothing, and fails if a page would change
 
 CONTRACTS has each public item of each library, with its `///`. DEFINITIONS has each public definition in `specs/`, with its comment.
+CRATES has the towers of crates as crates.txt has them, with the `//!` of each.
 """
 import re
 import sys
@@ -37,6 +38,19 @@ The contracts speak in words that `crates/*/specs/*.antt` define. Definitions ar
 [HEADLINE.md](HEADLINE.md) lists the few that have to be believed for the main claim, in reading order. `{COMMAND}` writes this page
 of the comments in `specs/`. A definition of one line without a comment stands here itself.
 """
+
+CRATES_HEAD = f"""\
+# Crates
+
+`{COMMAND}` writes this page of `crates.txt` and the first lines of each crate. [ARCHITECTURE.md](ARCHITECTURE.md) says how they work together.
+
+Programs stand on `bpf_isa`, the store on `past_model`, and neither knows the other. A crate stands above all that it uses, so a change
+proves the crates above it anew, and none beside it.
+"""
+
+# What a tower stands on.
+PROGRAMS, STORE = "bpf_isa", "past_model"
+TOWERS = {(False, False): "Base", (True, False): "Programs", (False, True): "Store", (True, True): "Both"}
 
 ITEM = re.compile(r"pub (?:const )?(struct|enum|trait|fn|const|type) (\w+)")
 METHOD = re.compile(r"    (pub )?(?:const )?fn (\w+)")
@@ -194,9 +208,40 @@ def contracts():
     return "\n".join(page)
 
 
-def crates():
+def uses():
+    """Of each crate, lowest first, the crates of this repository that it uses."""
     lines = (TOP / "crates.txt").read_text().splitlines()
-    return [line.split(":")[0].split()[0] for line in lines if ":" in line and not line.startswith("#")]
+    rows = [line.split(":") for line in lines if ":" in line and not line.startswith("#")]
+    named = {name.split()[0]: below.split() for name, below in rows}
+    return {name: [word for word in below if word in named] for name, below in named.items()}
+
+
+def crates():
+    return list(uses())
+
+
+def about(crate):
+    """What a crate says of itself, in one line for a table."""
+    folder = CRATES / crate / "src"
+    path = folder / "lib.rt" if (folder / "lib.rt").exists() else folder / "main.rt"
+    return head_of(path).replace("|", "\\|")
+
+
+def towers():
+    """The page on crates: the towers level by level, and a row for each crate."""
+    level, below = {}, {}
+    for crate, used in uses().items():
+        level[crate] = 1 + max((level[one] for one in used), default=0)
+        below[crate] = {crate}.union(*(below[one] for one in used))
+    tower = {crate: TOWERS[PROGRAMS in all_of, STORE in all_of] for crate, all_of in below.items()}
+    page = [CRATES_HEAD, "## Towers", "", f"| Level | {' | '.join(TOWERS.values())} |", "|---|---|---|---|---|"]
+    for height in range(max(level.values()), 0, -1):
+        cells = [", ".join(f"`{crate}`" for crate in level if level[crate] == height and tower[crate] == name) for name in TOWERS.values()]
+        page.append(f"| {height} | {' | '.join(cells)} |")
+    page += ["", "## Each crate", "", "| Crate | Stands on | Is |", "|---|---|---|"]
+    for crate, used in uses().items():
+        page.append(f"| [`{crate}`](../crates/{crate}/README.md) | {', '.join(f'`{one}`' for one in used)} | {about(crate)} |")
+    return "\n".join(page)
 
 
 def definitions_of(path):
@@ -239,8 +284,9 @@ def definitions():
 
 
 def main():
-    pages = {TOP / "docs" / "CONTRACTS.md": contracts(), TOP / "docs" / "DEFINITIONS.md": definitions()}
-    for path, text in pages.items():
+    pages = {"CONTRACTS": contracts(), "DEFINITIONS": definitions(), "CRATES": towers()}
+    for name, text in pages.items():
+        path = TOP / "docs" / f"{name}.md"
         text = text.rstrip() + "\n"
         if "--check" not in sys.argv[1:]:
             path.write_text(text)
