@@ -140,10 +140,12 @@ class Installed(unittest.TestCase):
 
     @unittest.skipIf(shutil.which("man") is None, "there is no man")
     def test_man_page(self):
-        page = self.place / "share/man/man1/edgebpf-c.1"
-        run = subprocess.run(["man", "--warnings", "-l", page], env={**os.environ, "MANWIDTH": "100", "LC_ALL": "C"}, capture_output=True, text=True)
-        self.assertEqual((run.returncode, run.stderr), (0, ""))
-        self.assertIn("--workers", run.stdout)
+        for name, said in (("man1/edgebpf-c.1", "--workers"), ("man5/edgebpf-script.5", "fault 10 line 2"), ("man7/edgebpf-bpf.7", "calllocal")):
+            page = self.place / "share/man" / name
+            words = ["man", "--warnings", "-l", page]
+            run = subprocess.run(words, env={**os.environ, "MANWIDTH": "100", "LC_ALL": "C"}, capture_output=True, text=True)
+            self.assertEqual((run.returncode, run.stderr), (0, ""))
+            self.assertIn(said, run.stdout)
 
     def test_uninstall_leaves_nothing(self):
         place = self.room / "gone"
