@@ -3,6 +3,7 @@ import re
 import shutil
 import subprocess
 
+from edgebpf_tools.opaque_indices import opaque
 from edgebpf_tools.refusal import Refusal, needs_package
 
 VERSIONS = [""] + [f"-{number}" for number in range(25, 13, -1)]
@@ -28,8 +29,8 @@ def newest(tool):
     return None
 
 
-def compile_to_bpf(source, target, folders, optimization=OPTIMIZATION):
-    """Compiles a file of C to an object file. Returns what clang says of the source."""
+def compile_to_bpf(source, target, folders, optimization=OPTIMIZATION, has_opaque_indices=False):
+    """Compiles a file of C to an object file, as it is or with opaque indices. Returns what clang says of the source."""
     clang = newest("clang")
     if clang is None:
         raise needs_package("clang, which compiles C,", "clang-19 llvm-19")
@@ -40,7 +41,8 @@ def compile_to_bpf(source, target, folders, optimization=OPTIMIZATION):
         ir = _run([*common, "-O2" if optimization == "-O1" else optimization, *TO_IR, *folder_words, source, "-o", "-"])
         if ir.returncode == 0:
             unrolled = ir.stdout.replace(LOOP_NOTE, UNROLLED_NOTE)
-            made = _run([*common, optimization, *TO_CODE, "-x", "ir", "-", "-o", target], unrolled)
+            code = opaque(unrolled) if has_opaque_indices else unrolled
+            made = _run([*common, optimization, *TO_CODE, "-x", "ir", "-", "-o", target], code)
             if made.returncode == 0:
                 return ir.stderr + made.stderr
             raise Refusal(f"clang made no code of {source}:\n{made.stderr.rstrip()}")

@@ -67,15 +67,33 @@ def is_object_file(path):
 
 def linked(options, folder):
     """The object file, the function that the program begins with, and the program."""
-    compiled = options.file
-    if not is_object_file(options.file):
-        compiled = f"{folder}/program.o"
-        sys.stderr.write(clang.compile_to_bpf(options.file, compiled, [HEADERS], options.optimize))
+    if is_object_file(options.file):
+        return of_object(options, options.file)
+    compiled = f"{folder}/program.o"
+    sys.stderr.write(clang.compile_to_bpf(options.file, compiled, [HEADERS], options.optimize))
+    found = of_object(options, compiled)
+    if explain.is_ready() and loses_an_index(options.length, found[2].code):
+        again = f"{folder}/again.o"
+        clang.compile_to_bpf(options.file, again, [HEADERS], options.optimize, has_opaque_indices=True)
+        other = of_object(options, again)
+        if explain.explain(options.length, other[2].code.hex())[1] == 0:
+            found = other
+    warn_of_result(compiled, found[1].name)
+    return found
+
+
+def of_object(options, compiled):
     objects = ObjectFile(compiled)
     entry = objects.function_named(options.function) if options.function else objects.only_function()
-    program = link(objects, entry, options.length)
-    warn_of_result(compiled, entry.name)
-    return objects, entry, program
+    return objects, entry, link(objects, entry, options.length)
+
+
+def loses_an_index(length, code):
+    """Whether a program is refused for an index of which too little is known, as far as the program that explains is there."""
+    try:
+        return "\nrule 11:" in explain.explain(length, code.hex())[0]
+    except Refusal:
+        return False
 
 
 def explained(words, name, length, code):

@@ -10,7 +10,8 @@ from edgebpf_tools.explain_page import page
 from edgebpf_tools.refusal import Refusal
 
 TOOLS = pathlib.Path(__file__).resolve().parent.parent
-BUILT = TOOLS.parent / "crates" / "edgebpf_explain" / "out" / "edgebpf_explain"
+# Where a build of the program may be: proved here, built of dist/, or installed.
+BUILT = [TOOLS.parent / place / "edgebpf_explain" for place in ("crates/edgebpf_explain/out", "dist/build", "programs")]
 
 
 def command():
@@ -21,7 +22,7 @@ def command():
 
 def is_ready():
     """Whether the program is there, so that nothing has to be built."""
-    return "EDGEBPF_EXPLAIN" in os.environ or BUILT.exists()
+    return "EDGEBPF_EXPLAIN" in os.environ or any(path.exists() for path in BUILT)
 
 
 def explain(length, code=None, text=None):

@@ -183,8 +183,8 @@ class WordsAtTheLine(unittest.TestCase):
         self.assertIn("No such file", self.refusal("any_byte"))
 
     def test_programs_that_were_refused_before(self):
-        """An addition from the left, and a signed index that is compared with both ends."""
-        for function in ("from_the_left", "signed_place"):
+        """An addition from the left, a signed index that is compared with both ends, and an index that clang tests by a flag."""
+        for function in ("from_the_left", "signed_place", "flagged_place"):
             run = self.run_on(GRAPH, function, "24")
             self.assertEqual((run.stderr, run.returncode), ("", 0))
 
