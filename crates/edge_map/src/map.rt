@@ -63,7 +63,7 @@ fn done_by<Ga: Gate, R: Threads + Wait>(
             requires { (me.counter ≡ counter.now) × (more < me.parts) × (me.claimed ≡ [])
                 × (length argument.now + EDGE_BYTES ≡ program.now.record_length)
                 × (length frontier.now ≤ MOST_VERTICES) }
-            ensures { IfOk result (λ done. IsWork (task program.entry.now (graph_of version.entry.now.past)
+            ensures { IfOk result (λ done. IsWork (task program.entry.now (graph_of version.entry.now)
                 argument.entry.now frontier.entry.now reduction rows counter.entry.now) me.parts
                 done.claimant done.pieces.items) }
         {
@@ -104,7 +104,7 @@ fn map_allowed<Ga: Gate, R: Threads + Wait>(
     requires argument { length argument.now + EDGE_BYTES ≡ program.now.record_length }
     requires few { length frontier.now ≤ MOST_VERTICES }
     ensures { IfOk result (λ out.
-        IsMap rows program.now (graph_of version.now.past) reduction argument.now frontier.now out) }
+        IsMap rows program.now (graph_of version.now) reduction argument.now frontier.now out) }
 {
     let (counter, me) = Counter::new(alloc)?;
     let plan = Plan {
@@ -137,7 +137,7 @@ pub(crate) fn map_version<Ga: Gate, R: Threads + Wait>(
     workers: Workers,
     gate: &Ga,
 ) -> Result<MapOutcome, MapError>
-    ensures { IsMapped rows program.now (graph_of version.now.past) reduction argument.now frontier.now result }
+    ensures { IsMapped rows program.now (graph_of version.now) reduction argument.now frontier.now result }
 {
     if argument.len() + EDGE_BYTES != usize::from(program.image().record_length()) {
         return Err(MapError::ArgumentLength);

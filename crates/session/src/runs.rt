@@ -44,7 +44,7 @@ fn vertices_of(
     vertices: u32,
 ) -> Result<Vec<u32>, AllocError>
     requires { list_all (λ v. nat_lt v vertices) frontier.now ≡ true }
-    ensures { IfOk result (λ all. all.items ≡ frontier_of frontier.now (graph_of version.now.past)) }
+    ensures { IfOk result (λ all. all.items ≡ frontier_of frontier.now (graph_of version.now)) }
 {
     if frontier.is_empty() {
         let all = all_vertices(alloc, version.vertex_count())?;

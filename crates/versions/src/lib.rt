@@ -13,6 +13,7 @@ mod press;
 mod publisher;
 mod reader;
 mod receipt;
+mod recorded;
 mod store;
 
 pub use board::{NoPlace, PinError};

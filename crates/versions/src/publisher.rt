@@ -119,7 +119,7 @@ impl Publisher {
     /// that the store is closed.
     pub fn finish<R: Wait>(self, feeds: [Feed; 2], rt: &R) -> Finished
         requires { AreFeedsOf self feeds }
-        ensures last { arc_value result.last ≡ self.moment }
+        ensures last { arc_value result.last ≡ self.moment.past }
         ensures held { result.held ≡ self.held }
         ensures delivered { AreDelivered (taken_of self ++ result.left.items) feeds }
         ensures few { length result.left.items ≤ QUEUE_PLACES }

@@ -10,6 +10,7 @@ use crate::intake::open_queue;
 use crate::press::Press;
 use crate::publisher::Publisher;
 use crate::reader::Reader;
+use crate::recorded::Recorded;
 use history::Head;
 use past_model::MOST_VERTICES;
 use std::alloc::Global;
@@ -40,8 +41,8 @@ impl Store {
             Feed::over(vertex_count, ends.second),
         ];
         let (head, known) = Head::new();
-        let version = Version::opening(alloc, vertex_count, known)?;
-        let current = Arc::new(alloc, version)?;
+        let version = Version::opening(alloc, vertex_count)?;
+        let current = Recorded::of(Arc::new(alloc, version)?, known);
         let (board, side) = open_board(alloc, &current, rt)?;
         let press = Press {
             alloc,
