@@ -27,5 +27,5 @@ pub use pin::Pin;
 pub use publisher::Publisher;
 pub use reader::Reader;
 pub use receipt::Receipt;
-pub use store::Store;
+pub use store::{Ends, Store};
 pub use version::{Cursor, Version};

@@ -115,7 +115,7 @@ impl Publisher {
         }
     }
 
-    /// Ends the store, once both feeds are handed in, A before B. It takes no memory. Readers are told from then on
+    /// Ends the store, once its feeds are handed in, from A on. It takes no memory. Readers are told from then on
     /// that the store is closed.
     pub fn finish<R: Wait>(self, feeds: [Feed; 2], rt: &R) -> Finished
         requires { AreFeedsOf self feeds }
