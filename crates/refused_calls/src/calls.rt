@@ -2,7 +2,7 @@
 use crate::stop::Stop;
 use batch_apply::{ApplyError, apply_batch};
 use bpf_image::Image;
-use edge_map::{MapError, Pin, Reduction, Verified, list_edges, map_edges};
+use edge_map::{Crew, MapError, MapRequest, Pin, Reduction, Verified, list_edges, map_edges};
 use migration::{Table, shard_of};
 use past_model::{Batch, Edit};
 use std::alloc::{AllocError, Global};
@@ -107,17 +107,23 @@ fn map<R: Threads + Wait>(
     let Ok(frontier) = vertices_below(alloc, MAPPED) else {
         return Err(Stop::NotBegun);
     };
-    let mapped = map_edges(
+    let crew = Crew {
         rt,
-        alloc,
-        pin,
+        workers: two_workers(),
+        gate: &OpenGate,
+    };
+    let request = MapRequest {
         program,
-        &[],
-        &frontier,
-        Reduction::Sum,
-        two_workers(),
-        &OpenGate,
-    );
+        argument: &[],
+        frontier: &frontier,
+        reduction: Reduction::Sum,
+    };
+    let mapped = map_edges(&crew, alloc, pin, &request);
+    let Crew {
+        rt: _,
+        workers: _,
+        gate: _,
+    } = crew;
     match mapped {
         Ok(out) if out.edges == 2 && out.total == 3 && out.rows.len() == MAPPED as usize => Ok(()),
         Err(MapError::OutOfMemory | MapError::WorkerRefused) => Err(Stop::NotMapped),
