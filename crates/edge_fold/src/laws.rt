@@ -25,7 +25,7 @@ fn is_view<G: GraphView>(graph: &G)
 /// neighbours, and the list of all edges of a version has as many entries as the version has edges.
 pub fn every_edge_has_its_number(program: &Verified, version: &Version, argument: &[u8])
     requires { length argument.now + EDGE_BYTES ≡ program.now.record_length }
-    ensures { EveryEdgeHasItsNumber program.now (graph_of version.now.past) argument.now }
+    ensures { EveryEdgeHasItsNumber program.now (graph_of version.now) argument.now }
 {
     are_bytes(argument);
     is_view(version);

@@ -5,4 +5,4 @@ use Rattle.edge_map.specs.Pieces.{Task, task}
 
 abbrev pub task_of : Plan → Task
 task_of plan =
-    task plan.program.now (graph_of plan.version.now.past) plan.argument.now plan.frontier.now plan.reduction plan.rows plan.counter.now
+    task plan.program.now (graph_of plan.version.now) plan.argument.now plan.frontier.now plan.reduction plan.rows plan.counter.now

@@ -25,14 +25,14 @@ fn fill(
     program: &Verified,
     argument: &[u8],
 )
-    requires past { walk.old.past ≡ version.now.past }
+    requires past { walk.old.past ≡ version.now }
     requires fits { FitsRecord program.now argument.now }
     requires empty { block.old.items ≡ [] }
     requires room { BLOCK_EDGES ≤ vec_capacity block.old }
     ensures past { walk.new.past ≡ walk.old.past }
-    ensures block { let g = graph_of version.now.past in
+    ensures block { let g = graph_of version.now in
         block.new.items ≡ take BLOCK_EDGES (listing program.now g argument.now walk.old.edges) }
-    ensures left { let g = graph_of version.now.past in listing program.now g argument.now walk.new.edges
+    ensures left { let g = graph_of version.now in listing program.now g argument.now walk.new.edges
         ≡ drop BLOCK_EDGES (listing program.now g argument.now walk.old.edges) }
 {
     let mut memory = Memory::new();
@@ -71,9 +71,9 @@ impl<'a> Model for EdgeList<'a> {
 
     ghost Value = { List ListedEdge };
 
-    ghost view = { λ l. listing l.program.now (graph_of l.version.now.past) l.argument.now l.walk.edges };
+    ghost view = { λ l. listing l.program.now (graph_of l.version.now) l.argument.now l.walk.edges };
 
-    ghost invariant = { λ l. (l.walk.past ≡ l.version.now.past) × FitsRecord l.program.now l.argument.now };
+    ghost invariant = { λ l. (l.walk.past ≡ l.version.now) × FitsRecord l.program.now l.argument.now };
 }
 
 impl<'a> EdgeList<'a> {
@@ -105,7 +105,7 @@ pub(crate) fn list_version<'a>(
     program: &'a Verified,
     argument: &'a [u8],
 ) -> Result<EdgeList<'a>, MapError>
-    ensures { IsListed program.now (graph_of version.now.past) argument.now result }
+    ensures { IsListed program.now (graph_of version.now) argument.now result }
 {
     if argument.len() + EDGE_BYTES != usize::from(program.image().record_length()) {
         return Err(MapError::ArgumentLength);

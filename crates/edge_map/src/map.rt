@@ -19,7 +19,7 @@ use crate::plan::Plan;
 use crate::work::{spread, work};
 use claims::{Claimant, Counter};
 use edge_fold::{MapOutcome, Rows};
-use gates::{Gate, Refusal, Workers};
+use gates::{Crew, Gate, Refusal, Workers};
 use map_model::{EDGE_BYTES, Reduction};
 use std::alloc::{AllocError, Global};
 use std::sync::Wait;
@@ -29,12 +29,24 @@ use verifier::Verified;
 use version::Version;
 use versions::Pin;
 
+/// What is mapped: a program with its argument, the vertices whose edges it is run on, and what its numbers become.
+#[derive(Clone, Copy)]
+pub struct MapRequest<'a> {
+    /// The program that is run on each edge.
+    pub program: &'a Verified,
+    /// What its record has after the edge.
+    pub argument: &'a [u8],
+    /// The vertices from which the edges go out, strictly ascending.
+    pub frontier: &'a [u32],
+    /// What the numbers that it exits with are reduced to.
+    pub reduction: Reduction,
+}
+
 /// What all workers have done. With one worker no thread is started.
 fn done_by<Ga: Gate, R: Threads + Wait>(
-    rt: &R,
+    crew: &Crew<'_, R, Ga>,
     alloc: Global,
     plan: Plan<'_>,
-    gate: &Ga,
     me: Claimant,
     more: u8,
 ) -> Result<Done, Refusal>
@@ -43,6 +55,8 @@ fn done_by<Ga: Gate, R: Threads + Wait>(
     requires fresh { me.claimed ≡ [] }
     ensures { IfOk result (λ done. IsWork (task_of plan.entry) me.parts done.claimant done.pieces.items) }
 {
+    let rt = crew.rt;
+    let gate = crew.gate;
     if more == 0 {
         let done = work(alloc, plan, gate, me)?;
         return Ok(done);
@@ -63,7 +77,7 @@ fn done_by<Ga: Gate, R: Threads + Wait>(
             requires { (me.counter ≡ counter.now) × (more < me.parts) × (me.claimed ≡ [])
                 × (length argument.now + EDGE_BYTES ≡ program.now.record_length)
                 × (length frontier.now ≤ MOST_VERTICES) }
-            ensures { IfOk result (λ done. IsWork (task program.entry.now (graph_of version.entry.now.past)
+            ensures { IfOk result (λ done. IsWork (task program.entry.now (graph_of version.entry.now)
                 argument.entry.now frontier.entry.now reduction rows counter.entry.now) me.parts
                 done.claimant done.pieces.items) }
         {
@@ -88,37 +102,32 @@ fn more_workers(workers: Workers, pieces: u64) -> u8
     u64::from(workers.count() - 1).min(pieces.saturating_sub(1)) as u8
 }
 
-/// The map by so many workers, where the argument and the frontier are as they have to be.
+/// The map by these workers, where the argument and the frontier are as they have to be.
 fn map_allowed<Ga: Gate, R: Threads + Wait>(
-    rt: &R,
+    crew: &Crew<'_, R, Ga>,
     alloc: Global,
     version: &Version,
-    program: &Verified,
-    argument: &[u8],
-    frontier: &[u32],
-    reduction: Reduction,
+    request: &MapRequest<'_>,
     rows: Rows,
-    workers: Workers,
-    gate: &Ga,
 ) -> Result<MapOutcome, Refusal>
-    requires argument { length argument.now + EDGE_BYTES ≡ program.now.record_length }
-    requires few { length frontier.now ≤ MOST_VERTICES }
-    ensures { IfOk result (λ out.
-        IsMap rows program.now (graph_of version.now.past) reduction argument.now frontier.now out) }
+    requires argument { length request.now.argument.now + EDGE_BYTES ≡ request.now.program.now.record_length }
+    requires few { length request.now.frontier.now ≤ MOST_VERTICES }
+    ensures { IfOk result (λ out. IsMap rows request.now.program.now (graph_of version.now) request.now.reduction
+        request.now.argument.now request.now.frontier.now out) }
 {
     let (counter, me) = Counter::new(alloc)?;
     let plan = Plan {
         version,
-        program,
-        argument,
-        frontier,
-        reduction,
+        program: request.program,
+        argument: request.argument,
+        frontier: request.frontier,
+        reduction: request.reduction,
         rows,
         counter: &counter,
     };
     let count = count_pieces(&plan);
-    let more = more_workers(workers, count);
-    let mut done = done_by(rt, alloc, plan, gate, me, more)?;
+    let more = more_workers(crew.workers, count);
+    let mut done = done_by(crew, alloc, plan, me, more)?;
     let _claimed = counter.count(&mut done.claimant);
     let out = joined(alloc, &plan, done.pieces, count)?;
     Ok(out)
@@ -126,28 +135,22 @@ fn map_allowed<Ga: Gate, R: Threads + Wait>(
 
 /// What `map_edges` and `map_sources` say, of a version.
 pub(crate) fn map_version<Ga: Gate, R: Threads + Wait>(
-    rt: &R,
+    crew: &Crew<'_, R, Ga>,
     alloc: Global,
     version: &Version,
-    program: &Verified,
-    argument: &[u8],
-    frontier: &[u32],
-    reduction: Reduction,
+    request: &MapRequest<'_>,
     rows: Rows,
-    workers: Workers,
-    gate: &Ga,
 ) -> Result<MapOutcome, MapError>
-    ensures { IsMapped rows program.now (graph_of version.now.past) reduction argument.now frontier.now result }
+    ensures { IsMapped rows request.now.program.now (graph_of version.now) request.now.reduction
+        request.now.argument.now request.now.frontier.now result }
 {
-    if argument.len() + EDGE_BYTES != usize::from(program.image().record_length()) {
+    if request.argument.len() + EDGE_BYTES != usize::from(request.program.image().record_length()) {
         return Err(MapError::ArgumentLength);
     }
-    if !is_frontier(frontier, version.vertex_count()) {
+    if !is_frontier(request.frontier, version.vertex_count()) {
         return Err(MapError::Frontier);
     }
-    let out = map_allowed(
-        rt, alloc, version, program, argument, frontier, reduction, rows, workers, gate,
-    )?;
+    let out = map_allowed(crew, alloc, version, request, rows)?;
     Ok(out)
 }
 
@@ -161,56 +164,26 @@ pub(crate) fn map_version<Ga: Gate, R: Threads + Wait>(
 /// Workers claim the pieces, the caller's thread among them, so that one thread less is started than there are workers,
 /// and none that has no piece to claim.
 pub fn map_edges<Ga: Gate, R: Threads + Wait>(
-    rt: &R,
+    crew: &Crew<'_, R, Ga>,
     alloc: Global,
     pin: &Pin,
-    program: &Verified,
-    argument: &[u8],
-    frontier: &[u32],
-    reduction: Reduction,
-    workers: Workers,
-    gate: &Ga,
+    request: &MapRequest<'_>,
 ) -> Result<MapOutcome, MapError>
-    ensures { IsMapped OfEach program.now (graph_of pin.now.past) reduction argument.now frontier.now result }
+    ensures { IsMapped OfEach request.now.program.now (graph_of pin.now.past) request.now.reduction
+        request.now.argument.now request.now.frontier.now result }
 {
-    map_version(
-        rt,
-        alloc,
-        pin.version(),
-        program,
-        argument,
-        frontier,
-        reduction,
-        Rows::OfEach,
-        workers,
-        gate,
-    )
+    map_version(crew, alloc, pin.version(), request, Rows::OfEach)
 }
 
 /// What `map_edges` does, with rows of those vertices alone that have a neighbour.
 pub fn map_sources<Ga: Gate, R: Threads + Wait>(
-    rt: &R,
+    crew: &Crew<'_, R, Ga>,
     alloc: Global,
     pin: &Pin,
-    program: &Verified,
-    argument: &[u8],
-    frontier: &[u32],
-    reduction: Reduction,
-    workers: Workers,
-    gate: &Ga,
+    request: &MapRequest<'_>,
 ) -> Result<MapOutcome, MapError>
-    ensures { IsMapped OfSources program.now (graph_of pin.now.past) reduction argument.now frontier.now result }
+    ensures { IsMapped OfSources request.now.program.now (graph_of pin.now.past) request.now.reduction
+        request.now.argument.now request.now.frontier.now result }
 {
-    map_version(
-        rt,
-        alloc,
-        pin.version(),
-        program,
-        argument,
-        frontier,
-        reduction,
-        Rows::OfSources,
-        workers,
-        gate,
-    )
+    map_version(crew, alloc, pin.version(), request, Rows::OfSources)
 }

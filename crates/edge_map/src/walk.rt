@@ -14,7 +14,7 @@ use version::Version;
 /// The first vertex behind one that has a neighbour, and how many it has.
 fn next_source(version: &Version, source: u32) -> Option<(u32, u32)>
     requires { source < MOST_VERTICES }
-    ensures { IsNextSource (graph_of version.now.past) source result }
+    ensures { IsNextSource (graph_of version.now) source result }
 {
     'vertices: for vertex in source + 1..version.vertex_count() {
         let degree = version.degree(u64::from(vertex));
@@ -43,17 +43,17 @@ impl<'a> Model for Walk<'a> {
     ghost Value = { Ahead };
 
     ghost view = { λ w. record {
-      past = w.version.now.past;
-      edges = edges_at (graph_of w.version.now.past) w.source w.place;
+      past = w.version.now;
+      edges = edges_at (graph_of w.version.now) w.source w.place;
     } };
 
-    ghost invariant = { λ w. IsAt (graph_of w.version.now.past) w.source w.place w.degree w.targets };
+    ghost invariant = { λ w. IsAt (graph_of w.version.now) w.source w.place w.degree w.targets };
 }
 
 impl<'a> Walk<'a> {
     /// All edges of a version.
     pub(crate) fn over(version: &'a Version) -> Walk<'a>
-        ensures { result ≡ record { past = version.now.past; edges = all_edges (graph_of version.now.past) } }
+        ensures { result ≡ record { past = version.now; edges = all_edges (graph_of version.now) } }
     {
         let _some = version.vertex_count();
         Walk {

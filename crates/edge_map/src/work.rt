@@ -96,7 +96,7 @@ pub(crate) fn spread<'s, E, Ga: Gate, R: Threads>(
         requires { (theirs.counter ≡ counter.now) × (theirs.parts ≡ 1) × (theirs.claimed ≡ [])
             × (length argument.now + EDGE_BYTES ≡ program.now.record_length)
             × (length frontier.now ≤ MOST_VERTICES) }
-        ensures { IfOk result (λ done. IsWork (task program.entry.now (graph_of version.entry.now.past)
+        ensures { IfOk result (λ done. IsWork (task program.entry.now (graph_of version.entry.now)
             argument.entry.now frontier.entry.now reduction rows counter.entry.now) 1 done.claimant done.pieces.items) }
     {
         let plan = Plan {

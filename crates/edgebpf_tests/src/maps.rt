@@ -2,7 +2,9 @@
 //! `script_rows`.
 use crate::runs::program_of;
 use crate::shop::pin_of;
-use edge_map::{MapError, OpenGate, Pin, Reduction, Verified, Workers, map_edges};
+use edge_map::{
+    Crew, MapError, MapRequest, OpenGate, Pin, Reduction, Verified, Workers, map_edges,
+};
 use std::alloc::{AllocError, Global};
 use std::sync::Wait;
 use std::test::Fail;
@@ -32,18 +34,24 @@ fn mapped<R: Threads + Wait>(
     frontier: &[u32],
 ) -> Result<(u64, u64, usize), MapError> {
     let workers = Workers::new(4).unwrap_or(Workers::one());
-    let reduction = Reduction::Sum;
-    let told = map_edges(
+    let crew = Crew {
         rt,
-        alloc,
-        pin,
-        program,
-        &[],
-        frontier,
-        reduction,
         workers,
-        &OpenGate,
-    )?;
+        gate: &OpenGate,
+    };
+    let request = MapRequest {
+        program,
+        argument: &[],
+        frontier,
+        reduction: Reduction::Sum,
+    };
+    let told = map_edges(&crew, alloc, pin, &request);
+    let Crew {
+        rt: _,
+        workers: _,
+        gate: _,
+    } = crew;
+    let told = told?;
     Ok((told.edges, told.total, told.rows.len()))
 }
 

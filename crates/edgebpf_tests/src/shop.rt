@@ -1,7 +1,6 @@
 //! All ends of one store, for tests.
-ghost use Rattle.std.specs.Prelude.{◌≡◌};
-ghost use Rattle.history.specs.Moment.{OneStore};
-ghost use Rattle.versions.specs.Ends.{IsFeedOf};
+ghost use Rattle.std.specs.Prelude.{◌<◌};
+ghost use Rattle.store_model.specs.declared.limits.TheConstants.{FEEDS};
 
 use crate::edits::batch_of;
 use std::alloc::Global;
@@ -10,30 +9,27 @@ use std::sync::Wait;
 use std::test::Fail;
 use std::thread::Threads;
 use versions::{
-    Batch, Edit, Feed, Finished, OpenGate, Pin, PinError, PublishError, Publisher, Reader, Receipt,
-    Store, StoreError, SubmitCause, SubmitError, Workers,
+    Batch, Edit, Ends, Feed, Finished, OpenGate, Pin, PinError, PublishError, Publisher, Reader,
+    Receipt, Store, StoreError, SubmitCause, SubmitError, Workers,
 };
 
 /// Whoever opens one has to close it.
 pub struct Shop {
     pub publisher: Publisher,
-    pub first: Feed,
-    pub second: Feed,
+    pub feeds: [Feed; 2],
     pub reader: Reader,
 }
 
 impl Model for Shop {
     ghost use Rattle.history.specs.Moment.{OneStore};
-    ghost use Rattle.versions.specs.Ends.{IsFeedOf};
+    ghost use Rattle.versions.specs.Feeds.{AreFeedsOf};
     ghost use Rattle.versions.specs.Storing.{Storing};
 
     ghost Value = { Storing };
 
     ghost view = { λ s. s.publisher };
 
-    ghost invariant = { λ s. IsFeedOf s.publisher.moment.past.vertex_count s.publisher.queue 0 s.first
-        × IsFeedOf s.publisher.moment.past.vertex_count s.publisher.queue 1 s.second
-        × OneStore s.publisher.moment s.reader };
+    ghost invariant = { λ s. AreFeedsOf s.publisher s.feeds × OneStore s.publisher.moment s.reader };
 }
 
 impl Shop {
@@ -42,28 +38,22 @@ impl Shop {
         alloc: Global,
         vertex_count: u32,
     ) -> Result<Shop, StoreError> {
-        let opened = Store::new(vertex_count, rt, alloc)?;
-        let feeds = opened.1;
-        let publisher = opened.0;
-        let reader = opened.2;
-        let mut each = feeds.into_iter();
-        let (Some(first), Some(second)) = (each.next(), each.next()) else {
-            unreachable!()
-        };
+        let Ends {
+            publisher,
+            feeds,
+            reader,
+        } = Store::new(vertex_count, rt, alloc)?;
         Ok(Shop {
             publisher,
-            first,
-            second,
+            feeds,
             reader,
         })
     }
 
-    fn offer<R: Wait>(&mut self, rt: &R, feed: u8, batch: Batch) -> Result<(), SubmitError> {
-        if feed == 0 {
-            self.first.submit(batch, rt)
-        } else {
-            self.second.submit(batch, rt)
-        }
+    fn offer<R: Wait>(&mut self, rt: &R, feed: u8, batch: Batch) -> Result<(), SubmitError>
+        requires { feed < FEEDS }
+    {
+        self.feeds[usize::from(feed)].submit(batch, rt)
     }
 
     /// Why a batch is refused, and how many edits come back. `None` where it is not.
@@ -72,7 +62,9 @@ impl Shop {
         rt: &R,
         feed: u8,
         batch: Batch,
-    ) -> Option<(SubmitCause, usize)> {
+    ) -> Option<(SubmitCause, usize)>
+        requires { feed < FEEDS }
+    {
         match self.offer(rt, feed, batch) {
             Ok(()) => None,
             Err(error) => Some((error.cause, error.batch.edits().len())),
@@ -92,7 +84,9 @@ impl Shop {
         rt: &R,
         feed: u8,
         batch: Batch,
-    ) -> Result<Receipt, Fail> {
+    ) -> Result<Receipt, Fail>
+        requires { feed < FEEDS }
+    {
         if self.submit(rt, feed, batch).is_some() {
             return Err(Fail::new("a batch was refused"));
         }
@@ -125,11 +119,9 @@ impl Shop {
     pub(crate) fn close<R: Wait>(self, rt: &R) -> (Finished, Reader) {
         let Shop {
             publisher,
-            first,
-            second,
+            feeds,
             reader,
         } = self;
-        let feeds = [first, second];
         (publisher.finish(feeds, rt), reader)
     }
 }

@@ -2,7 +2,7 @@
 use crate::stop::Stop;
 use batch_apply::{ApplyError, apply_batch};
 use bpf_image::Image;
-use edge_map::{MapError, Pin, Reduction, Verified, list_edges, map_edges};
+use edge_map::{Crew, MapError, MapRequest, Pin, Reduction, Verified, list_edges, map_edges};
 use migration::{Table, shard_of};
 use past_model::{Batch, Edit};
 use std::alloc::{AllocError, Global};
@@ -10,7 +10,7 @@ use std::sync::Wait;
 use std::thread::Threads;
 use stream_core::{Event, Reply, run, shards};
 use verifier::verify;
-use versions::{Feed, OpenGate, Store, Workers};
+use versions::{Ends, OpenGate, Store, Workers};
 
 // How many vertices the graphs have: three ranges.
 const VERTICES: u32 = 600;
@@ -107,17 +107,23 @@ fn map<R: Threads + Wait>(
     let Ok(frontier) = vertices_below(alloc, MAPPED) else {
         return Err(Stop::NotBegun);
     };
-    let mapped = map_edges(
+    let crew = Crew {
         rt,
-        alloc,
-        pin,
+        workers: two_workers(),
+        gate: &OpenGate,
+    };
+    let request = MapRequest {
         program,
-        &[],
-        &frontier,
-        Reduction::Sum,
-        two_workers(),
-        &OpenGate,
-    );
+        argument: &[],
+        frontier: &frontier,
+        reduction: Reduction::Sum,
+    };
+    let mapped = map_edges(&crew, alloc, pin, &request);
+    let Crew {
+        rt: _,
+        workers: _,
+        gate: _,
+    } = crew;
     match mapped {
         Ok(out) if out.edges == 2 && out.total == 3 && out.rows.len() == MAPPED as usize => Ok(()),
         Err(MapError::OutOfMemory | MapError::WorkerRefused) => Err(Stop::NotMapped),
@@ -152,17 +158,15 @@ pub(crate) fn list_and_map<R: Threads + Wait>(rt: &R, alloc: Global) -> Result<(
     let (Ok(batch), Some(program)) = (batch_of(alloc), program_of(alloc)) else {
         return Err(Stop::NotBegun);
     };
-    let Ok(opened) = Store::new(VERTICES, rt, alloc) else {
+    let Ok(ends) = Store::new(VERTICES, rt, alloc) else {
         return Err(Stop::NotBegun);
     };
-    let feeds = opened.1;
-    let mut publisher = opened.0;
-    let mut reader = opened.2;
-    let mut each = feeds.into_iter();
-    let (Some(mut first), Some(second)) = (each.next(), each.next()) else {
-        unreachable!()
-    };
-    let is_submitted = first.submit(batch, rt).is_ok();
+    let Ends {
+        mut publisher,
+        mut feeds,
+        mut reader,
+    } = ends;
+    let is_submitted = feeds[0].submit(batch, rt).is_ok();
     let is_published = matches!(publisher.step(rt, Workers::one(), &OpenGate), Ok(Some(_)));
     let told = match reader.pin() {
         Ok(pin) if is_submitted && is_published => {
@@ -173,7 +177,6 @@ pub(crate) fn list_and_map<R: Threads + Wait>(rt: &R, alloc: Global) -> Result<(
         }
         _ => Err(Stop::NotBegun),
     };
-    let feeds: [Feed; 2] = [first, second];
     let _finished = publisher.finish(feeds, rt);
     told
 }

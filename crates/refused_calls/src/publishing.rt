@@ -1,14 +1,13 @@
 //! Two batches that are published. A step that is refused publishes nothing and holds its batch, and the next one publishes it.
 ghost use Rattle.std.specs.Prelude.{◌≡◌, length, IfOk};
 ghost use Rattle.history.specs.Moment.{OneStore};
-ghost use Rattle.versions.specs.Ends.{IsFeedOf};
 
 use crate::stop::Stop;
 use std::alloc::{AllocError, Global};
 use std::sync::Wait;
 use std::thread::Threads;
 use versions::{
-    Batch, Edit, Feed, Finished, OpenGate, PublishError, Publisher, Reader, Receipt, Store,
+    Batch, Edit, Ends, Finished, OpenGate, PublishError, Publisher, Reader, Receipt, Store,
     Version, Workers,
 };
 
@@ -121,20 +120,17 @@ pub(crate) fn publish_twice<R: Threads + Wait>(rt: &R, alloc: Global) -> Result<
     let Ok((first_batch, second_batch)) = batches(alloc) else {
         return Err(Stop::NotBegun);
     };
-    let Ok(opened) = Store::new(3, rt, alloc) else {
+    let Ok(ends) = Store::new(3, rt, alloc) else {
         return Err(Stop::NotBegun);
     };
-    let feeds = opened.1;
-    let mut publisher = opened.0;
-    let mut reader = opened.2;
-    let mut each = feeds.into_iter();
-    let (Some(mut first), Some(mut second)) = (each.next(), each.next()) else {
-        unreachable!()
-    };
-    let submitted = first.submit(first_batch, rt).is_ok()
-        && second.submit(second_batch, rt).is_ok();
+    let Ends {
+        mut publisher,
+        mut feeds,
+        mut reader,
+    } = ends;
+    let submitted = feeds[0].submit(first_batch, rt).is_ok()
+        && feeds[1].submit(second_batch, rt).is_ok();
     let told = publish_both(rt, &mut publisher, &mut reader);
-    let feeds: [Feed; 2] = [first, second];
     let finished = publisher.finish(feeds, rt);
     match told {
         Told::Published if submitted && is_done(&finished) => Ok(()),

@@ -1,20 +1,20 @@
 -- All ends of one store in one thread, and what comes of a batch that is handed in there.
-use Rattle.std.specs.Prelude.{◌≡◌, ◌≤◌, ◌⊎◌, ℕ, Option, Some, None, Result, Ok, Err}
+use Rattle.std.specs.Prelude.{◌≡◌, ◌≤◌, ◌⊎◌, ℕ, List, Option, Some, None, Result, Ok, Err}
 use Rattle.past_model.specs.declared.entry.Entry.{Entry}
 use Rattle.past_model.specs.declared.limits.TheConstants.{MOST_VERTICES}
 use Rattle.past_model.specs.Edits.{added, removed}
 use Rattle.past_model.specs.Past.{Past, opening, graph_of, number_of, longer}
 use Rattle.history.specs.Moment.{Moment, Begins}
-use Rattle.versions.specs.Ends.{Feeding, IsFeedOf}
+use Rattle.versions.specs.Ends.{Feeding}
+use Rattle.versions.specs.Feeds.{AreFeedsOf}
 use Rattle.versions.specs.Receipts.{Publication}
 use Rattle.versions.specs.Storing.{Storing}
 use Rattle.session.specs.declared.error.CommandError.{CommandError}
 use Rattle.session.specs.declared.error.CommandError.TheVariants as errors
 
 -- the feeds and the reader are of the publisher's store, and the reader has seen all that was published
-pub record AreHandles (n number : ℕ) (publisher : Storing) (first second : Feeding) (reader : Moment) : Type 0 where
-  pub feed_a : IsFeedOf publisher.moment.past.vertex_count publisher.queue 0 first
-  pub feed_b : IsFeedOf publisher.moment.past.vertex_count publisher.queue 1 second
+pub record AreHandles (n number : ℕ) (publisher : Storing) (feeds : List Feeding) (reader : Moment) : Type 0 where
+  pub feeds_are : AreFeedsOf publisher feeds
   pub seen : Begins publisher.moment reader
   pub count : n ≡ publisher.moment.past.vertex_count
   pub few : n ≤ MOST_VERTICES

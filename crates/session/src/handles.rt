@@ -13,7 +13,7 @@ use std::alloc::Global;
 use std::marker::Model;
 use std::sync::Wait;
 use std::thread::Threads;
-use versions::{Feed, Pin, PublishError, Publisher, Reader, Receipt, Store, StoreError};
+use versions::{Ends, Pin, PublishError, Receipt, Store, StoreError};
 
 /// The ends of a store. Whoever opens one has to close it. Contracts see it as what the last version is the replay of, and
 /// the batch that was taken and could not be published.
@@ -21,10 +21,7 @@ pub struct Handles {
     vertex_count: u32,
     // How many batches are published.
     number: u64,
-    publisher: Publisher,
-    first: Feed,
-    second: Feed,
-    reader: Reader,
+    ends: Ends,
 }
 
 impl Model for Handles {
@@ -32,9 +29,9 @@ impl Model for Handles {
 
     ghost Value = { StoreState };
 
-    ghost view = { λ h. record { past = h.publisher.moment.past; held = h.publisher.held } };
+    ghost view = { λ h. record { past = h.ends.publisher.moment.past; held = h.ends.publisher.held } };
 
-    ghost invariant = { λ h. AreHandles h.vertex_count h.number h.publisher h.first h.second h.reader };
+    ghost invariant = { λ h. AreHandles h.vertex_count h.number h.ends.publisher h.ends.feeds h.ends.reader };
 }
 
 impl Handles {
@@ -48,21 +45,10 @@ impl Handles {
         ensures refused { IsErrOf result StoreError.VertexCount
             ↔ ((vertex_count ≡ 0) ⊎ (MOST_VERTICES < vertex_count)) }
     {
-        let opened = Store::new(vertex_count, rt, alloc)?;
-        let feeds = opened.1;
-        let publisher = opened.0;
-        let reader = opened.2;
-        let mut each = feeds.into_iter();
-        let (Some(first), Some(second)) = (each.next(), each.next()) else {
-            unreachable!()
-        };
         Ok(Handles {
             vertex_count,
             number: 0,
-            publisher,
-            first,
-            second,
-            reader,
+            ends: Store::new(vertex_count, rt, alloc)?,
         })
     }
 
@@ -81,15 +67,12 @@ impl Handles {
         self.number
     }
 
-    /// Hands a batch in by one of the feeds. `false` where the store refuses it.
+    /// Hands a batch in by one of the feeds. `false` if there is no such feed, or the store refuses the batch.
     fn submit<R: Wait>(&mut self, rt: &R, feed: u8, batch: Batch) -> bool
         ensures { self.new ≡ self.old }
     {
-        if feed == 0 {
-            self.first.submit(batch, rt).is_ok()
-        } else {
-            self.second.submit(batch, rt).is_ok()
-        }
+        let feed = usize::from(feed);
+        feed < self.ends.feeds.len() && self.ends.feeds[feed].submit(batch, rt).is_ok()
     }
 
     /// Submits a batch and publishes it. Where a batch is held, it goes on with that one in place of it, so that a batch that
@@ -107,12 +90,12 @@ impl Handles {
         let Ok(copy) = batch.share() else {
             return Err(CommandError::OutOfMemory);
         };
-        if self.publisher.holds().is_none() && !self.submit(crew.rt, feed, batch) {
+        if self.ends.publisher.holds().is_none() && !self.submit(crew.rt, feed, batch) {
             return Err(CommandError::Store);
         }
-        match self.publisher.step(crew.rt, crew.workers, crew.gate) {
+        match self.ends.publisher.step(crew.rt, crew.workers, crew.gate) {
             Ok(Some(receipt)) => {
-                self.reader.learn(&receipt);
+                self.ends.reader.learn(&receipt);
                 self.number = receipt.number();
                 if receipt.feed() == feed && are_same(receipt.batch().edits(), copy.edits()) {
                     Ok(receipt)
@@ -133,7 +116,7 @@ impl Handles {
         ensures same { self.new ≡ self.old }
         ensures error { IfErr result (λ e. e ≡ CommandError.Store) }
     {
-        let Ok(pin) = self.reader.pin() else {
+        let Ok(pin) = self.ends.reader.pin() else {
             return Err(CommandError::Store);
         };
         if pin.version().number() == self.number {
@@ -148,12 +131,13 @@ impl Handles {
         let Handles {
             vertex_count: _,
             number: _,
-            publisher,
-            first,
-            second,
-            reader: _,
+            ends,
         } = self;
-        let feeds = [first, second];
+        let Ends {
+            publisher,
+            feeds,
+            reader: _,
+        } = ends;
         let _ = publisher.finish(feeds, rt);
     }
 }

@@ -14,7 +14,7 @@ use crate::error::CommandError;
 use crate::frontier::{all_vertices, are_below, narrowed};
 use crate::kept::{find_pin, find_program};
 use crate::session::Session;
-use edge_map::{MapError, MapOutcome, map_sources};
+use edge_map::{MapError, MapOutcome, MapRequest, map_sources};
 use gates::{Crew, Gate};
 use map_model::Reduction;
 use session_model::Fault;
@@ -44,7 +44,7 @@ fn vertices_of(
     vertices: u32,
 ) -> Result<Vec<u32>, AllocError>
     requires { list_all (λ v. nat_lt v vertices) frontier.now ≡ true }
-    ensures { IfOk result (λ all. all.items ≡ frontier_of frontier.now (graph_of version.now.past)) }
+    ensures { IfOk result (λ all. all.items ≡ frontier_of frontier.now (graph_of version.now)) }
 {
     if frontier.is_empty() {
         let all = all_vertices(alloc, version.vertex_count())?;
@@ -85,17 +85,13 @@ fn map_pin<'a, Ga: Gate, R: Threads + Wait>(
         run.now.argument.now run.now.frontier.now program.now pin.now.past s) result s s }
 {
     let frontier = vertices_of(alloc, pin.version(), run.frontier, vertices)?;
-    let told = map_sources(
-        crew.rt,
-        alloc,
-        pin,
+    let request = MapRequest {
         program,
-        run.argument,
-        &frontier,
-        run.reduction,
-        crew.workers,
-        crew.gate,
-    );
+        argument: run.argument,
+        frontier: &frontier,
+        reduction: run.reduction,
+    };
+    let told = map_sources(crew, alloc, pin, &request);
     answer_to(run, told)
 }
 

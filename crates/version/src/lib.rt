@@ -1,12 +1,10 @@
 //! A version of a graph: what it is the replay of, what is asked of it, and the next one.
 #![tactic(auto)]
 
-mod draft;
 mod log;
 mod version;
 mod view;
 
 pub use self::version::Version;
 pub use cursors::Cursor;
-pub use draft::Draft;
 pub use migration::Counts;

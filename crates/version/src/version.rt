@@ -5,15 +5,12 @@ ghost use Rattle.graph_model.specs.Graph.{neighbours, edge_count, degree};
 ghost use Rattle.past_model.specs.Edits.{AreEditsBelow, added, removed};
 ghost use Rattle.past_model.specs.Homes.{home_of};
 ghost use Rattle.graph_model.specs.Views.{is_edge, neighbour_words, neighbours_among, word_bytes};
-ghost use Rattle.past_model.specs.Past.{IsPast, graph_of, number_of, longer};
-ghost use Rattle.history.specs.Moment.{opening_moment, beginning_of, no_batch};
+ghost use Rattle.past_model.specs.Past.{IsPast, graph_of, number_of, opening, longer};
 
-use crate::draft::Draft;
 use crate::log::Log;
 use batch_apply::edit_table;
 use cursors::Cursor;
 use gates::{Gate, Refusal, Workers};
-use history::Known;
 use migration::{Counts, Table};
 use past_model::{Entry, Home};
 use std::alloc::{AllocError, Global};
@@ -22,13 +19,12 @@ use std::sync::Wait;
 use std::thread::Threads;
 
 /// One state of a graph: what the log of its batches makes of the graph without an edge. It never
-/// changes after it was made. It knows that its store's history begins with these batches.
+/// changes after it was made. Contracts see it as the past that it is the replay of.
 pub struct Version {
-    pub(crate) vertex_count: u32,
-    pub(crate) log: Log,
-    pub(crate) shards: Table,
-    pub(crate) edge_count: u64,
-    pub(crate) known: Known,
+    vertex_count: u32,
+    log: Log,
+    shards: Table,
+    edge_count: u64,
 }
 
 impl Drop for Version {
@@ -39,61 +35,49 @@ impl Drop for Version {
             log: _log,
             shards: _shards,
             edge_count: _edge_count,
-            known: _known,
         } = self;
     }
 }
 
 impl Model for Version {
-    ghost use Rattle.std.specs.Prelude.{◌≡◌};
-    ghost use Rattle.history.specs.Moment.{Moment, moment_of};
-    ghost use Rattle.version.specs.Version.{IsVersion};
+    ghost use Rattle.past_model.specs.Past.{Past};
+    ghost use Rattle.version.specs.Version.{IsVersion, past_of};
 
-    ghost Value = { Moment };
+    ghost Value = { Past };
 
-    ghost view = { λ v. moment_of v.vertex_count v.known };
+    ghost view = { λ v. past_of v.vertex_count v.log };
 
-    ghost invariant = { λ v. IsVersion (moment_of v.vertex_count v.known).past v.shards v.edge_count
-        × (v.log ≡ v.known.log) };
+    ghost invariant = { λ v. IsVersion (past_of v.vertex_count v.log) v.shards v.edge_count };
 }
 
 impl Version {
     ghost use Rattle.version.specs.Version.{IsVertexCount};
 
     /// The version with nothing published.
-    pub fn opening(alloc: Global, vertex_count: u32, known: Known) -> Result<Version, AllocError>
-        requires count { IsVertexCount vertex_count }
-        requires known { known ≡ no_batch known.book }
-        ensures { IfOk result (λ version. version ≡ opening_moment vertex_count known.book) }
+    pub fn opening(alloc: Global, vertex_count: u32) -> Result<Version, AllocError>
+        requires { IsVertexCount vertex_count }
+        ensures { IfOk result (λ version. version ≡ opening vertex_count) }
     {
         Ok(Version {
             vertex_count,
             log: Log::empty(alloc),
             shards: Table::empty(alloc, vertex_count)?,
             edge_count: 0,
-            known,
         })
     }
 
     /// How many batches were published before it and with it.
     pub fn number(&self) -> u64
-        ensures value { result ≡ number_of self.now.past }
+        ensures value { result ≡ number_of self.now }
         ensures small { result ≤ MOST_BATCHES }
-        ensures past { IsPast self.now.past }
+        ensures past { IsPast self.now }
     {
         self.log.len()
     }
 
-    /// That its store's history begins with its batches.
-    pub fn known(&self) -> Known
-        ensures { result ≡ beginning_of self.now }
-    {
-        self.known.again()
-    }
-
     /// How many vertices it has: from 1 to 1,048,576.
     pub fn vertex_count(&self) -> u32
-        ensures value { result ≡ self.now.past.vertex_count }
+        ensures value { result ≡ self.now.vertex_count }
         ensures range { IsVertexCount result }
     {
         self.vertex_count
@@ -101,21 +85,21 @@ impl Version {
 
     /// How many edges it has.
     pub fn edge_count(&self) -> u64
-        ensures { result ≡ edge_count (graph_of self.now.past) }
+        ensures { result ≡ edge_count (graph_of self.now) }
     {
         self.edge_count
     }
 
     /// The neighbours of a vertex, ascending, to be lent in slices. A vertex outside has none.
     pub fn cursor(&self, vertex: u32) -> Cursor<'_>
-        ensures { result ≡ neighbours (graph_of self.now.past) vertex }
+        ensures { result ≡ neighbours (graph_of self.now) vertex }
     {
         Cursor::over(self.shards.shard_of(u64::from(vertex)), vertex)
     }
 
     /// How many neighbours a vertex has. A vertex outside has none.
     pub fn degree(&self, vertex: u64) -> u32
-        ensures value { result ≡ degree (graph_of self.now.past) vertex }
+        ensures value { result ≡ degree (graph_of self.now) vertex }
         ensures small { result ≤ MOST_VERTICES }
     {
         cursors::degree(self.shards.shard_of(vertex), vertex)
@@ -123,21 +107,21 @@ impl Version {
 
     /// Where a vertex's neighbours are kept. A vertex outside has none, and they are in its block.
     pub fn home(&self, vertex: u64) -> Home
-        ensures { result ≡ home_of self.now.past vertex }
+        ensures { result ≡ home_of self.now vertex }
     {
         self.shards.home(vertex)
     }
 
     /// Whether there is an edge from a vertex to another.
     pub fn has_edge(&self, source: u64, target: u64) -> bool
-        ensures { result ≡ is_edge (graph_of self.now.past) source target }
+        ensures { result ≡ is_edge (graph_of self.now) source target }
     {
         cursors::has_edge(self.shards.shard_of(source), source, target)
     }
 
     /// The neighbour at a place of a vertex's neighbours, from 0; there is none past their end.
     pub fn neighbour(&self, vertex: u64, place: u64) -> Option<u32>
-        ensures { result ≡ slice_get (neighbours (graph_of self.now.past) vertex) place }
+        ensures { result ≡ slice_get (neighbours (graph_of self.now) vertex) place }
     {
         cursors::neighbour(self.shards.shard_of(vertex), vertex, place)
     }
@@ -147,29 +131,28 @@ impl Version {
     pub fn gather(&self, vertex: u64, first: u64, out: &mut [u8]) -> u32
         requires { length out.old % 4 ≡ 0 }
         ensures words { out.new
-            ≡ word_bytes (neighbour_words (graph_of self.now.past) vertex first (length out.old / 4)) }
-        ensures count { result ≡ neighbours_among (graph_of self.now.past) vertex first (length out.old / 4) }
+            ≡ word_bytes (neighbour_words (graph_of self.now) vertex first (length out.old / 4)) }
+        ensures count { result ≡ neighbours_among (graph_of self.now) vertex first (length out.old / 4) }
     {
         cursors::gather(self.shards.shard_of(vertex), vertex, first, out)
     }
 
-    /// The version after one more batch, as far as it can be made before the store's history has it, and what
-    /// the batch does, by workers: the same for each number of them, gate and order in which threads run. Each edited
-    /// range's number is a piece of the gate's. This version stays. `OutOfMemory` where there is no memory,
-    /// `WorkerRefused` where a thread could not be started; with one worker none is.
-    pub fn draft<Ga: Gate, R: Threads + Wait>(
+    /// The version after one more batch, and what the batch does, by workers: the same for each number of them, gate and
+    /// order in which threads run. Each edited range's number is a piece of the gate's. This version stays. `OutOfMemory`
+    /// if there is no memory, `WorkerRefused` if a thread could not be started; with one worker none is.
+    pub fn next<Ga: Gate, R: Threads + Wait>(
         &self,
         rt: &R,
         alloc: Global,
         entry: &Entry,
         workers: Workers,
         gate: &Ga,
-    ) -> Result<(Draft, Counts), Refusal>
-        requires room { number_of self.now.past < MOST_BATCHES }
-        requires below { AreEditsBelow self.now.past.vertex_count entry.now.batch }
-        ensures draft { IfOk result (λ next. next.0 ≡ longer self.now.past entry.now) }
-        ensures gained { IfOk result (λ next. next.1.added ≡ added entry.now.batch (graph_of self.now.past)) }
-        ensures lost { IfOk result (λ next. next.1.removed ≡ removed entry.now.batch (graph_of self.now.past)) }
+    ) -> Result<(Version, Counts), Refusal>
+        requires room { number_of self.now < MOST_BATCHES }
+        requires below { AreEditsBelow self.now.vertex_count entry.now.batch }
+        ensures next { IfOk result (λ next. next.0 ≡ longer self.now entry.now) }
+        ensures gained { IfOk result (λ next. next.1.added ≡ added entry.now.batch (graph_of self.now)) }
+        ensures lost { IfOk result (λ next. next.1.removed ≡ removed entry.now.batch (graph_of self.now)) }
     {
         let (shards, counts) = edit_table(
             rt,
@@ -179,13 +162,13 @@ impl Version {
             workers,
             gate,
         )?;
-        let draft = Draft {
+        let version = Version {
             vertex_count: self.vertex_count,
             log: self.log.with(alloc, entry.share()?)?,
             shards,
             edge_count: self.edge_count + counts.added - counts.removed,
         };
-        Ok((draft, counts))
+        Ok((version, counts))
     }
 
     /// Lets the version go, by workers, each of whom has a part of its shards. What other versions share stays.
@@ -195,7 +178,6 @@ impl Version {
             log: _log,
             shards,
             edge_count: _,
-            known: _known,
         } = self;
         shards.let_go(rt, alloc, usize::from(workers.count()));
     }

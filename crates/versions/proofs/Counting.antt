@@ -1,7 +1,7 @@
--- How many entries two feeds have put.
-use Rattle.std.proofs.Common.{◌≡◌, ◌≢◌, ℕ, ◌+◌, ◌<◌, ◌≤◌, List, [], ◌∷◌, ◌++◌, length, slice_index_or, refl, sym, ap, ◌∙◌, arith, append-nil, length-append}
+-- How many entries the feeds have put.
+use Rattle.std.proofs.Common.{◌≡◌, ◌≢◌, ℕ, zero, suc, lt_of_not-le, ◌+◌, ◌<◌, ◌≤◌, List, [], ◌∷◌, ◌++◌, length, slice_index_or, refl, sym, ap, ◌∙◌, arith, append-nil, length-append}
 use Rattle.std.proofs.lemmas.Bool.{eq-eqb, ne_eqb}
-use native.Mathlib.Decide.{ℕ_discrete}
+use native.Mathlib.Decide.{ℕ_discrete, dec_le}
 use Rattle.past_model.specs.declared.entry.Entry.{Entry}
 use Rattle.store_model.specs.declared.limits.TheConstants.{FEEDS, QUEUE_PLACES}
 use Rattle.store_model.specs.Core.{of_feed}
@@ -23,48 +23,70 @@ none_behind n x xs none p le = elim (ℕ_discrete x.feed p) [
   | no other ↦ sym (other_first p x xs other) ∙ none p le
 ]
 
--- where there are entries of two feeds alone, they are those of the one and those of the other
-pub count_two : (xs : List Entry) → NoneFrom 2 xs → length xs ≡ length (of_feed 0 xs) + length (of_feed 1 xs)
-count_two [] none = refl
-count_two (x ∷ xs) none =
-    let rest : length xs ≡ length (of_feed 0 xs) + length (of_feed 1 xs) = count_two xs (none_behind 2 x xs none) in
-    elim (ℕ_discrete x.feed 0) [
-      | yes is ↦ (let a = ap (length {A = Entry}) (own_first 0 x xs is) in let b = ap (length {A = Entry}) (other_first 1 x xs (λ e. omega arith)) in omega arith)
-      | no other ↦ elim (ℕ_discrete x.feed 1) [
-        | yes is ↦ (let a = ap (length {A = Entry}) (other_first 0 x xs other) in let b = ap (length {A = Entry}) (own_first 1 x xs is) in omega arith)
-        | no other' ↦ (let some : x ∷ of_feed x.feed xs ≡ [] = sym (own_first x.feed x xs refl) ∙ none x.feed (omega arith) in absurd (cc some))
-      ]
-    ]
+-- how many entries of the first n feeds there are
+abbrev total : ℕ → List Entry → ℕ
+total zero xs = 0
+total (suc n) xs = total n xs + length (of_feed n xs)
 
--- what was taken and what is left are as many as the two feeds put
-pub count_left : (n : ℕ) (taken items : List Entry) (ended : List (List Entry)) → length ended ≡ FEEDS → Left (taker n taken FEEDS ended) items
-    → length taken + length items ≡ length (slice_index_or ended 0 []) + length (slice_index_or ended 1 [])
-count_left n taken items ended both left =
-    let all : length (taken ++ items) ≡ length (of_feed 0 (taken ++ items)) + length (of_feed 1 (taken ++ items)) = count_two (taken ++ items) left.unmade in
-    let a = ap (length {A = Entry}) (left.ended 0 (omega arith)) in
-    let b = ap (length {A = Entry}) (left.ended 1 (omega arith)) in
-    omega (arith, length-append taken items)
+total_none : (n : ℕ) → 0 ≡ total n []
+total_none zero = refl
+total_none (suc n) = omega (arith, total_none n)
+
+-- an entry of another feed changes nothing, and one of these is one more
+total_other : (n : ℕ) (x : Entry) (xs : List Entry) → n ≤ x.feed → total n (x ∷ xs) ≡ total n xs
+total_other zero x xs le = refl
+total_other (suc n) x xs le =
+    let rest = total_other n x xs (omega arith) in
+    let same = ap (length {A = Entry}) (other_first n x xs (λ e. omega arith)) in omega arith
+
+total_own : (n : ℕ) (x : Entry) (xs : List Entry) → x.feed < n → total n (x ∷ xs) ≡ total n xs + 1
+total_own zero x xs lt = absurd (omega arith)
+total_own (suc n) x xs lt = elim (ℕ_discrete x.feed n) [
+  | yes is ↦ (let rest = total_other n x xs (omega arith) in let own = ap (length {A = Entry}) (own_first n x xs is) in omega arith)
+  | no other ↦ (let rest = total_own n x xs (omega arith) in let same = ap (length {A = Entry}) (other_first n x xs other) in omega arith)
+]
+
+-- where there are entries of n feeds alone, they are those of the one, of the next, and so on
+count_all : (n : ℕ) (xs : List Entry) → NoneFrom n xs → length xs ≡ total n xs
+count_all n [] none = total_none n
+count_all n (x ∷ xs) none = elim (dec_le n x.feed) [
+  | yes le ↦ (let some : x ∷ of_feed x.feed xs ≡ [] = sym (own_first x.feed x xs refl) ∙ none x.feed le in absurd (cc some))
+  | no lt ↦ (let rest = count_all n xs (none_behind n x xs none) in let one = total_own n x xs (lt_of_not-le lt) in omega arith)
+]
+
+same_total : (n : ℕ) (xs ys : List Entry) → ((k : ℕ) → k < n → of_feed k xs ≡ of_feed k ys) → total n xs ≡ total n ys
+same_total zero xs ys same = refl
+same_total (suc n) xs ys same =
+    let rest = same_total n xs ys (λ k lt. same k (omega arith)) in
+    let last = ap (length {A = Entry}) (same n (omega arith)) in omega arith
+
+-- what was taken and what is left are as many, whenever that is known
+count_same : (n : ℕ) (taken items taken' items' : List Entry) (ended : List (List Entry)) → length ended ≡ FEEDS
+    → Left (taker n taken FEEDS ended) items → Left (taker n taken' FEEDS ended) items' → length taken + length items ≡ length taken' + length items'
+count_same n taken items taken' items' ended all left left' =
+    let a = count_all FEEDS (taken ++ items) left.unmade in
+    let b = count_all FEEDS (taken' ++ items') left'.unmade in
+    let same = same_total FEEDS (taken ++ items) (taken' ++ items') (λ k lt. left.ended k (omega arith) ∙ sym (left'.ended k (omega arith))) in
+    omega (arith, length-append taken items, length-append taken' items')
 
 -- there is room for one more that was taken
 pub room : (n : ℕ) (taken start xs rest : List Entry) (x : Entry) (ended : List (List Entry)) → length ended ≡ FEEDS → Left (taker n taken FEEDS ended) start
     → Left (taker n ((taken ++ xs) ++ x ∷ []) FEEDS ended) rest → length xs < QUEUE_PLACES
-room n taken start xs rest x ended both before after =
-    let a = count_left n taken start ended both before in
-    let b = count_left n ((taken ++ xs) ++ x ∷ []) rest ended both after in
+room n taken start xs rest x ended all before after =
+    let a = count_same n taken start ((taken ++ xs) ++ x ∷ []) rest ended all before after in
     let few = before.bounded in
     omega (arith, length-append (taken ++ xs) (x ∷ []), length-append taken xs)
 
 -- where the queue holds nothing, what was taken since is what was left
 pub is_left : (n : ℕ) (taken start xs items : List Entry) (ended : List (List Entry)) → length ended ≡ FEEDS → Left (taker n taken FEEDS ended) start
     → length items ≡ 0 → Left (taker n (taken ++ xs) FEEDS ended) items → Left (taker n taken FEEDS ended) xs
-is_left n taken start xs [] ended both before none after =
+is_left n taken start xs [] ended all before none after =
     let whole : (taken ++ xs) ++ [] ≡ taken ++ xs = append-nil (taken ++ xs) in
-    let a = count_left n taken start ended both before in
-    let b = count_left n (taken ++ xs) [] ended both after in
+    let a = count_same n taken start (taken ++ xs) [] ended all before after in
     let few = before.bounded in
     record {
       ended = λ k lt. ap (of_feed k) (sym whole) ∙ after.ended k lt;
       unmade = λ p le. ap (of_feed p) (sym whole) ∙ after.unmade p le;
       bounded = omega (arith, length-append taken xs);
     }
-is_left n taken start xs (x ∷ items) ended both before none after = absurd (omega arith)
+is_left n taken start xs (x ∷ items) ended all before none after = absurd (omega arith)

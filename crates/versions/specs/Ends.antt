@@ -1,6 +1,7 @@
 -- What is known of the two kinds of ends of a queue: feeds put batches in, and one end takes them out.
-use Rattle.std.specs.Prelude.{◌≡◌, ℕ, ◌+◌, ◌%◌, ◌^◌, ◌≤◌, List, [], ◌∷◌, ◌++◌, length}
+use Rattle.std.specs.Prelude.{◌≡◌, ℕ, ◌+◌, ◌%◌, ◌^◌, ◌≤◌, List, [], ◌∷◌, ◌++◌, length, map}
 use Rattle.atomic_table.specs.Seated.{TableId}
+use Rattle.graph_model.specs.Graph.{numbers_below}
 use Rattle.past_model.specs.declared.edit.Edit.{Edit}
 use Rattle.past_model.specs.declared.entry.Entry.{Entry}
 use Rattle.store_model.specs.declared.limits.TheConstants.{FEEDS, QUEUE_PLACES}
@@ -32,6 +33,14 @@ taking n taken empties queue = record { vertex_count = n; taken = taken; empties
 -- a feed and a taking end that have done nothing
 abbrev pub new_feed : ℕ → ℕ → TableId → Feeding
 new_feed n feed queue = feeding n feed [] 0 queue
+
+-- all feeds, from A on
+abbrev pub new_feeds : ℕ → TableId → List Feeding
+new_feeds n queue = map (λ feed. new_feed n feed queue) (numbers_below FEEDS)
+
+-- a feed as it was before it did anything
+abbrev pub as_new : Feeding → Feeding
+as_new s = new_feed s.vertex_count s.feed s.queue
 
 abbrev pub new_taking : ℕ → TableId → Taking
 new_taking n queue = taking n [] 0 queue

@@ -1,11 +1,13 @@
 -- What becomes of a batch that a feed hands in, and which feeds end a store.
-use Rattle.std.specs.Prelude.{◌≡◌, ◌<◌, ◌≤◌, ◌+◌, List, [], ◌∷◌, length}
+use Rattle.std.specs.Prelude.{◌≡◌, ℕ, ◌<◌, ◌≤◌, List, [], length, map}
+use Rattle.graph_model.specs.Graph.{numbers_below}
 use Rattle.past_model.specs.declared.edit.Edit.{Edit}
 use Rattle.past_model.specs.declared.entry.Entry.{Entry}
+use Rattle.store_model.specs.declared.limits.TheConstants.{FEEDS}
 use Rattle.past_model.specs.declared.limits.TheConstants.{MOST_EDITS}
 use Rattle.past_model.specs.Edits.{AreEditsBelow}
 use Rattle.store_model.specs.Core.{of_feed}
-use Rattle.versions.specs.Ends.{Feeding, after_refusal, WasFull, IsFeedOf}
+use Rattle.versions.specs.Ends.{Feeding, new_feeds, as_new, after_refusal, WasFull}
 use Rattle.versions.specs.declared.errors.SubmitCause.{SubmitCause}
 use Rattle.versions.specs.declared.errors.SubmitCause.TheVariants.{Full, VertexRange, TooManyEdits}
 use Rattle.versions.specs.Storing.{Storing}
@@ -21,18 +23,11 @@ IsRefused s batch TooManyEdits t = (MOST_EDITS < length batch) × (t ≡ s)
 IsRefused s batch VertexRange t = AreFew batch × (AreEditsBelow s.vertex_count batch → ⊥) × (t ≡ s)
 IsRefused s batch Full t = AreFew batch × AreEditsBelow s.vertex_count batch × WasFull s × (t ≡ after_refusal s)
 
--- of each of the two feeds, these are the batches that it put, in its order; and there is nothing else
+-- of each feed, these are the batches that it put, in its order; and there is nothing else
 abbrev pub AreDelivered : List Entry → List Feeding → Type 0
-AreDelivered all (first ∷ second ∷ []) =
-    (of_feed 0 all ≡ first.sent) × (of_feed 1 all ≡ second.sent) × (length all ≡ length first.sent + length second.sent)
-AreDelivered all [] = ⊥
-AreDelivered all (first ∷ []) = ⊥
-AreDelivered all (first ∷ second ∷ third ∷ rest) = ⊥
+AreDelivered all feeds =
+    (map (λ (f : Feeding). f.sent) feeds ≡ map (λ k. of_feed k all) (numbers_below FEEDS)) × ((k : ℕ) → FEEDS ≤ k → of_feed k all ≡ [])
 
--- the two feeds of a publisher's store, A and then B
+-- the feeds of a publisher's store, from A on, whatever they have done
 abbrev pub AreFeedsOf : Storing → List Feeding → Type 0
-AreFeedsOf s (first ∷ second ∷ []) =
-    IsFeedOf s.moment.past.vertex_count s.queue 0 first × IsFeedOf s.moment.past.vertex_count s.queue 1 second
-AreFeedsOf s [] = ⊥
-AreFeedsOf s (first ∷ []) = ⊥
-AreFeedsOf s (first ∷ second ∷ third ∷ rest) = ⊥
+AreFeedsOf s feeds = map as_new feeds ≡ new_feeds s.moment.past.vertex_count s.queue

@@ -1,18 +1,18 @@
 -- A batch that was taken, and how far its publication has come.
 use Rattle.std.specs.Prelude.{◌≡◌, ◌<◌, List, [], ◌∷◌, Option, Some, None, Result, Ok, Err}
-use Rattle.std.specs.Arc.{arc_value}
 use Rattle.past_model.specs.declared.entry.Entry.{Entry}
+use Rattle.store_model.specs.declared.limits.TheConstants.{FEEDS}
 use Rattle.past_model.specs.declared.limits.TheConstants.{MOST_BATCHES}
 use Rattle.past_model.specs.Edits.{AreEditsBelow, added, removed}
 use Rattle.past_model.specs.Past.{graph_of, number_of}
-use Rattle.store_model.specs.declared.limits.TheConstants.{FEEDS}
 use Rattle.history.specs.Moment.{Moment, after_entry}
 use Rattle.versions.specs.Receipts.{Publication, publication}
 use Rattle.versions.specs.declared.errors.PublishError.{PublishError}
 use Rattle.versions.specs.declared.held.Change.{Change}
 use Rattle.versions.specs.declared.held.Held.{Held}
-use Rattle.versions.specs.declared.held.Held.TheVariants.{Taken, Added, Made, Ready}
+use Rattle.versions.specs.declared.held.Held.TheVariants.{Taken, Added, Ready}
 use Rattle.versions.specs.declared.held.Stopped.{Stopped}
+use Rattle.versions.specs.declared.recorded.Owners.{Owners}
 use Rattle.versions.specs.Refused.{refused_as}
 
 -- the last version, and the one that waits to be shown
@@ -30,9 +30,8 @@ and_waiting m next = record { moment = m; waiting = Some next }
 
 abbrev pub entry_in : Held → Entry
 entry_in (Taken e) = e
-entry_in (Added c v) = c.entry
-entry_in (Made c v) = c.entry
-entry_in (Ready c v w) = c.entry
+entry_in (Added c owners) = c.entry
+entry_in (Ready c kept told) = c.entry
 
 abbrev pub entry_held : Option Held → Option Entry
 entry_held None = None
@@ -55,14 +54,17 @@ pub record IsChange (m : Moment) (c : Change) : Type 0 where
   pub gained : c.counts.added ≡ added c.entry.batch (graph_of m.past)
   pub lost : c.counts.removed ≡ removed c.entry.batch (graph_of m.past)
 
--- a held batch may come after the last version; each version that was made for it is the next one, and it waits
+-- each owner is of the version of this moment
+abbrev pub AreOwnersOf : Moment → Owners → Type 0
+AreOwnersOf m owners = (owners.shown ≡ m) × (owners.kept ≡ m) × (owners.told ≡ m)
+
+-- a held batch may come after the last version. Once the history has it, each owner is of the next version, which waits
 -- to be shown once it was handed in
 abbrev pub IsHeld : Pressing → Held → Type 0
 IsHeld p (Taken e) = IsNext p.moment e × (p ≡ at_rest p.moment)
-IsHeld p (Added c v) = IsChange p.moment c × (v ≡ after_entry p.moment c.entry) × (p ≡ at_rest p.moment)
-IsHeld p (Made c v) = IsChange p.moment c × (arc_value v ≡ after_entry p.moment c.entry) × (p ≡ at_rest p.moment)
-IsHeld p (Ready c v w) =
-    IsChange p.moment c × (arc_value v ≡ after_entry p.moment c.entry) × (arc_value w ≡ after_entry p.moment c.entry)
+IsHeld p (Added c owners) = IsChange p.moment c × AreOwnersOf (after_entry p.moment c.entry) owners × (p ≡ at_rest p.moment)
+IsHeld p (Ready c kept told) =
+    IsChange p.moment c × (kept ≡ after_entry p.moment c.entry) × (told ≡ after_entry p.moment c.entry)
     × (p ≡ and_waiting p.moment (after_entry p.moment c.entry))
 
 -- nothing is held and nothing waits, or a batch is held

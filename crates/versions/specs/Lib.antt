@@ -5,6 +5,7 @@ pub mod Glimpses
 pub mod BoardRule
 pub mod Pool
 pub mod Showing
+pub mod Recorded
 pub mod Receipts
 pub mod Refused
 pub mod Held

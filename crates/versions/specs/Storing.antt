@@ -5,7 +5,7 @@ use Rattle.past_model.specs.declared.entry.Entry.{Entry}
 use Rattle.past_model.specs.Edits.{AreEditsBelow}
 use Rattle.store_model.specs.declared.limits.TheConstants.{FEEDS}
 use Rattle.history.specs.Moment.{Moment, opening_moment}
-use Rattle.versions.specs.Ends.{Feeding, new_feed, one_more, taking, WasEmpty}
+use Rattle.versions.specs.Ends.{Feeding, new_feeds, one_more, taking, WasEmpty}
 use Rattle.versions.specs.Held.{entries_held}
 use Rattle.versions.specs.Receipts.{Publication, publication}
 
@@ -48,4 +48,4 @@ pub record IsKept (s t : Storing) : Type 0 where
 pub record IsOpened (n : ℕ) (publisher : Storing) (feeds : List Feeding) (reader : Moment) : Type 0 where
   pub seen : reader ≡ opening_moment n reader.book
   pub published : publisher ≡ new_storing reader publisher.queue
-  pub submitted : feeds ≡ new_feed n 0 publisher.queue ∷ new_feed n 1 publisher.queue ∷ []
+  pub submitted : feeds ≡ new_feeds n publisher.queue

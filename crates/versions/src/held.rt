@@ -2,10 +2,10 @@
 ghost use Rattle.std.specs.Prelude.{◌≡◌};
 ghost use Rattle.versions.specs.Held.{entry_in};
 
+use crate::recorded::{Owners, Recorded};
 use gates::Refusal;
 use past_model::Entry;
-use std::sync::Arc;
-use version::{Counts, Version};
+use version::Counts;
 
 /// A batch, and what it does to the edges.
 #[derive(Drop)]
@@ -14,17 +14,15 @@ pub struct Change {
     pub counts: Counts,
 }
 
-/// A batch that was taken and is not published yet. What was done for it is not done again.
+/// A batch that was taken and is not published yet. What the history has is not done again.
 #[derive(Drop)]
 pub enum Held {
-    /// It was taken.
+    /// It was taken, and the history does not have it.
     Taken(Entry),
-    /// The history has it, and there is its version.
-    Added(Change, Version),
-    /// That version can be shared.
-    Made(Change, Arc<Version>),
-    /// It was handed in to be shown. The other owners are for the publisher and for the receipt.
-    Ready(Change, Arc<Version>, Arc<Version>),
+    /// The history has it, and its version is to be handed in.
+    Added(Change, Owners),
+    /// Its version was handed in to be shown. The other owners are for the publisher and for the receipt.
+    Ready(Change, Recorded, Recorded),
 }
 
 /// A held batch that could not be gone on with, and what it is in want of.
@@ -54,7 +52,6 @@ impl Held {
         match self {
             Held::Taken(entry) => entry,
             Held::Added(change, _) => &change.entry,
-            Held::Made(change, _) => &change.entry,
             Held::Ready(change, _, _) => &change.entry,
         }
     }
@@ -66,7 +63,6 @@ impl Held {
         match self {
             Held::Taken(entry) => entry,
             Held::Added(change, _) => change.entry,
-            Held::Made(change, _) => change.entry,
             Held::Ready(change, _, _) => change.entry,
         }
     }

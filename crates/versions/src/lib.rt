@@ -13,6 +13,7 @@ mod press;
 mod publisher;
 mod reader;
 mod receipt;
+mod recorded;
 mod store;
 
 pub use board::{NoPlace, PinError};
@@ -26,5 +27,5 @@ pub use pin::Pin;
 pub use publisher::Publisher;
 pub use reader::Reader;
 pub use receipt::Receipt;
-pub use store::Store;
+pub use store::{Ends, Store};
 pub use version::{Cursor, Version};

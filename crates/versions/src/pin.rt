@@ -1,16 +1,15 @@
 //! A hold on a version.
 ghost use Rattle.std.specs.Prelude.{◌≡◌, IfOk};
-ghost use Rattle.std.specs.Arc.{arc_value};
 
+use crate::recorded::Recorded;
 use std::alloc::AllocError;
 use std::marker::Model;
-use std::sync::Arc;
 use version::Version;
 
 /// A hold on one version, which stays as it is while later ones are published. Contracts see it as the version's
 /// moment.
 pub struct Pin {
-    version: Arc<Version>,
+    version: Recorded,
 }
 
 impl Drop for Pin {
@@ -21,34 +20,34 @@ impl Drop for Pin {
 }
 
 impl Model for Pin {
-    ghost use Rattle.std.specs.Arc.{arc_value};
     ghost use Rattle.history.specs.Moment.{Moment};
 
     ghost Value = { Moment };
 
-    ghost view = { λ p. arc_value p.version };
+    ghost view = { λ p. p.version };
 }
 
 impl Pin {
     /// A hold on this version.
-    pub(crate) fn on(version: Arc<Version>) -> Pin
-        ensures { result ≡ arc_value version }
+    pub(crate) fn on(version: Recorded) -> Pin
+        ensures { result ≡ version }
     {
         Pin { version }
     }
 
     /// The version that it holds.
     pub fn version(&self) -> &Version
-        ensures { result.now ≡ self.now }
+        ensures { result.now ≡ self.now.past }
     {
-        &self.version
+        self.version.version()
     }
 
     /// Another hold on the same version. `AllocError` where the version cannot have one owner more.
     pub fn share(&self) -> Result<Pin, AllocError>
         ensures { IfOk result (λ pin. pin ≡ self.now) }
     {
-        let version = Arc::try_clone(&self.version)?;
-        Ok(Pin { version })
+        Ok(Pin {
+            version: self.version.share()?,
+        })
     }
 }

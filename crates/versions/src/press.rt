@@ -1,15 +1,17 @@
 //! How a taken batch becomes the version that readers are shown.
-ghost use Rattle.std.specs.Prelude.{◌≡◌, ◌≤◌};
+ghost use Rattle.std.specs.Prelude.{◌≡◌, ◌≤◌, IfOk};
 ghost use Rattle.std.specs.Arc.{arc_value};
 ghost use Rattle.past_model.specs.declared.limits.TheConstants.{MOST_BATCHES};
-ghost use Rattle.past_model.specs.Past.{number_of};
+ghost use Rattle.past_model.specs.Edits.{added, removed};
+ghost use Rattle.past_model.specs.Past.{number_of, graph_of, longer};
 ghost use Rattle.history.specs.Moment.{after_entry};
-ghost use Rattle.versions.specs.Held.{at_rest, and_waiting, entry_in, IsNext, IsChange, IsHeld, IsGoneOn};
+ghost use Rattle.versions.specs.Held.{at_rest, and_waiting, entry_in, IsNext, IsChange, AreOwnersOf, IsHeld, IsGoneOn};
 
 use crate::board::Board;
 use crate::held::{Change, Held, Stopped};
 use crate::receipt::Receipt;
-use gates::{Gate, Workers};
+use crate::recorded::{Owners, Recorded};
+use gates::{Gate, Refusal, Workers};
 use history::Head;
 use past_model::Entry;
 use std::alloc::Global;
@@ -17,7 +19,7 @@ use std::marker::Model;
 use std::mem;
 use std::sync::{Arc, Wait};
 use std::thread::Threads;
-use version::Version;
+use version::{Counts, Version};
 
 /// From so many edits on, workers let go of the version before a batch.
 const LET_GO_EDITS: usize = 4_096;
@@ -26,20 +28,19 @@ const LET_GO_EDITS: usize = 4_096;
 pub struct Press {
     pub(crate) alloc: Global,
     pub(crate) head: Head,
-    pub(crate) current: Arc<Version>,
+    pub(crate) current: Recorded,
     pub(crate) board: Board,
 }
 
 impl Model for Press {
     ghost use Rattle.std.specs.Prelude.{◌≡◌};
-    ghost use Rattle.std.specs.Arc.{arc_value};
     ghost use Rattle.versions.specs.Held.{Pressing};
 
     ghost Value = { Pressing };
 
-    ghost view = { λ p. record { moment = arc_value p.current; waiting = p.board.waiting } };
+    ghost view = { λ p. record { moment = p.current; waiting = p.board.waiting } };
 
-    ghost invariant = { λ p. (p.head ≡ (arc_value p.current).book) × (p.board.shown ≡ arc_value p.current) };
+    ghost invariant = { λ p. (p.head ≡ p.current.book) × (p.board.shown ≡ p.current) };
 }
 
 impl Press {
@@ -64,13 +65,12 @@ impl Press {
     {
         match held {
             Held::Taken(entry) => self.add(entry, rt, workers, gate),
-            Held::Added(change, version) => self.share(change, version, rt, workers),
-            Held::Made(change, version) => self.hand_in(change, version, rt, workers),
-            Held::Ready(change, version, copy) => self.show(change, version, copy, rt, workers),
+            Held::Added(change, owners) => self.hand_in(change, owners, rt, workers),
+            Held::Ready(change, kept, told) => self.show(change, kept, told, rt, workers),
         }
     }
 
-    // Makes the next version, and adds the batch to the history.
+    // Makes the next version with all its owners, and only then adds the batch to the history.
     fn add<Ga: Gate, R: Threads + Wait>(
         &mut self,
         entry: Entry,
@@ -82,7 +82,7 @@ impl Press {
         requires rest { self.old ≡ at_rest self.old.moment }
         ensures { IsGoneOn self.old entry result self.new }
     {
-        let (draft, counts) = match self.current.draft(rt, self.alloc, &entry, workers, gate) {
+        let (shown, counts) = match self.next(&entry, rt, workers, gate) {
             Ok(made) => made,
             Err(want) => {
                 return Err(Stopped {
@@ -91,58 +91,62 @@ impl Press {
                 });
             }
         };
-        // The history is never longer than what its only publisher knows.
-        let Some(known) = self
-            .head
-            .add(&self.current.known(), self.current.number(), &entry)
-        else {
+        let Ok(kept) = Arc::try_clone(&shown) else {
             return Err(Stopped::for_memory(Held::Taken(entry)));
         };
-        let version = draft.complete(known);
-        self.share(Change { entry, counts }, version, rt, workers)
+        let Ok(told) = Arc::try_clone(&shown) else {
+            return Err(Stopped::for_memory(Held::Taken(entry)));
+        };
+        // The history is never longer than what its only publisher knows.
+        let recorded = self
+            .current
+            .record_next(&self.head, &entry, shown, kept, told);
+        let Some(owners) = recorded else {
+            return Err(Stopped::for_memory(Held::Taken(entry)));
+        };
+        self.hand_in(Change { entry, counts }, owners, rt, workers)
     }
 
-    // Gives the version an owner that can be shared.
-    fn share<R: Threads + Wait>(
-        &mut self,
-        change: Change,
-        version: Version,
+    // The version after this batch, and what the batch does.
+    fn next<Ga: Gate, R: Threads + Wait>(
+        &self,
+        entry: &Entry,
         rt: &R,
         workers: Workers,
-    ) -> Result<Receipt, Stopped>
-        requires change { IsChange self.old.moment change }
-        requires version { version ≡ after_entry self.old.moment change.entry }
-        requires rest { self.old ≡ at_rest self.old.moment }
-        ensures { IsGoneOn self.old change.entry result self.new }
+        gate: &Ga,
+    ) -> Result<(Arc<Version>, Counts), Refusal>
+        requires { IsNext self.now.moment entry.now }
+        ensures next { IfOk result (λ made. arc_value made.0 ≡ longer self.now.moment.past entry.now) }
+        ensures gained { IfOk result (λ made. made.1.added ≡ added entry.now.batch (graph_of self.now.moment.past)) }
+        ensures lost { IfOk result (λ made. made.1.removed ≡ removed entry.now.batch (graph_of self.now.moment.past)) }
     {
-        match Arc::new(self.alloc, version) {
-            Ok(version) => self.hand_in(change, version, rt, workers),
-            Err(full) => Err(Stopped::for_memory(Held::Added(change, full.value))),
-        }
+        let (version, counts) = self
+            .current
+            .version()
+            .next(rt, self.alloc, entry, workers, gate)?;
+        Ok((Arc::new(self.alloc, version)?, counts))
     }
 
     // Hands the version in to be shown.
     fn hand_in<R: Threads + Wait>(
         &mut self,
         change: Change,
-        version: Arc<Version>,
+        owners: Owners,
         rt: &R,
         workers: Workers,
     ) -> Result<Receipt, Stopped>
         requires change { IsChange self.old.moment change }
-        requires version { arc_value version ≡ after_entry self.old.moment change.entry }
+        requires owners { AreOwnersOf (after_entry self.old.moment change.entry) owners }
         requires rest { self.old ≡ at_rest self.old.moment }
         ensures { IsGoneOn self.old change.entry result self.new }
     {
-        let Ok(copy) = Arc::try_clone(&version) else {
-            return Err(Stopped::for_memory(Held::Made(change, version)));
-        };
-        let Ok(shown) = Arc::try_clone(&version) else {
-            return Err(Stopped::for_memory(Held::Made(change, version)));
-        };
+        let Owners { shown, kept, told } = owners;
         match self.board.append(shown) {
-            Ok(()) => self.show(change, version, copy, rt, workers),
-            Err(_) => Err(Stopped::for_memory(Held::Made(change, version))),
+            Ok(()) => self.show(change, kept, told, rt, workers),
+            Err(shown) => {
+                let owners = Owners { shown, kept, told };
+                Err(Stopped::for_memory(Held::Added(change, owners)))
+            }
         }
     }
 
@@ -150,24 +154,24 @@ impl Press {
     fn show<R: Threads + Wait>(
         &mut self,
         change: Change,
-        version: Arc<Version>,
-        copy: Arc<Version>,
+        kept: Recorded,
+        told: Recorded,
         rt: &R,
         workers: Workers,
     ) -> Result<Receipt, Stopped>
         requires change { IsChange self.old.moment change }
-        requires version { arc_value version ≡ after_entry self.old.moment change.entry }
-        requires copy { arc_value copy ≡ after_entry self.old.moment change.entry }
+        requires kept { kept ≡ after_entry self.old.moment change.entry }
+        requires told { told ≡ after_entry self.old.moment change.entry }
         requires waits { self.old ≡ and_waiting self.old.moment (after_entry self.old.moment change.entry) }
         ensures { IsGoneOn self.old change.entry result self.new }
     {
         match self.board.show(rt) {
             Ok(()) => {
-                let before = mem::replace(&mut self.current, version);
+                let before = mem::replace(&mut self.current, kept);
                 self.let_go(before, change.entry.batch.edits().len(), rt, workers);
-                Ok(Receipt::of(copy, change))
+                Ok(Receipt::of(told, change))
             }
-            Err(_) => Err(Stopped::for_memory(Held::Ready(change, version, copy))),
+            Err(_) => Err(Stopped::for_memory(Held::Ready(change, kept, told))),
         }
     }
 
@@ -175,7 +179,7 @@ impl Press {
     // copy is brought up to the version that is shown, so that the one before has no owner here but this one.
     fn let_go<R: Threads + Wait>(
         &mut self,
-        before: Arc<Version>,
+        before: Recorded,
         edits: usize,
         rt: &R,
         workers: Workers,
@@ -187,14 +191,14 @@ impl Press {
             return;
         }
         let _ = self.board.show(rt);
-        if let Some(before) = Arc::into_inner(before) {
+        if let Some(before) = Arc::into_inner(before.into_version()) {
             before.let_go(rt, self.alloc, workers);
         }
     }
 
     /// Ends it: the last version. Readers are told from then on that the store is closed.
     pub(crate) fn close<R: Wait>(self, rt: &R) -> Arc<Version>
-        ensures { arc_value result ≡ self.moment }
+        ensures { arc_value result ≡ self.moment.past }
     {
         let Press {
             alloc: _,
@@ -203,6 +207,6 @@ impl Press {
             board,
         } = self;
         board.close(rt);
-        current
+        current.into_version()
     }
 }

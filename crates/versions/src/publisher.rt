@@ -115,11 +115,11 @@ impl Publisher {
         }
     }
 
-    /// Ends the store, once both feeds are handed in, A before B. It takes no memory. Readers are told from then on
+    /// Ends the store, once its feeds are handed in, from A on. It takes no memory. Readers are told from then on
     /// that the store is closed.
     pub fn finish<R: Wait>(self, feeds: [Feed; 2], rt: &R) -> Finished
         requires { AreFeedsOf self feeds }
-        ensures last { arc_value result.last ≡ self.moment }
+        ensures last { arc_value result.last ≡ self.moment.past }
         ensures held { result.held ≡ self.held }
         ensures delivered { AreDelivered (taken_of self ++ result.left.items) feeds }
         ensures few { length result.left.items ≤ QUEUE_PLACES }

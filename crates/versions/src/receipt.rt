@@ -1,20 +1,18 @@
 //! What a publication proves.
 ghost use Rattle.std.specs.Prelude.{◌≡◌, ◌≤◌};
-ghost use Rattle.std.specs.Arc.{arc_value};
 ghost use Rattle.past_model.specs.declared.limits.TheConstants.{MOST_BATCHES};
 ghost use Rattle.past_model.specs.Past.{number_of};
 ghost use Rattle.versions.specs.Receipts.{IsPublication, publication_by};
 
 use crate::held::Change;
+use crate::recorded::Recorded;
 use past_model::Batch;
 use std::marker::Model;
-use std::sync::Arc;
-use version::Version;
 
 /// The proof of one publication: the version that it made, its batch, and what the batch did. Contracts see it as
 /// the `Publication`.
 pub struct Receipt {
-    version: Arc<Version>,
+    version: Recorded,
     change: Change,
 }
 
@@ -29,27 +27,26 @@ impl Drop for Receipt {
 }
 
 impl Model for Receipt {
-    ghost use Rattle.std.specs.Arc.{arc_value};
     ghost use Rattle.versions.specs.Receipts.{Publication, IsPublication, publication_by};
 
     ghost Value = { Publication };
 
-    ghost view = { λ r. publication_by (arc_value r.version) r.change };
+    ghost view = { λ r. publication_by r.version r.change };
 
-    ghost invariant = { λ r. IsPublication (publication_by (arc_value r.version) r.change) };
+    ghost invariant = { λ r. IsPublication (publication_by r.version r.change) };
 }
 
 impl Receipt {
     /// The receipt of a version that this batch made.
-    pub(crate) fn of(version: Arc<Version>, change: Change) -> Receipt
-        requires { IsPublication (publication_by (arc_value version) change) }
-        ensures { result ≡ publication_by (arc_value version) change }
+    pub(crate) fn of(version: Recorded, change: Change) -> Receipt
+        requires { IsPublication (publication_by version change) }
+        ensures { result ≡ publication_by version change }
     {
         Receipt { version, change }
     }
 
     /// The version that the batch made.
-    pub(crate) fn version(&self) -> &Version
+    pub(crate) fn version(&self) -> &Recorded
         ensures { result.now ≡ self.now.moment }
     {
         &self.version

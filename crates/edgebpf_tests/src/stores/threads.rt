@@ -158,17 +158,19 @@ fn four_threads_share_a_store(rt: HostRuntime) -> Result<(), Fail> {
     let alloc = rt.alloc();
     let Shop {
         mut publisher,
-        mut first,
-        mut second,
+        feeds,
         mut reader,
     } = Shop::open(&rt, alloc, EACH)?;
+    let mut each = feeds.into_iter();
+    let (Some(mut first), Some(mut second)) = (each.next(), each.next()) else {
+        unreachable!()
+    };
     let (submitted, published) = join_mut(
         &rt,
         &mut || submit_both(&rt, alloc, &mut first, &mut second),
         &mut || step_and_read(&rt, &mut publisher, &mut reader, u64::from(2 * EACH)),
     );
-    let feeds = [first, second];
-    let finished = publisher.finish(feeds, &rt);
+    let finished = publisher.finish([first, second], &rt);
     assert_eq!(rt; submitted, (0, 0));
     assert_eq!(rt; published, (true, true));
     assert!(rt; finished.held.is_none());

@@ -1,15 +1,14 @@
 //! The publisher's side: what is shown next.
 ghost use Rattle.std.specs.Prelude.{◌≡◌, None, IfOk, IfErr, MatchResult};
-ghost use Rattle.std.specs.Arc.{arc_value};
 ghost use Rattle.history.specs.Moment.{Begins};
 ghost use Rattle.versions.specs.Showing.{with_waiting, after_show};
 
 use crate::board::rule::{Look, Writer};
+use crate::recorded::Recorded;
 use std::alloc::AllocError;
 use std::marker::Model;
 use std::mem;
-use std::sync::{Arc, Wait};
-use version::Version;
+use std::sync::Wait;
 
 /// The side of the board on which versions are shown. It has to be ended by `close`.
 pub(crate) struct Board {
@@ -18,26 +17,24 @@ pub(crate) struct Board {
 }
 
 impl Model for Board {
-    ghost use Rattle.std.specs.Prelude.{map, drop, MatchOption};
-    ghost use Rattle.std.specs.Arc.{arc_value};
+    ghost use Rattle.std.specs.Prelude.{drop, MatchOption};
     ghost use Rattle.left_right.specs.Sides.{view as glimpse_of};
     ghost use Rattle.versions.specs.Showing.{Showing, seen_as, IsBoard};
 
     ghost Value = { Showing };
 
-    ghost view = { λ b. seen_as b.writer
-        (λ w. arc_value w.desk.shown.value.version) (λ w. map arc_value (drop w.behind w.log.items)) };
+    ghost view = { λ b. seen_as b.writer (λ w. w.desk.shown.value.version) (λ w. drop w.behind w.log.items) };
 
-    ghost invariant = { λ b. MatchOption b.writer ⊥ (λ w. IsBoard (arc_value w.desk.shown.value.version)
-        (map arc_value (drop w.behind w.log.items)) (glimpse_of w.desk.place)) };
+    ghost invariant = { λ b. MatchOption b.writer ⊥ (λ w. IsBoard w.desk.shown.value.version
+        (drop w.behind w.log.items) (glimpse_of w.desk.place)) };
 }
 
 impl Board {
     /// Hands in the version that is to be shown next. It comes back where there is no memory.
-    pub(crate) fn append(&mut self, version: Arc<Version>) -> Result<(), Arc<Version>>
+    pub(crate) fn append(&mut self, version: Recorded) -> Result<(), Recorded>
         requires free { self.old.waiting ≡ None }
-        requires later { Begins self.old.shown (arc_value version) }
-        ensures ok { IfOk result (λ _. self.new ≡ with_waiting self.old (arc_value version)) }
+        requires later { Begins self.old.shown version }
+        ensures ok { IfOk result (λ _. self.new ≡ with_waiting self.old version) }
         ensures back { IfErr result (λ back. back ≡ version) }
         ensures same { IfErr result (λ _. self.new ≡ self.old) }
     {

@@ -1,8 +1,8 @@
 //! What a pass of the readers' places knows, as the rule of the places has it.
-use version::Version;
+use crate::recorded::Recorded;
 
 /// What a pass of the pool knows: that it is the only one, or a moment of the store. No value of it is made.
 pub(crate) struct Member {
     pub sole: bool,
-    pub of: Version,
+    pub of: Recorded,
 }

@@ -1,6 +1,5 @@
 //! How a board begins, with its first reader.
 ghost use Rattle.std.specs.Prelude.{◌≡◌, true, IfOk};
-ghost use Rattle.std.specs.Arc.{arc_value};
 ghost use Rattle.left_right.specs.Sides.{view as glimpse_of};
 ghost use Rattle.crossbeam_queue.specs.Passes.{view as member_of, IsPassOf};
 ghost use Rattle.versions.specs.Pool.{member, maker};
@@ -11,25 +10,25 @@ use crate::board::pool::{Back, Membership, Pool, Seed};
 use crate::board::rule::{Inner, Look, Notes, Writer};
 use crate::board::shown::Shown;
 use crate::board::viewer::Viewer;
+use crate::recorded::Recorded;
 use std::alloc::{AllocError, Global};
 use std::sync::{Arc, Wait};
 use store_model::READERS;
-use version::Version;
 
 /// A board that shows this version, and a reader. There can be 16 readers at once.
 pub(crate) fn open_board<R: Wait>(
     alloc: Global,
-    version: &Arc<Version>,
+    version: &Recorded,
     rt: &R,
 ) -> Result<(Board, Viewer), AllocError>
-    ensures board { IfOk result (λ ends. ends.0 ≡ showing (arc_value version.now)) }
-    ensures reader { IfOk result (λ ends. ends.1 ≡ arc_value version.now) }
+    ensures board { IfOk result (λ ends. ends.0 ≡ showing version.now) }
+    ensures reader { IfOk result (λ ends. ends.1 ≡ version.now) }
 {
     let first = Shown {
-        version: Arc::try_clone(version)?,
+        version: version.share()?,
     };
     let second = Shown {
-        version: Arc::try_clone(version)?,
+        version: version.share()?,
     };
     let (pool, mut membership) = Pool::ruled(alloc, usize::from(READERS))?;
     let pool = Arc::new(alloc, pool)?;

@@ -1,20 +1,18 @@
 //! The rule of the board, as its calls name it.
 use crate::board::glimpse::Glimpse;
 use crate::board::shown::Shown;
+use crate::recorded::Recorded;
 use atomic_table::{Join, Split};
 use crossbeam_utils::rule::{Outcome, Protocol};
-use std::sync::Arc;
-use version::Version;
 
 /// Each moment that a pass knows begins the one that is shown.
 pub(crate) struct Grows;
 
 impl Protocol<Shown, Glimpse> for Grows {
-    ghost use Rattle.std.specs.Arc.{arc_value};
     ghost use Rattle.versions.specs.Glimpses.{stranger};
     ghost use Rattle.versions.specs.BoardRule.{Keeps};
 
-    ghost holds = { λ s. Keeps (arc_value s.version) };
+    ghost holds = { λ s. Keeps s.version };
 
     ghost first = { stranger };
 }
@@ -23,10 +21,9 @@ impl Protocol<Shown, Glimpse> for Grows {
 pub(crate) struct Look;
 
 impl Outcome<Shown, Glimpse> for Look {
-    ghost use Rattle.std.specs.Arc.{arc_value};
     ghost use Rattle.versions.specs.BoardRule.{Looks};
 
-    ghost then = { λ v x y w. Looks v (arc_value x.version) (arc_value y.version) w };
+    ghost then = { λ v x y w. Looks v x.version y.version w };
 }
 
 /// Another pass is told what this one knows.
@@ -47,7 +44,7 @@ impl Join<Glimpse> for Notes {
 }
 
 /// The writer's side of the board.
-pub(crate) type Writer = left_right::writer::Writer<Shown, Arc<Version>, Glimpse, Grows>;
+pub(crate) type Writer = left_right::writer::Writer<Shown, Recorded, Glimpse, Grows>;
 
 /// A reader's side of the board.
 pub(crate) type Inner = left_right::reader::Reader<Shown, Glimpse, Grows>;

@@ -1,34 +1,27 @@
 //! What is shown: a version and the history's word for it.
+use crate::recorded::Recorded;
 use left_right::Absorb;
 use std::alloc::AllocError;
-use std::sync::Arc;
-use version::Version;
 
 /// The version that readers are shown.
 #[derive(Drop)]
 pub(crate) struct Shown {
-    pub version: Arc<Version>,
+    pub version: Recorded,
 }
 
-impl Absorb<Arc<Version>> for Shown {
-    ghost use Rattle.std.specs.Arc.{arc_value};
+impl Absorb<Recorded> for Shown {
+    type State = Recorded;
 
-    type State = Version;
+    ghost state = { λ s. s.version };
 
-    ghost state = { λ s. arc_value s.version };
+    ghost applied = { λ _ version. version };
 
-    ghost applied = { λ _ version. arc_value version };
-
-    fn absorb_first(&mut self, operation: &Arc<Version>, _other: &Shown) -> Result<(), AllocError> {
-        self.version = Arc::try_clone(operation)?;
+    fn absorb_first(&mut self, operation: &Recorded, _other: &Shown) -> Result<(), AllocError> {
+        self.version = operation.share()?;
         Ok(())
     }
 
-    fn absorb_second(
-        &mut self,
-        operation: Arc<Version>,
-        _other: &Shown,
-    ) -> Result<(), Arc<Version>> {
+    fn absorb_second(&mut self, operation: Recorded, _other: &Shown) -> Result<(), Recorded> {
         self.version = operation;
         Ok(())
     }

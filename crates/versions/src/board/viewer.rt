@@ -1,16 +1,14 @@
 //! A reader's side: pins, lessons, and readers beside it.
 ghost use Rattle.std.specs.Prelude.{◌≡◌, ◌⊎◌, IfOk, IfErr};
-ghost use Rattle.std.specs.Arc.{arc_value};
-ghost use mathlib.Core.List.{IsPrefix};
 ghost use Rattle.history.specs.Moment.{OneStore, Begins};
 
 use crate::board::errors::{NoPlace, PinError};
 use crate::board::pool::{Back, Lend, Membership, Pool, Twin};
 use crate::board::rule::{Inner, Look};
+use crate::recorded::Recorded;
 use history::{Known, compare};
 use std::marker::Model;
 use std::sync::Arc;
-use version::Version;
 
 /// A reader's side of the board. Contracts see it as the moment that it saw last.
 pub(crate) struct Viewer {
@@ -44,9 +42,9 @@ impl Model for Viewer {
 
 impl Viewer {
     /// The version that is shown at a moment of this call. It continues what this reader saw. Nobody is waited for.
-    pub(crate) fn pin(&mut self) -> Result<Arc<Version>, PinError>
-        ensures begins { IfOk result (λ version. Begins self.old (arc_value version)) }
-        ensures seen { IfOk result (λ version. self.new ≡ arc_value version) }
+    pub(crate) fn pin(&mut self) -> Result<Recorded, PinError>
+        ensures begins { IfOk result (λ version. Begins self.old version) }
+        ensures seen { IfOk result (λ version. self.new ≡ version) }
         ensures failed { IfErr result (λ _. self.new ≡ self.old) }
     {
         let version = self.look()?;
@@ -59,16 +57,16 @@ impl Viewer {
     }
 
     // A version of this reader's store.
-    fn look(&mut self) -> Result<Arc<Version>, PinError>
+    fn look(&mut self) -> Result<Recorded, PinError>
         ensures same { self.new ≡ self.old }
-        ensures store { IfOk result (λ version. OneStore self.old (arc_value version)) }
+        ensures store { IfOk result (λ version. OneStore self.old version) }
     {
         let Some(inner) = self.inner.take() else {
             return Err(PinError::Closed);
         };
         match inner.enter_as::<Look>() {
             Ok(reading) => {
-                let version = Arc::try_clone(&reading.get().version);
+                let version = reading.get().version.share();
                 self.inner = Some(reading.leave());
                 version.map_err(|_| PinError::NoShare)
             }
@@ -80,7 +78,7 @@ impl Viewer {
     }
 
     /// Learns that a version is there: from now on, what is pinned continues it.
-    pub(crate) fn learn(&mut self, version: &Version)
+    pub(crate) fn learn(&mut self, version: &Recorded)
         requires { OneStore self.old version.now }
         ensures one { (self.new ≡ self.old) ⊎ (self.new ≡ version.now) }
         ensures this { Begins self.old self.new }

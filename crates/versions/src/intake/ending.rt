@@ -1,5 +1,5 @@
 //! The end of a queue.
-ghost use Rattle.std.specs.Prelude.{◌≡◌, ◌+◌, ◌≤◌, ◌++◌, [], length, vec_capacity};
+ghost use Rattle.std.specs.Prelude.{◌≡◌, ℕ, ◌≤◌, ◌++◌, [], length, vec_capacity};
 ghost use Rattle.crossbeam_queue.specs.Passes.{view as hand_of, IsPassOf};
 ghost use Rattle.store_model.specs.declared.limits.TheConstants.{FEEDS, QUEUE_PLACES};
 ghost use Rattle.store_model.specs.Core.{of_feed};
@@ -20,7 +20,7 @@ impl Intake {
         requires second { IsFeedOf self.vertex_count self.queue 1 second }
         ensures first { of_feed 0 (self.taken ++ result.items) ≡ first.sent }
         ensures second { of_feed 1 (self.taken ++ result.items) ≡ second.sent }
-        ensures no_other { length (self.taken ++ result.items) ≡ length first.sent + length second.sent }
+        ensures no_other { (feed : ℕ) → FEEDS ≤ feed → of_feed feed (self.taken ++ result.items) ≡ [] }
         ensures few { length result.items ≤ QUEUE_PLACES }
     {
         let Intake {

@@ -1,8 +1,13 @@
 //! A queue is made.
-ghost use Rattle.std.specs.Prelude.{◌≡◌, IfOk};
-ghost use Rattle.versions.specs.Ends.{new_taking, new_feed};
+ghost use Rattle.std.specs.Prelude.{◌≡◌, ◌<◌, [], IfOk};
+ghost use Rattle.std.specs.Arc.{arc_value};
+ghost use Rattle.crossbeam_queue.specs.Passes.{view as hand_of, IsPassOf, ruled_capacity};
+ghost use Rattle.store_model.specs.declared.limits.TheConstants.{FEEDS, QUEUE_PLACES};
+ghost use Rattle.versions.specs.Hands.{feeder};
+ghost use Rattle.versions.specs.Ends.{new_taking, new_feed, new_feeds};
 
-use crate::intake::delivery::{Begin, NewFeed, Queue, Say};
+use crate::feed::Feed;
+use crate::intake::delivery::{Begin, NewFeed, Queue, Say, Seat};
 use crate::intake::intake::Intake;
 use crate::intake::outlet::Outlet;
 use crate::intake::parcel::Parcel;
@@ -15,17 +20,14 @@ use store_model::QUEUE_PLACES;
 #[derive(Drop)]
 pub(crate) struct Opened {
     pub intake: Intake,
-    /// Feed A's, which is feed 0.
-    pub first: Outlet,
-    /// Feed B's, which is feed 1.
-    pub second: Outlet,
+    /// From feed A on, which is feed 0.
+    pub feeds: [Feed; 2],
 }
 
 /// A queue with room for 64 batches of edits of a graph with so many vertices. Nothing was put into it.
 pub(crate) fn open_queue(alloc: Global, vertex_count: u32) -> Result<Opened, AllocError>
     ensures intake { IfOk result (λ ends. ends.intake ≡ new_taking vertex_count ends.intake.queue) }
-    ensures first { IfOk result (λ ends. ends.first ≡ new_feed vertex_count 0 ends.intake.queue) }
-    ensures second { IfOk result (λ ends. ends.second ≡ new_feed vertex_count 1 ends.intake.queue) }
+    ensures feeds { IfOk result (λ ends. ends.feeds ≡ new_feeds vertex_count ends.intake.queue) }
 {
     let room = Vec::with_capacity(alloc, QUEUE_PLACES)?;
     let (queue, mut pass) = Queue::ruled(alloc, QUEUE_PLACES)?;
@@ -44,30 +46,37 @@ pub(crate) fn open_queue(alloc: Global, vertex_count: u32) -> Result<Opened, All
     };
     let first = queue.another::<NewFeed>(&mut pass);
     let second = queue.another::<NewFeed>(&mut pass);
-    let taken_from = Arc::new(alloc, queue)?;
-    let put_first = Arc::try_clone(&taken_from)?;
-    let put_second = Arc::try_clone(&taken_from)?;
+    let queue = Arc::new(alloc, queue)?;
+    let feeds = [
+        feed(&queue, vertex_count, 0, first)?,
+        feed(&queue, vertex_count, 1, second)?,
+    ];
     Ok(Opened {
         intake: Intake {
             vertex_count,
             empties: 0,
             room,
-            queue: taken_from,
+            queue,
             pass,
         },
-        first: Outlet {
-            vertex_count,
-            feed: 0,
-            refused: 0,
-            queue: put_first,
-            pass: first,
-        },
-        second: Outlet {
-            vertex_count,
-            feed: 1,
-            refused: 0,
-            queue: put_second,
-            pass: second,
-        },
+        feeds,
     })
+}
+
+// The feed of this number, by its pass.
+fn feed(queue: &Arc<Queue>, vertex_count: u32, feed: u8, pass: Seat) -> Result<Feed, AllocError>
+    requires pass { IsPassOf (arc_value queue.now) pass }
+    requires places { ruled_capacity (arc_value queue.now) ≡ QUEUE_PLACES }
+    requires feeds { hand_of pass ≡ feeder vertex_count feed [] }
+    requires feed { feed < FEEDS }
+    ensures { IfOk result (λ made. made ≡ new_feed vertex_count feed pass.table_id) }
+{
+    let outlet = Outlet {
+        vertex_count,
+        feed,
+        refused: 0,
+        queue: Arc::try_clone(queue)?,
+        pass,
+    };
+    Ok(Feed::over(vertex_count, outlet))
 }

@@ -10,10 +10,10 @@ nothing_left None P Q h none = h
 nothing_left (Some x) P Q h none = absurd (none x refl)
 
 -- the block, and what is left, at the end of the list
-at_end : (c : goal.In_default) → let g = graph_of c.args.version.now.past in let numbered = listing c.args.program.now g c.args.argument.now in
+at_end : (c : goal.In_default) → let g = graph_of c.args.version.now in let numbered = listing c.args.program.now g c.args.argument.now in
     (c.edges.block.items ≡ take BLOCK_EDGES (numbered c.args.walk.now.edges)) × (numbered c.next.new.self.edges ≡ drop BLOCK_EDGES (numbered c.args.walk.now.edges))
 at_end c =
-    let g = graph_of c.args.version.now.past in
+    let g = graph_of c.args.version.now in
     let numbered = listing c.args.program.now g c.args.argument.now in
     let ended = nothing_left c.next.result _ _ c.next.ensures.edges c.in_default.not-Some in
     let same : numbered c.edges.walk.edges ≡ numbered c.next.new.self.edges = ap numbered (ended.0 ∙ sym ended.1) in
@@ -29,14 +29,14 @@ returns-in_default-clause-left c = (at_end c).1
 -- the same where the block is full
 pub returns-clause-block : goal.returns-clause-block
 returns-clause-block c =
-    let numbered = listing c.args.program.now (graph_of c.args.version.now.past) c.args.argument.now in
+    let numbered = listing c.args.program.now (graph_of c.args.version.now) c.args.argument.now in
     let few = c.edges.invariant.few in
     let long : length c.edges.block.items ≡ BLOCK_EDGES = omega (arith, c.edges-test.false, c.len.ensures, few) in
     (full_block (numbered c.args.walk.now.edges) c.edges.block.items (numbered c.edges.walk.edges) BLOCK_EDGES c.edges.invariant.listed long).0
 
 pub returns-clause-left : goal.returns-clause-left
 returns-clause-left c =
-    let numbered = listing c.args.program.now (graph_of c.args.version.now.past) c.args.argument.now in
+    let numbered = listing c.args.program.now (graph_of c.args.version.now) c.args.argument.now in
     let few = c.edges.invariant.few in
     let long : length c.edges.block.items ≡ BLOCK_EDGES = omega (arith, c.edges-test.false, c.len.ensures, few) in
     (full_block (numbered c.args.walk.now.edges) c.edges.block.items (numbered c.edges.walk.edges) BLOCK_EDGES c.edges.invariant.listed long).1

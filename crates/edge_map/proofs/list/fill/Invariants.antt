@@ -7,8 +7,8 @@ use Rattle.edge_map.proofs.list.fill.Given as goal
 
 abbrev pub invariant-edges : goal.invariant-edges
 invariant-edges l = record {
-  past : l.walk.past ≡ l.version.past;
-  listed : listing l.program (graph_of l.version.past) l.argument l.fn.walk.edges ≡ l.block.items ++ listing l.program (graph_of l.version.past) l.argument l.walk.edges;
+  past : l.walk.past ≡ l.version;
+  listed : listing l.program (graph_of l.version) l.argument l.fn.walk.edges ≡ l.block.items ++ listing l.program (graph_of l.version) l.argument l.walk.edges;
   few : length l.block.items ≤ BLOCK_EDGES;
   room : BLOCK_EDGES ≤ vec_capacity l.block;
 }

@@ -7,4 +7,4 @@ use Rattle.edge_map.specs.Ahead.{edges_behind}
 use Rattle.edge_map.proofs.walk.next_source.Given as goal
 
 abbrev pub invariant-vertices : goal.invariant-vertices
-invariant-vertices l = edges_behind (graph_of l.version.past) l.source ≡ flat_map (edges_of (graph_of l.version.past)) (drop l.vertex (numbers_below (graph_of l.version.past).vertex_count))
+invariant-vertices l = edges_behind (graph_of l.version) l.source ≡ flat_map (edges_of (graph_of l.version)) (drop l.vertex (numbers_below (graph_of l.version).vertex_count))

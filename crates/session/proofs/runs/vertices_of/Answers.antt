@@ -8,5 +8,5 @@ use Rattle.session.proofs.runs.vertices_of.Goals as goal
 pub returns-then-is_empty : goal.returns-then-is_empty
 returns-then-is_empty c =
     let none : length c.args.frontier.now ≡ 0 = grind arith in
-    let count : c.vertex_count.result ≡ (graph_of c.args.version.now.past).vertex_count = c.vertex_count.ensures.value ∙ sym (vertex_count-graph_of c.args.version.now.past) in
-    c.in_ok-all.ensures ∙ ap (λ (n : ℕ). numbers_below n) count ∙ sym (empty_frontier c.args.frontier.now (graph_of c.args.version.now.past) none)
+    let count : c.vertex_count.result ≡ (graph_of c.args.version.now).vertex_count = c.vertex_count.ensures.value ∙ sym (vertex_count-graph_of c.args.version.now) in
+    c.in_ok-all.ensures ∙ ap (λ (n : ℕ). numbers_below n) count ∙ sym (empty_frontier c.args.frontier.now (graph_of c.args.version.now) none)

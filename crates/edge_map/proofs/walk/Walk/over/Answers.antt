@@ -8,7 +8,7 @@ use Rattle.edge_map.proofs.walk.Walk.over.Goals as goal
 
 pub returns : goal.returns
 returns c =
-    let past = c.args.version.now.past in
+    let past = c.args.version.now in
     let range = c.vertex_count-some.ensures.range in
     let some : 0 < (graph_of past).vertex_count = omega (arith, range, c.vertex_count-some.ensures.value, vertex_count-graph_of past) in
     let ahead : List Edge → Ahead = λ edges. record { past = past; edges = edges } in

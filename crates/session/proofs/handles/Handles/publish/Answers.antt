@@ -9,7 +9,7 @@ returns-in-Err-OutOfMemory g c =
       | else-is_none-via-then-is_none+else-not-submit w ↦ w.self-is ∙ w.submit.ensures
       | else-is_none-via-else-is_none w ↦ w.self-is
     ] in
-    record { published = unpublished_since c.self-2.inside.publisher c.step.new.self c.args.self.now c.else-is_none.self c.self-2.view_is same c.in-Err-OutOfMemory.ensures.kept }
+    record { published = unpublished_since c.self-2.inside.ends.publisher c.step.new.self c.args.self.now c.else-is_none.self c.self-2.view_is same c.in-Err-OutOfMemory.ensures.kept }
 
 pub returns-in-Err-WorkerRefused : goal.returns-in-Err-WorkerRefused
 returns-in-Err-WorkerRefused g c =
@@ -17,4 +17,4 @@ returns-in-Err-WorkerRefused g c =
       | else-is_none-via-then-is_none+else-not-submit w ↦ w.self-is ∙ w.submit.ensures
       | else-is_none-via-else-is_none w ↦ w.self-is
     ] in
-    record { published = unpublished_since c.self-2.inside.publisher c.step.new.self c.args.self.now c.else-is_none.self c.self-2.view_is same c.in-Err-WorkerRefused.ensures.kept }
+    record { published = unpublished_since c.self-2.inside.ends.publisher c.step.new.self c.args.self.now c.else-is_none.self c.self-2.view_is same c.in-Err-WorkerRefused.ensures.kept }

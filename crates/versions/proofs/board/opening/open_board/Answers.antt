@@ -1,8 +1,14 @@
-use Rattle.std.proofs.Common.{sym, subst}
+use Rattle.std.proofs.Common.{◌≡◌, sym, ap, ◌∙◌, subst, rules}
 use Rattle.std.specs.Arc.{arc_value}
-use Rattle.history.specs.Moment.{Moment, Begins}
+use Rattle.left_right.specs.Sides.{view}
+use Rattle.crossbeam_queue.specs.Passes.{view as member_of, IsPassOf}
+use Rattle.history.specs.Moment.{Moment, Beginning, Begins, count_of}
 use Rattle.history.proofs.Moments.{begins_itself}
+use Rattle.versions.specs.declared.board.glimpse.Glimpse.{Glimpse}
+use Rattle.versions.specs.declared.board.member.Member.{Member}
 use Rattle.versions.specs.declared.board.shown.Shown.{Shown}
+use Rattle.versions.specs.Glimpses.{glimpse}
+use Rattle.versions.specs.Pool.{member}
 use Rattle.versions.proofs.Growing.{turns}
 use Rattle.versions.proofs.board.opening.open_board.Goals as goal
 
@@ -10,5 +16,18 @@ pub publish_as-writer-requires : goal.publish_as-writer-requires
 publish_as-writer-requires g c next is =
     let now = c.in_ok-writer.writer.desk.shown.value in
     let same = rw c.in_ok-writer.ensures.1 at is in
-    turns (λ (s : Shown). arc_value s.version) now next _ _
-    (subst (λ (m : Moment). Begins (arc_value now.version) m) (sym same) (begins_itself (arc_value now.version)))
+    turns (λ (s : Shown). s.version) now next _ _
+    (subst (λ (m : Moment). Begins now.version m) (sym same) (begins_itself now.version))
+
+pub invariant_of-result-in-Ok-seated : goal.invariant_of-result-in-Ok-seated
+invariant_of-result-in-Ok-seated g c =
+    let mine : view c.in-Ok-seated.inner.place ≡ glimpse c.args.version.now = search rules in
+    let of : member_of c.match-shown.membership ≡ member c.args.version.now = search rules in
+    let pass : IsPassOf (arc_value c.in_ok-pool-2.pool) c.match-shown.membership = search rules in
+    let book = sym (ap (λ (k : Beginning). k.book) c.known.ensures) in
+    let count = sym c.vertex_count.ensures in (
+      c.number.ensures.value ∙ sym (ap count_of c.known.ensures),
+      (ap (λ (x : Glimpse). x.knows) mine, (ap (λ (x : Glimpse). x.version.book) mine ∙ book, ap (λ (x : Glimpse). x.version.past.vertex_count) mine ∙ count)),
+      pass,
+      (ap (λ (x : Member). x.sole) of, (ap (λ (x : Member). x.of.book) of ∙ book, ap (λ (x : Member). x.of.past.vertex_count) of ∙ count)),
+    )

@@ -1,5 +1,4 @@
 use Rattle.std.proofs.Common.{sym, ◌∙◌, subst, drop}
-use Rattle.std.specs.Arc.{arc_value}
 use Rattle.left_right.specs.Sides.{view}
 use Rattle.history.specs.Moment.{Moment, Begins}
 use Rattle.versions.specs.declared.board.shown.Shown.{Shown}
@@ -13,9 +12,9 @@ publish_as-writer-requires g c next is =
     let now = writer.desk.shown.value in
     let found = sym c.take.ensures.value ∙ c.in-Some.is in
     let board = at_some _ _ _ _ found c.self.invariant in
-    turns (λ (s : Shown). arc_value s.version) now next _ _
-    (subst (λ (m : Moment). Begins (arc_value now.version) m) (sym is)
-    (shows_later arc_value (arc_value now.version) (view writer.desk.place) (drop writer.behind writer.log.items) board))
+    turns (λ (s : Shown). s.version) now next _ _
+    (subst (λ (m : Moment). Begins now.version m) (sym is)
+    (shows_later now.version (view writer.desk.place) (drop writer.behind writer.log.items) board))
 
 pub returns-clause-ok : goal.returns-clause-ok
 returns-clause-ok g c =
@@ -24,6 +23,6 @@ returns-clause-ok g c =
     let found = sym c.take.ensures.value ∙ c.in-Some.is in
     let now = rw found at c.self.view_is in
     let board = at_some _ _ _ _ found c.self.invariant in
-    rw c.replace.ensures.after (ok_shows arc_value c.args.self.now (arc_value writer.desk.shown.value.version) (arc_value shown.desk.shown.value.version)
+    rw c.replace.ensures.after (ok_shows c.args.self.now writer.desk.shown.value.version shown.desk.shown.value.version
     (view writer.desk.place) (drop writer.behind writer.log.items) (drop shown.behind shown.log.items) c.publish_as-writer.result.1 _
     board now c.publish_as-writer.ensures.values)

@@ -1,5 +1,4 @@
 use Rattle.std.proofs.Common.{◌≡◌, ap, ◌∙◌, subst, arith, length}
-use Rattle.std.specs.Arc.{arc_value}
 use Rattle.history.specs.Moment.{Moment, Begins}
 use Rattle.history.proofs.Moments.{fewer_begins}
 use Rattle.versions.proofs.board.viewer.Viewer.pin.Goals as goal
@@ -8,9 +7,7 @@ pub returns-clause-begins : goal.returns-clause-begins
 returns-clause-begins c =
     let same = c.in_ok-version.ensures.same in
     let this : Begins c.args.self.now c.learn.new.self = subst (λ (m : Moment). Begins m c.learn.new.self) same c.learn.ensures.this in
-    let that : Begins (arc_value c.in_ok-version.version) c.learn.new.self = subst (λ (m : Moment). Begins m c.learn.new.self) c.deref-2.ensures c.learn.ensures.that in
     let mine : c.self.inside.number ≡ length c.args.self.now.past.log =
     c.self.invariant.0 ∙ ap (λ (m : Moment). length m.past.log) (c.self.view_is ∙ same) in
-    let shown : c.number.result ≡ length (arc_value c.in_ok-version.version).past.log =
-    c.number.ensures.value ∙ ap (λ (m : Moment). length m.past.log) c.deref.ensures in
-    fewer_begins _ _ c.learn.new.self this that (omega arith)
+    let shown : c.number.result ≡ length c.in_ok-version.version.past.log = c.number.ensures.value in
+    fewer_begins _ _ c.learn.new.self this c.learn.ensures.that (omega arith)

@@ -1,14 +1,17 @@
-use Rattle.std.proofs.Common.{◌≡◌, ℕ, ◌++◌, ◌∷◌, [], sym, ap, ◌∙◌, subst, arith, length, List, length-append, refl}
+use Rattle.std.proofs.Common.{◌≡◌, ◌++◌, ◌∷◌, [], sym, ap, ◌∙◌, subst, length, List}
 use Rattle.crossbeam_queue.specs.Passes.{view}
-use Rattle.store_model.specs.declared.limits.TheConstants.{FEEDS}
 use Rattle.past_model.specs.declared.entry.Entry.{Entry}
+use Rattle.store_model.specs.Core.{of_feed}
 use Rattle.versions.specs.declared.intake.hand.Hand.{Hand}
-use Rattle.versions.specs.Ends.{Feeding, Taking}
+use Rattle.versions.specs.Ends.{Taking}
 use Rattle.versions.specs.Hands.{taker}
 use Rattle.versions.specs.QueueRule.{Left}
 use Rattle.versions.proofs.FeedSeats.{merges}
-use Rattle.versions.proofs.Counting.{count_left}
 use Rattle.versions.proofs.intake.intake.Intake.finish.Goals as goal
+
+-- the pass once it has taken in what a feed put
+abbrev more : Hand → List Entry → Hand
+more v sent = taker v.vertex_count v.taken v.made (v.ended ++ sent ∷ [])
 
 pub absorb-requires-clause-rule : goal.absorb-requires-clause-rule
 absorb-requires-clause-rule g c =
@@ -28,17 +31,8 @@ absorb-requires-2-clause-rule g c =
     merges _ _ _ _ (ap (λ v. v.takes) hand) (ap (λ v. v.feeds) theirs) (ap (λ (v : Hand). v.feed) theirs ∙ number ∙ sym one)
 
 pub returns-clause-no_other : goal.returns-clause-no_other
-returns-clause-no_other g c =
-    let n : ℕ = c.self.inside.vertex_count in
-    let taken : List Entry = (view c.self.inside.pass).taken in
-    let ended : List (List Entry) = (view c.first.inside.pass).sent ∷ (view c.second.inside.pass).sent ∷ [] in
-    let hand : view c.absorb-2.new.pass ≡ taker n taken FEEDS ended =
-    c.absorb-2.ensures.rule
-    ∙ ap (λ (v : Hand). taker v.vertex_count v.taken v.made (v.ended ++ (view c.second.inside.pass).sent ∷ [])) c.absorb.ensures.rule
-    ∙ ap (λ (v : Hand). taker v.vertex_count v.taken v.made ((v.ended ++ (view c.first.inside.pass).sent ∷ []) ++ (view c.second.inside.pass).sent ∷ [])) c.self.invariant.1 in
-    let rest : Left (taker n taken FEEDS ended) c.all_left.result.items = subst (λ (v : Hand). Left v c.all_left.result.items) hand c.all_left.ensures in
-    let all = count_left n taken c.all_left.result.items ended refl rest in
-    let a = ap (λ (t : Taking). length t.taken) c.self.view_is in
-    let b = ap (λ (s : Feeding). length s.sent) c.first.view_is in
-    let d = ap (λ (s : Feeding). length s.sent) c.second.view_is in
-    omega (arith, length-append c.args.self.taken c.all_left.result.items)
+returns-clause-no_other g c feed le =
+    let first = c.absorb.ensures.rule ∙ ap (λ (v : Hand). more v (view c.first.inside.pass).sent) c.self.invariant.1 in
+    let second = c.absorb-2.ensures.rule ∙ ap (λ (v : Hand). more v (view c.second.inside.pass).sent) first in
+    let rest = subst (λ (v : Hand). Left v c.all_left.result.items) second c.all_left.ensures in
+    ap (λ (t : Taking). of_feed feed (t.taken ++ c.all_left.result.items)) (sym c.self.view_is) ∙ rest.unmade feed le
