@@ -11,6 +11,7 @@ use Rattle.bpf_isa.specs.declared.instruction.Size.{Size}
 use Rattle.bpf_isa.specs.declared.instruction.Size.TheVariants.{Byte, Half, Word, Double}
 use Rattle.bpf_model.specs.State.{Partial, record_base, joined_bytes, number_at, address_at}
 use Rattle.bpf_isa.specs.Sizes.{size_bytes}
+use Rattle.bpf_image.specs.declared.lengths.Lengths.{Lengths}
 use Rattle.bpf_model.specs.declared.cause.Cause.{Cause}
 use Rattle.bpf_model.specs.declared.cause.Cause.TheVariants.{OutOfRange, UnsetStackByte}
 use Rattle.abstract_values.specs.declared.value.AbstractValue.{AbstractValue}
@@ -50,39 +51,39 @@ number_there m a (suc size) set =
     (here.0 + 256 * rest.0, joined, omega (arith, pow-suc 256 size, rest.2, here.2))
 
 -- the greatest number of a size
-any_described : (l top : ℕ) (size : Size) (n : ℕ) → n < 256 ^ size_bytes size → Describes l top (any_of_size (size_bytes size)) (Some n)
+any_described : (l : Lengths) (top : ℕ) (size : Size) (n : ℕ) → n < 256 ^ size_bytes size → Describes l top (any_of_size (size_bytes size)) (Some n)
 any_described l top Byte n lt = (n, refl, omega arith, omega (arith, lt), omega (arith, lt))
 any_described l top Half n lt = (n, refl, omega arith, omega (arith, lt), omega (arith, lt))
 any_described l top Word n lt = (n, refl, omega arith, omega (arith, lt), omega (arith, lt))
 any_described l top Double n lt = (n, refl, omega arith, omega (arith, lt), omega (arith, lt))
 
 -- what a load gives
-record Gives (l top : ℕ) (memory : Partial) (a size : ℕ) (v : AbstractValue) : Type 0 where
+record Gives (l : Lengths) (top : ℕ) (memory : Partial) (a size : ℕ) (v : AbstractValue) : Type 0 where
   number : ℕ
   allowed : IsAllowed l top a size
   there : number_at memory a size ≡ Some number
   described : Describes l top v (Some number)
 
 -- a load from the record
-record_gives : (l top : ℕ) (memory : Partial) (size : Size) (place : ℕ) → ((k : ℕ) → k < l → IsByteAt memory (record_base + k)) → place + size_bytes size ≤ l → Gives l top memory (record_base + place) (size_bytes size) (any_of_size (size_bytes size))
+record_gives : (l : Lengths) (top : ℕ) (memory : Partial) (size : Size) (place : ℕ) → ((k : ℕ) → k < l.record_length → IsByteAt memory (record_base + k)) → place + size_bytes size ≤ l.record_length → Gives l top memory (record_base + place) (size_bytes size) (any_of_size (size_bytes size))
 record_gives l top memory size place set inside =
     let n = number_there memory (record_base + place) (size_bytes size) (λ k lt. let b = set (place + k) (omega (arith, inside, lt)) in let same : (record_base + place) + k ≡ record_base + (place + k) = omega arith in (b.0, rw same b.1, b.2)) in
-    record { number = n.0; allowed = inl (and_from _ _ (le-leb record_base (record_base + place) (omega arith)) (le-leb ((record_base + place) + size_bytes size) (record_base + l) (omega (arith, inside)))); there = n.1; described = any_described l top size n.0 n.2 }
+    record { number = n.0; allowed = inl (and_from _ _ (le-leb record_base (record_base + place) (omega arith)) (le-leb ((record_base + place) + size_bytes size) (record_base + l.record_length) (omega (arith, inside)))); there = n.1; described = any_described l top size n.0 n.2 }
 
-pub record PlaceIn (l lo hi n size : ℕ) (z : ℤ) : Type 0 where
+pub record PlaceIn (l : Lengths) (lo hi n size : ℕ) (z : ℤ) : Type 0 where
   pub place : ℕ
   pub is : pos place ≡ pos n +ℤ z
-  pub inside : place + size ≤ l
+  pub inside : place + size ≤ l.record_length
 
-pub place_in : (l lo hi n size : ℕ) (z : ℤ) → lo ≤ n → n ≤ hi → is_in_record l lo hi z size ≡ true → PlaceIn l lo hi n size z
+pub place_in : (l : Lengths) (lo hi n size : ℕ) (z : ℤ) → lo ≤ n → n ≤ hi → is_in_record l.record_length lo hi z size ≡ true → PlaceIn l lo hi n size z
 place_in l lo hi n size (pos m) low high test =
-    let parts = and_parts (int_le (pos 0) (pos lo +ℤ pos m)) (int_le (pos (hi + size) +ℤ pos m) (pos l)) test in
-    let ends = at_most (pos (hi + size) +ℤ pos m) (pos l) parts.1 in
+    let parts = and_parts (int_le (pos 0) (pos lo +ℤ pos m)) (int_le (pos (hi + size) +ℤ pos m) (pos l.record_length)) test in
+    let ends = at_most (pos (hi + size) +ℤ pos m) (pos l.record_length) parts.1 in
     record { place = n + m; is = omega (arith, ints); inside = omega (arith, ints, ends, high) }
 place_in l lo hi n size (negsuc m) low high test =
-    let parts = and_parts (int_le (pos 0) (pos lo +ℤ negsuc m)) (int_le (pos (hi + size) +ℤ negsuc m) (pos l)) test in
+    let parts = and_parts (int_le (pos 0) (pos lo +ℤ negsuc m)) (int_le (pos (hi + size) +ℤ negsuc m) (pos l.record_length)) test in
     let begins = at_most (pos 0) (pos lo +ℤ negsuc m) parts.0 in
-    let ends = at_most (pos (hi + size) +ℤ negsuc m) (pos l) parts.1 in
+    let ends = at_most (pos (hi + size) +ℤ negsuc m) (pos l.record_length) parts.1 in
     let enough : suc m ≤ n = omega (arith, ints, begins, low) in
     record { place = n - suc m; is = omega (arith, ints, enough); inside = omega (arith, ints, ends, high, enough) }
 
@@ -97,14 +98,14 @@ each_set flags k (suc n) (suc i) test lt =
     rw same (each_set flags (k + 1) n i ((and_parts (get_or flags k false) (are_set flags (k + 1) n) test).1) (omega (arith, lt)))
 
 -- a spilled value describes a number that is there
-spilled_number : (l top : ℕ) (v : AbstractValue) (x : Option ℕ) → is_spilled v ≡ true → Describes l top v x → (n : ℕ) × (x ≡ Some n)
+spilled_number : (l : Lengths) (top : ℕ) (v : AbstractValue) (x : Option ℕ) → is_spilled v ≡ true → Describes l top v x → (n : ℕ) × (x ≡ Some n)
 spilled_number l top Unset x h d = absurd cc
 spilled_number l top (Number lo hi) x h d = (d.0, d.1)
 spilled_number l top (Record lo hi) x h d = (record_base + d.0, d.1)
 spilled_number l top (Stack offset) x h d = (d.0, d.1)
 
 -- a load from set bytes of the frame
-frame_gives : (l top : ℕ) (s : AbstractState) (registers memory : Partial) (size : Size) (k : ℕ) → FRAME_BYTES ≤ top → DescribesParts l top s registers memory → k + size_bytes size ≤ FRAME_BYTES → are_set s.bytes_set k (size_bytes size) ≡ true → Gives l top memory (top - FRAME_BYTES + k) (size_bytes size) (frame_value s k (size_bytes size))
+frame_gives : (l : Lengths) (top : ℕ) (s : AbstractState) (registers memory : Partial) (size : Size) (k : ℕ) → FRAME_BYTES ≤ top → DescribesParts l top s registers memory → k + size_bytes size ≤ FRAME_BYTES → are_set s.bytes_set k (size_bytes size) ≡ true → Gives l top memory (top - FRAME_BYTES + k) (size_bytes size) (frame_value s k (size_bytes size))
 frame_gives l top s registers memory size k low d inside set =
     let allowed : IsAllowed l top (top - FRAME_BYTES + k) (size_bytes size) = inr (omega arith, omega (arith, inside, low)) in
     elim (cases_Bool (is_slot k (size_bytes size) && is_spilled (get_or s.slots (k / 8) Unset))) [
@@ -127,9 +128,9 @@ pub natural : (u : ℤ) → pos 0 ≤ℤ u → pos (unsigned_abs u) ≡ u
 natural (pos n) h = refl
 natural (negsuc n) h = absurd (omega (arith, ints, h))
 
-record_load : (l top lo hi : ℕ) (s : AbstractState) (registers memory : Partial) (v : AbstractValue) (z : ℤ) (size : Size) (x : ℕ) → l < 2 ^ 16 → FitsSigned w16 z → load_result l s (Record lo hi) z (size_bytes size) ≡ ok v → DescribesParts l top s registers memory → Describes l top (Record lo hi) (Some x) → Gives l top memory (address_at x z) (size_bytes size) v
+record_load : (l : Lengths) (top lo hi : ℕ) (s : AbstractState) (registers memory : Partial) (v : AbstractValue) (z : ℤ) (size : Size) (x : ℕ) → l.record_length < 2 ^ 16 → FitsSigned w16 z → load_result l s (Record lo hi) z (size_bytes size) ≡ ok v → DescribesParts l top s registers memory → Describes l top (Record lo hi) (Some x) → Gives l top memory (address_at x z) (size_bytes size) v
 record_load l top lo hi s registers memory v z size x short fits h d q =
-    elim (cases_Bool (is_in_record l lo hi z (size_bytes size))) [
+    elim (cases_Bool (is_in_record l.record_length lo hi z (size_bytes size))) [
       | inl is ↦
           let value : any_of_size (size_bytes size) ≡ v = (let e : ok (any_of_size (size_bytes size)) ≡ ok v = (rw is at h) in cc) in
           let x-is : x ≡ record_base + q.0 = (let e : Some x ≡ Some (record_base + q.0) = q.1 in cc) in
@@ -140,7 +141,7 @@ record_load l top lo hi s registers memory v z size x short fits h d q =
       | inr not_is ↦ absurd (let e : failed OutOfRange ≡ ok v = (rw not_is at h) in cc)
     ]
 
-frame_load : (l top : ℕ) (offset : ℤ) (s : AbstractState) (registers memory : Partial) (v : AbstractValue) (z : ℤ) (size : Size) (x : ℕ) → FRAME_BYTES ≤ top → top < 2 ^ 64 → FitsSigned w16 z → load_result l s (Stack offset) z (size_bytes size) ≡ ok v → DescribesParts l top s registers memory → Describes l top (Stack offset) (Some x) → Gives l top memory (address_at x z) (size_bytes size) v
+frame_load : (l : Lengths) (top : ℕ) (offset : ℤ) (s : AbstractState) (registers memory : Partial) (v : AbstractValue) (z : ℤ) (size : Size) (x : ℕ) → FRAME_BYTES ≤ top → top < 2 ^ 64 → FitsSigned w16 z → load_result l s (Stack offset) z (size_bytes size) ≡ ok v → DescribesParts l top s registers memory → Describes l top (Stack offset) (Some x) → Gives l top memory (address_at x z) (size_bytes size) v
 frame_load l top offset s registers memory v z size x low high fits h d q =
     let place = offset +ℤ z in
     elim (cases_Bool (is_in_frame place (size_bytes size))) [
@@ -163,10 +164,10 @@ frame_load l top offset s registers memory v z size x low high fits h d q =
       | inr not_is ↦ absurd (let e : failed OutOfRange ≡ ok v = (rw not_is at h) in cc)
     ]
 
-gives_parts : (l top : ℕ) (memory : Partial) (a size : ℕ) (v : AbstractValue) → Gives l top memory a size v → (n : ℕ) × IsAllowed l top a size × (number_at memory a size ≡ Some n) × Describes l top v (Some n)
+gives_parts : (l : Lengths) (top : ℕ) (memory : Partial) (a size : ℕ) (v : AbstractValue) → Gives l top memory a size v → (n : ℕ) × IsAllowed l top a size × (number_at memory a size ≡ Some n) × Describes l top v (Some n)
 gives_parts l top memory a size v g = (g.number, g.allowed, g.there, g.described)
 
-pub load_describes : (l top : ℕ) (s : AbstractState) (registers memory : Partial) (base v : AbstractValue) (z : ℤ) (size : Size) (x : ℕ) → l < 2 ^ 16 → FRAME_BYTES ≤ top → top < 2 ^ 64 → FitsSigned w16 z → load_result l s base z (size_bytes size) ≡ ok v → DescribesParts l top s registers memory → Describes l top base (Some x) → (n : ℕ) × IsAllowed l top (address_at x z) (size_bytes size) × (number_at memory (address_at x z) (size_bytes size) ≡ Some n) × Describes l top v (Some n)
+pub load_describes : (l : Lengths) (top : ℕ) (s : AbstractState) (registers memory : Partial) (base v : AbstractValue) (z : ℤ) (size : Size) (x : ℕ) → l.record_length < 2 ^ 16 → FRAME_BYTES ≤ top → top < 2 ^ 64 → FitsSigned w16 z → load_result l s base z (size_bytes size) ≡ ok v → DescribesParts l top s registers memory → Describes l top base (Some x) → (n : ℕ) × IsAllowed l top (address_at x z) (size_bytes size) × (number_at memory (address_at x z) (size_bytes size) ≡ Some n) × Describes l top v (Some n)
 load_describes l top s registers memory Unset v z size x short low high fits h d q = absurd cc
 load_describes l top s registers memory (Number lo hi) v z size x short low high fits h d q = absurd cc
 load_describes l top s registers memory (Record lo hi) v z size x short low high fits h d q =

@@ -11,6 +11,7 @@ use Rattle.bpf_isa.specs.declared.instruction.Size.{Size}
 use Rattle.bpf_isa.specs.declared.instruction.Size.TheVariants.{Byte, Half, Word, Double}
 use Rattle.bpf_model.specs.State.{Partial, record_base, number_at, address_at}
 use Rattle.bpf_isa.specs.Sizes.{size_bytes}
+use Rattle.bpf_image.specs.declared.lengths.Lengths.{Lengths}
 use Rattle.bpf_model.specs.declared.cause.Cause.{Cause}
 use Rattle.bpf_model.specs.declared.cause.Cause.TheVariants.{OutOfRange, PointerUse}
 use Rattle.abstract_values.specs.declared.value.AbstractValue.{AbstractValue}
@@ -50,7 +51,7 @@ set_other (x ∷ xs) zero (suc j) v d other = refl
 set_other (x ∷ xs) (suc i) zero v d other = refl
 set_other (x ∷ xs) (suc i) (suc j) v d other = set_other xs i j v d (λ e. other (ap suc e))
 
-pub set_described : (l top : ℕ) (xs : List AbstractValue) (i : ℕ) (v : AbstractValue) (x : Option ℕ) → Describes l top v x → Describes l top (get_or (set xs i v) i Unset) x
+pub set_described : (l : Lengths) (top : ℕ) (xs : List AbstractValue) (i : ℕ) (v : AbstractValue) (x : Option ℕ) → Describes l top v x → Describes l top (get_or (set xs i v) i Unset) x
 set_described l top [] i v x d = tt
 set_described l top (y ∷ ys) zero v x d = d
 set_described l top (y ∷ ys) (suc i) v x d = set_described l top ys i v x d
@@ -125,7 +126,7 @@ apart_whole k j whole other =
     elim (cases_lt j (k / 8)) [ inl lt ↦ inl (omega (arith, lt)) | inr ge ↦ inr (omega (arith, ge, other, whole)) ]
 
 -- a whole slot is spilled
-spilled_whole : (l top : ℕ) (slots : List AbstractValue) (before after : Partial) (k n j : ℕ) (v : AbstractValue) → FRAME_BYTES ≤ top → n < 2 ^ 64 → 8 * (k / 8) ≡ k → IsStored before after (top - FRAME_BYTES + k) 8 n → Describes l top v (Some n) → Describes l top (get_or slots j Unset) (number_at before (top - FRAME_BYTES + 8 * j) 8) → Describes l top (get_or (set slots (k / 8) v) j Unset) (number_at after (top - FRAME_BYTES + 8 * j) 8)
+spilled_whole : (l : Lengths) (top : ℕ) (slots : List AbstractValue) (before after : Partial) (k n j : ℕ) (v : AbstractValue) → FRAME_BYTES ≤ top → n < 2 ^ 64 → 8 * (k / 8) ≡ k → IsStored before after (top - FRAME_BYTES + k) 8 n → Describes l top v (Some n) → Describes l top (get_or slots j Unset) (number_at before (top - FRAME_BYTES + 8 * j) 8) → Describes l top (get_or (set slots (k / 8) v) j Unset) (number_at after (top - FRAME_BYTES + 8 * j) 8)
 spilled_whole l top slots before after k n j v low lt whole stored new old =
     elim (cases_eq j (k / 8)) [
       | inl same ↦
@@ -143,7 +144,7 @@ spilled_whole l top slots before after k n j v low lt whole stored new old =
     ]
 
 -- the slots that bytes touch are no longer spilled
-spilled_part : (l top : ℕ) (slots : List AbstractValue) (before after : Partial) (k size j : ℕ) → FRAME_BYTES ≤ top → 1 ≤ size → IsWritten before after (top - FRAME_BYTES + k) size → Describes l top (get_or slots j Unset) (number_at before (top - FRAME_BYTES + 8 * j) 8) → Describes l top (get_or (without_spills slots k size) j Unset) (number_at after (top - FRAME_BYTES + 8 * j) 8)
+spilled_part : (l : Lengths) (top : ℕ) (slots : List AbstractValue) (before after : Partial) (k size j : ℕ) → FRAME_BYTES ≤ top → 1 ≤ size → IsWritten before after (top - FRAME_BYTES + k) size → Describes l top (get_or slots j Unset) (number_at before (top - FRAME_BYTES + 8 * j) 8) → Describes l top (get_or (without_spills slots k size) j Unset) (number_at after (top - FRAME_BYTES + 8 * j) 8)
 spilled_part l top slots before after k size j low some written old =
     elim (beside j (k / 8) (slots_touched k size)) [
       | inl among ↦
@@ -155,7 +156,7 @@ spilled_part l top slots before after k size j low some written old =
     ]
 
 -- every slot after a store in the frame
-spilled_after : (l top : ℕ) (slots : List AbstractValue) (before after : Partial) (k size n j : ℕ) (v : AbstractValue) → FRAME_BYTES ≤ top → n < 2 ^ 64 → 1 ≤ size → IsStored before after (top - FRAME_BYTES + k) size n → Describes l top v (Some n) → Describes l top (get_or slots j Unset) (number_at before (top - FRAME_BYTES + 8 * j) 8) → Describes l top (get_or (cond (is_slot k size) (set slots (k / 8) v) (without_spills slots k size)) j Unset) (number_at after (top - FRAME_BYTES + 8 * j) 8)
+spilled_after : (l : Lengths) (top : ℕ) (slots : List AbstractValue) (before after : Partial) (k size n j : ℕ) (v : AbstractValue) → FRAME_BYTES ≤ top → n < 2 ^ 64 → 1 ≤ size → IsStored before after (top - FRAME_BYTES + k) size n → Describes l top v (Some n) → Describes l top (get_or slots j Unset) (number_at before (top - FRAME_BYTES + 8 * j) 8) → Describes l top (get_or (cond (is_slot k size) (set slots (k / 8) v) (without_spills slots k size)) j Unset) (number_at after (top - FRAME_BYTES + 8 * j) 8)
 spilled_after l top slots before after k size n j v low lt some stored new old =
     elim (cases_Bool (is_slot k size)) [
       | inl is ↦
@@ -178,7 +179,7 @@ set_after top flags before after k size i written old h =
       | inr out ↦ byte_stays before after (top - FRAME_BYTES + k) size (top - FRAME_BYTES + i) written (old (sym (flags_other flags k size i out) ∙ h))
     ]
 
-frame_described : (l top : ℕ) (s : AbstractState) (registers before after : Partial) (k size n : ℕ) (v : AbstractValue) → FRAME_BYTES ≤ top → n < 2 ^ 64 → 1 ≤ size → DescribesParts l top s registers before → IsStored before after (top - FRAME_BYTES + k) size n → Describes l top v (Some n) → DescribesParts l top (frame_write s k size v) registers after
+frame_described : (l : Lengths) (top : ℕ) (s : AbstractState) (registers before after : Partial) (k size n : ℕ) (v : AbstractValue) → FRAME_BYTES ≤ top → n < 2 ^ 64 → 1 ≤ size → DescribesParts l top s registers before → IsStored before after (top - FRAME_BYTES + k) size n → Describes l top v (Some n) → DescribesParts l top (frame_write s k size v) registers after
 frame_described l top s registers before after k size n v low lt some d stored new = record {
   values = d.values;
   record_set = λ i inside. byte_stays before after (top - FRAME_BYTES + k) size (record_base + i) stored.written (d.record_set i inside);
@@ -189,7 +190,7 @@ frame_described l top s registers before after k size n v low lt some d stored n
 }
 
 -- the frame after some of its bytes were filled
-pub filled_described : (l top : ℕ) (s : AbstractState) (registers before after : Partial) (k size : ℕ) → FRAME_BYTES ≤ top → 1 ≤ size → DescribesParts l top s registers before → IsWritten before after (top - FRAME_BYTES + k) size → DescribesParts l top (frame_fill s k size) registers after
+pub filled_described : (l : Lengths) (top : ℕ) (s : AbstractState) (registers before after : Partial) (k size : ℕ) → FRAME_BYTES ≤ top → 1 ≤ size → DescribesParts l top s registers before → IsWritten before after (top - FRAME_BYTES + k) size → DescribesParts l top (frame_fill s k size) registers after
 filled_described l top s registers before after k size low some d written = record {
   values = d.values;
   record_set = λ i inside. byte_stays before after (top - FRAME_BYTES + k) size (record_base + i) written (d.record_set i inside);
@@ -200,7 +201,7 @@ filled_described l top s registers before after k size low some d written = reco
 }
 
 -- what is written in the record leaves the frame as it was
-pub record_described : (l top : ℕ) (s : AbstractState) (registers before after : Partial) (place size : ℕ) → l < 2 ^ 16 → record_base + 2 ^ 17 ≤ top → place + size ≤ l → DescribesParts l top s registers before → IsWritten before after (record_base + place) size → DescribesParts l top s registers after
+pub record_described : (l : Lengths) (top : ℕ) (s : AbstractState) (registers before after : Partial) (place size : ℕ) → l.record_length < 2 ^ 16 → record_base + 2 ^ 17 ≤ top → place + size ≤ l.record_length → DescribesParts l top s registers before → IsWritten before after (record_base + place) size → DescribesParts l top s registers after
 record_described l top s registers before after place size short high inside d written = record {
   values = d.values;
   record_set = λ i lt. byte_stays before after (record_base + place) size (record_base + i) written (d.record_set i lt);
@@ -211,16 +212,16 @@ record_described l top s registers before after place size short high inside d w
 }
 
 -- what a store leads to
-abbrev pub Leaves : ℕ → ℕ → AbstractState → Partial → Partial → ℕ → ℕ → Type 0
+abbrev pub Leaves : Lengths → ℕ → AbstractState → Partial → Partial → ℕ → ℕ → Type 0
 Leaves l top s registers after a size = IsAllowed l top a size × DescribesParts l top s registers after
 
-record_store : (l top lo hi : ℕ) (s t : AbstractState) (registers before after : Partial) (v : AbstractValue) (z : ℤ) (size : Size) (x n : ℕ) → l < 2 ^ 16 → record_base + 2 ^ 17 ≤ top → FitsSigned w16 z → store_result l s (Record lo hi) z (size_bytes size) v ≡ ok t → DescribesParts l top s registers before → Describes l top (Record lo hi) (Some x) → IsStored before after (address_at x z) (size_bytes size) n → Leaves l top t registers after (address_at x z) (size_bytes size)
+record_store : (l : Lengths) (top lo hi : ℕ) (s t : AbstractState) (registers before after : Partial) (v : AbstractValue) (z : ℤ) (size : Size) (x n : ℕ) → l.record_length < 2 ^ 16 → record_base + 2 ^ 17 ≤ top → FitsSigned w16 z → store_result l s (Record lo hi) z (size_bytes size) v ≡ ok t → DescribesParts l top s registers before → Describes l top (Record lo hi) (Some x) → IsStored before after (address_at x z) (size_bytes size) n → Leaves l top t registers after (address_at x z) (size_bytes size)
 record_store l top lo hi s t registers before after v z size x n short high fits h d q stored =
     elim (cases_Bool (is_pointer v)) [
       | inl is ↦ absurd (let e : failed PointerUse ≡ ok t = (rw is at h) in cc)
       | inr no_pointer ↦
-          let tests : cond (is_in_record l lo hi z (size_bytes size)) (ok s) (failed OutOfRange) ≡ ok t = (rw no_pointer at h) in
-          elim (cases_Bool (is_in_record l lo hi z (size_bytes size))) [
+          let tests : cond (is_in_record l.record_length lo hi z (size_bytes size)) (ok s) (failed OutOfRange) ≡ ok t = (rw no_pointer at h) in
+          elim (cases_Bool (is_in_record l.record_length lo hi z (size_bytes size))) [
             | inl is ↦
                 let same : s ≡ t = (let e : ok s ≡ ok t = (rw is at tests) in cc) in
                 let x-is : x ≡ record_base + q.0 = (let e : Some x ≡ Some (record_base + q.0) = q.1 in cc) in
@@ -228,14 +229,14 @@ record_store l top lo hi s t registers before after v z size x n short high fits
                 let moved : pos (record_base + at.place) ≡ pos x +ℤ z = omega (arith, ints, at.is, x-is) in
                 let address = address_is x (record_base + at.place) z (omega (arith, at.inside, short)) fits moved in
                 let here : IsStored before after (record_base + at.place) (size_bytes size) n = subst (λ a. IsStored before after a (size_bytes size) n) address stored in
-                let allowed : IsAllowed l top (record_base + at.place) (size_bytes size) = inl (and_from _ _ (le-leb record_base (record_base + at.place) (omega arith)) (le-leb ((record_base + at.place) + size_bytes size) (record_base + l) (omega (arith, at.inside)))) in
+                let allowed : IsAllowed l top (record_base + at.place) (size_bytes size) = inl (and_from _ _ (le-leb record_base (record_base + at.place) (omega arith)) (le-leb ((record_base + at.place) + size_bytes size) (record_base + l.record_length) (omega (arith, at.inside)))) in
                 let described = record_described l top s registers before after at.place (size_bytes size) short high at.inside d here.written in
                 rw address (allowed, subst (λ w. DescribesParts l top w registers after) same described)
             | inr not_is ↦ absurd (let e : failed OutOfRange ≡ ok t = (rw not_is at tests) in cc)
           ]
     ]
 
-frame_store : (l top : ℕ) (offset : ℤ) (s t : AbstractState) (registers before after : Partial) (v : AbstractValue) (z : ℤ) (size : Size) (x n : ℕ) → FRAME_BYTES ≤ top → top < 2 ^ 64 → FitsSigned w16 z → n < 2 ^ 64 → store_result l s (Stack offset) z (size_bytes size) v ≡ ok t → DescribesParts l top s registers before → Describes l top (Stack offset) (Some x) → Describes l top v (Some n) → IsStored before after (address_at x z) (size_bytes size) n → Leaves l top t registers after (address_at x z) (size_bytes size)
+frame_store : (l : Lengths) (top : ℕ) (offset : ℤ) (s t : AbstractState) (registers before after : Partial) (v : AbstractValue) (z : ℤ) (size : Size) (x n : ℕ) → FRAME_BYTES ≤ top → top < 2 ^ 64 → FitsSigned w16 z → n < 2 ^ 64 → store_result l s (Stack offset) z (size_bytes size) v ≡ ok t → DescribesParts l top s registers before → Describes l top (Stack offset) (Some x) → Describes l top v (Some n) → IsStored before after (address_at x z) (size_bytes size) n → Leaves l top t registers after (address_at x z) (size_bytes size)
 frame_store l top offset s t registers before after v z size x n low high fits lt h d q new stored =
     let place = offset +ℤ z in
     let k = frame_index (offset +ℤ z) in
@@ -262,7 +263,7 @@ frame_store l top offset s t registers before after v z size x n low high fits l
       | inr may_not ↦ absurd (let e : failed PointerUse ≡ ok t = (rw may_not at h) in cc)
     ]
 
-pub store_describes : (l top : ℕ) (s t : AbstractState) (registers before after : Partial) (base v : AbstractValue) (z : ℤ) (size : Size) (x n : ℕ) → l < 2 ^ 16 → record_base + 2 ^ 17 ≤ top → top < 2 ^ 64 → FitsSigned w16 z → n < 2 ^ 64 → store_result l s base z (size_bytes size) v ≡ ok t → DescribesParts l top s registers before → Describes l top base (Some x) → Describes l top v (Some n) → IsStored before after (address_at x z) (size_bytes size) n → IsAllowed l top (address_at x z) (size_bytes size) × DescribesParts l top t registers after
+pub store_describes : (l : Lengths) (top : ℕ) (s t : AbstractState) (registers before after : Partial) (base v : AbstractValue) (z : ℤ) (size : Size) (x n : ℕ) → l.record_length < 2 ^ 16 → record_base + 2 ^ 17 ≤ top → top < 2 ^ 64 → FitsSigned w16 z → n < 2 ^ 64 → store_result l s base z (size_bytes size) v ≡ ok t → DescribesParts l top s registers before → Describes l top base (Some x) → Describes l top v (Some n) → IsStored before after (address_at x z) (size_bytes size) n → IsAllowed l top (address_at x z) (size_bytes size) × DescribesParts l top t registers after
 store_describes l top s t registers before after Unset v z size x n short high below fits lt h d q new stored = absurd cc
 store_describes l top s t registers before after (Number lo hi) v z size x n short high below fits lt h d q new stored = absurd cc
 store_describes l top s t registers before after (Record lo hi) v z size x n short high below fits lt h d q new stored =

@@ -5,6 +5,7 @@ use Rattle.bpf_isa.specs.declared.instruction.Size.{Size}
 use Rattle.bpf_model.specs.declared.limits.TheConstants.{FRAME_BYTES}
 use Rattle.bpf_model.specs.State.{Partial, record_base, number_at, address_at}
 use Rattle.bpf_isa.specs.Sizes.{size_bytes}
+use Rattle.bpf_image.specs.declared.lengths.Lengths.{Lengths}
 use Rattle.abstract_values.specs.declared.value.AbstractValue.{AbstractValue}
 use Rattle.abstract_values.specs.Described.{Describes}
 use Rattle.abstract_state.specs.declared.state.AbstractState.{AbstractState}
@@ -15,9 +16,9 @@ use Rattle.abstract_state.specs.Described.{DescribesParts, IsAllowed, IsWritten,
 -- what one of two states describes, their join describes too
 abbrev pub JoinDescribesStates : Type 0
 JoinDescribesStates =
-    (record_length top : ℕ) (a b : AbstractState) (registers memory : Partial)
-    → (DescribesParts record_length top a registers memory → DescribesParts record_length top (join_of_states a b) registers memory)
-    × (DescribesParts record_length top b registers memory → DescribesParts record_length top (join_of_states a b) registers memory)
+    (lengths : Lengths) (top : ℕ) (a b : AbstractState) (registers memory : Partial)
+    → (DescribesParts lengths top a registers memory → DescribesParts lengths top (join_of_states a b) registers memory)
+    × (DescribesParts lengths top b registers memory → DescribesParts lengths top (join_of_states a b) registers memory)
 
 -- the order of two ways, and of three, makes no difference to what is known where they meet
 abbrev pub JoinIsOrderless : Type 0
@@ -28,31 +29,31 @@ JoinIsOrderless =
 -- what the rules say of a load describes the number that is there, and the load is allowed
 abbrev pub LoadDescribes : Type 0
 LoadDescribes =
-    (record_length top : ℕ) (a : AbstractState) (registers memory : Partial) (base v : AbstractValue) (offset : ℤ) (size : Size) (x : ℕ)
-    → record_length < 2 ^ 16 → FRAME_BYTES ≤ top → top < 2 ^ 64 → FitsSigned w16 offset
-    → load_result record_length a base offset (size_bytes size) ≡ Ok v
-    → DescribesParts record_length top a registers memory → Describes record_length top base (Some x)
-    → (n : ℕ) × IsAllowed record_length top (address_at x offset) (size_bytes size)
-    × (number_at memory (address_at x offset) (size_bytes size) ≡ Some n) × Describes record_length top v (Some n)
+    (lengths : Lengths) (top : ℕ) (a : AbstractState) (registers memory : Partial) (base v : AbstractValue) (offset : ℤ) (size : Size) (x : ℕ)
+    → lengths.record_length < 2 ^ 16 → FRAME_BYTES ≤ top → top < 2 ^ 64 → FitsSigned w16 offset
+    → load_result lengths a base offset (size_bytes size) ≡ Ok v
+    → DescribesParts lengths top a registers memory → Describes lengths top base (Some x)
+    → (n : ℕ) × IsAllowed lengths top (address_at x offset) (size_bytes size)
+    × (number_at memory (address_at x offset) (size_bytes size) ≡ Some n) × Describes lengths top v (Some n)
 
 -- what the rules say of a store describes the memory after it, and the store is allowed. The frame lies
 -- above the record.
 abbrev pub StoreDescribes : Type 0
 StoreDescribes =
-    (record_length top : ℕ) (a b : AbstractState) (registers before after : Partial) (base v : AbstractValue) (offset : ℤ) (size : Size) (x n : ℕ)
-    → record_length < 2 ^ 16 → record_base + 2 ^ 17 ≤ top → top < 2 ^ 64 → FitsSigned w16 offset → n < 2 ^ 64
-    → store_result record_length a base offset (size_bytes size) v ≡ Ok b
-    → DescribesParts record_length top a registers before
-    → Describes record_length top base (Some x) → Describes record_length top v (Some n)
+    (lengths : Lengths) (top : ℕ) (a b : AbstractState) (registers before after : Partial) (base v : AbstractValue) (offset : ℤ) (size : Size) (x n : ℕ)
+    → lengths.record_length < 2 ^ 16 → record_base + 2 ^ 17 ≤ top → top < 2 ^ 64 → FitsSigned w16 offset → n < 2 ^ 64
+    → store_result lengths a base offset (size_bytes size) v ≡ Ok b
+    → DescribesParts lengths top a registers before
+    → Describes lengths top base (Some x) → Describes lengths top v (Some n)
     → IsStored before after (address_at x offset) (size_bytes size) n
-    → IsAllowed record_length top (address_at x offset) (size_bytes size) × DescribesParts record_length top b registers after
+    → IsAllowed lengths top (address_at x offset) (size_bytes size) × DescribesParts lengths top b registers after
 
 -- what the rules say of gather describes the memory after it, and its bytes are allowed
 abbrev pub GatherDescribes : Type 0
 GatherDescribes =
-    (record_length top : ℕ) (a b : AbstractState) (registers before after : Partial) (pointer : AbstractValue) (room x : ℕ)
-    → record_length < 2 ^ 16 → record_base + 2 ^ 17 ≤ top → 1 ≤ room
-    → gather_result record_length a pointer room ≡ Ok b
-    → DescribesParts record_length top a registers before → Describes record_length top pointer (Some x)
+    (lengths : Lengths) (top : ℕ) (a b : AbstractState) (registers before after : Partial) (pointer : AbstractValue) (room x : ℕ)
+    → lengths.record_length < 2 ^ 16 → record_base + 2 ^ 17 ≤ top → 1 ≤ room
+    → gather_result lengths a pointer room ≡ Ok b
+    → DescribesParts lengths top a registers before → Describes lengths top pointer (Some x)
     → IsWritten before after x room
-    → IsAllowed record_length top x room × DescribesParts record_length top b registers after
+    → IsAllowed lengths top x room × DescribesParts lengths top b registers after

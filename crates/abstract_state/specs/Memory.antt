@@ -2,6 +2,7 @@
 use Rattle.std.specs.Prelude.{ℕ, zero, suc, ◌+◌, ◌-◌, ◌*◌, ◌/◌, ◌%◌, ◌^◌, ◌==◌, ◌&&◌, Bool, true, false, if◌then◌else◌, ℤ, pos, ◌+ℤ◌, int_le, unsigned_abs, List, Result, Ok, Err, slice_index_or, slice_set}
 use Rattle.bpf_isa.specs.declared.instruction.SignedSize.{SignedSize}
 use Rattle.bpf_isa.specs.Sizes.{size_bytes, plain_size}
+use Rattle.bpf_image.specs.declared.lengths.Lengths.{Lengths}
 use Rattle.bpf_model.specs.declared.limits.TheConstants.{FRAME_BYTES}
 use Rattle.bpf_model.specs.declared.cause.Cause.{Cause}
 use Rattle.bpf_model.specs.declared.cause.Cause.TheVariants.{UnsetRegister, PointerUse, OutOfRange, UnsetStackByte, HelperArgument}
@@ -51,12 +52,12 @@ abbrev pub frame_read : AbstractState → ℕ → ℕ → Result AbstractValue C
 frame_read s k size = if are_set s.bytes_set k size then Ok (frame_value s k size) else Err UnsetStackByte
 
 -- what a load of so many bytes through a value gives
-abbrev pub load_result : ℕ → AbstractState → AbstractValue → ℤ → ℕ → Result AbstractValue Cause
-load_result record_length s Unset offset size = Err UnsetRegister
-load_result record_length s (Number lo hi) offset size = Err PointerUse
-load_result record_length s (Record lo hi) offset size =
-    if is_in_record record_length lo hi offset size then Ok (any_of_size size) else Err OutOfRange
-load_result record_length s (Stack top) offset size =
+abbrev pub load_result : Lengths → AbstractState → AbstractValue → ℤ → ℕ → Result AbstractValue Cause
+load_result lengths s Unset offset size = Err UnsetRegister
+load_result lengths s (Number lo hi) offset size = Err PointerUse
+load_result lengths s (Record lo hi) offset size =
+    if is_in_record lengths.record_length lo hi offset size then Ok (any_of_size size) else Err OutOfRange
+load_result lengths s (Stack top) offset size =
     if is_in_frame (top +ℤ offset) size then frame_read s (frame_index (top +ℤ offset)) size else Err OutOfRange
 
 -- a sign-extending load gives any number, where the load is allowed
@@ -64,9 +65,9 @@ abbrev pub any_number_where : Result AbstractValue Cause → Result AbstractValu
 any_number_where (Ok v) = Ok (Number 0 (2 ^ 64 - 1))
 any_number_where (Err cause) = Err cause
 
-abbrev pub load_signed_result : ℕ → AbstractState → AbstractValue → ℤ → SignedSize → Result AbstractValue Cause
-load_signed_result record_length s base offset size =
-    any_number_where (load_result record_length s base offset (size_bytes (plain_size size)))
+abbrev pub load_signed_result : Lengths → AbstractState → AbstractValue → ℤ → SignedSize → Result AbstractValue Cause
+load_signed_result lengths s base offset size =
+    any_number_where (load_result lengths s base offset (size_bytes (plain_size size)))
 
 -- so many bytes from byte k become set
 abbrev pub set_from : List Bool → ℕ → ℕ → List Bool
@@ -107,24 +108,24 @@ frame_store_result s place size v =
     if may_store v (is_in_frame place size && is_slot (frame_index place) size) then (if is_in_frame place size then Ok (frame_write s (frame_index place) size v) else Err OutOfRange) else Err PointerUse
 
 -- what is known after a store of a value, which is set, through a base
-abbrev pub store_result : ℕ → AbstractState → AbstractValue → ℤ → ℕ → AbstractValue → Result AbstractState Cause
-store_result record_length s Unset offset size v = Err UnsetRegister
-store_result record_length s (Number lo hi) offset size v = Err PointerUse
-store_result record_length s (Record lo hi) offset size v =
-    if is_pointer v then Err PointerUse else (if is_in_record record_length lo hi offset size then Ok s else Err OutOfRange)
-store_result record_length s (Stack top) offset size v = frame_store_result s (top +ℤ offset) size v
+abbrev pub store_result : Lengths → AbstractState → AbstractValue → ℤ → ℕ → AbstractValue → Result AbstractState Cause
+store_result lengths s Unset offset size v = Err UnsetRegister
+store_result lengths s (Number lo hi) offset size v = Err PointerUse
+store_result lengths s (Record lo hi) offset size v =
+    if is_pointer v then Err PointerUse else (if is_in_record lengths.record_length lo hi offset size then Ok s else Err OutOfRange)
+store_result lengths s (Stack top) offset size v = frame_store_result s (top +ℤ offset) size v
 
 -- bytes of the frame are filled, and no value is known of a slot that they touch
 abbrev pub frame_fill : AbstractState → ℕ → ℕ → AbstractState
 frame_fill s k size = record s { bytes_set = set_from s.bytes_set k size; slots = without_spills s.slots k size }
 
 -- what is known after the helper gather has filled so many bytes from a pointer on
-abbrev pub gather_result : ℕ → AbstractState → AbstractValue → ℕ → Result AbstractState Cause
-gather_result record_length s Unset room = Err UnsetRegister
-gather_result record_length s (Number lo hi) room = Err HelperArgument
-gather_result record_length s (Record lo hi) room =
-    if is_in_record record_length lo hi (pos 0) room then Ok s else Err OutOfRange
-gather_result record_length s (Stack top) room =
+abbrev pub gather_result : Lengths → AbstractState → AbstractValue → ℕ → Result AbstractState Cause
+gather_result lengths s Unset room = Err UnsetRegister
+gather_result lengths s (Number lo hi) room = Err HelperArgument
+gather_result lengths s (Record lo hi) room =
+    if is_in_record lengths.record_length lo hi (pos 0) room then Ok s else Err OutOfRange
+gather_result lengths s (Stack top) room =
     if is_in_frame top room then Ok (frame_fill s (frame_index top) room) else Err OutOfRange
 
 -- an answer of the code and the state that it leaves

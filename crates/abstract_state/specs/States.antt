@@ -2,6 +2,7 @@
 use Rattle.std.specs.Prelude.{ℕ, ◌-◌, ◌/◌, ◌^◌, ◌&&◌, false, List, [], ◌∷◌, pos, slice_index_or, slice_set, replicate}
 use Rattle.bpf_isa.specs.declared.register.Register.{Register}
 use Rattle.bpf_isa.specs.Encoding.{number_of}
+use Rattle.bpf_image.specs.declared.lengths.Lengths.{Lengths}
 use Rattle.bpf_model.specs.State.{frame_bytes}
 use Rattle.abstract_values.specs.declared.value.AbstractValue.{AbstractValue}
 use Rattle.abstract_values.specs.declared.value.AbstractValue.TheVariants.{Unset, Number, Record, Stack}
@@ -19,9 +20,9 @@ abbrev pub frame_slots : ℕ
 frame_slots = frame_bytes / 8
 
 -- at entry R1 is the record's address, R2 its length, and R10 the top of the frame; no stack byte is set
-abbrev pub entry_state : ℕ → AbstractState
-entry_state record_length =
-    record { registers = Unset ∷ Record 0 0 ∷ Number record_length record_length ∷ Unset ∷ Unset ∷ Unset ∷ Unset ∷ Unset ∷ Unset ∷ Unset ∷ Stack (pos 0) ∷ []; bytes_set = replicate frame_bytes false; slots = replicate frame_slots Unset }
+abbrev pub entry_state : Lengths → AbstractState
+entry_state lengths =
+    record { registers = Unset ∷ Record 0 0 ∷ Number lengths.record_length lengths.record_length ∷ Unset ∷ Unset ∷ Unset ∷ Unset ∷ Unset ∷ Unset ∷ Unset ∷ Stack (pos 0) ∷ []; bytes_set = replicate frame_bytes false; slots = replicate frame_slots Unset }
 
 -- element by element
 abbrev pub elementwise : {A : Type 0} → (A → A → A) → List A → List A → List A

@@ -7,6 +7,7 @@ ghost use Rattle.abstract_state.specs.Memory.{is_in_record, is_in_frame, frame_i
 use crate::stack::{any_number, fill_frame, is_whole_slot, load_frame, store_frame};
 use crate::state::AbstractState;
 use abstract_values::{AbstractValue, FRAME_BOTTOM};
+use bpf_image::Lengths;
 use bpf_isa::{SignedSize, Size};
 use bpf_model::{Cause, FRAME_BYTES};
 
@@ -58,20 +59,20 @@ fn find_in_frame(top: i16, offset: i16, bytes: usize) -> Option<usize>
 
 /// What a load through a value gives, in a record of so many bytes.
 pub fn load(
-    record_length: u16,
+    lengths: Lengths,
     state: &AbstractState,
     base: AbstractValue,
     offset: i16,
     size: Size,
 ) -> Result<AbstractValue, Cause>
-    ensures { result ≡ load_result record_length state.now base offset (size_bytes size) }
+    ensures { result ≡ load_result lengths state.now base offset (size_bytes size) }
 {
     let bytes = usize::from(size.bytes());
     match base {
         AbstractValue::Unset => Err(Cause::UnsetRegister),
         AbstractValue::Number { .. } => Err(Cause::PointerUse),
         AbstractValue::Record { lo, hi } => {
-            if is_inside_record(record_length, lo, hi, offset, bytes) {
+            if is_inside_record(lengths.record_length, lo, hi, offset, bytes) {
                 Ok(any_number(bytes))
             } else {
                 Err(Cause::OutOfRange)
@@ -86,15 +87,15 @@ pub fn load(
 
 /// What a sign-extending load through a value gives.
 pub fn load_signed(
-    record_length: u16,
+    lengths: Lengths,
     state: &AbstractState,
     base: AbstractValue,
     offset: i16,
     size: SignedSize,
 ) -> Result<AbstractValue, Cause>
-    ensures { result ≡ load_signed_result record_length state.now base offset size }
+    ensures { result ≡ load_signed_result lengths state.now base offset size }
 {
-    load(record_length, state, base, offset, size.plain())?;
+    load(lengths, state, base, offset, size.plain())?;
     Ok(AbstractValue::Number {
         lo: 0,
         hi: u64::MAX,
@@ -144,14 +145,14 @@ fn store_in_frame(
 /// What is known after a store of a value through another; it changes nothing where it is refused. The
 /// stored value must be set.
 pub fn store(
-    record_length: u16,
+    lengths: Lengths,
     state: &mut AbstractState,
     base: AbstractValue,
     offset: i16,
     size: Size,
     value: AbstractValue,
 ) -> Result<(), Cause>
-    ensures stored { store_result record_length state.old base offset (size_bytes size) value
+    ensures stored { store_result lengths state.old base offset (size_bytes size) value
         ≡ store_answer result state.new }
     ensures unchanged { IfErr result (λ cause. state.new ≡ state.old) }
 {
@@ -163,7 +164,7 @@ pub fn store(
             if is_address(value) {
                 return Err(Cause::PointerUse);
             }
-            if is_inside_record(record_length, lo, hi, offset, bytes) {
+            if is_inside_record(lengths.record_length, lo, hi, offset, bytes) {
                 Ok(())
             } else {
                 Err(Cause::OutOfRange)
@@ -176,21 +177,21 @@ pub fn store(
 /// What is known after the helper gather has filled so many bytes from a pointer on; it changes nothing
 /// where it is refused. Of a slot that it touches nothing is known.
 pub fn gather(
-    record_length: u16,
+    lengths: Lengths,
     state: &mut AbstractState,
     pointer: AbstractValue,
     room: usize,
 ) -> Result<(), Cause>
     requires some { 1 ≤ room }
     requires few { room ≤ FRAME_BYTES }
-    ensures filled { gather_result record_length state.old pointer room ≡ store_answer result state.new }
+    ensures filled { gather_result lengths state.old pointer room ≡ store_answer result state.new }
     ensures unchanged { IfErr result (λ cause. state.new ≡ state.old) }
 {
     match pointer {
         AbstractValue::Unset => Err(Cause::UnsetRegister),
         AbstractValue::Number { .. } => Err(Cause::HelperArgument),
         AbstractValue::Record { lo, hi } => {
-            if is_inside_record(record_length, lo, hi, 0, room) {
+            if is_inside_record(lengths.record_length, lo, hi, 0, room) {
                 Ok(())
             } else {
                 Err(Cause::OutOfRange)

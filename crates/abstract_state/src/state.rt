@@ -2,6 +2,7 @@
 ghost use Rattle.std.specs.Prelude.{◌≡◌};
 
 use abstract_values::AbstractValue;
+use bpf_image::Lengths;
 use bpf_isa::Register;
 use bpf_model::FRAME_BYTES;
 
@@ -24,14 +25,14 @@ impl AbstractState {
     ghost use Rattle.abstract_state.specs.States.{register, with_register, entry_state};
 
     /// What is known where a program begins, of a record of so many bytes.
-    pub fn entry(record_length: u16) -> AbstractState
-        ensures { result ≡ entry_state record_length }
+    pub fn entry(lengths: Lengths) -> AbstractState
+        ensures { result ≡ entry_state lengths }
     {
         let unset = AbstractValue::Unset;
         let record = AbstractValue::Record { lo: 0, hi: 0 };
         let length = AbstractValue::Number {
-            lo: u64::from(record_length),
-            hi: u64::from(record_length),
+            lo: u64::from(lengths.record_length),
+            hi: u64::from(lengths.record_length),
         };
         let stack = AbstractValue::Stack { offset: 0 };
         AbstractState {

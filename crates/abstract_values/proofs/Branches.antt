@@ -10,6 +10,7 @@ use Rattle.bpf_isa.specs.declared.instruction.Width.{Width}
 use Rattle.bpf_isa.specs.declared.instruction.Width.TheVariants.{Bits32, Bits64}
 use Rattle.bpf_isa.specs.declared.instruction.Comparison.{Comparison}
 use Rattle.bpf_isa.specs.declared.instruction.Comparison.TheVariants.{Equal, Greater, GreaterOrEqual, SharesBit, NotEqual, GreaterSigned, GreaterOrEqualSigned, Less, LessOrEqual, LessSigned, LessOrEqualSigned}
+use Rattle.bpf_image.specs.declared.lengths.Lengths.{Lengths}
 use Rattle.bpf_model.specs.Arithmetic.{width_bits, modulus, low, signed, comparison_holds, holds}
 use Rattle.bpf_model.specs.declared.cause.Cause.{Cause}
 use Rattle.abstract_values.specs.declared.branch.Sides.{Sides}
@@ -156,20 +157,20 @@ side_sound w c a b x y p q h =
       | inr not_is ↦ rw not_is (p, q)
     ]
 
-numbers_described : (l top : ℕ) (o : Option (Range × Range)) (x y : ℕ) → x < 2 ^ 64 → y < 2 ^ 64 → Pair o x y → DescribesSide l top (numbers o) x y
+numbers_described : (l : Lengths) (top : ℕ) (o : Option (Range × Range)) (x y : ℕ) → x < 2 ^ 64 → y < 2 ^ 64 → Pair o x y → DescribesSide l top (numbers o) x y
 numbers_described l top None x y p q h = h
 numbers_described l top (Some r) x y p q h = (number_described l top r.0 x h.0 p, number_described l top r.1 y h.1 q)
 
 low_in : (w : Width) (m x : ℕ) → x < m → low w x < m
 low_in w m x lt = omega (arith, mod-le x (modulus w), lt)
 
-sides_sound : (w : Width) (c : Comparison) (l top : ℕ) (a b : Range) (x y : ℕ) → Within a x → Within b y → x < 2 ^ 64 → y < 2 ^ 64 → (t : Bool) → holds w c x y ≡ t → DescribesSide l top (side_of (both_sides w c a b) t) x y
+sides_sound : (w : Width) (c : Comparison) (l : Lengths) (top : ℕ) (a b : Range) (x y : ℕ) → Within a x → Within b y → x < 2 ^ 64 → y < 2 ^ 64 → (t : Bool) → holds w c x y ≡ t → DescribesSide l top (side_of (both_sides w c a b) t) x y
 sides_sound w c l top a b x y p q r s true h =
     numbers_described l top (side w c a b) x y r s (side_sound w c a b x y p q (λ lt. h))
 sides_sound w c l top a b x y p q r s false h =
     numbers_described l top (side w (opposite c) a b) x y r s (side_sound w (opposite c) a b x y p q (λ lt. opposite_holds w c (low w x) (low w y) (low_in w (order_limit w (opposite c)) x lt) h))
 
-pub narrow_describes : (w : Width) (c : Comparison) (l top : ℕ) (a b : AbstractValue) (sides : Sides) (x y : ℕ) → narrowing w c a b ≡ decided sides → Describes l top a (Some x) → Describes l top b (Some y) → DescribesSide l top (side_of sides (holds w c x y)) x y
+pub narrow_describes : (w : Width) (c : Comparison) (l : Lengths) (top : ℕ) (a b : AbstractValue) (sides : Sides) (x y : ℕ) → narrowing w c a b ≡ decided sides → Describes l top a (Some x) → Describes l top b (Some y) → DescribesSide l top (side_of sides (holds w c x y)) x y
 narrow_describes w c l top (Number lo hi) (Number lo' hi') sides x y h p q =
     let first = number_within l top lo hi x p in
     let second = number_within l top lo' hi' y q in

@@ -9,6 +9,7 @@ use Rattle.bpf_isa.specs.declared.instruction.Width.{Width}
 use Rattle.bpf_isa.specs.declared.instruction.Width.TheVariants.{Bits64}
 use Rattle.bpf_isa.specs.declared.instruction.Operation.{Operation}
 use Rattle.bpf_isa.specs.declared.instruction.Operation.TheVariants as operations
+use Rattle.bpf_image.specs.declared.lengths.Lengths.{Lengths}
 use Rattle.bpf_model.specs.State.{record_base}
 use Rattle.bpf_model.specs.declared.limits.TheConstants.{FRAME_BYTES}
 use Rattle.bpf_model.specs.Arithmetic.{low, alu_number}
@@ -87,28 +88,28 @@ distance_of r y h lt =
     ]
 
 -- a place in the record that a pointer describes
-record Points (l top : ℕ) (v : AbstractValue) (z : ℤ) : Type 0 where
+record Points (l : Lengths) (top : ℕ) (v : AbstractValue) (z : ℤ) : Type 0 where
   place : ℕ
   is : pos place ≡ z
-  inside : place ≤ l
+  inside : place ≤ l.record_length
   described : Describes l top v (Some (record_base + place))
 
-between : (l top : ℕ) (lo hi z : ℤ) → pos 0 ≤ℤ lo → hi ≤ℤ pos l → lo ≤ℤ z → z ≤ℤ hi → Points l top (Record (unsigned_abs lo) (unsigned_abs hi)) z
+between : (l : Lengths) (top : ℕ) (lo hi z : ℤ) → pos 0 ≤ℤ lo → hi ≤ℤ pos l.record_length → lo ≤ℤ z → z ≤ℤ hi → Points l top (Record (unsigned_abs lo) (unsigned_abs hi)) z
 between l top (pos a) (pos b) (pos m) p q above below =
     record { place = m; is = refl; inside = omega (arith, ints); described = (m, refl, omega (arith, ints), omega (arith, ints), omega (arith, ints)) }
 between l top (pos a) (pos b) (negsuc m) p q above below = absurd (omega (arith, ints))
 between l top (pos a) (negsuc b) z p q above below = absurd (omega (arith, ints))
 between l top (negsuc a) hi z p q above below = absurd (omega (arith, ints))
 
-points : (l top : ℕ) (lo hi z : ℤ) (v : AbstractValue) → record_pointer l lo hi ≡ ok v → lo ≤ℤ z → z ≤ℤ hi → Points l top v z
+points : (l : Lengths) (top : ℕ) (lo hi z : ℤ) (v : AbstractValue) → record_pointer l lo hi ≡ ok v → lo ≤ℤ z → z ≤ℤ hi → Points l top v z
 points l top lo hi z v h above below =
-    elim (cases_Bool (is_place l lo && is_place l hi)) [
+    elim (cases_Bool (is_place l.record_length lo && is_place l.record_length hi)) [
       | inl is ↦
           let same : Record (unsigned_abs lo) (unsigned_abs hi) ≡ v = (let e : ok (Record (unsigned_abs lo) (unsigned_abs hi)) ≡ ok v = (rw is at h) in cc) in
-          let both = and_parts (is_place l lo) (is_place l hi) is in
-          let first = and_parts (int_le (pos 0) lo) (int_le lo (pos l)) both.0 in
-          let last = and_parts (int_le (pos 0) hi) (int_le hi (pos l)) both.1 in
-          subst (λ w. Points l top w z) same (between l top lo hi z (at_most (pos 0) lo first.0) (at_most hi (pos l) last.1) above below)
+          let both = and_parts (is_place l.record_length lo) (is_place l.record_length hi) is in
+          let first = and_parts (int_le (pos 0) lo) (int_le lo (pos l.record_length)) both.0 in
+          let last = and_parts (int_le (pos 0) hi) (int_le hi (pos l.record_length)) both.1 in
+          subst (λ w. Points l top w z) same (between l top lo hi z (at_most (pos 0) lo first.0) (at_most hi (pos l.record_length) last.1) above below)
       | inr not_is ↦ absurd (let e : failed OutOfRange ≡ ok v = (rw not_is at h) in cc)
     ]
 
@@ -145,7 +146,7 @@ known_constant : (b : Bool) (z : ℤ) (v : AbstractValue) → stack_result b z �
 known_constant true z v h = (refl, h)
 known_constant false z v h = absurd cc
 
-stack_sum : (l top : ℕ) (offset : ℤ) (r : Range) (v : AbstractValue) (x y : ℕ) → FRAME_BYTES ≤ top → top < 2 ^ 64 → stack_result (is_constant r) (offset +ℤ least_distance r) ≡ ok v → Describes l top (Stack offset) (Some x) → Within r y → y < 2 ^ 64 → Describes l top v (Some (alu_number Bits64 operations.Add x y))
+stack_sum : (l : Lengths) (top : ℕ) (offset : ℤ) (r : Range) (v : AbstractValue) (x y : ℕ) → FRAME_BYTES ≤ top → top < 2 ^ 64 → stack_result (is_constant r) (offset +ℤ least_distance r) ≡ ok v → Describes l top (Stack offset) (Some x) → Within r y → y < 2 ^ 64 → Describes l top v (Some (alu_number Bits64 operations.Add x y))
 stack_sum l top offset r v x y low high h p inside lt =
     let x-is : x ≡ p.0 = (let e : Some x ≡ Some p.0 = p.1 in cc) in
     let far = distance_of r y inside lt in
@@ -156,7 +157,7 @@ stack_sum l top offset r v x y low high h p inside lt =
     let same = sum_at x y there.at far.d (stack_below l top x offset high p) lt there.below far.moves moved in
     rw same (subst (λ w. Describes l top w (Some there.at)) frame.value (there.at, refl, there.is, frame.least, frame.most))
 
-stack_difference : (l top : ℕ) (offset : ℤ) (r : Range) (v : AbstractValue) (x y : ℕ) → FRAME_BYTES ≤ top → top < 2 ^ 64 → stack_result (is_constant r) (offset -ℤ least_distance r) ≡ ok v → Describes l top (Stack offset) (Some x) → Within r y → y < 2 ^ 64 → Describes l top v (Some (alu_number Bits64 operations.Subtract x y))
+stack_difference : (l : Lengths) (top : ℕ) (offset : ℤ) (r : Range) (v : AbstractValue) (x y : ℕ) → FRAME_BYTES ≤ top → top < 2 ^ 64 → stack_result (is_constant r) (offset -ℤ least_distance r) ≡ ok v → Describes l top (Stack offset) (Some x) → Within r y → y < 2 ^ 64 → Describes l top v (Some (alu_number Bits64 operations.Subtract x y))
 stack_difference l top offset r v x y low high h p inside lt =
     let x-is : x ≡ p.0 = (let e : Some x ≡ Some p.0 = p.1 in cc) in
     let far = distance_of r y inside lt in
@@ -168,7 +169,7 @@ stack_difference l top offset r v x y low high h p inside lt =
     rw same (subst (λ w. Describes l top w (Some there.at)) frame.value (there.at, refl, there.is, frame.least, frame.most))
 
 -- a sum on a record pointer
-record_sum : (l top lo hi : ℕ) (r : Range) (v : AbstractValue) (x y : ℕ) → l < 2 ^ 16 → record_pointer l (pos lo +ℤ least_distance r) (pos hi +ℤ greatest_distance r) ≡ ok v → Describes l top (Record lo hi) (Some x) → Within r y → y < 2 ^ 64 → Describes l top v (Some (alu_number Bits64 operations.Add x y))
+record_sum : (l : Lengths) (top lo hi : ℕ) (r : Range) (v : AbstractValue) (x y : ℕ) → l.record_length < 2 ^ 16 → record_pointer l (pos lo +ℤ least_distance r) (pos hi +ℤ greatest_distance r) ≡ ok v → Describes l top (Record lo hi) (Some x) → Within r y → y < 2 ^ 64 → Describes l top v (Some (alu_number Bits64 operations.Add x y))
 record_sum l top lo hi r v x y short h p inside lt =
     let x-is : x ≡ record_base + p.0 = (let e : Some x ≡ Some (record_base + p.0) = p.1 in cc) in
     let far = distance_of r y inside lt in
@@ -177,7 +178,7 @@ record_sum l top lo hi r v x y short h p inside lt =
     let same = sum_at x y (record_base + there.place) far.d (record_below l top lo hi x short p) lt (omega (arith, there.inside, short)) far.moves moved in
     rw same there.described
 
-record_difference : (l top lo hi : ℕ) (r : Range) (v : AbstractValue) (x y : ℕ) → l < 2 ^ 16 → record_pointer l (pos lo -ℤ greatest_distance r) (pos hi -ℤ least_distance r) ≡ ok v → Describes l top (Record lo hi) (Some x) → Within r y → y < 2 ^ 64 → Describes l top v (Some (alu_number Bits64 operations.Subtract x y))
+record_difference : (l : Lengths) (top lo hi : ℕ) (r : Range) (v : AbstractValue) (x y : ℕ) → l.record_length < 2 ^ 16 → record_pointer l (pos lo -ℤ greatest_distance r) (pos hi -ℤ least_distance r) ≡ ok v → Describes l top (Record lo hi) (Some x) → Within r y → y < 2 ^ 64 → Describes l top v (Some (alu_number Bits64 operations.Subtract x y))
 record_difference l top lo hi r v x y short h p inside lt =
     let x-is : x ≡ record_base + p.0 = (let e : Some x ≡ Some (record_base + p.0) = p.1 in cc) in
     let far = distance_of r y inside lt in
@@ -186,7 +187,7 @@ record_difference l top lo hi r v x y short h p inside lt =
     let same = difference_at x y (record_base + there.place) far.d (record_below l top lo hi x short p) lt (omega (arith, there.inside, short)) far.moves moved in
     rw same there.described
 
-add_sound : (l top : ℕ) (a b v : AbstractValue) (x y : ℕ) → l < 2 ^ 16 → FRAME_BYTES ≤ top → top < 2 ^ 64 → sum_result l a b ≡ ok v → Describes l top a (Some x) → Describes l top b (Some y) → Describes l top v (Some (alu_number Bits64 operations.Add x y))
+add_sound : (l : Lengths) (top : ℕ) (a b v : AbstractValue) (x y : ℕ) → l.record_length < 2 ^ 16 → FRAME_BYTES ≤ top → top < 2 ^ 64 → sum_result l a b ≡ ok v → Describes l top a (Some x) → Describes l top b (Some y) → Describes l top v (Some (alu_number Bits64 operations.Add x y))
 add_sound l top (Record lo hi) (Number c d) v x y short low high h p q =
     let inside = number_within l top c d y q in
     record_sum l top lo hi (range c d) v x y short h p inside.0 inside.1
@@ -195,7 +196,7 @@ add_sound l top (Stack offset) (Number c d) v x y short low high h p q =
     stack_sum l top offset (range c d) v x y low high h p inside.0 inside.1
 add_sound l top a b v x y short low high h p q = numbers_sound Bits64 operations.Add l top a b v x y h p q
 
-subtract_sound : (l top : ℕ) (a b v : AbstractValue) (x y : ℕ) → l < 2 ^ 16 → FRAME_BYTES ≤ top → top < 2 ^ 64 → difference_result l a b ≡ ok v → Describes l top a (Some x) → Describes l top b (Some y) → Describes l top v (Some (alu_number Bits64 operations.Subtract x y))
+subtract_sound : (l : Lengths) (top : ℕ) (a b v : AbstractValue) (x y : ℕ) → l.record_length < 2 ^ 16 → FRAME_BYTES ≤ top → top < 2 ^ 64 → difference_result l a b ≡ ok v → Describes l top a (Some x) → Describes l top b (Some y) → Describes l top v (Some (alu_number Bits64 operations.Subtract x y))
 subtract_sound l top (Record lo hi) (Number c d) v x y short low high h p q =
     let inside = number_within l top c d y q in
     record_difference l top lo hi (range c d) v x y short h p inside.0 inside.1
@@ -204,14 +205,14 @@ subtract_sound l top (Stack offset) (Number c d) v x y short low high h p q =
     stack_difference l top offset (range c d) v x y low high h p inside.0 inside.1
 subtract_sound l top a b v x y short low high h p q = numbers_sound Bits64 operations.Subtract l top a b v x y h p q
 
-pub alu_describes : (w : Width) (operation : Operation) (l top : ℕ) (a b v : AbstractValue) (x y : ℕ) → l < 2 ^ 16 → FRAME_BYTES ≤ top → top < 2 ^ 64 → alu_result w operation l a b ≡ ok v → Describes l top a (Some x) → Describes l top b (Some y) → Describes l top v (Some (alu_number w operation x y))
+pub alu_describes : (w : Width) (operation : Operation) (l : Lengths) (top : ℕ) (a b v : AbstractValue) (x y : ℕ) → l.record_length < 2 ^ 16 → FRAME_BYTES ≤ top → top < 2 ^ 64 → alu_result w operation l a b ≡ ok v → Describes l top a (Some x) → Describes l top b (Some y) → Describes l top v (Some (alu_number w operation x y))
 alu_describes w operations.Move l top a b v x y short low high h p q = move_sound w l top b v x y short high h q
 alu_describes Bits64 operations.Add l top a b v x y short low high h p q = add_sound l top a b v x y short low high h p q
 alu_describes Bits64 operations.Subtract l top a b v x y short low high h p q = subtract_sound l top a b v x y short low high h p q
 alu_describes w operation l top a b v x y short low high h p q = numbers_sound w operation l top a b v x y h p q
 
 -- for the code: the pointer at two offsets that are what the rules name
-pub pointer_at : (l : ℕ) (lo hi first last : ℤ) (r : Result AbstractValue Cause) → r ≡ record_pointer l lo hi → lo ≡ first → hi ≡ last → r ≡ record_pointer l first last
+pub pointer_at : (l : Lengths) (lo hi first last : ℤ) (r : Result AbstractValue Cause) → r ≡ record_pointer l lo hi → lo ≡ first → hi ≡ last → r ≡ record_pointer l first last
 pointer_at l lo hi first last r e p q = e ∙ ap (λ z. record_pointer l z hi) p ∙ ap (λ z. record_pointer l first z) q
 
 pub stack_pointer_at : (b : Bool) (offset place : ℤ) (r : Result AbstractValue Cause) → r ≡ stack_pointer offset → b ≡ true → offset ≡ place → r ≡ stack_result b place

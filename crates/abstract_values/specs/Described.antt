@@ -1,5 +1,6 @@
 -- What is known of a value describes it: the meaning of abstract values.
 use Rattle.std.specs.Prelude.{◌≡◌, ℕ, ◌+◌, ◌<◌, ◌≤◌, ◌^◌, pos, ◌+ℤ◌, ◌≤ℤ◌, Bool, true, false, Option, Some, None}
+use Rattle.bpf_image.specs.declared.lengths.Lengths.{Lengths}
 use Rattle.bpf_model.specs.State.{record_base}
 use Rattle.abstract_values.specs.declared.branch.Sides.{Sides}
 use Rattle.abstract_values.specs.declared.limits.TheConstants.{FRAME_BOTTOM}
@@ -7,19 +8,19 @@ use Rattle.abstract_values.specs.declared.value.AbstractValue.{AbstractValue}
 use Rattle.abstract_values.specs.declared.value.AbstractValue.TheVariants.{Unset, Number, Record, Stack}
 
 -- a value describes what a register holds, where the record has this length and the frame this top
-abbrev pub Describes : ℕ → ℕ → AbstractValue → Option ℕ → Type 0
-Describes record_length top Unset x = Unit {0}
-Describes record_length top (Number lo hi) x = (n : ℕ) × (x ≡ Some n) × (lo ≤ n) × (n ≤ hi) × (n < 2 ^ 64)
-Describes record_length top (Record lo hi) x =
-    (n : ℕ) × (x ≡ Some (record_base + n)) × (lo ≤ n) × (n ≤ hi) × (n ≤ record_length)
-Describes record_length top (Stack offset) x =
+abbrev pub Describes : Lengths → ℕ → AbstractValue → Option ℕ → Type 0
+Describes lengths top Unset x = Unit {0}
+Describes lengths top (Number lo hi) x = (n : ℕ) × (x ≡ Some n) × (lo ≤ n) × (n ≤ hi) × (n < 2 ^ 64)
+Describes lengths top (Record lo hi) x =
+    (n : ℕ) × (x ≡ Some (record_base + n)) × (lo ≤ n) × (n ≤ hi) × (n ≤ lengths.record_length)
+Describes lengths top (Stack offset) x =
     (n : ℕ) × (x ≡ Some n) × (pos n ≡ pos top +ℤ offset) × (FRAME_BOTTOM ≤ℤ offset) × (offset ≤ℤ pos 0)
 
 -- a side of a branch describes two numbers that come to it; none come to a side that is not walked
-abbrev pub DescribesSide : ℕ → ℕ → Option (AbstractValue × AbstractValue) → ℕ → ℕ → Type 0
-DescribesSide record_length top None x y = ⊥
-DescribesSide record_length top (Some known) x y =
-    Describes record_length top known.0 (Some x) × Describes record_length top known.1 (Some y)
+abbrev pub DescribesSide : Lengths → ℕ → Option (AbstractValue × AbstractValue) → ℕ → ℕ → Type 0
+DescribesSide lengths top None x y = ⊥
+DescribesSide lengths top (Some known) x y =
+    Describes lengths top known.0 (Some x) × Describes lengths top known.1 (Some y)
 
 -- the side that a branch goes on with
 abbrev pub side_of : Sides → Bool → Option (AbstractValue × AbstractValue)

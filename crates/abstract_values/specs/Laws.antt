@@ -7,6 +7,7 @@ use Rattle.bpf_isa.specs.declared.instruction.Comparison.{Comparison}
 use Rattle.bpf_isa.specs.declared.instruction.Extension.{Extension}
 use Rattle.bpf_isa.specs.declared.instruction.ByteOrder.{ByteOrder}
 use Rattle.bpf_isa.specs.declared.instruction.SwapBits.{SwapBits}
+use Rattle.bpf_image.specs.declared.lengths.Lengths.{Lengths}
 use Rattle.bpf_model.specs.declared.limits.TheConstants.{FRAME_BYTES}
 use Rattle.bpf_model.specs.Arithmetic.{alu_number, negate_number, move_signed_number, swap_number, holds}
 use Rattle.abstract_values.specs.declared.branch.Sides.{Sides}
@@ -18,9 +19,9 @@ use Rattle.abstract_values.specs.Described.{Describes, DescribesSide, side_of}
 -- what one of two values describes, their join describes too
 abbrev pub JoinDescribes : Type 0
 JoinDescribes =
-    (record_length top : ℕ) (a b : AbstractValue) (x : Option ℕ)
-    → (Describes record_length top a x → Describes record_length top (join_of a b) x)
-    × (Describes record_length top b x → Describes record_length top (join_of a b) x)
+    (lengths : Lengths) (top : ℕ) (a b : AbstractValue) (x : Option ℕ)
+    → (Describes lengths top a x → Describes lengths top (join_of a b) x)
+    × (Describes lengths top b x → Describes lengths top (join_of a b) x)
 
 -- the order of two ways, and of three, makes no difference to what is known where they meet
 abbrev pub JoinCommutes : Type 0
@@ -33,34 +34,34 @@ JoinAssociates = (a b c : AbstractValue) → join_of (join_of a b) c ≡ join_of
 -- has 16 bits, and a frame lies below 2^64.
 abbrev pub AluDescribes : Type 0
 AluDescribes =
-    (width : Width) (operation : Operation) (record_length top : ℕ) (a b v : AbstractValue) (x y : ℕ)
-    → record_length < 2 ^ 16 → FRAME_BYTES ≤ top → top < 2 ^ 64
-    → alu_result width operation record_length a b ≡ Ok v
-    → Describes record_length top a (Some x) → Describes record_length top b (Some y)
-    → Describes record_length top v (Some (alu_number width operation x y))
+    (width : Width) (operation : Operation) (lengths : Lengths) (top : ℕ) (a b v : AbstractValue) (x y : ℕ)
+    → lengths.record_length < 2 ^ 16 → FRAME_BYTES ≤ top → top < 2 ^ 64
+    → alu_result width operation lengths a b ≡ Ok v
+    → Describes lengths top a (Some x) → Describes lengths top b (Some y)
+    → Describes lengths top v (Some (alu_number width operation x y))
 
 abbrev pub NegateDescribes : Type 0
 NegateDescribes =
-    (width : Width) (record_length top : ℕ) (a v : AbstractValue) (x : ℕ)
-    → negate_result width a ≡ Ok v → Describes record_length top a (Some x)
-    → Describes record_length top v (Some (negate_number width x))
+    (width : Width) (lengths : Lengths) (top : ℕ) (a v : AbstractValue) (x : ℕ)
+    → negate_result width a ≡ Ok v → Describes lengths top a (Some x)
+    → Describes lengths top v (Some (negate_number width x))
 
 abbrev pub MoveSignedDescribes : Type 0
 MoveSignedDescribes =
-    (e : Extension) (record_length top : ℕ) (a v : AbstractValue) (x : ℕ)
-    → move_signed_result e a ≡ Ok v → Describes record_length top a (Some x)
-    → Describes record_length top v (Some (move_signed_number e x))
+    (e : Extension) (lengths : Lengths) (top : ℕ) (a v : AbstractValue) (x : ℕ)
+    → move_signed_result e a ≡ Ok v → Describes lengths top a (Some x)
+    → Describes lengths top v (Some (move_signed_number e x))
 
 abbrev pub SwapDescribes : Type 0
 SwapDescribes =
-    (order : ByteOrder) (bits : SwapBits) (record_length top : ℕ) (a v : AbstractValue) (x : ℕ)
-    → swap_result order bits a ≡ Ok v → Describes record_length top a (Some x)
-    → Describes record_length top v (Some (swap_number order bits x))
+    (order : ByteOrder) (bits : SwapBits) (lengths : Lengths) (top : ℕ) (a v : AbstractValue) (x : ℕ)
+    → swap_result order bits a ≡ Ok v → Describes lengths top a (Some x)
+    → Describes lengths top v (Some (swap_number order bits x))
 
 -- two described numbers are described on the side of a branch that they take
 abbrev pub NarrowDescribes : Type 0
 NarrowDescribes =
-    (width : Width) (comparison : Comparison) (record_length top : ℕ) (a b : AbstractValue) (sides : Sides) (x y : ℕ)
+    (width : Width) (comparison : Comparison) (lengths : Lengths) (top : ℕ) (a b : AbstractValue) (sides : Sides) (x y : ℕ)
     → narrowing width comparison a b ≡ Ok sides
-    → Describes record_length top a (Some x) → Describes record_length top b (Some y)
-    → DescribesSide record_length top (side_of sides (holds width comparison x y)) x y
+    → Describes lengths top a (Some x) → Describes lengths top b (Some y)
+    → DescribesSide lengths top (side_of sides (holds width comparison x y)) x y

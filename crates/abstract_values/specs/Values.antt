@@ -10,6 +10,7 @@ use Rattle.bpf_isa.specs.declared.instruction.Extension.{Extension}
 use Rattle.bpf_isa.specs.declared.instruction.ByteOrder.{ByteOrder}
 use Rattle.bpf_isa.specs.declared.instruction.SwapBits.{SwapBits}
 use Rattle.bpf_isa.specs.Encoding.{extension_width}
+use Rattle.bpf_image.specs.declared.lengths.Lengths.{Lengths}
 use Rattle.bpf_model.specs.Arithmetic.{negate_number, move_signed_number, swap_number}
 use Rattle.bpf_model.specs.declared.cause.Cause.{Cause}
 use Rattle.bpf_model.specs.declared.cause.Cause.TheVariants.{UnsetRegister, PointerUse, OutOfRange}
@@ -67,12 +68,12 @@ IsShort z = (negsuc (2 ^ 64) ≤ℤ z) × (z ≤ℤ pos (2 ^ 64))
 
 -- a place in a record, or its end
 abbrev pub is_place : ℕ → ℤ → Bool
-is_place record_length z = int_le (pos 0) z && int_le z (pos record_length)
+is_place length z = int_le (pos 0) z && int_le z (pos length)
 
 -- a pointer into a record, which does not leave it
-abbrev pub record_pointer : ℕ → ℤ → ℤ → Result AbstractValue Cause
-record_pointer record_length lo hi =
-    if is_place record_length lo && is_place record_length hi then Ok (Record (unsigned_abs lo) (unsigned_abs hi)) else Err OutOfRange
+abbrev pub record_pointer : Lengths → ℤ → ℤ → Result AbstractValue Cause
+record_pointer lengths lo hi =
+    if is_place lengths.record_length lo && is_place lengths.record_length hi then Ok (Record (unsigned_abs lo) (unsigned_abs hi)) else Err OutOfRange
 
 -- a pointer into a stack frame, which does not leave it
 abbrev pub stack_pointer : ℤ → Result AbstractValue Cause
@@ -88,27 +89,27 @@ abbrev pub number_result : Width → Operation → Range → Range → AbstractV
 number_result w operation a b = number (computed_range w operation a b)
 
 -- a sum in 64 bits, where the left side may be a pointer
-abbrev pub sum_result : ℕ → AbstractValue → AbstractValue → Result AbstractValue Cause
-sum_result record_length (Record lo hi) (Number c d) =
-    record_pointer record_length (pos lo +ℤ least_distance (range c d)) (pos hi +ℤ greatest_distance (range c d))
-sum_result record_length (Stack offset) (Number c d) =
+abbrev pub sum_result : Lengths → AbstractValue → AbstractValue → Result AbstractValue Cause
+sum_result lengths (Record lo hi) (Number c d) =
+    record_pointer lengths (pos lo +ℤ least_distance (range c d)) (pos hi +ℤ greatest_distance (range c d))
+sum_result lengths (Stack offset) (Number c d) =
     stack_result (is_constant (range c d)) (offset +ℤ least_distance (range c d))
-sum_result record_length a b = of_numbers (number_result Bits64 operations.Add) a b
+sum_result lengths a b = of_numbers (number_result Bits64 operations.Add) a b
 
 -- a difference in 64 bits, where the left side may be a pointer
-abbrev pub difference_result : ℕ → AbstractValue → AbstractValue → Result AbstractValue Cause
-difference_result record_length (Record lo hi) (Number c d) =
-    record_pointer record_length (pos lo -ℤ greatest_distance (range c d)) (pos hi -ℤ least_distance (range c d))
-difference_result record_length (Stack offset) (Number c d) =
+abbrev pub difference_result : Lengths → AbstractValue → AbstractValue → Result AbstractValue Cause
+difference_result lengths (Record lo hi) (Number c d) =
+    record_pointer lengths (pos lo -ℤ greatest_distance (range c d)) (pos hi -ℤ least_distance (range c d))
+difference_result lengths (Stack offset) (Number c d) =
     stack_result (is_constant (range c d)) (offset -ℤ least_distance (range c d))
-difference_result record_length a b = of_numbers (number_result Bits64 operations.Subtract) a b
+difference_result lengths a b = of_numbers (number_result Bits64 operations.Subtract) a b
 
 -- what an arithmetic instruction makes of its destination and its operand, in a record of this length
-abbrev pub alu_result : Width → Operation → ℕ → AbstractValue → AbstractValue → Result AbstractValue Cause
-alu_result w operations.Move record_length a b = move_result w b
-alu_result Bits64 operations.Add record_length a b = sum_result record_length a b
-alu_result Bits64 operations.Subtract record_length a b = difference_result record_length a b
-alu_result w operation record_length a b = of_numbers (number_result w operation) a b
+abbrev pub alu_result : Width → Operation → Lengths → AbstractValue → AbstractValue → Result AbstractValue Cause
+alu_result w operations.Move lengths a b = move_result w b
+alu_result Bits64 operations.Add lengths a b = sum_result lengths a b
+alu_result Bits64 operations.Subtract lengths a b = difference_result lengths a b
+alu_result w operation lengths a b = of_numbers (number_result w operation) a b
 
 -- a function of one number is exact for a constant of the width, and else not known
 abbrev pub exact : Width → (ℕ → ℕ) → Range → AbstractValue

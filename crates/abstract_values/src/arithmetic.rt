@@ -8,6 +8,7 @@ use crate::pointer::{lower_record, lower_stack, raise_record, raise_stack};
 use crate::range::Range;
 use crate::range_rules::{all_numbers, compute_range, constant_range, input_range, is_one_number};
 use crate::value::AbstractValue;
+use bpf_image::Lengths;
 use bpf_isa::{ByteOrder, Extension, Operation, SwapBits, Width};
 use bpf_model::Cause;
 
@@ -71,17 +72,13 @@ fn copy(width: Width, value: AbstractValue) -> Result<AbstractValue, Cause>
 }
 
 /// A sum in 64 bits, where the left side may be a pointer.
-fn add(
-    record_length: u16,
-    left: AbstractValue,
-    right: AbstractValue,
-) -> Result<AbstractValue, Cause>
-    ensures { result ≡ sum_result record_length left right }
+fn add(lengths: Lengths, left: AbstractValue, right: AbstractValue) -> Result<AbstractValue, Cause>
+    ensures { result ≡ sum_result lengths left right }
 {
     if let AbstractValue::Number { lo: low, hi: high } = right {
         let range = Range { lo: low, hi: high };
         match left {
-            AbstractValue::Record { lo, hi } => return raise_record(record_length, lo, hi, range),
+            AbstractValue::Record { lo, hi } => return raise_record(lengths, lo, hi, range),
             AbstractValue::Stack { offset } => return raise_stack(offset, range),
             AbstractValue::Unset | AbstractValue::Number { .. } => {}
         }
@@ -91,16 +88,16 @@ fn add(
 
 /// A difference in 64 bits, where the left side may be a pointer.
 fn subtract(
-    record_length: u16,
+    lengths: Lengths,
     left: AbstractValue,
     right: AbstractValue,
 ) -> Result<AbstractValue, Cause>
-    ensures { result ≡ difference_result record_length left right }
+    ensures { result ≡ difference_result lengths left right }
 {
     if let AbstractValue::Number { lo: low, hi: high } = right {
         let range = Range { lo: low, hi: high };
         match left {
-            AbstractValue::Record { lo, hi } => return lower_record(record_length, lo, hi, range),
+            AbstractValue::Record { lo, hi } => return lower_record(lengths, lo, hi, range),
             AbstractValue::Stack { offset } => return lower_stack(offset, range),
             AbstractValue::Unset | AbstractValue::Number { .. } => {}
         }
@@ -113,21 +110,21 @@ fn subtract(
 pub fn alu(
     width: Width,
     operation: Operation,
-    record_length: u16,
+    lengths: Lengths,
     destination: AbstractValue,
     operand: AbstractValue,
 ) -> Result<AbstractValue, Cause>
-    ensures { result ≡ alu_result width operation record_length destination operand }
+    ensures { result ≡ alu_result width operation lengths destination operand }
 {
     match operation {
         Operation::Move => copy(width, operand),
         Operation::Add => match width {
             Width::Bits32 => compute(width, operation, destination, operand),
-            Width::Bits64 => add(record_length, destination, operand),
+            Width::Bits64 => add(lengths, destination, operand),
         },
         Operation::Subtract => match width {
             Width::Bits32 => compute(width, operation, destination, operand),
-            Width::Bits64 => subtract(record_length, destination, operand),
+            Width::Bits64 => subtract(lengths, destination, operand),
         },
         _ => compute(width, operation, destination, operand),
     }

@@ -7,6 +7,7 @@ use crate::limits::FRAME_BOTTOM;
 use crate::range::Range;
 use crate::range_rules::is_one_number;
 use crate::value::AbstractValue;
+use bpf_image::Lengths;
 use bpf_model::Cause;
 
 /// How far a number may move a pointer, at least and at most.
@@ -31,10 +32,10 @@ fn is_record_place(record_length: u16, offset: i128) -> bool
 }
 
 /// A pointer into a record, which does not leave it.
-fn point_into_record(record_length: u16, lo: i128, hi: i128) -> Result<AbstractValue, Cause>
-    ensures { result ≡ record_pointer record_length lo hi }
+fn point_into_record(lengths: Lengths, lo: i128, hi: i128) -> Result<AbstractValue, Cause>
+    ensures { result ≡ record_pointer lengths lo hi }
 {
-    if is_record_place(record_length, lo) && is_record_place(record_length, hi) {
+    if is_record_place(lengths.record_length, lo) && is_record_place(lengths.record_length, hi) {
         Ok(AbstractValue::Record {
             lo: lo as u16,
             hi: hi as u16,
@@ -59,38 +60,30 @@ fn point_into_stack(offset: i128) -> Result<AbstractValue, Cause>
 
 /// A record pointer moved up by a number.
 pub(crate) fn raise_record(
-    record_length: u16,
+    lengths: Lengths,
     lo: u16,
     hi: u16,
     range: Range,
 ) -> Result<AbstractValue, Cause>
-    ensures { result ≡ record_pointer record_length (pos lo +ℤ least_distance range)
+    ensures { result ≡ record_pointer lengths (pos lo +ℤ least_distance range)
         (pos hi +ℤ greatest_distance range) }
 {
     let (least, greatest) = distances(range);
-    point_into_record(
-        record_length,
-        i128::from(lo) + least,
-        i128::from(hi) + greatest,
-    )
+    point_into_record(lengths, i128::from(lo) + least, i128::from(hi) + greatest)
 }
 
 /// A record pointer moved down by a number.
 pub(crate) fn lower_record(
-    record_length: u16,
+    lengths: Lengths,
     lo: u16,
     hi: u16,
     range: Range,
 ) -> Result<AbstractValue, Cause>
-    ensures { result ≡ record_pointer record_length (pos lo -ℤ greatest_distance range)
+    ensures { result ≡ record_pointer lengths (pos lo -ℤ greatest_distance range)
         (pos hi -ℤ least_distance range) }
 {
     let (least, greatest) = distances(range);
-    point_into_record(
-        record_length,
-        i128::from(lo) - greatest,
-        i128::from(hi) - least,
-    )
+    point_into_record(lengths, i128::from(lo) - greatest, i128::from(hi) - least)
 }
 
 /// A stack pointer moved up by a number, which must be a constant.

@@ -1,10 +1,11 @@
 //! A program's code with its record length.
 ghost use Rattle.std.specs.Prelude.{◌≡◌, ◌≢◌, ◌≤◌, ◌↔◌, length, IfOk, IfErr, IsErrAnd, IsErrOf, IsOk};
-ghost use Rattle.bpf_image.specs.Program.{Program, IsRecordLength, IsCodeLength, IsImage};
+ghost use Rattle.bpf_image.specs.Program.{Program, lengths_of, IsRecordLength, IsCodeLength, IsImage};
 ghost use Rattle.bpf_image.specs.Format.{image_bytes, IsFault};
 
 use crate::format::{MAGIC, read_header};
 use crate::image_error::ImageError;
+use crate::lengths::Lengths;
 use crate::limits::{LEAST_RECORD_LENGTH, MOST_RECORD_LENGTH};
 use bpf_isa::MOST_UNITS;
 use std::alloc::Global;
@@ -74,6 +75,16 @@ impl Image {
         ensures image { IsImage self.now }
     {
         self.record_length
+    }
+
+    /// How many bytes each run is lent.
+    pub fn lengths(&self) -> Lengths
+        ensures exact { result ≡ lengths_of self.now }
+        ensures image { IsImage self.now }
+    {
+        Lengths {
+            record_length: self.record_length,
+        }
     }
 
     /// The code, 1 to 4,096 units of 8 bytes.

@@ -6,8 +6,10 @@ mod format;
 mod image;
 mod image_error;
 pub mod laws;
+mod lengths;
 mod limits;
 
 pub use image::Image;
 pub use image_error::ImageError;
+pub use lengths::Lengths;
 pub use limits::{LEAST_RECORD_LENGTH, MOST_RECORD_LENGTH};

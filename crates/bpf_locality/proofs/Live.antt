@@ -14,7 +14,7 @@ zero_in_no_frame (suc n) =
 
 pub some_live : SomeBytesAreLive
 some_live l s = record {
-  lent = λ a from to. let inside : in_record l a 1 ≡ true = grind (arith, nat_tests) in or_left _ _ inside;
+  lent = λ a from to. let inside : in_record l.record_length a 1 ≡ true = grind (arith, nat_tests) in or_left _ _ inside;
   current = λ a from to. let inside : in_frame (length s.callers) a 1 ≡ true = grind (arith, nat_tests) in or_right _ _ (or_left _ _ inside);
   none = zero_in_no_frame (live_frames s);
 }

@@ -3,6 +3,7 @@ use Rattle.std.proofs.Common.{◌≡◌, ◌≢◌, ℕ, zero, suc, ◌+◌, ◌
 use Rattle.std.specs.Prelude.{◌==◌}
 use Rattle.std.proofs.lemmas.Bool.{cases_Bool, cases_lt, ne_eqb, or_left, or_right}
 use Rattle.std.proofs.lemmas.Bool.Decides.{nat_tests}
+use Rattle.bpf_image.specs.declared.lengths.Lengths.{Lengths}
 use Rattle.bpf_model.specs.State.{Partial, State, with_value, with_values, number_at, joined_bytes, may_access, in_record, in_frame, in_frames, live_frames}
 use Rattle.bpf_locality.specs.Locality.{is_live}
 
@@ -16,15 +17,15 @@ byte_in_frames (suc n) a size i lt within =
     ]
 
 -- each byte of an access that is allowed is live
-pub byte_is_live : (l : ℕ) (s : State) (a size i : ℕ) → i < size → may_access l s a size ≡ true → is_live l s (a + i) ≡ true
+pub byte_is_live : (l : Lengths) (s : State) (a size i : ℕ) → i < size → may_access l s a size ≡ true → is_live l s (a + i) ≡ true
 byte_is_live l s a size i lt may =
-    elim (cases_Bool (in_record l a size)) [
-      | inl here ↦ (let inside : in_record l (a + i) 1 ≡ true = grind (arith, nat_tests) in or_left _ _ inside)
+    elim (cases_Bool (in_record l.record_length a size)) [
+      | inl here ↦ (let inside : in_record l.record_length (a + i) 1 ≡ true = grind (arith, nat_tests) in or_left _ _ inside)
       | inr other ↦ or_right _ _ (byte_in_frames (live_frames s) a size i lt (grind (arith, nat_tests)))
     ]
 
 -- a byte that is not live is beside an access that is allowed
-pub beside : (l : ℕ) (s : State) (a size x : ℕ) → may_access l s a size ≡ true → is_live l s x ≡ false → (x < a) ⊎ (a + size ≤ x)
+pub beside : (l : Lengths) (s : State) (a size x : ℕ) → may_access l s a size ≡ true → is_live l s x ≡ false → (x < a) ⊎ (a + size ≤ x)
 beside l s a size x may dead =
     elim (cases_lt x a) [
       | inl below ↦ inl below

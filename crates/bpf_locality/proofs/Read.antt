@@ -13,7 +13,8 @@ use Rattle.bpf_isa.specs.declared.decode_error.DecodeError.{DecodeError}
 use Rattle.bpf_isa.specs.Encoding.{number_of}
 use Rattle.bpf_isa.specs.Reading.{decoding}
 use Rattle.bpf_isa.specs.Sizes.{size_bytes, plain_size}
-use Rattle.bpf_image.specs.Program.{Program, units}
+use Rattle.bpf_image.specs.Program.{Program, units, lengths_of}
+use Rattle.bpf_image.specs.declared.lengths.Lengths.{Lengths}
 use Rattle.graph_model.specs.Graph.{Graph, degree}
 use Rattle.graph_model.specs.Views.{word_bytes, neighbour_words, is_edge, neighbour_at}
 use Rattle.bpf_model.specs.declared.helper.Helper.{Helper}
@@ -34,25 +35,25 @@ abbrev with_memory : State → Partial → State
 with_memory s m = record s { memory = m }
 
 -- a memory that has a state's live bytes
-abbrev Agrees : ℕ → State → Partial → Type 0
+abbrev Agrees : Lengths → State → Partial → Type 0
 Agrees l s m = (a : ℕ) → is_live l s a ≡ true → m a ≡ s.memory a
 
-reading_alike : (l : ℕ) (known : Option ℕ) (kind : TrapKind) (at : ℤ) (go other : ℕ → Next) → ((v : ℕ) → LeadAlike l (go v) (other v))
+reading_alike : (l : Lengths) (known : Option ℕ) (kind : TrapKind) (at : ℤ) (go other : ℕ → Next) → ((v : ℕ) → LeadAlike l (go v) (other v))
     → LeadAlike l (number_or_trap known kind at go) (number_or_trap known kind at other)
 reading_alike l None kind at go other alike = refl
 reading_alike l (Some v) kind at go other alike = alike v
 
-put_alike : (l : ℕ) (s : State) (m : Partial) (n : ℕ) (d : Register) (v : ℕ) → Agrees l s m → LeadAlike l (next_with_result s n d v) (next_with_result (with_memory s m) n d v)
+put_alike : (l : Lengths) (s : State) (m : Partial) (n : ℕ) (d : Register) (v : ℕ) → Agrees l s m → LeadAlike l (next_with_result s n d v) (next_with_result (with_memory s m) n d v)
 put_alike l s m n d v same =
     elim (cases_Bool (number_of d == 10)) [
       | inl frame ↦ rw frame refl
       | inr other ↦ rw other (_, refl, record { pc = refl; registers = refl; callers = refl; bytes = same })
     ]
 
-jump_alike : (l : ℕ) (s : State) (m : Partial) (z : ℤ) → Agrees l s m → LeadAlike l (jump s z) (jump (with_memory s m) z)
+jump_alike : (l : Lengths) (s : State) (m : Partial) (z : ℤ) → Agrees l s m → LeadAlike l (jump s z) (jump (with_memory s m) z)
 jump_alike l s m z same = (_, refl, record { pc = refl; registers = refl; callers = refl; bytes = same })
 
-load_alike : (l : ℕ) (s : State) (m : Partial) (a : ℕ) (size : Size) (go other : ℕ → Next) → Agrees l s m → ((v : ℕ) → LeadAlike l (go v) (other v))
+load_alike : (l : Lengths) (s : State) (m : Partial) (a : ℕ) (size : Size) (go other : ℕ → Next) → Agrees l s m → ((v : ℕ) → LeadAlike l (go v) (other v))
     → LeadAlike l (load l s a size go) (load l (with_memory s m) a size other)
 load_alike l s m a size go other same alike =
     elim (cases_Bool (may_access l s a (size_bytes size))) [
@@ -62,7 +63,7 @@ load_alike l s m a size go other same alike =
       | inr forbidden ↦ rw forbidden refl
     ]
 
-store_alike : (l : ℕ) (s : State) (m : Partial) (a : ℕ) (size : Size) (v : ℕ) → Agrees l s m → LeadAlike l (store l s a size v) (store l (with_memory s m) a size v)
+store_alike : (l : Lengths) (s : State) (m : Partial) (a : ℕ) (size : Size) (v : ℕ) → Agrees l s m → LeadAlike l (store l s a size v) (store l (with_memory s m) a size v)
 store_alike l s m a size v same =
     elim (cases_Bool (may_access l s a (size_bytes size))) [
       | inl may ↦ rw may (_, refl, record { pc = refl; registers = refl; callers = refl; bytes = λ x live. stored_same m s.memory a (low_bytes size v) x (same x live) })
@@ -70,11 +71,11 @@ store_alike l s m a size v same =
     ]
 
 -- a byte that is live behind a call was live before it, or is in the frame that was laid out
-live_before : (l : ℕ) (s : State) (distance : ℤ) (a : ℕ) → is_live l (enter s distance) a ≡ true
+live_before : (l : Lengths) (s : State) (distance : ℤ) (a : ℕ) → is_live l (enter s distance) a ≡ true
     → (nat_le (frame_top (live_frames s) - frame_bytes) a && nat_lt a (frame_top (live_frames s) - frame_bytes + frame_bytes)) ≡ false → is_live l s a ≡ true
 live_before l s distance a live outside = grind (arith, nat_tests)
 
-laid_out_alike : (l : ℕ) (s : State) (m : Partial) (distance : ℤ) (a : ℕ) → Agrees l s m → is_live l (enter s distance) a ≡ true
+laid_out_alike : (l : Lengths) (s : State) (m : Partial) (distance : ℤ) (a : ℕ) → Agrees l s m → is_live l (enter s distance) a ≡ true
     → without_values m (frame_top (live_frames s) - frame_bytes) frame_bytes a ≡ without_values s.memory (frame_top (live_frames s) - frame_bytes) frame_bytes a
 laid_out_alike l s m distance a same live =
     elim (cases_Bool (nat_le (frame_top (live_frames s) - frame_bytes) a && nat_lt a (frame_top (live_frames s) - frame_bytes + frame_bytes))) [
@@ -82,7 +83,7 @@ laid_out_alike l s m distance a same live =
       | inr outside ↦ cond-false _ _ _ outside ∙ same a (live_before l s distance a live outside) ∙ sym (cond-false _ _ _ outside)
     ]
 
-call_alike : (l : ℕ) (s : State) (m : Partial) (distance : ℤ) → Agrees l s m → LeadAlike l (call s distance) (call (with_memory s m) distance)
+call_alike : (l : Lengths) (s : State) (m : Partial) (distance : ℤ) → Agrees l s m → LeadAlike l (call s distance) (call (with_memory s m) distance)
 call_alike l s m distance same =
     elim (cases_Bool (nat_lt (live_frames s) most_frames)) [
       | inl room ↦ rw room (_, refl, record { pc = refl; registers = refl; callers = refl; bytes = λ a live. laid_out_alike l s m distance a same live })
@@ -90,14 +91,14 @@ call_alike l s m distance same =
     ]
 
 -- a byte that is live with fewer callers is live with one more
-live_with_one_more : (l : ℕ) (n a : ℕ) → (in_record l a 1 || in_frames n a 1) ≡ true → (in_record l a 1 || in_frames (suc n) a 1) ≡ true
+live_with_one_more : (l : Lengths) (n a : ℕ) → (in_record l.record_length a 1 || in_frames n a 1) ≡ true → (in_record l.record_length a 1 || in_frames (suc n) a 1) ≡ true
 live_with_one_more l n a live =
-    elim (cases_Bool (in_record l a 1)) [
+    elim (cases_Bool (in_record l.record_length a 1)) [
       | inl here ↦ or_left _ _ here
       | inr other ↦ (let below : in_frames n a 1 ≡ true = grind (arith, nat_tests) in or_right _ _ (or_right _ _ below))
     ]
 
-leave_alike : (l : ℕ) (s : State) (m : Partial) (callers : List Saved) (result : ℕ) → s.callers ≡ callers → Agrees l s m
+leave_alike : (l : Lengths) (s : State) (m : Partial) (callers : List Saved) (result : ℕ) → s.callers ≡ callers → Agrees l s m
     → LeadAlike l (leave s callers result) (leave (with_memory s m) callers result)
 leave_alike l s m [] result is same = refl
 leave_alike l s m (caller ∷ callers) result is same = (
@@ -107,11 +108,11 @@ leave_alike l s m (caller ∷ callers) result is same = (
     pc = refl;
     registers = refl;
     callers = refl;
-    bytes = λ a live. same a (subst (λ (cs : List Saved). (in_record l a 1 || in_frames (suc (length cs)) a 1) ≡ true) (sym is) (live_with_one_more l (suc (length callers)) a live));
+    bytes = λ a live. same a (subst (λ (cs : List Saved). (in_record l.record_length a 1 || in_frames (suc (length cs)) a 1) ≡ true) (sym is) (live_with_one_more l (suc (length callers)) a live));
   },
 )
 
-gather_alike : (l : ℕ) (g : Graph) (s : State) (m : Partial) (v first a room : ℕ) → Agrees l s m
+gather_alike : (l : Lengths) (g : Graph) (s : State) (m : Partial) (v first a room : ℕ) → Agrees l s m
     → LeadAlike l (gather l g s v first a room) (gather l g (with_memory s m) v first a room)
 gather_alike l g s m v first a room same =
     elim (cases_Bool (is_room room)) [
@@ -132,14 +133,14 @@ gather_alike l g s m v first a room same =
     ]
 
 -- a helper's answer goes to registers alone
-answer_alike : (l : ℕ) (s : State) (m : Partial) → Agrees l s m → (answer : ℕ) → LeadAlike l (Goes (with_answer s answer)) (Goes (with_answer (with_memory s m) answer))
+answer_alike : (l : Lengths) (s : State) (m : Partial) → Agrees l s m → (answer : ℕ) → LeadAlike l (Goes (with_answer s answer)) (Goes (with_answer (with_memory s m) answer))
 answer_alike l s m same answer = (_, refl, record { pc = refl; registers = refl; callers = refl; bytes = same })
 
-argument_alike : (l : ℕ) (s : State) (m : Partial) (r : ℕ) (go other : ℕ → Next) → ((v : ℕ) → LeadAlike l (go v) (other v))
+argument_alike : (l : Lengths) (s : State) (m : Partial) (r : ℕ) (go other : ℕ → Next) → ((v : ℕ) → LeadAlike l (go v) (other v))
     → LeadAlike l (argument s r go) (argument (with_memory s m) r other)
 argument_alike l s m r go other alike = reading_alike l (s.registers r) UnsetRegister s.pc go other alike
 
-helper_alike : (l : ℕ) (g : Graph) (h : Helper) (s : State) (m : Partial) → Agrees l s m → LeadAlike l (helper_effect l g h s) (helper_effect l g h (with_memory s m))
+helper_alike : (l : Lengths) (g : Graph) (h : Helper) (s : State) (m : Partial) → Agrees l s m → LeadAlike l (helper_effect l g h s) (helper_effect l g h (with_memory s m))
 helper_alike l g helpers.Degree s m same =
     argument_alike l s m 1 (degree_told g s) (degree_told g (with_memory s m)) (λ v. answer_alike l s m same (degree g v))
 helper_alike l g helpers.HasEdge s m same =
@@ -157,22 +158,22 @@ helper_alike l g helpers.Gather s m same =
     (λ first. argument_alike l s m 3 (gather_to l g s v first) (gather_to l g t v first)
     (λ a. argument_alike l s m 4 (gather l g s v first a) (gather l g t v first a) (λ room. gather_alike l g s m v first a room same))))
 
-helper_call_alike : (l : ℕ) (g : Graph) (h : Option Helper) (s : State) (m : Partial) → Agrees l s m → LeadAlike l (call_helper l g h s) (call_helper l g h (with_memory s m))
+helper_call_alike : (l : Lengths) (g : Graph) (h : Option Helper) (s : State) (m : Partial) → Agrees l s m → LeadAlike l (call_helper l g h s) (call_helper l g h (with_memory s m))
 helper_call_alike l g None s m same = refl
 helper_call_alike l g (Some h) s m same = helper_alike l g h s m same
 
 -- the number of a register
-register_alike : (l : ℕ) (s : State) (m : Partial) (r : Register) (go other : ℕ → Next) → ((v : ℕ) → LeadAlike l (go v) (other v))
+register_alike : (l : Lengths) (s : State) (m : Partial) (r : Register) (go other : ℕ → Next) → ((v : ℕ) → LeadAlike l (go v) (other v))
     → LeadAlike l (number_or_trap (register_of s r) UnsetRegister s.pc go) (number_or_trap (register_of (with_memory s m) r) UnsetRegister s.pc other)
 register_alike l s m r go other alike = reading_alike l (register_of s r) UnsetRegister s.pc go other alike
 
 -- the second number of an operation
-second_alike : (l : ℕ) (s : State) (m : Partial) (y : Operand) (kind : TrapKind) (go other : ℕ → Next) → ((v : ℕ) → LeadAlike l (go v) (other v))
+second_alike : (l : Lengths) (s : State) (m : Partial) (y : Operand) (kind : TrapKind) (go other : ℕ → Next) → ((v : ℕ) → LeadAlike l (go v) (other v))
     → LeadAlike l (number_or_trap (operand_of s y) kind s.pc go) (number_or_trap (operand_of (with_memory s m) y) kind s.pc other)
 second_alike l s m (Immediate n) kind go other alike = alike _
 second_alike l s m (Source r) kind go other alike = reading_alike l _ kind s.pc go other alike
 
-effect_alike : (l : ℕ) (g : Graph) (i : Instruction) (s : State) (m : Partial) → Agrees l s m → LeadAlike l (effect l g i s) (effect l g i (with_memory s m))
+effect_alike : (l : Lengths) (g : Graph) (i : Instruction) (s : State) (m : Partial) → Agrees l s m → LeadAlike l (effect l g i s) (effect l g i (with_memory s m))
 effect_alike l g (instructions.Alu w o d y) s m same = reading_alike l _ _ _ _ _ (λ x. second_alike l s m y _ _ _ (λ z. put_alike l s m 1 d _ same))
 effect_alike l g (instructions.MoveSigned e d r) s m same = reading_alike l _ _ _ _ _ (λ x. put_alike l s m 1 d _ same)
 effect_alike l g (instructions.Negate w d) s m same = reading_alike l _ _ _ _ _ (λ x. put_alike l s m 1 d _ same)
@@ -206,16 +207,16 @@ effect_alike l g (instructions.StoreRegister size b z r) s m same =
     (λ x. register_alike l s m r (store l s (address_at x z) size) (store l t (address_at x z) size) (λ v. store_alike l s m (address_at x z) size v same))
 effect_alike l g (instructions.Wide d v) s m same = put_alike l s m 2 d v same
 
-found_alike : (l : ℕ) (g : Graph) (found : Result (Instruction × ℕ) DecodeError) (s : State) (m : Partial) → Agrees l s m
+found_alike : (l : Lengths) (g : Graph) (found : Result (Instruction × ℕ) DecodeError) (s : State) (m : Partial) → Agrees l s m
     → LeadAlike l (effect_of_reading l g found s) (effect_of_reading l g found (with_memory s m))
 found_alike l g (Ok found) s m same = effect_alike l g found.0 s m same
 found_alike l g (Err e) s m same = refl
 
-at_alike : (p : Program) (g : Graph) (at : ℤ) (s : State) (m : Partial) → Agrees p.record_length s m
-    → LeadAlike p.record_length (step_at p g at s) (step_at p g at (with_memory s m))
+at_alike : (p : Program) (g : Graph) (at : ℤ) (s : State) (m : Partial) → Agrees (lengths_of p) s m
+    → LeadAlike (lengths_of p) (step_at p g at s) (step_at p g at (with_memory s m))
 at_alike p g (pos pc) s m same =
     elim (cases_Bool (nat_lt pc (units p))) [
-      | inl inside ↦ rw inside (found_alike p.record_length g (decoding p.code pc) s m same)
+      | inl inside ↦ rw inside (found_alike (lengths_of p) g (decoding p.code pc) s m same)
       | inr outside ↦ rw outside refl
     ]
 at_alike p g (negsuc n) s m same = refl
@@ -227,7 +228,7 @@ rebuilt s t pc registers callers =
     (subst (λ (rs : Partial). record { pc = s.pc; registers = rs; memory = t.memory; callers = t.callers } ≡ t) registers
     (subst (λ (at : ℤ). record { pc = at; registers = t.registers; memory = t.memory; callers = t.callers } ≡ t) pc refl))
 
-pub step_reads : (p : Program) (g : Graph) (s t : State) → AreAlike p.record_length s t → LeadAlike p.record_length (step p g s) (step p g t)
+pub step_reads : (p : Program) (g : Graph) (s t : State) → AreAlike (lengths_of p) s t → LeadAlike (lengths_of p) (step p g s) (step p g t)
 step_reads p g s t alike =
-    subst (λ (u : State). LeadAlike p.record_length (step p g s) (step p g u)) (rebuilt s t alike.pc alike.registers alike.callers)
+    subst (λ (u : State). LeadAlike (lengths_of p) (step p g s) (step p g u)) (rebuilt s t alike.pc alike.registers alike.callers)
     (at_alike p g s.pc s t.memory alike.bytes)

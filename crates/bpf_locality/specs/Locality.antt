@@ -1,39 +1,40 @@
 -- What a step touches. A byte is live where it is in the record or in a live frame.
 use Rattle.std.specs.Prelude.{◌≡◌, ℕ, Bool, true, false}
-use Rattle.bpf_image.specs.Program.{Program}
+use Rattle.bpf_image.specs.Program.{Program, lengths_of}
+use Rattle.bpf_image.specs.declared.lengths.Lengths.{Lengths}
 use Rattle.graph_model.specs.Graph.{Graph}
 use Rattle.bpf_model.specs.State.{State, may_access}
 use Rattle.bpf_model.specs.Step.{Next, Goes, Exits, Traps, step}
 
 -- whether the byte at an address is live
-abbrev pub is_live : ℕ → State → ℕ → Bool
-is_live record_length s a = may_access record_length s a 1
+abbrev pub is_live : Lengths → State → ℕ → Bool
+is_live lengths s a = may_access lengths s a 1
 
 -- what comes of a state has each byte of it that is live neither there nor here
-abbrev pub WritesLive : ℕ → State → Next → Type 0
-WritesLive record_length s (Goes t) =
-    (a : ℕ) → is_live record_length s a ≡ false → is_live record_length t a ≡ false → t.memory a ≡ s.memory a
-WritesLive record_length s (Exits value) = Unit {0}
-WritesLive record_length s (Traps kind pc) = Unit {0}
+abbrev pub WritesLive : Lengths → State → Next → Type 0
+WritesLive lengths s (Goes t) =
+    (a : ℕ) → is_live lengths s a ≡ false → is_live lengths t a ≡ false → t.memory a ≡ s.memory a
+WritesLive lengths s (Exits value) = Unit {0}
+WritesLive lengths s (Traps kind pc) = Unit {0}
 
 -- two states that differ in no register, caller or live byte
-pub record AreAlike (record_length : ℕ) (s t : State) : Type 0 where
+pub record AreAlike (lengths : Lengths) (s t : State) : Type 0 where
   pub pc : t.pc ≡ s.pc
   pub registers : t.registers ≡ s.registers
   pub callers : t.callers ≡ s.callers
-  pub bytes : (a : ℕ) → is_live record_length s a ≡ true → t.memory a ≡ s.memory a
+  pub bytes : (a : ℕ) → is_live lengths s a ≡ true → t.memory a ≡ s.memory a
 
 -- the same end, or states that are alike
-abbrev pub LeadAlike : ℕ → Next → Next → Type 0
-LeadAlike record_length (Goes s) next = (t : State) × (next ≡ Goes t) × AreAlike record_length s t
-LeadAlike record_length (Exits value) next = next ≡ Exits value
-LeadAlike record_length (Traps kind pc) next = next ≡ Traps kind pc
+abbrev pub LeadAlike : Lengths → Next → Next → Type 0
+LeadAlike lengths (Goes s) next = (t : State) × (next ≡ Goes t) × AreAlike lengths s t
+LeadAlike lengths (Exits value) next = next ≡ Exits value
+LeadAlike lengths (Traps kind pc) next = next ≡ Traps kind pc
 
 -- no step writes a byte that is not live
 abbrev pub WritesLiveBytes : Type 0
-WritesLiveBytes = (p : Program) (g : Graph) (s : State) → WritesLive p.record_length s (step p g s)
+WritesLiveBytes = (p : Program) (g : Graph) (s : State) → WritesLive (lengths_of p) s (step p g s)
 
 -- no step depends on a byte that is not live
 abbrev pub ReadsLiveBytes : Type 0
 ReadsLiveBytes =
-    (p : Program) (g : Graph) (s t : State) → AreAlike p.record_length s t → LeadAlike p.record_length (step p g s) (step p g t)
+    (p : Program) (g : Graph) (s t : State) → AreAlike (lengths_of p) s t → LeadAlike (lengths_of p) (step p g s) (step p g t)

@@ -3,6 +3,7 @@ ghost use Rattle.std.specs.Prelude.{◌≡◌, ℕ, ◌≤ℤ◌, pos, List};
 ghost use Rattle.bpf_isa.specs.Encoding.{number_of};
 ghost use Rattle.bpf_isa.specs.declared.instruction.Instruction.TheVariants.{Alu, MoveSigned, Negate, Swap};
 ghost use Rattle.bpf_isa.specs.declared.limits.TheConstants.{MOST_UNITS};
+ghost use Rattle.bpf_image.specs.declared.lengths.Lengths.{Lengths};
 ghost use Rattle.graph_model.specs.Graph.{Graph};
 ghost use Rattle.bpf_model.specs.Step.{left_of, effect};
 ghost use Rattle.bpf_machine.specs.Seen.{values_of, state_of, answer};
@@ -32,8 +33,8 @@ pub(crate) fn operate(
     operand: Operand,
 ) -> Turn
     requires { machine.old.pc ≤ℤ pos MOST_UNITS }
-    ensures { (record_length : ℕ) (g : Graph) (bytes : List ℕ)
-        → effect record_length g
+    ensures { (lengths : Lengths) (g : Graph) (bytes : List ℕ)
+        → effect lengths g
         (Alu width operation destination operand)
         (state_of machine.old bytes)
         ≡ answer result (state_of machine.new bytes) }
@@ -56,8 +57,8 @@ pub(crate) fn move_signed(
     source: Register,
 ) -> Turn
     requires { machine.old.pc ≤ℤ pos MOST_UNITS }
-    ensures { (record_length : ℕ) (g : Graph) (bytes : List ℕ)
-        → effect record_length g
+    ensures { (lengths : Lengths) (g : Graph) (bytes : List ℕ)
+        → effect lengths g
         (MoveSigned extension destination source)
         (state_of machine.old bytes)
         ≡ answer result (state_of machine.new bytes) }
@@ -71,8 +72,8 @@ pub(crate) fn move_signed(
 /// A negation (RFC 9669, section 4.1).
 pub(crate) fn negate_register(machine: &mut Machine, width: Width, destination: Register) -> Turn
     requires { machine.old.pc ≤ℤ pos MOST_UNITS }
-    ensures { (record_length : ℕ) (g : Graph) (bytes : List ℕ)
-        → effect record_length g (Negate width destination) (state_of machine.old bytes)
+    ensures { (lengths : Lengths) (g : Graph) (bytes : List ℕ)
+        → effect lengths g (Negate width destination) (state_of machine.old bytes)
         ≡ answer result (state_of machine.new bytes) }
 {
     match machine.register(destination) {
@@ -89,8 +90,8 @@ pub(crate) fn swap_register(
     destination: Register,
 ) -> Turn
     requires { machine.old.pc ≤ℤ pos MOST_UNITS }
-    ensures { (record_length : ℕ) (g : Graph) (bytes : List ℕ)
-        → effect record_length g (Swap order bits destination) (state_of machine.old bytes)
+    ensures { (lengths : Lengths) (g : Graph) (bytes : List ℕ)
+        → effect lengths g (Swap order bits destination) (state_of machine.old bytes)
         ≡ answer result (state_of machine.new bytes) }
 {
     match machine.register(destination) {

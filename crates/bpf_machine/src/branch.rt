@@ -2,6 +2,7 @@
 ghost use Rattle.std.specs.Prelude.{◌≡◌, ℕ, ◌≤ℤ◌, pos, List};
 ghost use Rattle.bpf_isa.specs.declared.instruction.Instruction.TheVariants.{Jump, Branch};
 ghost use Rattle.bpf_isa.specs.declared.limits.TheConstants.{MOST_UNITS};
+ghost use Rattle.bpf_image.specs.declared.lengths.Lengths.{Lengths};
 ghost use Rattle.graph_model.specs.Graph.{Graph};
 ghost use Rattle.bpf_model.specs.Step.{effect};
 ghost use Rattle.bpf_machine.specs.Seen.{state_of, answer};
@@ -16,8 +17,8 @@ use bpf_model::TrapKind;
 pub(crate) fn jump_over(machine: &mut Machine, distance: Distance) -> Turn
     requires from { pos 0 ≤ℤ machine.old.pc }
     requires limit { machine.old.pc ≤ℤ pos MOST_UNITS }
-    ensures { (record_length : ℕ) (g : Graph) (bytes : List ℕ)
-        → effect record_length g (Jump distance) (state_of machine.old bytes)
+    ensures { (lengths : Lengths) (g : Graph) (bytes : List ℕ)
+        → effect lengths g (Jump distance) (state_of machine.old bytes)
         ≡ answer result (state_of machine.new bytes) }
 {
     match distance {
@@ -37,8 +38,8 @@ pub(crate) fn branch(
 ) -> Turn
     requires from { pos 0 ≤ℤ machine.old.pc }
     requires limit { machine.old.pc ≤ℤ pos MOST_UNITS }
-    ensures { (record_length : ℕ) (g : Graph) (bytes : List ℕ)
-        → effect record_length g
+    ensures { (lengths : Lengths) (g : Graph) (bytes : List ℕ)
+        → effect lengths g
         (Branch width comparison left right distance)
         (state_of machine.old bytes)
         ≡ answer result (state_of machine.new bytes) }

@@ -2,6 +2,7 @@
 ghost use Rattle.std.specs.Prelude.{◌≡◌, ℕ, ◌<◌, ◌≤ℤ◌, pos, List};
 ghost use Rattle.bpf_isa.specs.declared.instruction.Instruction.TheVariants.{CallLocal, Exit};
 ghost use Rattle.bpf_isa.specs.declared.limits.TheConstants.{MOST_UNITS};
+ghost use Rattle.bpf_image.specs.declared.lengths.Lengths.{Lengths};
 ghost use Rattle.graph_model.specs.Graph.{Graph};
 ghost use Rattle.bpf_model.specs.State.{with_value, only};
 ghost use Rattle.bpf_model.specs.Calls.{saved_state};
@@ -71,8 +72,8 @@ fn kept_of(machine: &Machine) -> Kept
 pub(crate) fn call(machine: &mut Machine, distance: i32) -> Turn
     requires from { pos 0 ≤ℤ machine.old.pc }
     requires limit { machine.old.pc ≤ℤ pos MOST_UNITS }
-    ensures { (record_length : ℕ) (g : Graph) (bytes : List ℕ)
-        → effect record_length g (CallLocal distance) (state_of machine.old bytes)
+    ensures { (lengths : Lengths) (g : Graph) (bytes : List ℕ)
+        → effect lengths g (CallLocal distance) (state_of machine.old bytes)
         ≡ answer result (state_of machine.new bytes) }
 {
     if machine.callers.count >= MOST_CALLERS {
@@ -88,8 +89,8 @@ pub(crate) fn call(machine: &mut Machine, distance: i32) -> Turn
 
 /// The exit of a function, which ends the run where no caller waits.
 pub(crate) fn exit(machine: &mut Machine) -> Turn
-    ensures { (record_length : ℕ) (g : Graph) (bytes : List ℕ)
-        → effect record_length g Exit (state_of machine.old bytes)
+    ensures { (lengths : Lengths) (g : Graph) (bytes : List ℕ)
+        → effect lengths g Exit (state_of machine.old bytes)
         ≡ answer result (state_of machine.new bytes) }
 {
     let Some(value) = machine.register(Register::R0) else {

@@ -2,6 +2,7 @@
 ghost use Rattle.std.specs.Prelude.{◌≡◌, ◌≤◌, ◌≤ℤ◌, pos, length};
 ghost use Rattle.bpf_isa.specs.declared.limits.TheConstants.{MOST_UNITS};
 ghost use Rattle.bpf_image.specs.declared.limits.TheConstants.{MOST_RECORD_LENGTH};
+ghost use Rattle.bpf_image.specs.Program.{record_alone};
 ghost use Rattle.bpf_model.specs.Step.{effect};
 ghost use Rattle.bpf_machine.specs.Seen.{state_of, answer, Keeps};
 
@@ -26,7 +27,8 @@ pub(crate) fn perform<G: GraphView>(
     requires from { pos 0 ≤ℤ machine.old.pc }
     requires limit { machine.old.pc ≤ℤ pos MOST_UNITS }
     requires record { length bytes.old ≤ MOST_RECORD_LENGTH }
-    ensures step { effect (length bytes.old) (G.graph graph.now) instruction (state_of machine.old bytes.old)
+    ensures step { effect (record_alone (length bytes.old)) (G.graph graph.now) instruction
+        (state_of machine.old bytes.old)
         ≡ answer result (state_of machine.new bytes.new) }
     ensures kept { Keeps result bytes.old bytes.new }
 {

@@ -4,6 +4,8 @@ ghost use Rattle.bpf_isa.specs.declared.instruction.Instruction.TheVariants.{Cal
 ghost use Rattle.bpf_isa.specs.declared.limits.TheConstants.{MOST_UNITS};
 ghost use Rattle.bpf_image.specs.declared.limits.TheConstants.{MOST_RECORD_LENGTH};
 ghost use Rattle.graph_model.specs.Views.{neighbour_words, neighbours_among, word_bytes};
+ghost use Rattle.bpf_image.specs.Program.{record_alone};
+ghost use Rattle.bpf_image.specs.declared.lengths.Lengths.{Lengths};
 ghost use Rattle.bpf_model.specs.State.{with_value, without_values};
 ghost use Rattle.bpf_model.specs.Helpers.{is_room, with_answer, helper_effect, write_neighbours};
 ghost use Rattle.bpf_model.specs.Step.{Goes, effect};
@@ -53,8 +55,8 @@ fn go_on_with(machine: &mut Machine, value: u64) -> Turn
 /// How many neighbours a vertex has.
 fn degree<G: GraphView>(machine: &mut Machine, graph: &G) -> Turn
     requires { machine.old.pc ≤ℤ pos MOST_UNITS }
-    ensures { (record_length : ℕ) (bytes : List ℕ)
-        → helper_effect record_length (G.graph graph.now) Helper.Degree (state_of machine.old bytes)
+    ensures { (lengths : Lengths) (bytes : List ℕ)
+        → helper_effect lengths (G.graph graph.now) Helper.Degree (state_of machine.old bytes)
         ≡ answer result (state_of machine.new bytes) }
 {
     let Some(vertex) = machine.register(Register::R1) else {
@@ -66,8 +68,8 @@ fn degree<G: GraphView>(machine: &mut Machine, graph: &G) -> Turn
 /// Whether there is an edge between two vertices.
 fn has_edge<G: GraphView>(machine: &mut Machine, graph: &G) -> Turn
     requires { machine.old.pc ≤ℤ pos MOST_UNITS }
-    ensures { (record_length : ℕ) (bytes : List ℕ)
-        → helper_effect record_length (G.graph graph.now) Helper.HasEdge (state_of machine.old bytes)
+    ensures { (lengths : Lengths) (bytes : List ℕ)
+        → helper_effect lengths (G.graph graph.now) Helper.HasEdge (state_of machine.old bytes)
         ≡ answer result (state_of machine.new bytes) }
 {
     let Some(source) = machine.register(Register::R1) else {
@@ -82,8 +84,8 @@ fn has_edge<G: GraphView>(machine: &mut Machine, graph: &G) -> Turn
 /// The neighbour of a vertex at a place.
 fn neighbour<G: GraphView>(machine: &mut Machine, graph: &G) -> Turn
     requires { machine.old.pc ≤ℤ pos MOST_UNITS }
-    ensures { (record_length : ℕ) (bytes : List ℕ)
-        → helper_effect record_length (G.graph graph.now) Helper.Neighbour (state_of machine.old bytes)
+    ensures { (lengths : Lengths) (bytes : List ℕ)
+        → helper_effect lengths (G.graph graph.now) Helper.Neighbour (state_of machine.old bytes)
         ≡ answer result (state_of machine.new bytes) }
 {
     let Some(vertex) = machine.register(Register::R1) else {
@@ -137,7 +139,8 @@ fn write<G: GraphView>(
     requires pc { machine.old.pc ≤ℤ pos MOST_UNITS }
     requires record { length bytes.old ≤ MOST_RECORD_LENGTH }
     requires room { IsTrue (is_room request.now.room) }
-    ensures step { write_neighbours (length bytes.old) (G.graph graph.now) (state_of machine.old bytes.old)
+    ensures step { write_neighbours (record_alone (length bytes.old)) (G.graph graph.now)
+        (state_of machine.old bytes.old)
         request.now.vertex request.now.first request.now.address request.now.room
         ≡ answer result (state_of machine.new bytes.new) }
     ensures kept { Keeps result bytes.old bytes.new }
@@ -156,7 +159,8 @@ fn write<G: GraphView>(
 fn gather<G: GraphView>(machine: &mut Machine, bytes: &mut [u8], graph: &G) -> Turn
     requires pc { machine.old.pc ≤ℤ pos MOST_UNITS }
     requires record { length bytes.old ≤ MOST_RECORD_LENGTH }
-    ensures step { helper_effect (length bytes.old) (G.graph graph.now) Helper.Gather (state_of machine.old bytes.old)
+    ensures step { helper_effect (record_alone (length bytes.old)) (G.graph graph.now) Helper.Gather
+        (state_of machine.old bytes.old)
         ≡ answer result (state_of machine.new bytes.new) }
     ensures kept { Keeps result bytes.old bytes.new }
 {
@@ -193,7 +197,8 @@ pub(crate) fn call_helper<G: GraphView>(
 ) -> Turn
     requires pc { machine.old.pc ≤ℤ pos MOST_UNITS }
     requires record { length bytes.old ≤ MOST_RECORD_LENGTH }
-    ensures step { effect (length bytes.old) (G.graph graph.now) (CallHelper number) (state_of machine.old bytes.old)
+    ensures step { effect (record_alone (length bytes.old)) (G.graph graph.now) (CallHelper number)
+        (state_of machine.old bytes.old)
         ≡ answer result (state_of machine.new bytes.new) }
     ensures kept { Keeps result bytes.old bytes.new }
 {

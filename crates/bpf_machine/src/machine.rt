@@ -9,6 +9,7 @@ ghost use Rattle.bpf_machine.specs.Seen.{values_of};
 use crate::callers::Callers;
 use crate::stack::{Stack, top_of};
 use crate::turn::Turn;
+use bpf_image::Lengths;
 use bpf_isa::{Operand, Register};
 use bpf_model::{RECORD_BASE, TrapKind};
 
@@ -26,12 +27,12 @@ pub struct Machine {
 }
 
 /// The registers as a run begins on a record of so many bytes.
-fn first_registers(record_length: u16) -> [Option<u64>; 11]
-    ensures { values_of result ≡ start_registers record_length }
+fn first_registers(lengths: Lengths) -> [Option<u64>; 11]
+    ensures { values_of result ≡ start_registers lengths }
 {
     let mut registers = [None; 11];
     registers[1] = Some(RECORD_BASE);
-    registers[2] = Some(u64::from(record_length));
+    registers[2] = Some(u64::from(lengths.record_length));
     registers[10] = Some(top_of(0));
     registers
 }
@@ -42,12 +43,12 @@ impl Machine {
     ghost use Rattle.bpf_machine.specs.Seen.{state_of, answer};
 
     /// The machine as a run begins on a record of so many bytes.
-    pub(crate) fn new(record_length: u16) -> Machine
-        requires { record_length ≤ MOST_RECORD_LENGTH }
+    pub(crate) fn new(lengths: Lengths) -> Machine
+        requires { lengths.record_length ≤ MOST_RECORD_LENGTH }
         ensures pc { result.pc ≡ pos 0 }
-        ensures start { (bytes : List ℕ) → length bytes ≡ record_length → start bytes ≡ state_of result bytes }
+        ensures start { (bytes : List ℕ) → length bytes ≡ lengths.record_length → start bytes ≡ state_of result bytes }
     {
-        let registers = first_registers(record_length);
+        let registers = first_registers(lengths);
         let stack = Stack::new();
         let callers = Callers::new();
         Machine {

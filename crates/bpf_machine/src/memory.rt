@@ -1,6 +1,7 @@
 //! Which region an address lies in.
 ghost use Rattle.std.specs.Prelude.{◌≡◌, ◌+◌, ◌^◌, ◌<◌, ◌≤◌, nat_le, ◌&&◌, true, length};
 ghost use Rattle.bpf_image.specs.declared.limits.TheConstants.{MOST_RECORD_LENGTH};
+ghost use Rattle.bpf_image.specs.Program.{record_alone};
 ghost use Rattle.bpf_model.specs.State.{may_access, in_frames, live_frames, number_at};
 ghost use Rattle.bpf_machine.specs.Seen.{state_of};
 
@@ -32,7 +33,8 @@ fn is_in_frame(machine: &Machine, bytes: &[u8], address: u64, size: u64) -> bool
 pub(crate) fn is_allowed(machine: &Machine, bytes: &[u8], address: u64, size: u64) -> bool
     requires some { 1 ≤ size }
     requires record { length bytes.now ≤ MOST_RECORD_LENGTH }
-    ensures exact { result ≡ may_access (length bytes.now) (state_of machine.now bytes.now) address size }
+    ensures exact { result
+        ≡ may_access (record_alone (length bytes.now)) (state_of machine.now bytes.now) address size }
     ensures room { result ≡ true → address + size < 2 ^ 64 }
 {
     let in_record = lies_within(RECORD_BASE, bytes.len() as u64, address, size);

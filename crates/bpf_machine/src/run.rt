@@ -56,7 +56,7 @@ pub fn run_checked<G: GraphView>(image: &Image, bytes: &mut [u8], graph: &G, fue
     requires { length bytes.old ≡ image.now.record_length }
     ensures { IsOutcome image.now (G.graph graph.now) bytes.old fuel result bytes.new }
 {
-    let mut machine = Machine::new(image.record_length());
+    let mut machine = Machine::new(image.lengths());
     for steps in 0..fuel {
         match take_turn(&mut machine, bytes, image, graph) {
             Turn::Went => {}

@@ -2,6 +2,7 @@
 ghost use Rattle.std.specs.Prelude.{◌≡◌, ◌+◌, ◌≤◌, ◌<◌, ◌≤ℤ◌, ◌||◌, true, false, pos, length};
 ghost use Rattle.bpf_isa.specs.declared.limits.TheConstants.{MOST_UNITS};
 ghost use Rattle.bpf_image.specs.declared.limits.TheConstants.{MOST_RECORD_LENGTH};
+ghost use Rattle.bpf_image.specs.Program.{record_alone};
 ghost use Rattle.bpf_model.specs.State.{Partial, with_value, with_values, record_base, in_record, in_frames, most_frames};
 ghost use Rattle.bpf_model.specs.Step.{store};
 ghost use Rattle.bpf_machine.specs.Cells.{cells_of};
@@ -79,7 +80,7 @@ pub(crate) fn store_to(
 ) -> Turn
     requires pc { machine.old.pc ≤ℤ pos MOST_UNITS }
     requires record { length bytes.old ≤ MOST_RECORD_LENGTH }
-    ensures step { store (length bytes.old) (state_of machine.old bytes.old) address size value
+    ensures step { store (record_alone (length bytes.old)) (state_of machine.old bytes.old) address size value
         ≡ answer result (state_of machine.new bytes.new) }
     ensures kept { Keeps result bytes.old bytes.new }
 {

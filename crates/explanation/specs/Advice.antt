@@ -8,6 +8,7 @@ use Rattle.bpf_isa.specs.declared.instruction.Operand.{Operand}
 use Rattle.bpf_isa.specs.declared.instruction.Operand.TheVariants.{Immediate, Source}
 use Rattle.bpf_isa.specs.declared.instruction.Instruction.{Instruction}
 use Rattle.bpf_isa.specs.declared.instruction.Instruction.TheVariants.{Alu, Branch, Exit, Load, LoadSigned, Store, StoreRegister}
+use Rattle.bpf_image.specs.Program.{record_alone}
 use Rattle.bpf_model.specs.declared.cause.Cause.{Cause}
 use Rattle.bpf_model.specs.declared.cause.Cause.TheVariants as causes
 use Rattle.abstract_values.specs.declared.value.AbstractValue.{AbstractValue}
@@ -95,5 +96,5 @@ advice_at causes.OutOfMemory i s = MoreMemory
 -- where no instruction stands, or nothing is known before it, an exit and the entry serve: no rule of values asks then
 abbrev pub advice_for : Cause → Option Instruction → Option AbstractState → Advice
 advice_for cause (Some i) (Some s) = advice_at cause i s
-advice_for cause (Some i) None = advice_at cause i (entry_state 16)
-advice_for cause None known = advice_at cause Exit (entry_state 16)
+advice_for cause (Some i) None = advice_at cause i (entry_state (record_alone 16))
+advice_for cause None known = advice_at cause Exit (entry_state (record_alone 16))

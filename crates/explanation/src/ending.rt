@@ -31,7 +31,7 @@ use crate::source::SourceLine;
 use crate::values::{put, put_field, put_frame, put_register_line};
 use crate::words::{words_of_advice, words_of_cause};
 use abstract_state::AbstractState;
-use bpf_image::Image;
+use bpf_image::{Image, Lengths};
 use bpf_isa::{Instruction, Operand, Operation, Register};
 use bpf_model::{Cause, Helper};
 use std::alloc::AllocError;
@@ -193,10 +193,11 @@ fn put_broken(
 fn advice(cause: Cause, instruction: Option<Instruction>, state: Option<&AbstractState>) -> Advice
     ensures { result ≡ advice_for cause instruction (option_map (λ s. s.now) state.entry) }
 {
+    let lengths = Lengths { record_length: 16 };
     match (instruction, state) {
         (Some(instruction), Some(state)) => advice_at(cause, instruction, state),
-        (Some(instruction), None) => advice_at(cause, instruction, &AbstractState::entry(16)),
-        (None, _) => advice_at(cause, Instruction::Exit, &AbstractState::entry(16)),
+        (Some(instruction), None) => advice_at(cause, instruction, &AbstractState::entry(lengths)),
+        (None, _) => advice_at(cause, Instruction::Exit, &AbstractState::entry(lengths)),
     }
 }
 

@@ -8,12 +8,14 @@ use crate::rules::{met, stepped};
 use crate::running::ran;
 use crate::verdicts::{explained, verified};
 use anyhow::{Result, bail};
+use bpf_image::Lengths;
 use std::alloc::Global;
 
 /// What comes of a row of a block.
 pub(crate) fn answer(alloc: Global, block: &Block<'_>, input: &str) -> Result<String> {
     let number = block.number;
     let record_length = u16::try_from(number).unwrap_or(0);
+    let lengths = Lengths { record_length };
     match block.kind {
         "decode" => decoded(alloc, number, input),
         "assemble" => assembled(alloc, input),
@@ -24,8 +26,8 @@ pub(crate) fn answer(alloc: Global, block: &Block<'_>, input: &str) -> Result<St
         "run" => ran(alloc, number, input),
         "verify" => verified(alloc, record_length, input),
         "explain" => explained(alloc, record_length, input),
-        "step" => stepped(alloc, record_length, input),
-        "meet" => met(alloc, record_length, input),
+        "step" => stepped(alloc, lengths, input),
+        "meet" => met(alloc, lengths, input),
         "numbers" => numbers_of(alloc, input),
         kind => bail!("{kind} is no kind of rows"),
     }

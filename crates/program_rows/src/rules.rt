@@ -4,6 +4,7 @@ use crate::values::{value_of, value_text};
 use abstract_state::{AbstractState, join_into};
 use abstract_values::{AbstractValue, Sides};
 use anyhow::Result;
+use bpf_image::Lengths;
 use bpf_isa::{Register, decode_at};
 use std::alloc::{AllocError, Global};
 use verifier::{Cause, Onward, step_over};
@@ -21,11 +22,11 @@ fn set_registers(state: &mut AbstractState, list: &str) {
 }
 
 /// Goes over instructions, each as if the one before went on with it, up to the first that breaks a rule.
-fn over_code(record_length: u16, code: &[u8], state: &mut AbstractState) -> Result<Onward, Cause> {
+fn over_code(lengths: Lengths, code: &[u8], state: &mut AbstractState) -> Result<Onward, Cause> {
     let mut onward = Onward::Next;
     for pc in 0..code.len() / 8 {
         if let Ok((instruction, _)) = decode_at(code, pc) {
-            onward = step_over(record_length, instruction, state)?;
+            onward = step_over(lengths, instruction, state)?;
         }
     }
     Ok(onward)
@@ -67,33 +68,33 @@ fn onward_text(alloc: Global, onward: Onward, state: &AbstractState) -> Result<S
 /// Sets the registers that stand behind a semicolon, and goes over the program before it.
 fn go_on(
     alloc: Global,
-    record_length: u16,
+    lengths: Lengths,
     state: &mut AbstractState,
     input: &str,
 ) -> Result<String> {
     let (program, list) = input.split_once("; ").unwrap_or((input, ""));
     set_registers(state, list);
     let code = code_of(alloc, program)?;
-    match over_code(record_length, &code, state) {
+    match over_code(lengths, &code, state) {
         Ok(onward) => Ok(onward_text(alloc, onward, state)?),
         Err(cause) => Ok(format!(in alloc; "cause {} {cause:?}", cause as u8)?),
     }
 }
 
 /// What comes of instructions where that is known which the entry of a program knows, and what stands behind them.
-pub(crate) fn stepped(alloc: Global, record_length: u16, input: &str) -> Result<String> {
-    let mut state = AbstractState::entry(record_length);
-    go_on(alloc, record_length, &mut state, input)
+pub(crate) fn stepped(alloc: Global, lengths: Lengths, input: &str) -> Result<String> {
+    let mut state = AbstractState::entry(lengths);
+    go_on(alloc, lengths, &mut state, input)
 }
 
 /// What comes of the instructions of the last line, where two ways meet that have those of the lines before.
-pub(crate) fn met(alloc: Global, record_length: u16, input: &str) -> Result<String> {
+pub(crate) fn met(alloc: Global, lengths: Lengths, input: &str) -> Result<String> {
     let (ways, last) = input.split_once("\n=").unwrap_or((input, ""));
     let (one, other) = ways.split_once("\n+").unwrap_or((ways, ""));
-    let mut state = AbstractState::entry(record_length);
+    let mut state = AbstractState::entry(lengths);
     let mut beside = state;
-    go_on(alloc, record_length, &mut state, one)?;
-    go_on(alloc, record_length, &mut beside, other)?;
+    go_on(alloc, lengths, &mut state, one)?;
+    go_on(alloc, lengths, &mut beside, other)?;
     join_into(&mut state, &beside);
-    go_on(alloc, record_length, &mut state, last)
+    go_on(alloc, lengths, &mut state, last)
 }

@@ -14,6 +14,7 @@ use Rattle.bpf_model.specs.State.{State, record_base, with_values, frame_top, fr
 use Rattle.bpf_model.specs.Step.{Goes, load_extension, low_bytes, load, store, next_with_result}
 use Rattle.bpf_isa.specs.Sizes.{size_bytes, plain_size}
 use Rattle.bpf_image.specs.declared.limits.TheConstants.{MOST_RECORD_LENGTH}
+use Rattle.bpf_image.specs.declared.lengths.Lengths.{Lengths}
 use Rattle.bpf_model.proofs.ArithmeticFacts.{extended_fits}
 use Rattle.bpf_model.specs.declared.cause.Cause.{Cause}
 use Rattle.abstract_values.specs.declared.value.AbstractValue.{AbstractValue}
@@ -32,29 +33,29 @@ use Rattle.verifier.proofs.Stored.{stored_number}
 use Rattle.verifier.proofs.RegisterWrites.{put_follows}
 
 -- an access in the record or in the current frame
-pub allowed : (l : ℕ) (s : State) (a size : ℕ) → IsAllowed l (top s) a size → may_access l s a size ≡ true
+pub allowed : (l : Lengths) (s : State) (a size : ℕ) → IsAllowed l (top s) a size → may_access l s a size ≡ true
 allowed l s a size (inl within) = or_left _ _ within
 allowed l s a size (inr inside) =
     let here : in_frame (length s.callers) a size ≡ true = and_from _ _ (le-leb _ _ inside.0) (le-leb _ _ inside.1) in
     or_right _ _ (or_left _ _ here)
 
 -- it lies beside the callers' frames
-pub apart_below : (l n a size k i : ℕ) → l ≤ MOST_RECORD_LENGTH → IsAllowed l (frame_top n) a size → k < n → i < frame_bytes → (frame_top k - frame_bytes + i < a) ⊎ (a + size ≤ frame_top k - frame_bytes + i)
+pub apart_below : (l : Lengths) (n a size k i : ℕ) → l.record_length ≤ MOST_RECORD_LENGTH → IsAllowed l (frame_top n) a size → k < n → i < frame_bytes → (frame_top k - frame_bytes + i < a) ⊎ (a + size ≤ frame_top k - frame_bytes + i)
 apart_below l n a size k i short (inl within) low lt =
-    let both = and_parts (nat_le record_base a) (nat_le (a + size) (record_base + l)) within in
-    let ends : a + size ≤ record_base + l = leb-true (a + size) (record_base + l) both.1 in
+    let both = and_parts (nat_le record_base a) (nat_le (a + size) (record_base + l.record_length)) within in
+    let ends : a + size ≤ record_base + l.record_length = leb-true (a + size) (record_base + l.record_length) both.1 in
     inr (omega (arith, ends, short))
 apart_below l n a size k i short (inr inside) low lt = inl (omega (arith, inside.0, low, lt))
 
 -- a plain load
-pub load_follows : (l pc : ℕ) (i : Instruction) (b : AbstractValue) (z : ℤ) (a : AbstractState) (s : State) (d : Register) (size : Size) (x : ℕ) (ws : Ways) → l ≤ MOST_RECORD_LENGTH → FitsSigned w16 z → s.pc ≡ pos pc → DescribesState l a s → Describes l (top s) b (Some x) → write_ways (pc + 1) a d (load_result l a b z (size_bytes size)) ≡ ok ws → Follows l i a s ws (load l s (address_at x z) size (next_with_result s 1 d))
+pub load_follows : (l : Lengths) (pc : ℕ) (i : Instruction) (b : AbstractValue) (z : ℤ) (a : AbstractState) (s : State) (d : Register) (size : Size) (x : ℕ) (ws : Ways) → l.record_length ≤ MOST_RECORD_LENGTH → FitsSigned w16 z → s.pc ≡ pos pc → DescribesState l a s → Describes l (top s) b (Some x) → write_ways (pc + 1) a d (load_result l a b z (size_bytes size)) ≡ ok ws → Follows l i a s ws (load l s (address_at x z) size (next_with_result s 1 d))
 load_follows l pc i b z a s d size x ws short fits at described base h =
     let w = writes_from (pc + 1) a d (load_result l a b z (size_bytes size)) ws h in
     let n = load_describes l (top s) a s.registers s.memory b w.value z size x (omega (arith, short)) (omega arith) (top_below l a s described) fits w.from described.parts base in
     let may = allowed l s (address_at x z) (size_bytes size) n.1 in
     rw (may, n.2) (put_follows l pc 1 i a s d (ok w.value) n.0 ws at described (subst (λ r. write_ways (pc + 1) a d r ≡ ok ws) w.from h) (λ v e. let same : w.value ≡ v = cc in subst (λ u. Describes l (top s) u (Some n.0)) same n.3))
 
-any_number : (l t n : ℕ) → n < 2 ^ 64 → Describes l t (Number 0 (2 ^ 64 - 1)) (Some n)
+any_number : (l : Lengths) (t n : ℕ) → n < 2 ^ 64 → Describes l t (Number 0 (2 ^ 64 - 1)) (Some n)
 any_number l t n lt = (n, refl, omega arith, omega (arith, lt), lt)
 
 -- what a sign-extending load leaves has 64 bits
@@ -68,7 +69,7 @@ any_from : (r : Result AbstractValue Cause) (v : AbstractValue) → any_number_w
 any_from (Ok u) v h = (u, refl, cc)
 any_from (Err cause) v h = absurd cc
 
-pub load_extended_follows : (l pc : ℕ) (i : Instruction) (b : AbstractValue) (z : ℤ) (a : AbstractState) (s : State) (d : Register) (size : SignedSize) (x : ℕ) (ws : Ways) → l ≤ MOST_RECORD_LENGTH → FitsSigned w16 z → s.pc ≡ pos pc → DescribesState l a s → Describes l (top s) b (Some x) → write_ways (pc + 1) a d (load_signed_result l a b z size) ≡ ok ws → Follows l i a s ws (load l s (address_at x z) (plain_size size) (λ n. next_with_result s 1 d (move_signed_number (load_extension size) n)))
+pub load_extended_follows : (l : Lengths) (pc : ℕ) (i : Instruction) (b : AbstractValue) (z : ℤ) (a : AbstractState) (s : State) (d : Register) (size : SignedSize) (x : ℕ) (ws : Ways) → l.record_length ≤ MOST_RECORD_LENGTH → FitsSigned w16 z → s.pc ≡ pos pc → DescribesState l a s → Describes l (top s) b (Some x) → write_ways (pc + 1) a d (load_signed_result l a b z size) ≡ ok ws → Follows l i a s ws (load l s (address_at x z) (plain_size size) (λ n. next_with_result s 1 d (move_signed_number (load_extension size) n)))
 load_extended_follows l pc i b z a s d size x ws short fits at described base h =
     let w = writes_from (pc + 1) a d (load_signed_result l a b z size) ws h in
     let u = any_from (load_result l a b z (size_bytes (plain_size size))) w.value w.from in
@@ -78,7 +79,7 @@ load_extended_follows l pc i b z a s d size x ws short fits at described base h 
     rw (may, n.2) (put_follows l pc 1 i a s d (ok w.value) m ws at described (subst (λ r. write_ways (pc + 1) a d r ≡ ok ws) w.from h) (λ v e. let same : Number 0 (2 ^ 64 - 1) ≡ v = (let f : w.value ≡ v = cc in u.2 ∙ f) in subst (λ t. Describes l (top s) t (Some m)) same (any_number l (top s) m (extended_64 size n.0))))
 
 -- a store
-pub store_follows : (l pc : ℕ) (i : Instruction) (b v : AbstractValue) (z : ℤ) (a : AbstractState) (s : State) (size : Size) (x n : ℕ) (ws : Ways) → l ≤ MOST_RECORD_LENGTH → FitsSigned w16 z → n < 2 ^ 64 → s.pc ≡ pos pc → DescribesState l a s → Describes l (top s) b (Some x) → Describes l (top s) v (Some n) → behind_store (pc + 1) (store_result l a b z (size_bytes size) v) ≡ ok ws → Follows l i a s ws (store l s (address_at x z) size n)
+pub store_follows : (l : Lengths) (pc : ℕ) (i : Instruction) (b v : AbstractValue) (z : ℤ) (a : AbstractState) (s : State) (size : Size) (x n : ℕ) (ws : Ways) → l.record_length ≤ MOST_RECORD_LENGTH → FitsSigned w16 z → n < 2 ^ 64 → s.pc ≡ pos pc → DescribesState l a s → Describes l (top s) b (Some x) → Describes l (top s) v (Some n) → behind_store (pc + 1) (store_result l a b z (size_bytes size) v) ≡ ok ws → Follows l i a s ws (store l s (address_at x z) size n)
 store_follows l pc i b v z a s size x n ws short fits lt at described base value h =
     let parts = bind_ok (store_result l a b z (size_bytes size) v) (λ t. ok (onward (pc + 1) t)) ws h in
     let t = parts.0 in

@@ -5,6 +5,7 @@ use Rattle.std.proofs.lemmas.Bool.{lt-leb, lt-ltb, le-leb}
 use Rattle.std.proofs.lemmas.Int.{ints}
 use Rattle.bpf_isa.specs.declared.instruction.Instruction.TheVariants.{CallLocal, Exit}
 use Rattle.bpf_image.specs.declared.limits.TheConstants.{MOST_RECORD_LENGTH}
+use Rattle.bpf_image.specs.declared.lengths.Lengths.{Lengths}
 use Rattle.bpf_model.specs.declared.trap.TrapKind.TheVariants.{UnsetResult}
 use Rattle.bpf_model.specs.State.{Partial, Saved, State, without_values, record_base, frame_top, frame_bytes, live_frames, most_frames}
 use Rattle.bpf_model.specs.Calls.{saved_state, enter, return_to}
@@ -34,7 +35,7 @@ before_cleared m from count a lt =
     rw below refl
 
 -- a frame whose bytes are as before stays described
-pub frame_kept : (l t : ℕ) (bytes_set : List Bool) (slots : List AbstractValue) (before after : Partial) → ((i : ℕ) → i < frame_bytes → after (t - frame_bytes + i) ≡ before (t - frame_bytes + i)) → DescribesFrame l t bytes_set slots before → DescribesFrame l t bytes_set slots after
+pub frame_kept : (l : Lengths) (t : ℕ) (bytes_set : List Bool) (slots : List AbstractValue) (before after : Partial) → ((i : ℕ) → i < frame_bytes → after (t - frame_bytes + i) ≡ before (t - frame_bytes + i)) → DescribesFrame l t bytes_set slots before → DescribesFrame l t bytes_set slots after
 frame_kept l t bytes_set slots before after same d = record {
   stack_set = λ k lt h. (let b = d.stack_set k lt h in (b.0, same k lt ∙ b.1, b.2));
   spilled = λ j lt. subst (λ x. Describes l t (get_or slots j Unset) x)
@@ -43,7 +44,7 @@ frame_kept l t bytes_set slots before after same d = record {
 }
 
 -- of a new frame nothing is known
-pub new_frame : (l t : ℕ) (memory : Partial) → DescribesFrame l t (replicate frame_bytes false) (replicate frame_slots Unset) memory
+pub new_frame : (l : Lengths) (t : ℕ) (memory : Partial) → DescribesFrame l t (replicate frame_bytes false) (replicate frame_slots Unset) memory
 new_frame l t memory = record {
   stack_set = λ k lt set. absurd (let none : false ≡ true = sym (same_everywhere frame_bytes k false) ∙ set in cc);
   spilled = λ j lt. (rw (same_everywhere frame_slots j Unset) tt);
@@ -51,13 +52,13 @@ new_frame l t memory = record {
 
 -- ---- a function begins
 
-passed_described : (l t u : ℕ) (v : AbstractValue) (x : Option ℕ) → Describes l t v x → Describes l u (argument_value v) x
+passed_described : (l : Lengths) (t u : ℕ) (v : AbstractValue) (x : Option ℕ) → Describes l t v x → Describes l u (argument_value v) x
 passed_described l t u Unset x d = tt
 passed_described l t u (Number lo hi) x d = d
 passed_described l t u (Record lo hi) x d = d
 passed_described l t u (Stack offset) x d = tt
 
-entered_values : (l : ℕ) (a : AbstractState) (s : State) (z : ℤ) → DescribesState l a s → (r : ℕ) → Describes l (frame_top (live_frames s)) (get_or (callee_state a).registers r Unset) ((enter s z).registers r)
+entered_values : (l : Lengths) (a : AbstractState) (s : State) (z : ℤ) → DescribesState l a s → (r : ℕ) → Describes l (frame_top (live_frames s)) (get_or (callee_state a).registers r Unset) ((enter s z).registers r)
 entered_values l a s z d zero = tt
 entered_values l a s z d (suc zero) = passed_described l (top s) (frame_top (live_frames s)) (known_of a 1) (s.registers 1) (d.parts.values 1)
 entered_values l a s z d (suc (suc zero)) = passed_described l (top s) (frame_top (live_frames s)) (known_of a 2) (s.registers 2) (d.parts.values 2)
@@ -71,7 +72,7 @@ entered_values l a s z d (suc (suc (suc (suc (suc (suc (suc (suc (suc zero))))))
 entered_values l a s z d (suc (suc (suc (suc (suc (suc (suc (suc (suc (suc zero)))))))))) = (frame_top (live_frames s), refl, omega (arith, ints), omega (arith, ints), omega (arith, ints))
 entered_values l a s z d (suc (suc (suc (suc (suc (suc (suc (suc (suc (suc (suc r))))))))))) = tt
 
-pub entered_described : (l : ℕ) (a : AbstractState) (s : State) (z : ℤ) → l ≤ MOST_RECORD_LENGTH → live_frames s < most_frames → DescribesState l a s → DescribesState l (callee_state a) (enter s z)
+pub entered_described : (l : Lengths) (a : AbstractState) (s : State) (z : ℤ) → l.record_length ≤ MOST_RECORD_LENGTH → live_frames s < most_frames → DescribesState l a s → DescribesState l (callee_state a) (enter s z)
 entered_described l a s z short few d = record {
   parts = record {
     values = entered_values l a s z d;
@@ -88,14 +89,14 @@ enter_keeps s z k i low lt =
     before_cleared s.memory (frame_top (live_frames s) - frame_bytes) frame_bytes (frame_top k - frame_bytes + i) (omega (arith, low, lt))
 
 -- and the state that calls waits as it was known
-caller_described : (l : ℕ) (a : AbstractState) (s : State) (z : ℤ) → DescribesState l a s → DescribesCaller l (top s) a (saved_state s).registers (enter s z).memory
+caller_described : (l : Lengths) (a : AbstractState) (s : State) (z : ℤ) → DescribesState l a s → DescribesCaller l (top s) a (saved_state s).registers (enter s z).memory
 caller_described l a s z d = record {
   kept = λ r low high. (let first : leb 6 r ≡ true = le-leb _ _ low in let last : leb r 9 ≡ true = le-leb _ _ high in rw (first, last) (d.parts.values r));
   frame_register = subst (λ x. Describes l (top s) (known_of a 10) x) d.frame_register (d.parts.values 10);
   frame = frame_kept l (top s) a.bytes_set a.slots s.memory (enter s z).memory (λ i lt. enter_keeps s z (length s.callers) i (omega arith) lt) d.parts.frame;
 }
 
-pub call_follows : (l pc : ℕ) (z : ℤ) (a : AbstractState) (s : State) (ws : Ways) → l ≤ MOST_RECORD_LENGTH → s.pc ≡ pos pc → DescribesState l a s → MayCall (CallLocal z) s → call_ways pc z a ≡ ws → Follows l (CallLocal z) a s ws (call s z)
+pub call_follows : (l : Lengths) (pc : ℕ) (z : ℤ) (a : AbstractState) (s : State) (ws : Ways) → l.record_length ≤ MOST_RECORD_LENGTH → s.pc ≡ pos pc → DescribesState l a s → MayCall (CallLocal z) s → call_ways pc z a ≡ ws → Follows l (CallLocal z) a s ws (call s z)
 call_follows l pc z a s ws short at d may ways =
     let few : live_frames s < most_frames = may z refl in
     let room : ltb (live_frames s) most_frames ≡ true = lt-ltb _ _ few in
@@ -105,7 +106,7 @@ call_follows l pc z a s ws short at d may ways =
 
 -- ---- a function returns
 
-returned_values : (l : ℕ) (b : AbstractState) (s : State) (caller : Saved) (callers : List Saved) (v : ℕ) → v < 2 ^ 64 → DescribesCaller l (top_above callers) b caller.registers s.memory → (r : ℕ) → Describes l (top_above callers) (get_or (state_behind_call b).registers r Unset) ((return_to s caller callers v).registers r)
+returned_values : (l : Lengths) (b : AbstractState) (s : State) (caller : Saved) (callers : List Saved) (v : ℕ) → v < 2 ^ 64 → DescribesCaller l (top_above callers) b caller.registers s.memory → (r : ℕ) → Describes l (top_above callers) (get_or (state_behind_call b).registers r Unset) ((return_to s caller callers v).registers r)
 returned_values l b s caller callers v lt d zero = (v, refl, omega arith, omega (arith, lt), lt)
 returned_values l b s caller callers v lt d (suc zero) = tt
 returned_values l b s caller callers v lt d (suc (suc zero)) = tt
@@ -119,7 +120,7 @@ returned_values l b s caller callers v lt d (suc (suc (suc (suc (suc (suc (suc (
 returned_values l b s caller callers v lt d (suc (suc (suc (suc (suc (suc (suc (suc (suc (suc zero)))))))))) = d.frame_register
 returned_values l b s caller callers v lt d (suc (suc (suc (suc (suc (suc (suc (suc (suc (suc (suc r))))))))))) = tt
 
-leave_follows : (l : ℕ) (a : AbstractState) (s : State) (ws : Ways) (callers : List Saved) (v : ℕ) → DescribesState l a s → s.callers ≡ callers → v < 2 ^ 64 → Follows l Exit a s ws (leave s callers v)
+leave_follows : (l : Lengths) (a : AbstractState) (s : State) (ws : Ways) (callers : List Saved) (v : ℕ) → DescribesState l a s → s.callers ≡ callers → v < 2 ^ 64 → Follows l Exit a s ws (leave s callers v)
 leave_follows l a s ws [] v d same lt = exits v refl same
 leave_follows l a s ws (caller ∷ callers) v d same lt =
     let deeper : length s.callers ≡ suc (length callers) = ap length same in
@@ -130,10 +131,10 @@ leave_follows l a s ws (caller ∷ callers) v d same lt =
       few_callers = few;
     })
 
-number_leaves : (l : ℕ) (a : AbstractState) (s : State) (ws : Ways) (v : AbstractValue) (x : Option ℕ) (n : ℕ) → x ≡ Some n → n < 2 ^ 64 → DescribesState l a s → Follows l Exit a s ws (number_or_trap x UnsetResult s.pc (leave s s.callers))
+number_leaves : (l : Lengths) (a : AbstractState) (s : State) (ws : Ways) (v : AbstractValue) (x : Option ℕ) (n : ℕ) → x ≡ Some n → n < 2 ^ 64 → DescribesState l a s → Follows l Exit a s ws (number_or_trap x UnsetResult s.pc (leave s s.callers))
 number_leaves l a s ws v x n is lt d = rw is (leave_follows l a s ws s.callers n d refl lt)
 
-pub exit_follows : (l : ℕ) (a : AbstractState) (s : State) (ws : Ways) (v : AbstractValue) (x : Option ℕ) → DescribesState l a s → Describes l (top s) v x → exit_ways v ≡ ok ws → Follows l Exit a s ws (number_or_trap x UnsetResult s.pc (leave s s.callers))
+pub exit_follows : (l : Lengths) (a : AbstractState) (s : State) (ws : Ways) (v : AbstractValue) (x : Option ℕ) → DescribesState l a s → Describes l (top s) v x → exit_ways v ≡ ok ws → Follows l Exit a s ws (number_or_trap x UnsetResult s.pc (leave s s.callers))
 exit_follows l a s ws Unset x d q h = absurd cc
 exit_follows l a s ws (Number lo hi) x d q h = number_leaves l a s ws (Number lo hi) x q.0 q.1 q.4 d
 exit_follows l a s ws (Record lo hi) x d q h = absurd cc

@@ -5,6 +5,7 @@ use Rattle.std.proofs.lemmas.Bool.{cases_Bool, and_parts, eqb-true, leb-true}
 use Rattle.bpf_isa.specs.declared.register.Register.TheVariants.{R1, R2, R3, R4}
 use Rattle.bpf_isa.specs.declared.instruction.Instruction.{Instruction}
 use Rattle.bpf_image.specs.declared.limits.TheConstants.{MOST_RECORD_LENGTH}
+use Rattle.bpf_image.specs.declared.lengths.Lengths.{Lengths}
 use Rattle.graph_model.specs.Graph.{Graph, degree}
 use Rattle.graph_model.specs.Views.{is_edge, neighbour_at, neighbour_words, neighbours_among, word_bytes}
 use Rattle.bpf_model.specs.declared.cause.Cause.{Cause}
@@ -34,7 +35,7 @@ use Rattle.verifier.proofs.HelperAnswers.{degree_most, flag_most, neighbour_most
 
 -- ---- behind every helper
 
-answered_values : (l t : ℕ) (b : AbstractState) (registers : Partial) (most answer : ℕ) → answer ≤ most → most < 2 ^ 64 → ((r : ℕ) → Describes l t (get_or b.registers r Unset) (registers r)) → (r : ℕ) → Describes l t (get_or (state_behind_helper b (Number 0 most)).registers r Unset) (with_value (without_values registers 1 5) 0 answer r)
+answered_values : (l : Lengths) (t : ℕ) (b : AbstractState) (registers : Partial) (most answer : ℕ) → answer ≤ most → most < 2 ^ 64 → ((r : ℕ) → Describes l t (get_or b.registers r Unset) (registers r)) → (r : ℕ) → Describes l t (get_or (state_behind_helper b (Number 0 most)).registers r Unset) (with_value (without_values registers 1 5) 0 answer r)
 answered_values l t b registers most answer le lt all zero = (answer, refl, omega arith, le, omega (arith, le, lt))
 answered_values l t b registers most answer le lt all (suc zero) = tt
 answered_values l t b registers most answer le lt all (suc (suc zero)) = tt
@@ -49,7 +50,7 @@ answered_values l t b registers most answer le lt all (suc (suc (suc (suc (suc (
 answered_values l t b registers most answer le lt all (suc (suc (suc (suc (suc (suc (suc (suc (suc (suc (suc r))))))))))) = tt
 
 -- the run goes on, with this memory
-answer_follows : (l pc : ℕ) (i : Instruction) (a b : AbstractState) (s : State) (memory : Partial) (most answer : ℕ) (ws : Ways) → s.pc ≡ pos pc → DescribesState l a s → DescribesParts l (top s) b s.registers memory → KeepsFrames (length s.callers) s.memory memory → answer ≤ most → most < 2 ^ 64 → ok (way_with_answer pc b most) ≡ ok ws → Follows l i a s ws (Goes (with_answer (record s { memory = memory }) answer))
+answer_follows : (l : Lengths) (pc : ℕ) (i : Instruction) (a b : AbstractState) (s : State) (memory : Partial) (most answer : ℕ) (ws : Ways) → s.pc ≡ pos pc → DescribesState l a s → DescribesParts l (top s) b s.registers memory → KeepsFrames (length s.callers) s.memory memory → answer ≤ most → most < 2 ^ 64 → ok (way_with_answer pc b most) ≡ ok ws → Follows l i a s ws (Goes (with_answer (record s { memory = memory }) answer))
 answer_follows l pc i a b s memory most answer ws at described parts keeps le lt h =
     let ways : way_with_answer pc b most ≡ ws = cc in
     let moved : s.pc +ℤ pos 1 ≡ pos (pc + 1) = ap (λ z. z +ℤ pos 1) at in
@@ -62,7 +63,7 @@ answer_follows l pc i a b s memory most answer ws at described parts keeps le lt
     subst (λ u. Follows l i a s u (Goes after)) ways (stays (pos (pc + 1), state_behind_helper b (Number 0 most)) (inl refl) moved known refl keeps)
 
 -- and memory is as it was
-plain_follows : (l pc : ℕ) (i : Instruction) (a : AbstractState) (s : State) (most answer : ℕ) (ws : Ways) → s.pc ≡ pos pc → DescribesState l a s → answer ≤ most → most < 2 ^ 64 → ok (way_with_answer pc a most) ≡ ok ws → Follows l i a s ws (Goes (with_answer s answer))
+plain_follows : (l : Lengths) (pc : ℕ) (i : Instruction) (a : AbstractState) (s : State) (most answer : ℕ) (ws : Ways) → s.pc ≡ pos pc → DescribesState l a s → answer ≤ most → most < 2 ^ 64 → ok (way_with_answer pc a most) ≡ ok ws → Follows l i a s ws (Goes (with_answer s answer))
 plain_follows l pc i a s most answer ws at described le lt h =
     answer_follows l pc i a a s s.memory most answer ws at described described.parts (λ k j low below. refl) le lt h
 
@@ -71,13 +72,13 @@ of_kind : {A : Type 0} (test : Bool) (r : Result A Cause) (y : A) → cond test 
 of_kind true r y h = h
 of_kind false r y h = absurd cc
 
-one_follows : (l pc : ℕ) (i : Instruction) (a : AbstractState) (s : State) (most : ℕ) (answer : ℕ → ℕ) (ws : Ways) → s.pc ≡ pos pc → DescribesState l a s → ((n : ℕ) → answer n ≤ most) → most < 2 ^ 64 → one_number_call pc a most ≡ ok ws → Follows l i a s ws (argument s 1 (λ n. Goes (with_answer s (answer n))))
+one_follows : (l : Lengths) (pc : ℕ) (i : Instruction) (a : AbstractState) (s : State) (most : ℕ) (answer : ℕ → ℕ) (ws : Ways) → s.pc ≡ pos pc → DescribesState l a s → ((n : ℕ) → answer n ≤ most) → most < 2 ^ 64 → one_number_call pc a most ≡ ok ws → Follows l i a s ws (argument s 1 (λ n. Goes (with_answer s (answer n))))
 one_follows l pc i a s most answer ws at described le lt h =
     let u = bind_ok (known_register a R1) (λ u. cond (is_number u) (ok (way_with_answer pc a most)) (failed HelperArgument)) ws h in
     let x = register_read l a s R1 u.0 described u.1 in
     rw x.there (plain_follows l pc i a s most (answer x.number) ws at described (le x.number) lt (of_kind (is_number u.0) (ok (way_with_answer pc a most)) ws u.2))
 
-two_follows : (l pc : ℕ) (i : Instruction) (a : AbstractState) (s : State) (most : ℕ) (answer : ℕ → ℕ → ℕ) (ws : Ways) → s.pc ≡ pos pc → DescribesState l a s → ((m n : ℕ) → answer m n ≤ most) → most < 2 ^ 64 → two_number_call pc a most ≡ ok ws → Follows l i a s ws (argument s 1 (λ m. argument s 2 (λ n. Goes (with_answer s (answer m n)))))
+two_follows : (l : Lengths) (pc : ℕ) (i : Instruction) (a : AbstractState) (s : State) (most : ℕ) (answer : ℕ → ℕ → ℕ) (ws : Ways) → s.pc ≡ pos pc → DescribesState l a s → ((m n : ℕ) → answer m n ≤ most) → most < 2 ^ 64 → two_number_call pc a most ≡ ok ws → Follows l i a s ws (argument s 1 (λ m. argument s 2 (λ n. Goes (with_answer s (answer m n)))))
 two_follows l pc i a s most answer ws at described le lt h =
     let u = bind_ok (known_register a R1) (λ u. bind (known_register a R2) (λ v. cond (is_number u && is_number v) (ok (way_with_answer pc a most)) (failed HelperArgument))) ws h in
     let v = bind_ok (known_register a R2) (λ v. cond (is_number u.0 && is_number v) (ok (way_with_answer pc a most)) (failed HelperArgument)) ws u.2 in
@@ -92,7 +93,7 @@ record RoomIs (x room : ℕ) : Type 0 where
   same : x ≡ room
   allowed : is_room room ≡ true
 
-room_is : (l t x room : ℕ) (v : AbstractValue) → known_room v ≡ Some room → Describes l t v (Some x) → RoomIs x room
+room_is : (l : Lengths) (t x room : ℕ) (v : AbstractValue) → known_room v ≡ Some room → Describes l t v (Some x) → RoomIs x room
 room_is l t x room Unset h d = absurd cc
 room_is l t x room (Number lo hi) h d =
     elim (cases_Bool (eqb lo hi && is_room lo)) [
@@ -120,7 +121,7 @@ room_parts room h =
     let whole = eqb-true (room % 4) 0 parts.0 in
     record { some = omega (arith, leb-true 4 room ends.0); few = leb-true room MOST_GATHER_BYTES ends.1; words = omega (arith, whole) }
 
-gathers : (l pc : ℕ) (i : Instruction) (g : Graph) (a : AbstractState) (s : State) (pointer : AbstractValue) (room v first p : ℕ) (ws : Ways) → l ≤ MOST_RECORD_LENGTH → s.pc ≡ pos pc → DescribesState l a s → Describes l (top s) pointer (Some p) → is_room room ≡ true → gather_ways l pc a pointer (Some room) ≡ ok ws → Follows l i a s ws (gather l g s v first p room)
+gathers : (l : Lengths) (pc : ℕ) (i : Instruction) (g : Graph) (a : AbstractState) (s : State) (pointer : AbstractValue) (room v first p : ℕ) (ws : Ways) → l.record_length ≤ MOST_RECORD_LENGTH → s.pc ≡ pos pc → DescribesState l a s → Describes l (top s) pointer (Some p) → is_room room ≡ true → gather_ways l pc a pointer (Some room) ≡ ok ws → Follows l i a s ws (gather l g s v first p room)
 gathers l pc i g a s pointer room v first p ws short at described base is h =
     let parts = bind_ok (gather_result l a pointer room) (λ t. ok (way_with_answer pc t (room / 4))) ws h in
     let of_room = room_parts room is in
@@ -135,14 +136,14 @@ gathers l pc i g a s pointer room v first p ws short at described base is h =
     rw (is, may) (answer_follows l pc i a parts.0 s memory (room / 4) (neighbours_among g v first (room / 4)) ws at described left.1 keeps (among_most g v first (room / 4)) few parts.2)
 
 -- gather with the room that is known
-room_follows : (l pc : ℕ) (i : Instruction) (g : Graph) (a : AbstractState) (s : State) (pointer value : AbstractValue) (room : Option ℕ) (v first p x : ℕ) (ws : Ways) → l ≤ MOST_RECORD_LENGTH → s.pc ≡ pos pc → DescribesState l a s → Describes l (top s) pointer (Some p) → Describes l (top s) value (Some x) → known_room value ≡ room → gather_ways l pc a pointer room ≡ ok ws → Follows l i a s ws (gather l g s v first p x)
+room_follows : (l : Lengths) (pc : ℕ) (i : Instruction) (g : Graph) (a : AbstractState) (s : State) (pointer value : AbstractValue) (room : Option ℕ) (v first p x : ℕ) (ws : Ways) → l.record_length ≤ MOST_RECORD_LENGTH → s.pc ≡ pos pc → DescribesState l a s → Describes l (top s) pointer (Some p) → Describes l (top s) value (Some x) → known_room value ≡ room → gather_ways l pc a pointer room ≡ ok ws → Follows l i a s ws (gather l g s v first p x)
 room_follows l pc i g a s pointer value None v first p x ws short at described base lent known h = absurd cc
 room_follows l pc i g a s pointer value (Some room) v first p x ws short at described base lent known h =
     let is = room_is l (top s) x room value known lent in
     subst (λ n. Follows l i a s ws (gather l g s v first p n)) (sym is.same) (gathers l pc i g a s pointer room v first p ws short at described base is.allowed h)
 
 -- gather's arguments
-record Asks (l pc : ℕ) (a : AbstractState) (ws : Ways) : Type 0 where
+record Asks (l : Lengths) (pc : ℕ) (a : AbstractState) (ws : Ways) : Type 0 where
   vertex : AbstractValue
   first : AbstractValue
   pointer : AbstractValue
@@ -153,7 +154,7 @@ record Asks (l pc : ℕ) (a : AbstractState) (ws : Ways) : Type 0 where
   room_known : known_register a R4 ≡ ok room
   ways : gather_ways l pc a pointer (known_room room) ≡ ok ws
 
-asks : (l pc : ℕ) (a : AbstractState) (ws : Ways) → gather_call l pc a ≡ ok ws → Asks l pc a ws
+asks : (l : Lengths) (pc : ℕ) (a : AbstractState) (ws : Ways) → gather_call l pc a ≡ ok ws → Asks l pc a ws
 asks l pc a ws h =
     let u = bind_ok (known_register a R1) (λ u. bind (known_register a R2) (λ v. bind (known_register a R3) (λ w. bind (known_register a R4) (λ room. cond (is_number u && is_number v) (gather_ways l pc a w (known_room room)) (failed HelperArgument))))) ws h in
     let v = bind_ok (known_register a R2) (λ v. bind (known_register a R3) (λ w. bind (known_register a R4) (λ room. cond (is_number u.0 && is_number v) (gather_ways l pc a w (known_room room)) (failed HelperArgument)))) ws u.2 in
@@ -171,7 +172,7 @@ asks l pc a ws h =
       ways = of_kind (is_number u.0 && is_number v.0) (gather_ways l pc a w.0 (known_room room.0)) ws room.2;
     }
 
-gather_follows : (l pc : ℕ) (i : Instruction) (g : Graph) (a : AbstractState) (s : State) (ws : Ways) → l ≤ MOST_RECORD_LENGTH → s.pc ≡ pos pc → DescribesState l a s → gather_call l pc a ≡ ok ws → Follows l i a s ws (helper_effect l g Gather s)
+gather_follows : (l : Lengths) (pc : ℕ) (i : Instruction) (g : Graph) (a : AbstractState) (s : State) (ws : Ways) → l.record_length ≤ MOST_RECORD_LENGTH → s.pc ≡ pos pc → DescribesState l a s → gather_call l pc a ≡ ok ws → Follows l i a s ws (helper_effect l g Gather s)
 gather_follows l pc i g a s ws short at described h =
     let asked = asks l pc a ws h in
     let x = register_read l a s R1 asked.vertex described asked.vertex_known in
@@ -182,7 +183,7 @@ gather_follows l pc i g a s ws short at described h =
 
 -- ---- any helper
 
-helper_follows : (l pc : ℕ) (i : Instruction) (g : Graph) (helper : Helper) (a : AbstractState) (s : State) (ws : Ways) → IsView g → l ≤ MOST_RECORD_LENGTH → s.pc ≡ pos pc → DescribesState l a s → helper_ways l pc helper a ≡ ok ws → Follows l i a s ws (helper_effect l g helper s)
+helper_follows : (l : Lengths) (pc : ℕ) (i : Instruction) (g : Graph) (helper : Helper) (a : AbstractState) (s : State) (ws : Ways) → IsView g → l.record_length ≤ MOST_RECORD_LENGTH → s.pc ≡ pos pc → DescribesState l a s → helper_ways l pc helper a ≡ ok ws → Follows l i a s ws (helper_effect l g helper s)
 helper_follows l pc i g Degree a s ws few short at described h =
     one_follows l pc i a s (2 ^ 32 - 1) (λ v. degree g v) ws at described (λ v. degree_most g v few) (omega arith) h
 helper_follows l pc i g HasEdge a s ws few short at described h =
@@ -193,7 +194,7 @@ helper_follows l pc i g VertexCount a s ws few short at described h =
     plain_follows l pc i a s (2 ^ 32 - 1) g.vertex_count ws at described (omega (arith, few)) (omega arith) h
 helper_follows l pc i g Gather a s ws few short at described h = gather_follows l pc i g a s ws short at described h
 
-pub helper_call_follows : (l pc : ℕ) (i : Instruction) (g : Graph) (helper : Option Helper) (a : AbstractState) (s : State) (ws : Ways) → IsView g → l ≤ MOST_RECORD_LENGTH → s.pc ≡ pos pc → DescribesState l a s → helper_call_ways l pc helper a ≡ ok ws → Follows l i a s ws (call_helper l g helper s)
+pub helper_call_follows : (l : Lengths) (pc : ℕ) (i : Instruction) (g : Graph) (helper : Option Helper) (a : AbstractState) (s : State) (ws : Ways) → IsView g → l.record_length ≤ MOST_RECORD_LENGTH → s.pc ≡ pos pc → DescribesState l a s → helper_call_ways l pc helper a ≡ ok ws → Follows l i a s ws (call_helper l g helper s)
 helper_call_follows l pc i g None a s ws few short at described h = absurd cc
 helper_call_follows l pc i g (Some helper) a s ws few short at described h = helper_follows l pc i g helper a s ws few short at described h
 
@@ -213,13 +214,13 @@ two_way pc a most ws h =
     let v = bind_ok (known_register a R2) (λ v. cond (is_number u.0 && is_number v) (ok (way_with_answer pc a most)) (failed HelperArgument)) ws u.2 in
     answered_way pc a most ws (of_kind (is_number u.0 && is_number v.0) (ok (way_with_answer pc a most)) ws v.2)
 
-gather_way : (l pc : ℕ) (a : AbstractState) (pointer : AbstractValue) (room : Option ℕ) (ws : Ways) → gather_ways l pc a pointer room ≡ ok ws → (b : AbstractState) × (onward (pc + 1) b ≡ ws)
+gather_way : (l : Lengths) (pc : ℕ) (a : AbstractState) (pointer : AbstractValue) (room : Option ℕ) (ws : Ways) → gather_ways l pc a pointer room ≡ ok ws → (b : AbstractState) × (onward (pc + 1) b ≡ ws)
 gather_way l pc a pointer None ws h = absurd cc
 gather_way l pc a pointer (Some room) ws h =
     let t = bind_ok (gather_result l a pointer room) (λ t. ok (way_with_answer pc t (room / 4))) ws h in
     answered_way pc t.0 (room / 4) ws t.2
 
-helper_way : (l pc : ℕ) (helper : Helper) (a : AbstractState) (ws : Ways) → helper_ways l pc helper a ≡ ok ws → (b : AbstractState) × (onward (pc + 1) b ≡ ws)
+helper_way : (l : Lengths) (pc : ℕ) (helper : Helper) (a : AbstractState) (ws : Ways) → helper_ways l pc helper a ≡ ok ws → (b : AbstractState) × (onward (pc + 1) b ≡ ws)
 helper_way l pc Degree a ws h = one_way pc a (2 ^ 32 - 1) ws h
 helper_way l pc HasEdge a ws h = two_way pc a 1 ws h
 helper_way l pc Neighbour a ws h = two_way pc a (2 ^ 64 - 1) ws h
@@ -227,6 +228,6 @@ helper_way l pc VertexCount a ws h = answered_way pc a (2 ^ 32 - 1) ws h
 helper_way l pc Gather a ws h = let asked = asks l pc a ws h in gather_way l pc a asked.pointer (known_room asked.room) ws asked.ways
 
 -- behind a helper there is one way: to the next instruction
-pub helper_call_way : (l pc : ℕ) (helper : Option Helper) (a : AbstractState) (ws : Ways) → helper_call_ways l pc helper a ≡ ok ws → (b : AbstractState) × (onward (pc + 1) b ≡ ws)
+pub helper_call_way : (l : Lengths) (pc : ℕ) (helper : Option Helper) (a : AbstractState) (ws : Ways) → helper_call_ways l pc helper a ≡ ok ws → (b : AbstractState) × (onward (pc + 1) b ≡ ws)
 helper_call_way l pc None a ws h = absurd cc
 helper_call_way l pc (Some helper) a ws h = helper_way l pc helper a ws h

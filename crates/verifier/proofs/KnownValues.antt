@@ -11,6 +11,7 @@ use Rattle.bpf_isa.specs.declared.instruction.Operand.{Operand}
 use Rattle.bpf_isa.specs.declared.instruction.Operand.TheVariants.{Immediate, Source}
 use Rattle.bpf_isa.specs.Encoding.{number_of}
 use Rattle.bpf_image.specs.declared.limits.TheConstants.{MOST_RECORD_LENGTH}
+use Rattle.bpf_image.specs.declared.lengths.Lengths.{Lengths}
 use Rattle.bpf_model.specs.Arithmetic.{low, alu_number}
 use Rattle.bpf_model.specs.State.{State, record_base}
 use Rattle.bpf_model.specs.Step.{immediate_value, operand_of, left_of}
@@ -30,18 +31,18 @@ use Rattle.verifier.proofs.RuleParts.{ok}
 abbrev pub top : State → ℕ
 top s = top_above s.callers
 
-pub top_below : (l : ℕ) (a : AbstractState) (s : State) → DescribesState l a s → top s < 2 ^ 64
+pub top_below : (l : Lengths) (a : AbstractState) (s : State) → DescribesState l a s → top s < 2 ^ 64
 top_below l a s d = let few = d.few_callers in omega (arith, few)
 
-pub top_above_record : (l : ℕ) (a : AbstractState) (s : State) → DescribesState l a s → record_base + 2 ^ 17 ≤ top s
+pub top_above_record : (l : Lengths) (a : AbstractState) (s : State) → DescribesState l a s → record_base + 2 ^ 17 ≤ top s
 top_above_record l a s d = omega arith
 
-pub record Reads (l t : ℕ) (x : Option ℕ) (v : AbstractValue) : Type 0 where
+pub record Reads (l : Lengths) (t : ℕ) (x : Option ℕ) (v : AbstractValue) : Type 0 where
   pub number : ℕ
   pub there : x ≡ Some number
   pub described : Describes l t v (Some number)
 
-held : (l t : ℕ) (v w : AbstractValue) (x : Option ℕ) → known_value v ≡ ok w → Describes l t v x → Reads l t x w
+held : (l : Lengths) (t : ℕ) (v w : AbstractValue) (x : Option ℕ) → known_value v ≡ ok w → Describes l t v x → Reads l t x w
 held l t Unset w x h d = absurd cc
 held l t (Number lo hi) w x h d =
     let same : Number lo hi ≡ w = cc in
@@ -57,12 +58,12 @@ held l t (Stack offset) w x h d =
     record { number = d.0; there = e; described = subst (λ v. Describes l t v (Some d.0)) same (d.0, refl, d.2, d.3, d.4) }
 
 -- a register that is read
-pub register_read : (l : ℕ) (a : AbstractState) (s : State) (r : Register) (v : AbstractValue) → DescribesState l a s → known_register a r ≡ ok v → Reads l (top s) (s.registers (number_of r)) v
+pub register_read : (l : Lengths) (a : AbstractState) (s : State) (r : Register) (v : AbstractValue) → DescribesState l a s → known_register a r ≡ ok v → Reads l (top s) (s.registers (number_of r)) v
 register_read l a s r v d h =
     held l (top s) (register a r) v (s.registers (number_of r)) h (d.parts.values (number_of r))
 
 -- a described number has 64 bits
-pub described_below : (l t : ℕ) (v : AbstractValue) (n : ℕ) → l ≤ MOST_RECORD_LENGTH → t < 2 ^ 64 → known_value v ≡ ok v → Describes l t v (Some n) → n < 2 ^ 64
+pub described_below : (l : Lengths) (t : ℕ) (v : AbstractValue) (n : ℕ) → l.record_length ≤ MOST_RECORD_LENGTH → t < 2 ^ 64 → known_value v ≡ ok v → Describes l t v (Some n) → n < 2 ^ 64
 described_below l t Unset n short low h d = absurd cc
 described_below l t (Number lo hi) n short low h d =
     let number : n ≡ d.0 = (let e : Some n ≡ Some d.0 = d.1 in cc) in
@@ -83,7 +84,7 @@ known_twice (Record lo hi) w h = let same : Record lo hi ≡ w = cc in subst (λ
 known_twice (Stack offset) w h = let same : Stack offset ≡ w = cc in subst (λ u. known_value u ≡ ok u) same refl
 
 -- a number of 64 bits is what its constant describes
-pub constant_described : (l t n : ℕ) → n < 2 ^ 64 → Describes l t (constant n) (Some n)
+pub constant_described : (l : Lengths) (t n : ℕ) → n < 2 ^ 64 → Describes l t (constant n) (Some n)
 constant_described l t n lt = (n, refl, omega arith, omega arith, lt)
 
 pub extended_below : (z : ℤ) → FitsSigned w32 z → immediate_value z < 2 ^ 64
@@ -97,7 +98,7 @@ IsNumber s (Source r) n = s.registers (number_of r) ≡ Some n
 
 -- an operand that is read. Its number may have more bits than the instruction's width, of which the
 -- described number has only the low ones.
-pub record ReadsOperand (l : ℕ) (w : Width) (s : State) (o : Operand) (v : AbstractValue) : Type 0 where
+pub record ReadsOperand (l : Lengths) (w : Width) (s : State) (o : Operand) (v : AbstractValue) : Type 0 where
   pub number : ℕ
   pub there : operand_of s o ≡ Some number
   pub seen : ℕ
@@ -105,7 +106,7 @@ pub record ReadsOperand (l : ℕ) (w : Width) (s : State) (o : Operand) (v : Abs
   pub is_seen : IsNumber s o seen
   pub described : Describes l (top s) v (Some seen)
 
-pub operand_read : (l : ℕ) (w : Width) (a : AbstractState) (s : State) (o : Operand) (v : AbstractValue) → DescribesState l a s → known_operand w a o ≡ ok v → ReadsOperand l w s o v
+pub operand_read : (l : Lengths) (w : Width) (a : AbstractState) (s : State) (o : Operand) (v : AbstractValue) → DescribesState l a s → known_operand w a o ≡ ok v → ReadsOperand l w s o v
 operand_read l w a s (Immediate z) v d h =
     let n = low w (immediate_value z) in
     let value : constant n ≡ v = (let e : ok (constant n) ≡ ok v = h in cc) in
@@ -116,20 +117,20 @@ operand_read l w a s (Source r) v d h =
     record { number = x.number; there = x.there; seen = x.number; same = refl; is_seen = x.there; described = x.described }
 
 -- the first number of an operation, by which its result is described
-pub record ReadsLeft (l t : ℕ) (operation : Operation) (x : Option ℕ) (u : AbstractValue) : Type 0 where
+pub record ReadsLeft (l : Lengths) (t : ℕ) (operation : Operation) (x : Option ℕ) (u : AbstractValue) : Type 0 where
   pub number : ℕ
   pub there : left_of operation x ≡ Some number
   pub gives : (w : Width) (b v : AbstractValue) (y : ℕ) → alu_result w operation l u b ≡ ok v → Describes l t b (Some y) → Describes l t v (Some (alu_number w operation number y))
 
-move_read : (l t : ℕ) (x : Option ℕ) (u : AbstractValue) → l ≤ MOST_RECORD_LENGTH → record_base + 2 ^ 17 ≤ t → t < 2 ^ 64 → ReadsLeft l t Move x u
+move_read : (l : Lengths) (t : ℕ) (x : Option ℕ) (u : AbstractValue) → l.record_length ≤ MOST_RECORD_LENGTH → record_base + 2 ^ 17 ≤ t → t < 2 ^ 64 → ReadsLeft l t Move x u
 move_read l t x u short high low =
     record { number = 0; there = refl; gives = λ w b v y h q. alu_describes w Move l t (constant 0) b v 0 y (omega (arith, short)) (omega (arith, high)) low h (constant_described l t 0 (omega arith)) q }
 
-other_read : (l t : ℕ) (operation : Operation) (x : Option ℕ) (u : AbstractValue) → l ≤ MOST_RECORD_LENGTH → record_base + 2 ^ 17 ≤ t → t < 2 ^ 64 → left_of operation x ≡ x → Reads l t x u → ReadsLeft l t operation x u
+other_read : (l : Lengths) (t : ℕ) (operation : Operation) (x : Option ℕ) (u : AbstractValue) → l.record_length ≤ MOST_RECORD_LENGTH → record_base + 2 ^ 17 ≤ t → t < 2 ^ 64 → left_of operation x ≡ x → Reads l t x u → ReadsLeft l t operation x u
 other_read l t operation x u short high low same r =
     record { number = r.number; there = rw same r.there; gives = λ w b v y h q. alu_describes w operation l t u b v r.number y (omega (arith, short)) (omega (arith, high)) low h r.described q }
 
-pub left_read : (l : ℕ) (operation : Operation) (a : AbstractState) (s : State) (d : Register) (u : AbstractValue) → l ≤ MOST_RECORD_LENGTH → DescribesState l a s → known_left operation a d ≡ ok u → ReadsLeft l (top s) operation (s.registers (number_of d)) u
+pub left_read : (l : Lengths) (operation : Operation) (a : AbstractState) (s : State) (d : Register) (u : AbstractValue) → l.record_length ≤ MOST_RECORD_LENGTH → DescribesState l a s → known_left operation a d ≡ ok u → ReadsLeft l (top s) operation (s.registers (number_of d)) u
 left_read l Move a s d u short described h = move_read l (top s) (s.registers (number_of d)) u short (top_above_record l a s described) (top_below l a s described)
 left_read l operation a s d u short described h =
     other_read l (top s) operation (s.registers (number_of d)) u short (top_above_record l a s described) (top_below l a s described) refl (register_read l a s d u described h)

@@ -10,6 +10,7 @@ use Rattle.bpf_isa.specs.declared.instruction.Comparison.{Comparison}
 use Rattle.bpf_isa.specs.declared.instruction.Operand.{Operand}
 use Rattle.bpf_isa.specs.declared.instruction.Operand.TheVariants.{Immediate, Source}
 use Rattle.bpf_isa.specs.Encoding.{number_of}
+use Rattle.bpf_image.specs.declared.lengths.Lengths.{Lengths}
 use Rattle.bpf_model.specs.Arithmetic.{low, comparison_holds, holds}
 use Rattle.bpf_model.specs.State.{State}
 use Rattle.bpf_model.specs.Step.{jump}
@@ -31,12 +32,12 @@ either : (P : Sides → Type 0) (one : Bool) (s t u : Sides) → cond one s t �
 either P true s t u e p q = subst P e p
 either P false s t u e p q = subst P e q
 
-both_sides : (l t : ℕ) (a b : AbstractValue) (x y : ℕ) (taken : Bool) → Describes l t a (Some x) → Describes l t b (Some y) → DescribesSide l t (side_of (record { taken = Some (a, b); passed = Some (a, b) }) taken) x y
+both_sides : (l : Lengths) (t : ℕ) (a b : AbstractValue) (x y : ℕ) (taken : Bool) → Describes l t a (Some x) → Describes l t b (Some y) → DescribesSide l t (side_of (record { taken = Some (a, b); passed = Some (a, b) }) taken) x y
 both_sides l t a b x y true p q = (p, q)
 both_sides l t a b x y false p q = (p, q)
 
 -- the side that is taken describes both numbers, also where they are of one register
-sides_describe : (l t : ℕ) (w : Width) (c : Comparison) (left : Register) (right : Operand) (a b : AbstractValue) (sides : Sides) (x y : ℕ) → branch_sides w c left right a b ≡ ok sides → Describes l t a (Some x) → Describes l t b (Some y) → DescribesSide l t (side_of sides (holds w c x y)) x y
+sides_describe : (l : Lengths) (t : ℕ) (w : Width) (c : Comparison) (left : Register) (right : Operand) (a b : AbstractValue) (sides : Sides) (x y : ℕ) → branch_sides w c left right a b ≡ ok sides → Describes l t a (Some x) → Describes l t b (Some y) → DescribesSide l t (side_of sides (holds w c x y)) x y
 sides_describe l t w c left right a b sides x y h p q =
     let both : Sides = record { taken = Some (a, b); passed = Some (a, b) } in
     let parts = bind_ok (narrowing w c a b) (λ t. ok (cond (is_same left right) both t)) sides h in
@@ -44,18 +45,18 @@ sides_describe l t w c left right a b sides x y h p q =
     either (λ u. DescribesSide l t (side_of u (holds w c x y)) x y) (is_same left right) both parts.0 sides chosen (both_sides l t a b x y (holds w c x y) p q) (narrow_describes w c l t a b parts.0 x y parts.1 p q)
 
 -- the way by a side
-record GoesBy (l : ℕ) (s : State) (z : ℤ) (ws : Ways) : Type 0 where
+record GoesBy (l : Lengths) (s : State) (z : ℤ) (ws : Ways) : Type 0 where
   way : ℤ × AbstractState
   is_way : IsWay way ws
   goes_to : z ≡ way.0
   parts : DescribesParts l (top s) way.1 s.registers s.memory
 
-operand_narrowed : (l : ℕ) (a : AbstractState) (s : State) (o : Operand) (v : AbstractValue) (y : ℕ) → DescribesParts l (top s) a s.registers s.memory → IsNumber s o y → Describes l (top s) v (Some y) → DescribesParts l (top s) (with_operand a o v) s.registers s.memory
+operand_narrowed : (l : Lengths) (a : AbstractState) (s : State) (o : Operand) (v : AbstractValue) (y : ℕ) → DescribesParts l (top s) a s.registers s.memory → IsNumber s o y → Describes l (top s) v (Some y) → DescribesParts l (top s) (with_operand a o v) s.registers s.memory
 operand_narrowed l a s (Immediate n) v y d is new = d
 operand_narrowed l a s (Source r) v y d is new =
     narrowed_described l (top s) a s.registers s.memory r v d (subst (λ x. Describes l (top s) v x) (sym is) new)
 
-side_goes : (l : ℕ) (a : AbstractState) (s : State) (left : Register) (right : Operand) (z : ℤ) (side : Option (AbstractValue × AbstractValue)) (x y : ℕ) → DescribesState l a s → s.registers (number_of left) ≡ Some x → IsNumber s right y → DescribesSide l (top s) side x y → GoesBy l s z (side_way a left right z side)
+side_goes : (l : Lengths) (a : AbstractState) (s : State) (left : Register) (right : Operand) (z : ℤ) (side : Option (AbstractValue × AbstractValue)) (x y : ℕ) → DescribesState l a s → s.registers (number_of left) ≡ Some x → IsNumber s right y → DescribesSide l (top s) side x y → GoesBy l s z (side_way a left right z side)
 side_goes l a s left right z None x y described p q d = absurd d
 side_goes l a s left right z (Some values) x y described p q d =
     let first = narrowed_described l (top s) a s.registers s.memory left values.0 described.parts (subst (λ n. Describes l (top s) values.0 n) (sym p) d.0) in
@@ -70,13 +71,13 @@ behind : (w : ℤ × AbstractState) (xs ys : Ways) → IsWay w ys → IsWay w (x
 behind w [] ys h = h
 behind w (x ∷ xs) ys h = inr (behind w xs ys h)
 
-taken_follows : (l pc : ℕ) (i : Instruction) (z : ℤ) (a : AbstractState) (s : State) (left : Register) (right : Operand) (sides : Sides) (x y : ℕ) → s.pc ≡ pos pc → DescribesState l a s → s.registers (number_of left) ≡ Some x → IsNumber s right y → DescribesSide l (top s) sides.taken x y → Follows l i a s (branch_ways pc z a left right sides) (jump s z)
+taken_follows : (l : Lengths) (pc : ℕ) (i : Instruction) (z : ℤ) (a : AbstractState) (s : State) (left : Register) (right : Operand) (sides : Sides) (x y : ℕ) → s.pc ≡ pos pc → DescribesState l a s → s.registers (number_of left) ≡ Some x → IsNumber s right y → DescribesSide l (top s) sides.taken x y → Follows l i a s (branch_ways pc z a left right sides) (jump s z)
 taken_follows l pc i z a s left right sides x y at described p q d =
     let g = side_goes l a s left right (target pc z) sides.taken x y described p q d in
     let moved : (s.pc +ℤ pos 1) +ℤ z ≡ target pc z = ap (λ n. (n +ℤ pos 1) +ℤ z) at in
     stays g.way (in_front g.way _ _ g.is_way) (moved ∙ g.goes_to) (record { parts = g.parts; frame_register = described.frame_register; few_callers = described.few_callers }) refl (λ k j low lt. refl)
 
-passed_follows : (l pc : ℕ) (i : Instruction) (z : ℤ) (a : AbstractState) (s : State) (left : Register) (right : Operand) (sides : Sides) (x y : ℕ) → s.pc ≡ pos pc → DescribesState l a s → s.registers (number_of left) ≡ Some x → IsNumber s right y → DescribesSide l (top s) sides.passed x y → Follows l i a s (branch_ways pc z a left right sides) (jump s (pos 0))
+passed_follows : (l : Lengths) (pc : ℕ) (i : Instruction) (z : ℤ) (a : AbstractState) (s : State) (left : Register) (right : Operand) (sides : Sides) (x y : ℕ) → s.pc ≡ pos pc → DescribesState l a s → s.registers (number_of left) ≡ Some x → IsNumber s right y → DescribesSide l (top s) sides.passed x y → Follows l i a s (branch_ways pc z a left right sides) (jump s (pos 0))
 passed_follows l pc i z a s left right sides x y at described p q d =
     let g = side_goes l a s left right (pos (pc + 1)) sides.passed x y described p q d in
     let same : (pos pc +ℤ pos 1) +ℤ pos 0 ≡ pos (pc + 1) = omega (arith, ints) in
@@ -84,7 +85,7 @@ passed_follows l pc i z a s left right sides x y at described p q d =
     stays g.way (behind g.way _ _ g.is_way) (moved ∙ g.goes_to) (record { parts = g.parts; frame_register = described.frame_register; few_callers = described.few_callers }) refl (λ k j low lt. refl)
 
 -- a branch, by the comparison that the machine makes
-pub branch_follows : (l pc : ℕ) (i : Instruction) (w : Width) (c : Comparison) (left : Register) (right : Operand) (z : ℤ) (a : AbstractState) (s : State) (u v : AbstractValue) (sides : Sides) (ws : Ways) → s.pc ≡ pos pc → DescribesState l a s → (x : Reads l (top s) (s.registers (number_of left)) u) → (y : ReadsOperand l w s right v) → branch_sides w c left right u v ≡ ok sides → branch_ways pc z a left right sides ≡ ws → Follows l i a s ws (jump s (cond (holds w c x.number y.number) z (pos 0)))
+pub branch_follows : (l : Lengths) (pc : ℕ) (i : Instruction) (w : Width) (c : Comparison) (left : Register) (right : Operand) (z : ℤ) (a : AbstractState) (s : State) (u v : AbstractValue) (sides : Sides) (ws : Ways) → s.pc ≡ pos pc → DescribesState l a s → (x : Reads l (top s) (s.registers (number_of left)) u) → (y : ReadsOperand l w s right v) → branch_sides w c left right u v ≡ ok sides → branch_ways pc z a left right sides ≡ ws → Follows l i a s ws (jump s (cond (holds w c x.number y.number) z (pos 0)))
 branch_follows l pc i w c left right z a s u v sides ws at described x y h ways =
     let test : holds w c x.number y.number ≡ holds w c x.number y.seen = ap (λ n. comparison_holds w c (low w x.number) n) y.same in
     let d = sides_describe l (top s) w c left right u v sides x.number y.seen h x.described y.described in

@@ -11,6 +11,7 @@ use Rattle.bpf_model.specs.State.{State}
 use Rattle.bpf_model.specs.Step.{immediate_value, units_over, jump, effect}
 use Rattle.bpf_isa.specs.Sizes.{size_bytes}
 use Rattle.bpf_image.specs.declared.limits.TheConstants.{MOST_RECORD_LENGTH}
+use Rattle.bpf_image.specs.declared.lengths.Lengths.{Lengths}
 use Rattle.abstract_values.specs.declared.value.AbstractValue.{AbstractValue}
 use Rattle.abstract_values.specs.declared.value.AbstractValue.TheVariants.{Unset}
 use Rattle.abstract_values.specs.Values.{alu_result, negate_result, move_signed_result, swap_result}
@@ -30,13 +31,13 @@ use Rattle.verifier.proofs.Splits.{branch_follows}
 use Rattle.verifier.proofs.Frames.{call_follows, exit_follows}
 use Rattle.verifier.proofs.HelperCalls.{helper_call_follows}
 
-constant_is : (l t n : ℕ) (v : AbstractValue) → n < 2 ^ 64 → ok (constant n) ≡ ok v → Describes l t v (Some n)
+constant_is : (l : Lengths) (t n : ℕ) (v : AbstractValue) → n < 2 ^ 64 → ok (constant n) ≡ ok v → Describes l t v (Some n)
 constant_is l t n v lt e =
     let same : constant n ≡ v = cc in
     subst (λ u. Describes l t u (Some n)) same (constant_described l t n lt)
 
 -- one clause an instruction
-pub step_describes : (g : Graph) (l pc : ℕ) (i : Instruction) (a : AbstractState) (s : State) (ws : Ways) → IsView g → l ≤ MOST_RECORD_LENGTH → InstructionFits i → s.pc ≡ pos pc → DescribesState l a s → MayCall i s → transfer l pc i a ≡ ok ws → Follows l i a s ws (effect l g i s)
+pub step_describes : (g : Graph) (l : Lengths) (pc : ℕ) (i : Instruction) (a : AbstractState) (s : State) (ws : Ways) → IsView g → l.record_length ≤ MOST_RECORD_LENGTH → InstructionFits i → s.pc ≡ pos pc → DescribesState l a s → MayCall i s → transfer l pc i a ≡ ok ws → Follows l i a s ws (effect l g i s)
 unfolding transfer
 step_describes g l pc (Alu w operation d o) a s ws few short fits at described may h =
     let u = bind_ok (known_left operation a d) (λ u. bind (known_operand w a o) (λ b. write_ways (pc + 1) a d (alu_result w operation l u b))) ws h in

@@ -8,6 +8,7 @@ use Rattle.bpf_isa.specs.declared.instruction.Instruction.TheVariants.{Alu, Move
 use Rattle.bpf_model.specs.Helpers.{helper_of}
 use Rattle.bpf_model.specs.Step.{immediate_value, units_over}
 use Rattle.bpf_isa.specs.Sizes.{size_bytes}
+use Rattle.bpf_image.specs.declared.lengths.Lengths.{Lengths}
 use Rattle.bpf_model.specs.declared.cause.Cause.{Cause}
 use Rattle.abstract_values.specs.declared.branch.Sides.{Sides}
 use Rattle.abstract_values.specs.declared.value.AbstractValue.{AbstractValue}
@@ -82,7 +83,7 @@ branch_leads pc z s left right sides ws same w m =
     ]
 
 -- one clause an instruction
-pub ways_lead : (l pc : ℕ) (i : Instruction) (a : AbstractState) (ws : Ways) → transfer l pc i a ≡ ok ws → AllLead ws (called_pcs i pc ++ next_pcs i pc)
+pub ways_lead : (l : Lengths) (pc : ℕ) (i : Instruction) (a : AbstractState) (ws : Ways) → transfer l pc i a ≡ ok ws → AllLead ws (called_pcs i pc ++ next_pcs i pc)
 unfolding transfer
 ways_lead l pc (Alu w operation d o) a ws h =
     let u = bind_ok (known_left operation a d) (λ u. bind (known_operand w a o) (λ b. write_ways (pc + 1) a d (alu_result w operation l u b))) ws h in

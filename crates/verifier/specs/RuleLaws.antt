@@ -4,6 +4,7 @@ use Rattle.bpf_isa.specs.declared.instruction.Instruction.{Instruction}
 use Rattle.bpf_isa.specs.declared.instruction.Instruction.TheVariants.{CallLocal}
 use Rattle.bpf_isa.specs.Encoding.{InstructionFits}
 use Rattle.bpf_image.specs.declared.limits.TheConstants.{MOST_RECORD_LENGTH}
+use Rattle.bpf_image.specs.declared.lengths.Lengths.{Lengths}
 use Rattle.graph_model.specs.Graph.{Graph}
 use Rattle.bpf_model.specs.Helpers.{IsView}
 use Rattle.bpf_model.specs.State.{State, live_frames, most_frames}
@@ -20,6 +21,6 @@ MayCall i s = (distance : ℤ) → i ≡ CallLocal distance → live_frames s < 
 -- on by one of the ways that the rules give, enters a function, returns to a caller, or exits
 abbrev pub StepDescribes : Type 0
 StepDescribes =
-    (g : Graph) (record_length pc : ℕ) (i : Instruction) (a : AbstractState) (s : State) (ws : Ways)
-    → IsView g → record_length ≤ MOST_RECORD_LENGTH → InstructionFits i → s.pc ≡ pos pc → DescribesState record_length a s → MayCall i s
-    → transfer record_length pc i a ≡ Ok ws → Follows record_length i a s ws (effect record_length g i s)
+    (g : Graph) (lengths : Lengths) (pc : ℕ) (i : Instruction) (a : AbstractState) (s : State) (ws : Ways)
+    → IsView g → lengths.record_length ≤ MOST_RECORD_LENGTH → InstructionFits i → s.pc ≡ pos pc → DescribesState lengths a s → MayCall i s
+    → transfer lengths pc i a ≡ Ok ws → Follows lengths i a s ws (effect lengths g i s)

@@ -18,6 +18,7 @@ use Rattle.bpf_model.specs.declared.helper.Helper.{Helper}
 use Rattle.bpf_model.specs.declared.helper.Helper.TheVariants.{Degree, HasEdge, Neighbour, VertexCount, Gather}
 use Rattle.bpf_model.specs.Helpers.{helper_of, is_room}
 use Rattle.bpf_isa.specs.Sizes.{size_bytes}
+use Rattle.bpf_image.specs.declared.lengths.Lengths.{Lengths}
 use Rattle.bpf_model.specs.declared.cause.Cause.{Cause}
 use Rattle.bpf_model.specs.declared.cause.Cause.TheVariants.{UnsetRegister, FrameRegister, HelperArgument, UnknownHelper, ResultNotNumber}
 use Rattle.abstract_values.specs.declared.branch.Sides.{Sides}
@@ -142,28 +143,28 @@ two_number_call pc s most =
     if is_number a && is_number b then Ok (way_with_answer pc s most) else Err HelperArgument))
 
 -- gather fills its room from a pointer on, and answers with no more than the words that the room has
-abbrev pub gather_ways : ℕ → ℕ → AbstractState → (pointer : AbstractValue) → (room : Option ℕ) → Result Ways Cause
-gather_ways record_length pc s pointer None = Err HelperArgument
-gather_ways record_length pc s pointer (Some room) =
-    bind (gather_result record_length s pointer room) (λ t. Ok (way_with_answer pc t (room / 4)))
+abbrev pub gather_ways : Lengths → ℕ → AbstractState → (pointer : AbstractValue) → (room : Option ℕ) → Result Ways Cause
+gather_ways lengths pc s pointer None = Err HelperArgument
+gather_ways lengths pc s pointer (Some room) =
+    bind (gather_result lengths s pointer room) (λ t. Ok (way_with_answer pc t (room / 4)))
 
-abbrev pub gather_call : ℕ → ℕ → AbstractState → Result Ways Cause
-gather_call record_length pc s =
+abbrev pub gather_call : Lengths → ℕ → AbstractState → Result Ways Cause
+gather_call lengths pc s =
     bind (known_register s R1) (λ v. bind (known_register s R2) (λ first.
     bind (known_register s R3) (λ pointer. bind (known_register s R4) (λ room.
-    if is_number v && is_number first then gather_ways record_length pc s pointer (known_room room) else Err HelperArgument))))
+    if is_number v && is_number first then gather_ways lengths pc s pointer (known_room room) else Err HelperArgument))))
 
 -- the call of a helper: its arguments are set, and each is of its kind
-abbrev pub helper_ways : ℕ → ℕ → Helper → AbstractState → Result Ways Cause
-helper_ways record_length pc Degree s = one_number_call pc s (2 ^ 32 - 1)
-helper_ways record_length pc HasEdge s = two_number_call pc s 1
-helper_ways record_length pc Neighbour s = two_number_call pc s (2 ^ 64 - 1)
-helper_ways record_length pc VertexCount s = Ok (way_with_answer pc s (2 ^ 32 - 1))
-helper_ways record_length pc Gather s = gather_call record_length pc s
+abbrev pub helper_ways : Lengths → ℕ → Helper → AbstractState → Result Ways Cause
+helper_ways lengths pc Degree s = one_number_call pc s (2 ^ 32 - 1)
+helper_ways lengths pc HasEdge s = two_number_call pc s 1
+helper_ways lengths pc Neighbour s = two_number_call pc s (2 ^ 64 - 1)
+helper_ways lengths pc VertexCount s = Ok (way_with_answer pc s (2 ^ 32 - 1))
+helper_ways lengths pc Gather s = gather_call lengths pc s
 
-abbrev pub helper_call_ways : ℕ → ℕ → Option Helper → AbstractState → Result Ways Cause
-helper_call_ways record_length pc None s = Err UnknownHelper
-helper_call_ways record_length pc (Some helper) s = helper_ways record_length pc helper s
+abbrev pub helper_call_ways : Lengths → ℕ → Option Helper → AbstractState → Result Ways Cause
+helper_call_ways lengths pc None s = Err UnknownHelper
+helper_call_ways lengths pc (Some helper) s = helper_ways lengths pc helper s
 
 -- ---- instructions
 
@@ -175,31 +176,31 @@ exit_ways (Record lo hi) = Err ResultNotNumber
 exit_ways (Stack offset) = Err ResultNotNumber
 
 -- the instruction at a pc: the broken rule of the lowest cause, or the ways onward.
-unfoldable pub transfer : ℕ → ℕ → Instruction → AbstractState → Result Ways Cause
-transfer record_length pc (Alu width operation destination operand) s =
+unfoldable pub transfer : Lengths → ℕ → Instruction → AbstractState → Result Ways Cause
+transfer lengths pc (Alu width operation destination operand) s =
     bind (known_left operation s destination) (λ a. bind (known_operand width s operand) (λ b.
-    write_ways (pc + 1) s destination (alu_result width operation record_length a b)))
-transfer record_length pc (MoveSigned extension destination source) s =
+    write_ways (pc + 1) s destination (alu_result width operation lengths a b)))
+transfer lengths pc (MoveSigned extension destination source) s =
     bind (known_register s source) (λ v. write_ways (pc + 1) s destination (move_signed_result extension v))
-transfer record_length pc (Negate width destination) s =
+transfer lengths pc (Negate width destination) s =
     bind (known_register s destination) (λ v. write_ways (pc + 1) s destination (negate_result width v))
-transfer record_length pc (Swap order bits destination) s =
+transfer lengths pc (Swap order bits destination) s =
     bind (known_register s destination) (λ v. write_ways (pc + 1) s destination (swap_result order bits v))
-transfer record_length pc (Jump distance) s = Ok ((target pc (units_over distance), s) ∷ [])
-transfer record_length pc (Branch width comparison left right distance) s =
+transfer lengths pc (Jump distance) s = Ok ((target pc (units_over distance), s) ∷ [])
+transfer lengths pc (Branch width comparison left right distance) s =
     bind (known_register s left) (λ a. bind (known_operand width s right) (λ b.
     bind (branch_sides width comparison left right a b) (λ sides. Ok (branch_ways pc distance s left right sides))))
-transfer record_length pc (CallHelper number) s = helper_call_ways record_length pc (helper_of number) s
-transfer record_length pc (CallLocal distance) s = Ok (call_ways pc distance s)
-transfer record_length pc Exit s = exit_ways (slice_index_or s.registers 0 Unset)
-transfer record_length pc (Load size destination base offset) s =
-    bind (known_register s base) (λ b. write_ways (pc + 1) s destination (load_result record_length s b offset (size_bytes size)))
-transfer record_length pc (LoadSigned size destination base offset) s =
-    bind (known_register s base) (λ b. write_ways (pc + 1) s destination (load_signed_result record_length s b offset size))
-transfer record_length pc (Store size base offset immediate) s =
+transfer lengths pc (CallHelper number) s = helper_call_ways lengths pc (helper_of number) s
+transfer lengths pc (CallLocal distance) s = Ok (call_ways pc distance s)
+transfer lengths pc Exit s = exit_ways (slice_index_or s.registers 0 Unset)
+transfer lengths pc (Load size destination base offset) s =
+    bind (known_register s base) (λ b. write_ways (pc + 1) s destination (load_result lengths s b offset (size_bytes size)))
+transfer lengths pc (LoadSigned size destination base offset) s =
+    bind (known_register s base) (λ b. write_ways (pc + 1) s destination (load_signed_result lengths s b offset size))
+transfer lengths pc (Store size base offset immediate) s =
     bind (known_register s base) (λ b.
-    behind_store (pc + 1) (store_result record_length s b offset (size_bytes size) (constant (immediate_value immediate))))
-transfer record_length pc (StoreRegister size base offset source) s =
+    behind_store (pc + 1) (store_result lengths s b offset (size_bytes size) (constant (immediate_value immediate))))
+transfer lengths pc (StoreRegister size base offset source) s =
     bind (known_register s base) (λ b. bind (known_register s source) (λ v.
-    behind_store (pc + 1) (store_result record_length s b offset (size_bytes size) v)))
-transfer record_length pc (Wide destination value) s = write_ways (pc + 2) s destination (Ok (constant value))
+    behind_store (pc + 1) (store_result lengths s b offset (size_bytes size) v)))
+transfer lengths pc (Wide destination value) s = write_ways (pc + 2) s destination (Ok (constant value))

@@ -81,7 +81,7 @@ fn walk_and_keep(
 {
     let mut known = no_states(alloc, image.code().len() / 8)?;
     let mut states = no_states(alloc, image.code().len() / 8)?;
-    let entry = Box::new(alloc, AbstractState::entry(image.record_length()))?;
+    let entry = Box::new(alloc, AbstractState::entry(image.lengths()))?;
     arrive(&mut states, 0, entry);
     for pc in 0..image.code().len() / 8 {
         known[pc] = copy_of(alloc, &states[pc])?;

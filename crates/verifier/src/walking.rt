@@ -133,7 +133,7 @@ pub(crate) fn visit(
     let Some(instruction) = starting_at(image, listing, pc) else {
         return Ok(());
     };
-    match step_over(image.record_length(), instruction, &mut state) {
+    match step_over(image.lengths(), instruction, &mut state) {
         Err(cause) => Err(Refusal { cause, pc }),
         Ok(onward) => {
             go_on(alloc, states, pc, instruction, onward, state)?;
@@ -155,7 +155,7 @@ pub(crate) fn walk(
         (λ refusal. unless_memory refusal (first_fault (rule_fault image.now) (units image.now) ≡ Some refusal)) }
 {
     let mut states = no_states(alloc, image.code().len() / 8)?;
-    let entry = Box::new(alloc, AbstractState::entry(image.record_length()))?;
+    let entry = Box::new(alloc, AbstractState::entry(image.lengths()))?;
     arrive(&mut states, 0, entry);
     for pc in 0..image.code().len() / 8 {
         visit(alloc, image, listing, &mut states, pc)?;

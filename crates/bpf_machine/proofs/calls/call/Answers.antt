@@ -10,7 +10,7 @@ use Rattle.bpf_machine.proofs.StackFacts.{callers_count}
 use Rattle.bpf_machine.proofs.calls.call.Goals as goal
 
 pub returns : goal.returns
-returns c record_length g bytes =
+returns c lengths g bytes =
     let count = callers_count c.args.machine.now.callers.kept c.args.machine.now.callers.count in
     let pushed = c.push.ensures.count in
     let few = c.if-machine-ge-MOST_CALLERS.false in

@@ -1,6 +1,7 @@
 use Rattle.std.proofs.Common.{◌≡◌, ◌≤◌, ◌∙◌, ℕ, List, sym, ap, subst, refl, add-one, FitsSigned, w64, to_z, of_z, length, arith, rules}
 use Rattle.std.proofs.lemmas.Int.{to_z-of_z}
 use Rattle.bpf_image.specs.declared.limits.TheConstants.{MOST_RECORD_LENGTH}
+use Rattle.bpf_image.specs.declared.lengths.Lengths.{Lengths}
 use Rattle.bpf_model.specs.State.{start}
 use Rattle.bpf_model.specs.Step.{Goes, Exits, Traps, step}
 use Rattle.bpf_model.specs.Run.{after, Stops}
@@ -9,12 +10,12 @@ use Rattle.bpf_machine.proofs.RunFacts.{stops_at, after_more}
 use Rattle.bpf_machine.proofs.run.run_checked.Goals as goal
 
 pub loop-steps-init : goal.loop-steps-init
-loop-steps-init g c = ap (λ s. Goes s) (c.new-machine.ensures.start c.args.bytes.now (c.requires ∙ sym c.record_length.ensures.exact))
+loop-steps-init g c = ap (λ s. Goes s) (c.new-machine.ensures.start c.args.bytes.now (c.requires ∙ ap (λ (l : Lengths). l.record_length) (sym c.lengths.ensures.exact)))
 
 pub returns-in-Exited : goal.returns-in-Exited
 returns-in-Exited g c =
     let graph = g.G.GraphView.graph c.args.graph.now in
-    let short : length c.loop-steps.bytes ≤ MOST_RECORD_LENGTH = omega (arith, c.loop-steps.auto.bytes, c.record_length.ensures.image.record_length.1) in
+    let short : length c.loop-steps.bytes ≤ MOST_RECORD_LENGTH = omega (arith, c.loop-steps.auto.bytes, c.lengths.ensures.image.record_length.1) in
     let kept : c.take_turn.new.bytes ≡ c.loop-steps.bytes = (rw c.in-Exited.is at c.take_turn.ensures.kept) in
     let exits = (rw c.in-Exited.is at c.take_turn.ensures.step) in (
       c.loop-steps.steps,
@@ -28,7 +29,7 @@ returns-in-Exited g c =
 pub returns-in-Trapped : goal.returns-in-Trapped
 returns-in-Trapped g c =
     let graph = g.G.GraphView.graph c.args.graph.now in
-    let short : length c.loop-steps.bytes ≤ MOST_RECORD_LENGTH = omega (arith, c.loop-steps.auto.bytes, c.record_length.ensures.image.record_length.1) in
+    let short : length c.loop-steps.bytes ≤ MOST_RECORD_LENGTH = omega (arith, c.loop-steps.auto.bytes, c.lengths.ensures.image.record_length.1) in
     let kept : c.take_turn.new.bytes ≡ c.loop-steps.bytes = (rw c.in-Trapped.is at c.take_turn.ensures.kept) in
     let traps = (rw c.in-Trapped.is at c.take_turn.ensures.step) in
     let fits : FitsSigned w64 c.take_turn.new.machine.pc = search rules in
@@ -49,7 +50,7 @@ loop-steps-preserved g c =
 pub returns : goal.returns
 returns g c =
     let graph = g.G.GraphView.graph c.args.graph.now in
-    let short : length c.loop-steps.bytes ≤ MOST_RECORD_LENGTH = omega (arith, c.loop-steps.auto.bytes, c.record_length.ensures.image.record_length.1) in
+    let short : length c.loop-steps.bytes ≤ MOST_RECORD_LENGTH = omega (arith, c.loop-steps.auto.bytes, c.lengths.ensures.image.record_length.1) in
     let all : c.args.fuel ≡ c.loop-steps.steps = omega arith in
     let reached = ap (λ k. after c.args.image.now graph k (start c.args.bytes.now)) all ∙ c.loop-steps.invariant in (
       step c.args.image.now graph (state_of c.loop-steps.machine c.loop-steps.bytes),

@@ -4,6 +4,7 @@ use Rattle.std.proofs.lemmas.Int.{to_z-of_z}
 use Rattle.bpf_isa.specs.declared.instruction.Size.{Size}
 use Rattle.bpf_isa.specs.declared.instruction.Size.TheVariants.{Byte, Half, Word, Double}
 use Rattle.bpf_isa.specs.Sizes.{size_bytes}
+use Rattle.bpf_image.specs.Program.{record_alone}
 use Rattle.bpf_model.specs.State.{with_values, in_record, in_frames, may_access}
 use Rattle.bpf_model.specs.Step.{low_bytes}
 use Rattle.bpf_machine.specs.Cells.{cells_of}
@@ -27,7 +28,7 @@ returns-then-not-store_bytes-clause-step c =
     let low : take c.from.result c.to_le_bytes-spelled.result ≡ low_bytes c.args.size c.args.value = ap₂ take count c.to_le_bytes-spelled.ensures in
     let size : length (take c.from.result c.to_le_bytes-spelled.result) ≡ size_bytes c.args.size = ap length low ∙ low_length c.args.size c.args.value in
     let live = c.live_frames-frames.ensures.live c.args.bytes.now in
-    let may : false ≡ may_access (length c.args.bytes.now) (state_of c.args.machine.now c.args.bytes.now) c.args.address (size_bytes c.args.size) =
+    let may : false ≡ may_access (record_alone (length c.args.bytes.now)) (state_of c.args.machine.now c.args.bytes.now) c.args.address (size_bytes c.args.size) =
     sym c.if-not-store_bytes.true ∙ c.store_bytes.ensures.allowed ∙ ap₂ (λ n m. allowed (length c.args.bytes.now) n c.args.address m) live size in
     rw (← may) refl
 
@@ -37,7 +38,7 @@ returns-clause-step c =
     let low : take c.from.result c.to_le_bytes-spelled.result ≡ low_bytes c.args.size c.args.value = ap₂ take count c.to_le_bytes-spelled.ensures in
     let size : length (take c.from.result c.to_le_bytes-spelled.result) ≡ size_bytes c.args.size = ap length low ∙ low_length c.args.size c.args.value in
     let live = c.live_frames-frames.ensures.live c.args.bytes.now in
-    let may : true ≡ may_access (length c.args.bytes.now) (state_of c.args.machine.now c.args.bytes.now) c.args.address (size_bytes c.args.size) =
+    let may : true ≡ may_access (record_alone (length c.args.bytes.now)) (state_of c.args.machine.now c.args.bytes.now) c.args.address (size_bytes c.args.size) =
     sym c.if-not-store_bytes.false ∙ c.store_bytes.ensures.allowed ∙ ap₂ (λ n m. allowed (length c.args.bytes.now) n c.args.address m) live size in
     let memory : with_values (memory_of c.args.bytes.now (values_of (cells_of c.args.machine.now.stack))) c.args.address (low_bytes c.args.size c.args.value) ≡ memory_of c.store_bytes.new.bytes (values_of (cells_of c.store_bytes.new.stack)) =
     ap (with_values (memory_of c.args.bytes.now (values_of (cells_of c.args.machine.now.stack))) c.args.address) (sym low) ∙ c.store_bytes.ensures.stored c.if-not-store_bytes.false in
