@@ -16,4 +16,5 @@ pub mod PutLemmas
 pub mod HousedLemmas
 pub mod FilledLemmas
 pub mod MadeLemmas
+mod SeenLemmas
 mod NearbyLemmas

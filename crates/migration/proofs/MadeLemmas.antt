@@ -1,20 +1,23 @@
 -- Edited shards, put in one after another.
-use Rattle.std.proofs.Common.{◌≡◌, ℕ, ◌+◌, ◌*◌, ◌<◌, List, [], length, get_or, true, sym, ap, subst, subst₂, ◌∙◌, arith}
+use Rattle.std.proofs.Common.{◌≡◌, ℕ, zero, suc, ◌+◌, ◌*◌, ◌<◌, ◌≤◌, List, [], ◌∷◌, length, get_or, nat_lt, true, false, refl, sym, ap, subst, subst₂, ◌∙◌, inl, inr, arith}
 use Rattle.std.specs.Borrow.{Bor}
 use Rattle.std.specs.declared.sync.Arc.{Arc}
 use Rattle.std.specs.declared.alloc.Global.{Global}
+use Rattle.std.proofs.lemmas.Bool.{cases_lt, cases_Bool, lt-ltb, true≢false}
 use Rattle.std.proofs.lemmas.List.{length-map, get_or-map}
 use Rattle.std.specs.Arc.{arc_value}
+use Rattle.past_model.specs.declared.edit.Edit.{Edit}
+use Rattle.graph_model.specs.Graph.{Graph}
 use Rattle.migration.specs.declared.groups.Grouping.TheVariants.{ByRange}
 use Rattle.migration.specs.declared.edited_shard.EditedShard.{EditedShard}
 use Rattle.migration.specs.Groups.{Grouped, edits_of, is_filled, filled_below}
 use Rattle.migration.specs.Part.{Part, IsPartAfter, AreCounts, AreHomesAfter}
-use Rattle.migration.specs.Table.{part_at}
-use Rattle.migration.specs.Made.{IsMade, AreMade}
+use Rattle.migration.specs.Table.{IsTable, part_at}
+use Rattle.migration.specs.Made.{IsMade, AreMade, IsNoneBelow}
 use Rattle.migration.proofs.RangeLemmas.{range_edits}
 use Rattle.migration.specs.Blocks.{AreFull, parts_in, sizes_of}
 use Rattle.migration.proofs.BlockLemmas.{part_in_block, part_inside}
-use Rattle.migration.proofs.FilledLemmas.{filled_is}
+use Rattle.migration.proofs.FilledLemmas.{filled_is, none_between}
 
 abbrev Blocks : Type 0
 Blocks = List (Arc (List Part) Global)
@@ -28,6 +31,45 @@ pub next_made : (groups : Grouped) (shards : List Part) (made : List (Bor Edited
     → (next < length made) × ((d : Bor EditedShard) → IsMade (part_at shards place) (edits_of groups (first + place)) (get_or made next d).now)
 next_made groups shards made first place next all h some is =
     subst (λ n. (n < length made) × ((d : Bor EditedShard) → IsMade (part_at shards place) (edits_of groups (first + place)) (get_or made n d).now)) (sym is) (all place h (filled_is groups (first + place) some))
+
+-- an edited shard that there is
+one_of : {A : Type 0} (xs : List A) → 0 < length xs → A
+one_of [] some = absurd (omega arith)
+one_of (x ∷ xs) some = x
+
+-- a group that is not filled has no edit
+unfilled : (l : List Edit) → nat_lt 0 (length l) ≡ false → l ≡ []
+unfilled [] none = refl
+unfilled (x ∷ xs) none = absurd (true≢false (sym (lt-ltb 0 (suc (length xs)) (omega arith)) ∙ none))
+
+-- where the next one is of no range up to one, that range has no edit if none before it has
+next_none : (k : ℕ) (groups : Grouped) (g : Graph) (parts : List Part) (made : List (Bor EditedShard)) (first next : ℕ) → IsTable g parts → AreMade groups 0 parts made → next ≡ length (filled_below groups first) → first + suc k ≤ length parts → IsNoneBelow made next (first + suc k)
+    → ((range : ℕ) → first ≤ range → range < first + k → edits_of groups range ≡ []) → edits_of groups (first + k) ≡ []
+next_none k groups g parts made first next table all is within past before =
+    elim (cases_Bool (is_filled groups (first + k))) [
+      | inl some ↦ (
+          let zero_is : 0 + (first + k) ≡ first + k = omega arith in
+          let fact = all (first + k) (omega arith) (subst (λ r. is_filled groups r ≡ true) (sym zero_is) some) in
+          let place : length (filled_below groups (0 + (first + k))) ≡ next = ap (λ r. length (filled_below groups r)) zero_is ∙ ap length (none_between k groups first before) ∙ sym is in
+          let inside : next < length made = omega (arith, place, fact.0) in
+          let d = one_of made (omega arith) in
+          let far = past inside d in
+          let own : (arc_value (get_or made next d).now.shard).range ≡ first + k = subst (λ n. (arc_value (get_or made n d).now.shard).range ≡ first + k) place ((fact.1 d).after.range ∙ (table.each (first + k) (omega arith)).number) in
+          absurd (omega arith))
+      | inr none ↦ unfilled (edits_of groups (first + k)) none
+    ]
+
+-- so none of the ranges up to an end has an edit where it is of no range below that
+pub none_made : (k : ℕ) (groups : Grouped) (g : Graph) (parts : List Part) (made : List (Bor EditedShard)) (first next : ℕ) → IsTable g parts → AreMade groups 0 parts made → next ≡ length (filled_below groups first) → first + k ≤ length parts → IsNoneBelow made next (first + k)
+    → (range : ℕ) → first ≤ range → range < first + k → edits_of groups range ≡ []
+none_made zero groups g parts made first next table all is within past = λ range low high. absurd (omega arith)
+none_made (suc k) groups g parts made first next table all is within past =
+    λ range low high.
+    let before = none_made k groups g parts made first next table all is (omega arith) (λ inside d. (let far = past inside d in omega arith)) in
+    elim (cases_lt range (first + k)) [
+      | inl lt ↦ before range low lt
+      | inr ge ↦ (let same : first + k ≡ range = omega arith in subst (λ r. edits_of groups r ≡ []) same (next_none k groups g parts made first next table all is within past before))
+    ]
 
 -- what was done to it
 pub done_to : (groups : Grouped) (range : ℕ) (p : Part) (e : EditedShard) → groups.grouping ≡ ByRange → IsMade p (edits_of groups range) e

@@ -45,7 +45,7 @@ has_number (suc n) t low =
 has_passed : (test : ℕ → Bool) (n t : ℕ) → t < n → has_word t (filter test (numbers_below n)) ≡ test t
 has_passed test n t low = has-filter test t (numbers_below n) ∙ ap (λ b. test t && b) (has_number n t low) ∙ and_true (test t)
 
-passed_within : (test : ℕ → Bool) (n : ℕ) → IsWithin 0 n (filter test (numbers_below n))
+pub passed_within : (test : ℕ → Bool) (n : ℕ) → IsWithin 0 n (filter test (numbers_below n))
 passed_within test n = IsWithin-filter test 0 n (numbers_below n) (IsWithin-numbers_below n)
 
 -- a word that is the edit's target, or is not, before and after the edit
@@ -60,7 +60,7 @@ off_target e test n v other =
     ∙ sym (has-filter (test_after e test) v (numbers_below n))
 
 -- an edit of a list that a test lets through gives the list that the test after the edit lets through
-put_passed : (e : Edit) (test : ℕ → Bool) (n : ℕ) → target_of e < n → put_words e (filter test (numbers_below n)) ≡ filter (test_after e test) (numbers_below n)
+pub put_passed : (e : Edit) (test : ℕ → Bool) (n : ℕ) → target_of e < n → put_words e (filter test (numbers_below n)) ≡ filter (test_after e test) (numbers_below n)
 put_passed (Insert s t) test n low =
     let xs = filter test (numbers_below n) in
     let after = test_after (Insert s t) test in

@@ -1,5 +1,5 @@
 -- A batch on a table in parts: each shard that it edits made on its own, and put in at its range.
-use Rattle.std.specs.Prelude.{◌≡◌, ℕ, ◌+◌, ◌<◌, true, List, length, slice_index_or}
+use Rattle.std.specs.Prelude.{◌≡◌, ℕ, ◌+◌, ◌<◌, ◌≤◌, true, List, length, slice_index_or}
 use Rattle.std.specs.Borrow.{Bor}
 use Rattle.std.specs.Arc.{arc_value}
 use Rattle.past_model.specs.declared.edit.Edit.{Edit}
@@ -26,3 +26,7 @@ AreMade groups first shards made = (k : ℕ) → k < length shards → is_filled
     → (length (filled_below groups (first + k)) < length made)
     × ((d : Bor EditedShard) → IsMade (part_at shards k) (edits_of groups (first + k))
     (slice_index_or made (length (filled_below groups (first + k))) d).now)
+
+-- the next edited shard, if there is one, is of no range below one
+abbrev pub IsNoneBelow : List (Bor EditedShard) → ℕ → ℕ → Type 0
+IsNoneBelow made next end = next < length made → (d : Bor EditedShard) → end ≤ (arc_value (slice_index_or made next d).now.shard).range

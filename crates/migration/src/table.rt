@@ -1,11 +1,11 @@
 //! The shards of a graph, in blocks that tables share.
-ghost use Rattle.std.specs.Prelude.{◌≡◌, ◌<◌, ◌≤◌, ℕ, length, IfOk, MatchOption};
+ghost use Rattle.std.specs.Prelude.{◌≡◌, ◌<◌, ◌≤◌, ℕ, length, IsTrue, IfOk, MatchOption};
 ghost use Rattle.past_model.specs.declared.home.Home.TheVariants.{Block as InBlock};
 ghost use Rattle.past_model.specs.declared.limits.TheConstants.{MOST_VERTICES, MOST_RANGES};
 ghost use Rattle.graph_model.specs.Graph.{Graph, empty_graph};
 ghost use Rattle.migration.specs.Blocks.{parts_in, sizes_of, AreFull};
 ghost use Rattle.migration.specs.Part.{AreEditsOf};
-ghost use Rattle.migration.specs.Made.{IsBatch, IsMade, AreMade};
+ghost use Rattle.migration.specs.Made.{IsBatch, IsMade, AreMade, IsNoneBelow};
 ghost use Rattle.migration.specs.Table.{IsTable, IsOfGraph, IsShardOf, AreAfter, AreMoved, part_at, parts_of, home_in};
 
 use crate::block::{BLOCK_SHARDS, Block};
@@ -52,6 +52,13 @@ impl Model for Table {
     ghost invariant = { λ t. AreFull (sizes_of t.blocks.items)
         × (t.count ≡ length (parts_in t.blocks.items))
         × AreHoused (parts_in t.blocks.items) };
+}
+
+/// Whether the next edited shard, if there is one, is of no range below `end`.
+fn is_past(made: &[&EditedShard], next: usize, end: usize) -> bool
+    ensures { IsTrue result → IsNoneBelow made.now next end }
+{
+    next >= made.len() || made[next].range() as usize >= end
 }
 
 /// Blocks of these shards.
@@ -177,7 +184,7 @@ impl Table {
         for (number, block) in self.blocks.iter().enumerate() {
             let first = BLOCK_SHARDS * number;
             let behind = first + block.shards().len();
-            if groups.are_empty(first, behind) {
+            if is_past(made, next, behind) {
                 blocks.push(Arc::try_clone(block)?)?;
                 continue;
             }

@@ -12,7 +12,7 @@ use Rattle.migration.specs.Table.{IsTable, AreMoved, parts_of}
 use Rattle.migration.specs.Blocks.{ArePartsFrom, AreEdited, AreFull, AreHoused, AreRehoused, parts_in, sizes_of}
 use Rattle.migration.proofs.RangeLemmas.{range_edits}
 use Rattle.migration.proofs.FilledLemmas.{none_between}
-use Rattle.migration.proofs.MadeLemmas.{edits_in, full_block, block_made}
+use Rattle.migration.proofs.MadeLemmas.{edits_in, none_made, full_block, block_made}
 use Rattle.migration.proofs.EditedLemmas.{none, more_edited, same_counts, block_kept, few_edited, few_together, all_edited}
 use Rattle.migration.proofs.TableLemmas.{few_parts}
 use Rattle.migration.proofs.BlockLemmas.{blocks_push, sizes_next, parts_made, all_made, same_length, block_parts, block_inside}
@@ -55,17 +55,8 @@ overflow_add-behind c =
     let size = long c.shards.result.now c.block-item.result (c.shards.ensures ∙ c.deref.ensures) in
     omega (arith, size, inside old c.loop-number.number c.self.inside.count c.block-item.result c.self.invariant.0 c.self.invariant.1 h is, few c.requires.batch.editable.graph c.args.self.now old c.self.inside.count c.self.invariant.1 c.self.view_is c.requires.batch.editable.table c.requires.batch.editable.small)
 
-pub are_empty-requires : goal.are_empty-requires
-are_empty-requires c =
-    let old = c.self.inside.blocks.items in
-    let h = at c.deref-block-items.result.now old c.loop-number.number c.deref-block-items.ensures.value c.loop-number-test.true in
-    let is = block_of c.deref-block-items.result.now old c.loop-number.number c.block-item.result c.deref-block-items.ensures.value c.block-item.is in
-    let size = long c.shards.result.now c.block-item.result (c.shards.ensures ∙ c.deref.ensures) in
-    let count : c.args.groups.now.count ≡ c.self.inside.count = c.requires.batch.count ∙ ap length (sym c.self.view_is) ∙ sym c.self.invariant.1 in
-    omega (arith, size, count, inside old c.loop-number.number c.self.inside.count c.block-item.result c.self.invariant.0 c.self.invariant.1 h is)
-
-pub loop-number-preserved-then-are_empty : goal.loop-number-preserved-then-are_empty
-loop-number-preserved-then-are_empty c =
+pub loop-number-preserved-then-is_past : goal.loop-number-preserved-then-is_past
+loop-number-preserved-then-is_past c =
     let es = c.args.groups.now.edits in
     let number = c.loop-number.number in
     let old = c.self.inside.blocks.items in
@@ -76,8 +67,11 @@ loop-number-preserved-then-are_empty c =
     let is = block_of c.deref-block-items.result.now old number block c.deref-block-items.ensures.value c.block-item.is in
     let size = long c.shards.result.now block (c.shards.ensures ∙ c.deref.ensures) in
     let same : arc_value c.in_ok-try_clone.field-0 ≡ arc_value (get_or old number block) = c.in_ok-try_clone.ensures ∙ ap arc_value is in
+    let within : 32 * number + length c.shards.result.now ≤ length c.args.self.now =
+    (let all : c.self.inside.count ≡ length c.args.self.now = c.self.invariant.1 ∙ ap length c.self.view_is in omega (arith, size, all, inside old number c.self.inside.count block full c.self.invariant.1 h is)) in
+    let untouched = none_made (length c.shards.result.now) c.args.groups.now c.requires.batch.editable.graph c.args.self.now c.args.made.now (32 * number) c.loop-number.next c.requires.batch.editable.table c.requires.made (c.loop-number.invariant.next h) within (c.is_past.ensures c.if-is_past.true) in
     let unedited : (range : ℕ) → 32 * number ≤ range → range < 32 * number + length (arc_value c.in_ok-try_clone.field-0) → range_edits c.args.groups.now.count es range ≡ [] =
-    (λ range low high. sym (edits_in c.args.groups.now c.requires.batch.by_range range) ∙ c.are_empty.ensures.0 c.if-are_empty.true range low (omega (arith, high, size, ap length c.in_ok-try_clone.ensures))) in
+    (λ range low high. sym (edits_in c.args.groups.now c.requires.batch.by_range range) ∙ untouched range low (omega (arith, high, size, ap length c.in_ok-try_clone.ensures))) in
     record {
       sizes = ap sizes_of c.in_ok-push.ensures.items ∙ sizes_next new old number c.in_ok-try_clone.field-0 block h c.loop-number.invariant.sizes (ap length same);
       done = λ g below table. (
@@ -92,7 +86,7 @@ loop-number-preserved-then-are_empty c =
           let own : length c.shards.result.now ≡ 32 = size ∙ ap (λ b. length (arc_value b)) is ∙ full_block old number block full more in
           let end : 32 * number + 32 ≡ 32 * (number + 1) = omega arith in
           c.loop-number.invariant.next h
-          ∙ ap length (sym (none_between 32 groups (32 * number) (λ range low high. c.are_empty.ensures.0 c.if-are_empty.true range low (omega (arith, high, own)))))
+          ∙ ap length (sym (none_between 32 groups (32 * number) (λ range low high. untouched range low (omega (arith, high, own)))))
           ∙ ap (λ n. length (filled_below groups n)) end);
       homes =
           subst (λ l. AreRehoused (parts_in (take (number + 1) old)) (parts_in l)) (sym c.in_ok-push.ensures.items)
