@@ -8,7 +8,7 @@ use thiserror::Error;
 /// Why there is no image.
 #[derive(Clone, Copy, Debug, PartialEq, Eq, Error)]
 pub enum ImageError {
-    /// The bytes don't begin with `BPE1`.
+    /// The bytes don't begin with `BPE1` or `BPE2`.
     #[error("the bytes are not those of an image")]
     Magic = 1,
     /// There are fewer or more bytes than the image's numbers say, or too few for these numbers.
@@ -23,6 +23,9 @@ pub enum ImageError {
     /// Memory ran out.
     #[error("out of memory")]
     OutOfMemory = 5,
+    /// The table is not 1 to 4,096 bytes.
+    #[error("the table is not 1 to 4096 bytes")]
+    TableLength = 6,
 }
 
 impl From<AllocError> for ImageError {

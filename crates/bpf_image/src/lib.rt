@@ -1,5 +1,5 @@
-//! Images: the code of a program together with the length of the record that each run is lent, made
-//! of these two or read from bytes.
+//! Images: the code of a program together with the length of the record that each run is lent and a
+//! table that it reads, made of these or read from bytes.
 #![tactic(auto)]
 
 mod format;
@@ -12,4 +12,4 @@ mod limits;
 pub use image::Image;
 pub use image_error::ImageError;
 pub use lengths::Lengths;
-pub use limits::{LEAST_RECORD_LENGTH, MOST_RECORD_LENGTH};
+pub use limits::{LEAST_RECORD_LENGTH, MOST_RECORD_LENGTH, MOST_TABLE_LENGTH};

@@ -2,6 +2,7 @@
 -- so many steps. Each follows from the definitions by computing. A code is written instruction by
 -- instruction, as bytes.
 use Rattle.std.specs.Prelude.{◌≡◌, ℕ, ◌*◌, pos, List, [], ◌∷◌, ◌++◌}
+use Rattle.bpf_image.specs.Program.{without_table}
 use Rattle.graph_model.specs.Graph.{Graph}
 use Rattle.bpf_model.specs.declared.trap.TrapKind.TheVariants.{UnsetRegister, UnsetByte, NinthFrame, UnsetResult}
 use Rattle.bpf_model.specs.State.{start}
@@ -63,7 +64,7 @@ abbrev pub result_unset : List ℕ
 result_unset = set_r0 1 ++ call_over 1 ++ exit ++ exit
 
 abbrev pub Leads : Graph → List ℕ → List ℕ → ℕ → Next → Type 0
-Leads g bytes code steps next = after (record { code = code; record_length = 16 }) g steps (start bytes) ≡ next
+Leads g bytes code steps next = after (without_table code 16) g steps (start bytes) ≡ next
 
 abbrev pub WorkedCalls : Type 0
 WorkedCalls =

@@ -12,27 +12,48 @@ fn fault(alloc: Global, error: ImageError) -> Result<String, AllocError> {
 fn stored(alloc: Global, image: &Image) -> Result<String> {
     let bytes = image.store(alloc)?;
     let again = Image::load(alloc, &bytes)?;
-    if again.record_length() != image.record_length() || again.code() != image.code() {
+    let is_same = again.record_length() == image.record_length()
+        && again.code() == image.code()
+        && again.table() == image.table();
+    if !is_same {
         return Ok(String::from_str(alloc, "another image is loaded")?);
     }
     Ok(format!(in alloc; "stored in {} bytes", bytes.len())?)
 }
 
-/// What comes of an image of this record length and of code in digits.
+/// What comes of an image of this record length, of code and of a table in digits.
+fn made_with_table(alloc: Global, record_length: u16, code: &str, table: &str) -> Result<String> {
+    let code = bytes_of(alloc, code)?;
+    let table = bytes_of(alloc, table)?;
+    match Image::with_table(record_length, code, table) {
+        Ok(image) => stored(alloc, &image),
+        Err((_code, _table, error)) => Ok(fault(alloc, error)?),
+    }
+}
+
+/// What comes of an image of this record length, of code in digits, and of a table behind that word.
 pub(crate) fn made(alloc: Global, record_length: u16, input: &str) -> Result<String> {
+    if let Some((code, table)) = input.split_once(" table") {
+        return made_with_table(alloc, record_length, code, table);
+    }
     match Image::new(record_length, bytes_of(alloc, input)?) {
         Ok(image) => stored(alloc, &image),
         Err((_, error)) => Ok(fault(alloc, error)?),
     }
 }
 
-/// The record length and the code of a loaded image, if it is stored in these bytes again.
+/// The record length, the code and the table of a loaded image, if it is stored in these bytes again.
 fn described(alloc: Global, image: &Image, bytes: &[u8]) -> Result<String> {
     if image.store(alloc)?.as_slice() != bytes {
         return Ok(String::from_str(alloc, "it is stored in other bytes")?);
     }
     let digits = hex::encode(alloc, image.code())?;
-    Ok(format!(in alloc; "record {}, code {digits}", image.record_length())?)
+    let record_length = image.record_length();
+    if image.table().is_empty() {
+        return Ok(format!(in alloc; "record {record_length}, code {digits}")?);
+    }
+    let table = hex::encode(alloc, image.table())?;
+    Ok(format!(in alloc; "record {record_length}, code {digits}, table {table}")?)
 }
 
 /// The image that bytes in digits spell, or why they spell none.

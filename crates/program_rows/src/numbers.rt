@@ -45,6 +45,7 @@ fn image_errors(alloc: Global) -> Result<String, AllocError> {
         ImageError::RecordLength,
         ImageError::CodeLength,
         ImageError::OutOfMemory,
+        ImageError::TableLength,
     ] {
         write!(text, "{} {error:?}: {error}\n", error as u8)?;
     }

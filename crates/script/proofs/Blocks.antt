@@ -2,6 +2,7 @@
 use Rattle.std.proofs.Common.{◌≡◌, ℕ, List, Option, Some, refl, inl, inr, ap, ◌∙◌}
 use Rattle.std.specs.Prelude.{Result, Ok, Err}
 use Rattle.std.proofs.lemmas.Bool.{cases_Bool}
+use Rattle.bpf_image.specs.Program.{without_table}
 use Rattle.bpf_asm.specs.declared.errors.AssembleError.{AssembleError}
 use Rattle.bpf_asm.specs.Assembly.{assembly}
 use Rattle.session_model.specs.Commands.{LoadProgram}
@@ -17,7 +18,7 @@ execution_at (Fails fault) s b = refl
 
 assembly_at : (r : Result (List ℕ) AssembleError) (begun : OpenProgram) (s : Script) (b : Option Block) → after_assembly r begun (record s { block = b }) ≡ after_assembly r begun s
 assembly_at (Ok code) begun s b =
-    execution_at (response (LoadProgram begun.name (record { code = code; record_length = begun.record_length })) s.session) s b
+    execution_at (response (LoadProgram begun.name (without_table code begun.record_length)) s.session) s b
 assembly_at (Err e) begun s b = refl
 
 program_at : (bytes : List ℕ) (begun : OpenProgram) (s : Script) (b : Option Block) → inside_program bytes begun (record s { block = b }) ≡ inside_program bytes begun s

@@ -82,8 +82,9 @@ graph-cut n s =
       | inr small ↦ rw (cut_same n small) refl
     ]
 
-load-cut : (name code : List ℕ) (n : ℕ) (s : Session) → load_response name (record { code = code; record_length = cut_number n }) s ≡ load_response name (record { code = code; record_length = n }) s
-load-cut name code n s =
+load-cut : (name code table : List ℕ) (n : ℕ) (s : Session)
+    → load_response name (record { code = code; record_length = cut_number n; table = table }) s ≡ load_response name (record { code = code; record_length = n; table = table }) s
+load-cut name code table n s =
     elim (cases_lt 256 n) [
       | inl big ↦
           let first : is_record_length (cut_number n) ≡ false = above (leb 16 (cut_number n)) (cut_number n) 256 (omega arith) in
@@ -109,7 +110,7 @@ home_at v s (Some p) past-is small =
 response-cut : (c : Command) (s : Session) → HasFewVertices s → response (cut_command c) s ≡ response c s
 response-cut (MakeGraph n) s few = graph-cut n s
 response-cut (PublishBatch feed edits) s few = refl
-response-cut (LoadProgram name p) s few = load-cut name p.code p.record_length s
+response-cut (LoadProgram name p) s few = load-cut name p.code p.table p.record_length s
 response-cut (TakePin name) s few = refl
 response-cut (RunProgram program pin reduction argument frontier) s few =
     run_at program pin reduction argument frontier s s.past refl few

@@ -3,6 +3,7 @@ use Rattle.std.proofs.Common.{◌≡◌, ◌≢◌, ℕ, true, false, List, [], 
 use Rattle.std.specs.Prelude.{Option, Some, None, option_map}
 use Rattle.std.proofs.lemmas.Bool.{cases_Bool}
 use Rattle.std.proofs.lemmas.Option.{same_Some}
+use Rattle.bpf_image.specs.Program.{without_table}
 use Rattle.script_model.specs.Lexing.{number, hex, is_name}
 use Rattle.session_model.specs.Commands.{LoadProgram}
 use Rattle.script_model.specs.Parsing.{Statement, Asks, option_then, code_statement, list_statement, statement}
@@ -14,9 +15,9 @@ use Rattle.script.proofs.NumberLemmas.{first_of}
 
 -- ---- `code`
 
-loaded_cut : (name : List ℕ) (value n : ℕ) (code : Option (List ℕ)) → cut_number value ≡ n → option_map cut_statement (option_then code (λ bytes. Some (Asks (LoadProgram name (record { code = bytes; record_length = value }))))) ≡ option_then code (λ bytes. Some (Asks (LoadProgram name (record { code = bytes; record_length = n }))))
+loaded_cut : (name : List ℕ) (value n : ℕ) (code : Option (List ℕ)) → cut_number value ≡ n → option_map cut_statement (option_then code (λ bytes. Some (Asks (LoadProgram name (without_table bytes value))))) ≡ option_then code (λ bytes. Some (Asks (LoadProgram name (without_table bytes n))))
 loaded_cut name value n None is = refl
-loaded_cut name value n (Some bytes) is = ap (λ m. Some (Asks (LoadProgram name (record { code = bytes; record_length = m })))) is
+loaded_cut name value n (Some bytes) is = ap (λ m. Some (Asks (LoadProgram name (without_table bytes m)))) is
 
 code_at : (name word digits : List ℕ) (value n : ℕ) → is_name name ≡ true → number word ≡ Some value → cut_number value ≡ n → option_map cut_statement (code_statement (name ∷ word ∷ digits ∷ [])) ≡ load_of name n digits
 code_at name word digits value n named spells is = simp (named, spells) (loaded_cut name value n (hex digits) is)

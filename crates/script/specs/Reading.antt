@@ -1,5 +1,6 @@
 -- What is read from the front of a line.
 use Rattle.std.specs.Prelude.{ℕ, List, [], ◌∷◌, Option, Some, None, option_map}
+use Rattle.bpf_image.specs.Program.{without_table}
 use Rattle.map_model.specs.declared.reduction.Reduction.{Reduction}
 use Rattle.script_model.specs.Lexing.{number, hex}
 use Rattle.session_model.specs.Commands.{LoadProgram, RunProgram, ListEdges}
@@ -24,7 +25,7 @@ cut_pair pair = (cut_number pair.0, cut_number pair.1)
 
 -- the statement to load a program whose code these digits spell
 abbrev pub load_of : List ℕ → ℕ → List ℕ → Option Statement
-load_of name record_length digits = option_then (hex digits) (λ code. Some (Asks (LoadProgram name (record { code = code; record_length = record_length }))))
+load_of name record_length digits = option_then (hex digits) (λ code. Some (Asks (LoadProgram name (without_table code record_length))))
 
 -- the statement to run a program with the argument that these digits spell, over these vertices
 abbrev pub run_of : List ℕ → List ℕ → Reduction → List ℕ → List (List ℕ) → Option Statement

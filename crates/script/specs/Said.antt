@@ -1,6 +1,6 @@
 -- What the code's lines stand for, where numbers are cut at 2^64 - 1.
 use Rattle.std.specs.Prelude.{ℕ, ◌-◌, ◌^◌, min, if◌then◌else◌, List, [], ◌∷◌, map, Option, Some, None}
-use Rattle.bpf_image.specs.Program.{Program}
+use Rattle.bpf_image.specs.Program.{Program, without_table}
 use Rattle.past_model.specs.declared.edit.Edit.{Edit}
 use Rattle.past_model.specs.declared.edit.Edit.TheVariants.{Insert, Remove}
 use Rattle.session_model.specs.Commands.{Command, MakeGraph, PublishBatch, LoadProgram, TakePin, RunProgram, TellHome, ListEdges}
@@ -25,7 +25,7 @@ cut_batch_line (OneEdit e) = OneEdit (cut_edit e)
 cut_batch_line EndBatch = EndBatch
 
 abbrev pub cut_program : Program → Program
-cut_program p = record { code = p.code; record_length = cut_number p.record_length }
+cut_program p = record { code = p.code; record_length = cut_number p.record_length; table = p.table }
 
 -- the numbers of a command that stand on its line
 abbrev pub cut_command : Command → Command
@@ -53,7 +53,7 @@ abbrev pub said_statement : CodeStatement → Statement
 said_statement (statements.Graph n) = Asks (MakeGraph n)
 said_statement (statements.Batch feed) = BeginBatch feed
 said_statement (statements.Code name record_length code) =
-    Asks (LoadProgram name.now (record { code = code.items; record_length = record_length }))
+    Asks (LoadProgram name.now (without_table code.items record_length))
 said_statement (statements.Program name record_length) = BeginProgram name.now record_length
 said_statement (statements.Pin name) = Asks (TakePin name.now)
 said_statement (statements.Run program pin reduction argument frontier) =

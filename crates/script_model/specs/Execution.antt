@@ -1,6 +1,7 @@
 -- What a line does to a script, and what is written for it.
 use Rattle.std.specs.Prelude.{ℕ, ◌+◌, ◌==◌, not, nat_le, nat_lt, if◌then◌else◌, Bool, false, List, [], ◌∷◌, ◌++◌, length, Option, Some, None, Result, Ok, Err, is_some}
 use Rattle.std.specs.List.{list_all}
+use Rattle.bpf_image.specs.Program.{without_table}
 use Rattle.past_model.specs.declared.edit.Edit.{Edit}
 use Rattle.bpf_asm.specs.declared.errors.AssembleError.{AssembleError}
 use Rattle.bpf_asm.specs.Assembly.{assembly}
@@ -83,7 +84,7 @@ one_line bytes begun s =
 -- what the assembler made of a program's lines
 abbrev pub after_assembly : Result (List ℕ) AssembleError → OpenProgram → Script → Execution
 after_assembly (Ok code) begun s =
-    execution_of (response (LoadProgram begun.name (record { code = code; record_length = begun.record_length })) s.session) s
+    execution_of (response (LoadProgram begun.name (without_table code begun.record_length)) s.session) s
 after_assembly (Err e) begun s = Says (assembler_text begun.name e) (outside_blocks s s.session)
 
 abbrev pub end_program : OpenProgram → Script → Execution

@@ -1,5 +1,6 @@
 -- What the words of a line say, before anything is known of names and graphs.
 use Rattle.std.specs.Prelude.{ℕ, if◌then◌else◌, Bool, false, List, [], ◌∷◌, Option, Some, None, option_map, codes}
+use Rattle.bpf_image.specs.Program.{without_table}
 use Rattle.past_model.specs.declared.edit.Edit.{Edit}
 use Rattle.past_model.specs.declared.edit.Edit.TheVariants.{Insert, Remove}
 use Rattle.map_model.specs.declared.reduction.Reduction.{Reduction}
@@ -50,7 +51,7 @@ batch_statement _ = None
 
 abbrev pub code_statement : List (List ℕ) → Option Statement
 code_statement (name ∷ length ∷ digits ∷ []) =
-    under_name name (option_then (number length) (λ record_length. option_then (hex digits) (λ code. Some (Asks (LoadProgram name (record { code = code; record_length = record_length }))))))
+    under_name name (option_then (number length) (λ record_length. option_then (hex digits) (λ code. Some (Asks (LoadProgram name (without_table code record_length))))))
 code_statement _ = None
 
 abbrev pub program_statement : List (List ℕ) → Option Statement

@@ -5,7 +5,7 @@ use Rattle.std.specs.Option.{option_copied}
 use Rattle.std.specs.declared.sync.Arc.{Arc}
 use Rattle.std.specs.declared.alloc.Global.{Global}
 use Rattle.std.specs.Arc.{arc_value}
-use Rattle.bpf_image.specs.Program.{Program}
+use Rattle.bpf_image.specs.Program.{Program, without_table}
 use Rattle.map_model.specs.declared.listed_edge.ListedEdge.{ListedEdge}
 use Rattle.past_model.specs.declared.entry.Entry.{Entry}
 use Rattle.past_model.specs.Past.{Past}
@@ -56,7 +56,7 @@ abbrev pub command_of : GivenCommand → Command
 command_of (commands.MakeGraph vertices) = MakeGraph vertices
 command_of (commands.PublishBatch feed edits) = PublishBatch feed edits.items
 command_of (commands.LoadProgram name record_length code) =
-    LoadProgram name.now (record { code = code.items; record_length = record_length })
+    LoadProgram name.now (without_table code.items record_length)
 command_of (commands.TakePin name) = TakePin name.now
 command_of (commands.RunProgram program pin reduction argument frontier) =
     RunProgram program.now pin.now reduction argument.now frontier.now

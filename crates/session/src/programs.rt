@@ -1,7 +1,7 @@
 //! The programs of a session.
 
 ghost use Rattle.std.specs.Prelude.{◌≡◌, IfSome, IfNone, is_some};
-ghost use Rattle.bpf_image.specs.Program.{IsRecordLength};
+ghost use Rattle.bpf_image.specs.Program.{IsRecordLength, without_table};
 ghost use Rattle.verifier.specs.Verdict.{verdict};
 ghost use Rattle.session_model.specs.Faults.{program_fault};
 ghost use Rattle.session_model.specs.Responses.{load_response, code_response, verdict_response, is_code};
@@ -49,7 +49,7 @@ impl Session {
         code: Vec<u8>,
     ) -> Result<Answer<'a>, CommandError>
         ensures { Performs (load_response name.now
-            (record { code = code.items; record_length = record_length }) self.old) result self.old self.new }
+            (without_table code.items record_length) self.old) result self.old self.new }
     {
         if let Some(fault) = self.program_fault(name, record_length) {
             return Err(CommandError::Fault(fault));
@@ -93,8 +93,8 @@ impl Session {
 /// The image of some code, where its length is allowed.
 fn image_of(record_length: u16, code: Vec<u8>) -> Option<Image>
     requires { IsRecordLength record_length }
-    ensures made { IfSome result (λ image. image ≡ record { code = code.items; record_length = record_length }) }
-    ensures fits { is_some result ≡ is_code (record { code = code.items; record_length = record_length }) }
+    ensures made { IfSome result (λ image. image ≡ without_table code.items record_length) }
+    ensures fits { is_some result ≡ is_code (without_table code.items record_length) }
 {
     match Image::new(record_length, code) {
         Ok(image) => Some(image),

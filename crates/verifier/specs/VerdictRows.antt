@@ -1,6 +1,7 @@
 -- Worked programs of several functions, with records of 16 bytes, and the verdict on each. They follow from
 -- the definitions by computing.
 use Rattle.std.specs.Prelude.{◌≡◌, ℕ, List, [], ◌∷◌, ◌++◌}
+use Rattle.bpf_image.specs.Program.{without_table}
 use Rattle.bpf_model.specs.CallRows.{code_unit, exit, call_over, set_r0, kept_register, nine_deep}
 use Rattle.bpf_model.specs.declared.cause.Cause.{Cause}
 use Rattle.bpf_model.specs.declared.cause.Cause.TheVariants.{JumpOut, CallTarget, FallsOff, TooDeep, UnsetRegister}
@@ -31,7 +32,7 @@ abbrev pub stack_is_lent : List ℕ
 stack_is_lent = code_unit 0xbf 0xa1 0 0 ++ call_over 1 ++ exit ++ code_unit 0xbf 0x10 0 0 ++ exit
 
 abbrev pub of_code : List ℕ → Verdict
-of_code code = verdict (record { code = code; record_length = 16 })
+of_code code = verdict (without_table code 16)
 
 abbrev pub refusal_at : Cause → ℕ → Verdict
 refusal_at cause pc = Refused (record { cause = cause; pc = pc })

@@ -1,17 +1,30 @@
-use Rattle.std.proofs.Common.{◌≡◌, ℕ, ◌-◌, List, length, take, drop, ap, sym, ◌∙◌}
-use Rattle.std.proofs.Math.Seq.{take-length}
-use Rattle.std.proofs.lemmas.List.{length-drop}
-use Rattle.bpf_image.specs.Format.{image_bytes}
-use Rattle.bpf_image.proofs.HeaderLaws.{header_whole}
-use Rattle.bpf_image.proofs.FormatLaws.{made, bytes_again}
+use Rattle.std.proofs.Common.{◌≡◌, Result, Ok, Err, sym, ap, ◌∙◌}
+use Rattle.bpf_image.specs.declared.image_error.ImageError.{ImageError}
+use Rattle.bpf_image.specs.Program.{Program}
+use Rattle.bpf_image.specs.Reading.{header_of}
+use Rattle.bpf_image.proofs.HeaderLaws.{header_whole, header_only, header_fault, same_fault}
 use Rattle.bpf_image.proofs.image.Image.load.Goals as goal
 
-pub returns-clause-made : goal.returns-clause-made
-returns-clause-made c =
-    let bytes = c.args.bytes.now in
-    let header = header_whole bytes c.in_ok-record_length.record_length (sym c.in_ok-record_length.ensures) in
-    let all : take (length bytes - 8) (drop 8 bytes) ≡ drop 8 bytes = ap (λ (n : ℕ). take n (drop 8 bytes)) (sym (length-drop 8 bytes)) ∙ take-length (drop 8 bytes) in
-    let code : c.in_ok-code.code.items ≡ drop 8 bytes = c.in_ok-code.ensures.items_if_clones_equal (λ x y same. same) ∙ all in
-    ap (λ (items : List ℕ). image_bytes (made items c.in_ok-record_length.record_length)) code
-    ∙ ap (λ (n : ℕ). image_bytes (made (drop 8 bytes) n)) header.1
-    ∙ bytes_again bytes (λ i. (c.type_inv.bytes i).fits) header.0
+abbrev refused : ImageError → Result Program ImageError
+refused error = Err error
+
+pub image_of-requires-clause-whole : goal.image_of-requires-clause-whole
+image_of-requires-clause-whole c =
+    let is : header_of c.args.bytes.now ≡ Ok c.in-Ok.record_length = sym c.read_header.ensures ∙ c.in-Ok.is in
+    (header_whole c.args.bytes.now c.in-Ok.record_length is).0
+
+pub returns-in-Err-clause-fault : goal.returns-in-Err-clause-fault
+returns-in-Err-clause-fault c =
+    let is : header_of c.args.bytes.now ≡ Err c.in-Err.error = sym c.read_header.ensures ∙ c.in-Err.is in
+    header_fault c.args.bytes.now c.in-Err.error is
+
+pub returns-in-Err-clause-only : goal.returns-in-Err-clause-only
+returns-in-Err-clause-only c error other fault =
+    let is : header_of c.args.bytes.now ≡ Err c.in-Err.error = sym c.read_header.ensures ∙ c.in-Err.is in
+    let same : c.in-Err.error ≡ error = same_fault c.in-Err.error error (sym is ∙ header_only c.args.bytes.now error other fault) in
+    ap refused same
+
+pub returns-in-Err-image_of-clause-fault : goal.returns-in-Err-image_of-clause-fault
+returns-in-Err-image_of-clause-fault c =
+    let is : header_of c.args.bytes.now ≡ Ok c.in-Ok.record_length = sym c.read_header.ensures ∙ c.in-Ok.is in
+    (header_whole c.args.bytes.now c.in-Ok.record_length is).0
