@@ -46,6 +46,25 @@ class Package(unittest.TestCase):
         for block in blocks:
             exec(compile(block, "README.md", "exec"), {})
 
+    def test_cookbook(self):
+        """Its example in Python runs beside the files of its programs in C."""
+        try:
+            import elftools  # noqa: F401
+        except ImportError:
+            self.skipTest("not there: elftools")
+        page = (TOP / "docs" / "COOKBOOK.md").read_text()
+        before = os.getcwd()
+        with tempfile.TemporaryDirectory() as folder:
+            for block in re.findall(r"^```c\n(.*?)^```", page, re.M | re.S):
+                name = re.findall(r"^u64 (\w+)\(struct edge", block, re.M)[-1]
+                (pathlib.Path(folder) / f"{name}.c").write_text(block)
+            os.chdir(folder)
+            try:
+                for block in python_blocks(TOP / "docs" / "COOKBOOK.md"):
+                    exec(compile(block, "COOKBOOK.md", "exec"), {})
+            finally:
+                os.chdir(before)
+
     def test_random_batches(self):
         """After each batch the pinned version has the edges of a set, and an earlier pin those of its own moment."""
         chance, count = random.Random(11), 400
