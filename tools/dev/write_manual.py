@@ -96,7 +96,9 @@ def kind_of(line, before):
 
 
 def block(kind, lines):
-    """A block as roff."""
+    """A block as roff. A picture has no place there."""
+    if lines[0].startswith("!["):
+        return []
     if kind == "heading":
         level, title = re.match(r"(#+) (.*)", lines[0]).groups()
         return [f"{'.SH' if level == '##' else '.SS'} {inline(title.upper() if level == '##' else title)}"] if level != "#" else []
