@@ -70,7 +70,7 @@ class ArgumentLength(Error):
 
 
 class TooManyNames(Error):
-    """The process keeps 256 programs and 256 pins at most, and none of them can be dropped."""
+    """The process keeps 256 programs and 256 pinned versions at most, and none of them can be dropped."""
 
 
 class NoMemory(Error):

@@ -114,7 +114,8 @@ class Store:
     def __init__(self, process, vertices):
         self._process, self.vertices = process, vertices
         self._batches, self._pins, self._names = 0, 0, itertools.count()
-        self._programs = {}
+        # The last pin, and how many batches were published before it.
+        self._last, self._programs = None, {}
         process.ask(f"graph {vertices}\n".encode())
 
     def batch(self, feed="A", inserts=((), ()), removes=((), ())):
@@ -135,13 +136,16 @@ class Store:
         return Counts(int(words[3]), int(words[5]), int(words[7]))
 
     def pin(self):
-        """The last version. It stays as it is while batches come. A process keeps at most 256 (`TooManyNames`)."""
-        if self._pins >= MOST_NAMES:
-            raise TooManyNames(f"the process keeps at most {MOST_NAMES} pins")
-        self._pins += 1
-        name = f"v{next(self._names)}"
-        words, _ = self._process.ask(f"pin {name}\n".encode())
-        return Version(self, name, int(words[3]), int(words[5]))
+        """The last version. It stays as it is while batches come. A process keeps at most 256 versions (`TooManyNames`)."""
+        batches = self._batches
+        if self._last is None or self._last[0] != batches:
+            if self._pins >= MOST_NAMES:
+                raise TooManyNames(f"the process keeps at most {MOST_NAMES} pinned versions")
+            self._pins += 1
+            name = f"v{next(self._names)}"
+            words, _ = self._process.ask(f"pin {name}\n".encode())
+            self._last = batches, name, int(words[3]), int(words[5])
+        return Version(self, *self._last[1:])
 
     def _name_of(self, program):
         """The name under which the process has a program; it is loaded at its first use."""

@@ -183,8 +183,12 @@ class Package(unittest.TestCase):
             self.assertEqual(store.batch("A").version, number + 1)
         with self.assertRaises(edgebpf.LogFull):
             store.batch("A")
-        for _ in range(256):
-            store.pin()
+        # Pins without a batch between them are of one version.
+        self.assertEqual({store.pin().number for _ in range(300)}, {4_096})
+        store = self.store(1)
+        for number in range(256):
+            self.assertEqual(store.pin().number, number)
+            store.batch("B")
         with self.assertRaises(edgebpf.TooManyNames):
             store.pin()
 
