@@ -1,0 +1,162 @@
+"""The service under requests while batches come: no answer is wrong, and none mixes two versions."""
+import http.client
+import json
+import os
+import pathlib
+import random
+import signal
+import socket
+import struct
+import subprocess
+import sys
+import threading
+import time
+import unittest
+
+HERE = pathlib.Path(__file__).resolve().parent
+try:
+    import aiohttp  # noqa: F401
+    import numpy  # noqa: F401
+
+    MISSING = ""
+except ImportError as error:
+    MISSING = error.name
+VERTICES, BATCHES = 300, 80
+REQUESTS = int(os.environ.get("SERVICE_REQUESTS", "2000"))
+READERS = 4
+
+
+class Client:
+    """One connection, over which requests go in turn."""
+
+    def __init__(self, port):
+        self.connection = http.client.HTTPConnection("127.0.0.1", port, timeout=60)
+
+    def ask(self, method, path, body=None):
+        sent = body if body is None or isinstance(body, bytes) else json.dumps(body).encode()
+        self.connection.request(method, path, sent)
+        answer = self.connection.getresponse()
+        return answer.status, answer.headers, answer.read()
+
+    def told(self, method, path, body=None):
+        status, _, text = self.ask(method, path, body)
+        return status, json.loads(text)
+
+
+@unittest.skipIf(MISSING, f"not there: {MISSING}")
+class Service(unittest.TestCase):
+    def setUp(self):
+        with socket.socket() as free:
+            free.bind(("127.0.0.1", 0))
+            self.port = free.getsockname()[1]
+        words = [sys.executable, HERE / "server.py", "--vertices", str(VERTICES), "--port", str(self.port)]
+        self.server = subprocess.Popen(words)
+        for _ in range(200):
+            client = Client(self.port)
+            try:
+                client.ask("GET", "/metrics")
+                break
+            except OSError:
+                time.sleep(0.05)
+            finally:
+                client.connection.close()
+        self.client = Client(self.port)
+        for name, text in (("target", "ldxw r0, [r1+4]; exit"), ("degree", "ldxw r0, [r1+12]; exit")):
+            self.assertEqual(self.client.told("POST", "/programs", {"name": name, "text": text})[0], 201)
+
+    def tearDown(self):
+        self.client.connection.close()
+        self.server.send_signal(signal.SIGINT)
+        self.assertEqual(self.server.wait(20), 0)
+
+    def write(self, history):
+        """Batches, and the edges of each version after them."""
+        chance, client, edges = random.Random(8), Client(self.port), set()
+        for _ in range(BATCHES):
+            inserts, removes = ([[chance.randrange(VERTICES), chance.randrange(20)] for _ in range(chance.randrange(60))] for _ in range(2))
+            _, told = client.told("POST", "/batches", {"feed": chance.choice("AB"), "inserts": inserts, "removes": removes})
+            later = (edges | set(map(tuple, inserts))) - set(map(tuple, removes))
+            self.assertEqual((told["added"], told["removed"]), (len(later - edges), len(edges - later)))
+            edges = later
+            history[told["version"]] = edges
+            time.sleep(0.02)
+        client.connection.close()
+
+    def read(self, seed, answers):
+        chance, client = random.Random(seed), Client(self.port)
+        for _ in range(REQUESTS // READERS):
+            frontier = sorted(chance.sample(range(VERTICES), chance.randrange(1, 40))) if chance.random() < 0.7 else None
+            if chance.random() < 0.2:
+                vertex = chance.randrange(VERTICES)
+                answers.append(("neighbours", vertex, *client.told("GET", f"/neighbours/{vertex}")))
+            else:
+                program, reduction = chance.choice(["target", "degree"]), chance.choice(["sum", "max"])
+                asked = {"program": program, "reduction": reduction, "frontier": frontier}
+                answers.append(("run", asked, *client.told("POST", "/runs", asked)))
+        client.connection.close()
+
+    def wanted(self, edges, asked):
+        """The values of a run over some edges."""
+        lists = {}
+        for source, target in edges:
+            lists.setdefault(source, []).append(target)
+        combine = sum if asked["reduction"] == "sum" else lambda numbers: max(numbers, default=0)
+        vertices = range(VERTICES) if asked["frontier"] is None else asked["frontier"]
+        numbers = {"target": lambda own: own, "degree": lambda own: [len(own)] * len(own)}[asked["program"]]
+        return [combine(numbers(lists.get(vertex, []))) for vertex in vertices]
+
+    def test_under_load(self):
+        history, answers = {0: set()}, [[] for _ in range(READERS)]
+        threads = [threading.Thread(target=self.write, args=(history,))]
+        threads += [threading.Thread(target=self.read, args=(seed, own)) for seed, own in enumerate(answers)]
+        for thread in threads:
+            thread.start()
+        for thread in threads:
+            thread.join()
+        self.assertEqual(sorted(history), list(range(BATCHES + 1)))
+        for own in answers:
+            self.assertEqual(len(own), REQUESTS // READERS)
+            versions = [told["version"] for _, _, _, told in own]
+            self.assertEqual(versions, sorted(versions))
+            for kind, asked, status, told in own:
+                self.assertEqual(status, 200)
+                edges = history[told["version"]]
+                if kind == "neighbours":
+                    self.assertEqual(told["neighbours"], sorted(target for source, target in edges if source == asked))
+                else:
+                    self.assertEqual(told["values"], self.wanted(edges, asked))
+        self.assertIn(f"edgebpf_version {BATCHES}\n", self.client.ask("GET", "/metrics")[2].decode())
+
+    def test_bytes(self):
+        self.client.told("POST", "/batches", {"inserts": [[0, 7], [2, 9]]})
+        status, heads, body = self.client.ask("POST", "/runs?format=bytes", {"program": "target", "frontier": [0, 1, 2]})
+        self.assertEqual((status, heads["X-Version"], heads["X-Total"]), (200, "1", "16"))
+        self.assertEqual(struct.unpack("<3Q", body), (7, 0, 9))
+
+    def test_wrong_requests(self):
+        """Each is answered with its error, and the store goes on."""
+        for path, body, status in (
+            ("/batches", b"{", 400), ("/batches", [1], 400), ("/batches", {"inserts": [[1]]}, 400), ("/batches", {"feed": "C"}, 400),
+            ("/batches", {"inserts": [[0, VERTICES]]}, 422), ("/batches", {"inserts": [[0, "x"]]}, 400), ("/batches", b" " * (5 << 20), 413),
+            ("/programs", {"name": "p", "text": "jmp x"}, 422), ("/programs", {"name": "p", "code": "zz"}, 400), ("/programs", {"name": 7}, 400),
+            ("/runs", {"program": "none"}, 404), ("/runs", {"program": "target", "frontier": [1, 0]}, 400),
+            ("/runs", {"program": "target", "argument": "00"}, 422), ("/runs", {"program": "target", "reduction": "mean"}, 400),
+        ):
+            with self.subTest(path=path, body=body if len(body) < 100 else "long"):
+                client = Client(self.port)
+                self.assertEqual(client.ask("POST", path, body)[0], status)
+                client.connection.close()
+        self.assertEqual(self.client.ask("GET", f"/neighbours/{VERTICES}")[0], 422)
+        status, told = self.client.told("POST", "/programs", {"name": "p", "text": "ldxw r0, [r1+13]; exit"})
+        self.assertEqual((status, told["error"], told["cause"]), (422, "Refused", 11))
+        self.assertIn("rule 11", told["explanation"])
+        self.assertEqual(self.client.told("POST", "/batches", {"inserts": [[0, 1]]}), (200, {"version": 1, "added": 1, "removed": 0}))
+
+    def test_page(self):
+        status, heads, body = self.client.ask("GET", "/")
+        self.assertEqual((status, heads["Content-Type"].split(";")[0]), (200, "text/html"))
+        self.assertIn(b"The greatest rows of a run", body)
+
+
+if __name__ == "__main__":
+    unittest.main()
