@@ -26,14 +26,14 @@ LIST = [
         ("bpf_locality/specs/Locality.antt", "what a step touches"),
     ]),
     ("What a version is", [
-        ("past_model/src/limits.rt", "how many vertices, edits, batches"),
+        ("past_model/src/limits.rt", "how many vertices, edits, batches, feeds"),
         ("graph_model/specs/Graph.antt", "graphs, neighbours, degree"),
         ("graph_model/specs/Views.antt", "what a graph answers a program"),
         ("past_model/specs/Edits.antt", "what a batch does"),
         ("past_model/specs/Past.antt", "the replay of a log"),
     ]),
     ("What may happen, in which order", [
-        ("store_model/src/limits.rt", "feeds, readers, places of the queue"),
+        ("store_model/src/limits.rt", "readers, places of the queue"),
         ("store_model/src/event.rt", "the events, as a type (its call is inner)"),
         ("store_model/src/reply.rt", "the answers, as a type"),
         ("store_model/specs/Core.antt", "all that the store has"),

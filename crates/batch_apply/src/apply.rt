@@ -1,6 +1,4 @@
 //! A batch on a table of shards.
-ghost use Rattle.std.specs.Prelude.{◌≡◌, ◌↔◌, true};
-ghost use Rattle.past_model.specs.Edits.{AreEditsBelow};
 ghost use Rattle.migration.specs.Table.{IsOfGraph};
 ghost use Rattle.batch_apply.specs.Applied.{IsApplied};
 
@@ -8,17 +6,10 @@ use crate::edited::edit_table;
 use crate::errors::ApplyError;
 use gates::{Gate, Workers};
 use migration::{Counts, Table};
-use past_model::{Batch, Edit, MOST_EDITS};
+use past_model::{Batch, MOST_EDITS, are_below};
 use std::alloc::Global;
 use std::sync::Wait;
 use std::thread::Threads;
-
-/// Whether the ends of all edits are below a number of vertices.
-pub(crate) fn are_below(edits: &[Edit], vertices: u32) -> bool
-    ensures { (result ≡ true) ↔ AreEditsBelow vertices edits.now }
-{
-    edits.iter().all(|edit| edit.source() < vertices && edit.target() < vertices)
-}
 
 /// The table of a graph after a batch, and what the batch did to the graph. The table stays. `TooManyEdits` exactly
 /// above 65,536 edits; else `VertexRange` exactly where an edit names a vertex that the graph does not have; then

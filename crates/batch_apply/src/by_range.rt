@@ -2,11 +2,10 @@
 ghost use Rattle.std.specs.Prelude.{◌≡◌, IfOk, IfErr};
 ghost use Rattle.batch_apply.specs.Splits.{IsSplitByRange};
 
-use crate::apply::are_below;
 use crate::errors::ApplyError;
 use crate::grouped::linked;
 use crate::runs::{cut, sorted};
-use past_model::{Batch, Edit, MOST_VERTICES};
+use past_model::{Batch, Edit, MOST_VERTICES, are_below};
 use std::alloc::{AllocError, Global};
 use std::thread::Threads;
 

@@ -1,6 +1,6 @@
 //! All ends of one store, for tests.
 ghost use Rattle.std.specs.Prelude.{◌<◌};
-ghost use Rattle.store_model.specs.declared.limits.TheConstants.{FEEDS};
+ghost use Rattle.past_model.specs.declared.limits.TheConstants.{FEEDS};
 
 use crate::edits::batch_of;
 use std::alloc::Global;

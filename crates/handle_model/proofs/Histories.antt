@@ -5,7 +5,8 @@ use Rattle.store_model.specs.declared.event.Event.{Event}
 use Rattle.store_model.specs.declared.event.Event.TheVariants.{Submit, Take}
 use Rattle.store_model.specs.declared.reply.Reply.{Reply}
 use Rattle.store_model.specs.declared.reply.Reply.TheVariants.{Done}
-use Rattle.store_model.specs.Core.{Core, entries, of_feed}
+use Rattle.past_model.specs.Past.{of_feed}
+use Rattle.store_model.specs.Core.{Core, entries}
 use Rattle.store_model.specs.Events.{Ran}
 use Rattle.handle_model.specs.Sights.{FeedSees, PublisherSees}
 use Rattle.handle_model.specs.Calls.{IsNext, waiting_after, publication, all_done}

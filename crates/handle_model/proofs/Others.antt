@@ -8,7 +8,8 @@ use Rattle.store_model.specs.declared.event.Event.{Event}
 use Rattle.store_model.specs.declared.event.Event.TheVariants.{Submit, Take, Part, Publish, Pin, Lend}
 use Rattle.store_model.specs.declared.reply.Reply.{Reply}
 use Rattle.store_model.specs.declared.reply.Reply.TheVariants.{Done, Refused, Slice, End}
-use Rattle.store_model.specs.Core.{Core, Holding, run_of, entries, of_feed}
+use Rattle.past_model.specs.Past.{of_feed}
+use Rattle.store_model.specs.Core.{Core, Holding, run_of, entries}
 use Rattle.store_model.specs.Events.{IsBeginning, can, Answers, after, after_take, after_publish, after_lend, Happens, accepted_by}
 use Rattle.store_model.proofs.Entries.{entries_after, count_after}
 use Rattle.handle_model.specs.Laws.{is_submission_of, is_of_publisher, is_of_reader, OthersLeave, EachToItsOwn}

@@ -4,12 +4,12 @@ use Rattle.past_model.specs.declared.edit.Edit.{Edit}
 use Rattle.past_model.specs.declared.entry.Entry.{Entry}
 use Rattle.graph_model.specs.Graph.{neighbours}
 use Rattle.past_model.specs.Edits.{AreEditsBelow}
-use Rattle.past_model.specs.Past.{Past, graph_of, longer}
-use Rattle.store_model.specs.declared.limits.TheConstants.{FEEDS}
+use Rattle.past_model.specs.Past.{Past, graph_of, longer, of_feed}
+use Rattle.past_model.specs.declared.limits.TheConstants.{FEEDS}
 use Rattle.store_model.specs.declared.event.Event.{Event}
 use Rattle.store_model.specs.declared.event.Event.TheVariants.{Submit, Take, Part, Publish, Pin, Lend}
 use Rattle.store_model.specs.declared.reply.Reply.{Reply}
-use Rattle.store_model.specs.Core.{Core, run_of, entries, of_feed}
+use Rattle.store_model.specs.Core.{Core, run_of, entries}
 use Rattle.store_model.specs.Events.{IsBeginning, Steps, Ran}
 use Rattle.handle_model.specs.Sights.{PublisherSees}
 use Rattle.handle_model.specs.Calls.{IsSubmission, IsPublication, IsTaking, IsPin, IsLend, IsNext, AreRangesOf, publication}

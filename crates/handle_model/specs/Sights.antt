@@ -1,8 +1,8 @@
 -- What each handle of a store sees of it.
 use Rattle.std.specs.Prelude.{◌≡◌, ℕ, List, [], ◌++◌, Option, Some, option_map}
 use Rattle.past_model.specs.declared.entry.Entry.{Entry}
-use Rattle.past_model.specs.Past.{Past}
-use Rattle.store_model.specs.Core.{Core, Holding, Run, run_of, words_of, entries, of_feed}
+use Rattle.past_model.specs.Past.{Past, of_feed}
+use Rattle.store_model.specs.Core.{Core, Holding, Run, run_of, words_of, entries}
 
 -- a feed sees how many vertices there are, and all that came by it, in order
 pub record FeedSees (s : Core) (n feed : ℕ) (sent : List Entry) : Type 0 where

@@ -7,7 +7,7 @@ use prog.Atomic.{either}
 use Rattle.logbook.specs.Pages.{Cell, cell, keeps, no_nib, step, Moves, Goes}
 use Rattle.past_model.specs.declared.entry.Entry.{Entry}
 use Rattle.history.specs.Rule.{IsKept, Adds}
-use Rattle.history.proofs.Beginnings.{prefix_whole}
+use Rattle.past_model.proofs.Beginnings.{prefix_whole}
 
 abbrev shown : List Entry → List Entry
 shown log = []

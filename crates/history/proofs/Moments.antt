@@ -1,13 +1,13 @@
 -- Moments of one history.
 use Rattle.std.proofs.Common.{◌≡◌, ◌≤◌, sym, ◌∙◌, refl}
 use Rattle.past_model.specs.declared.entry.Entry.{Entry}
-use Rattle.past_model.specs.Past.{number_of}
+use Rattle.past_model.specs.Past.{past_in, number_of}
 use Rattle.history.specs.Moment.{Moment, after_entry, OneStore, Begins}
 use Rattle.history.specs.Laws.{InOrder}
-use Rattle.history.proofs.Beginnings.{prefix_self, prefix_more, prefix_trans, prefix_shorter, prefix_whole, prefix_length}
+use Rattle.past_model.proofs.Beginnings.{prefix_self, prefix_more, prefix_trans, prefix_shorter, prefix_whole, prefix_length}
 
 pub same_moment : (a b : Moment) → OneStore a b → a.past.log ≡ b.past.log → a ≡ b
-same_moment a b one logs = λ i. record { past = record { vertex_count = sym one.1 i; log = logs i }; book = sym one.0 i }
+same_moment a b one logs = λ i. record { past = past_in (sym one.1 i) (logs i); book = sym one.0 i }
 
 pub one_store_back : (a b : Moment) → OneStore a b → OneStore b a
 one_store_back a b one = (sym one.0, sym one.1)

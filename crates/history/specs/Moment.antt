@@ -3,7 +3,7 @@ use Rattle.std.specs.Prelude.{◌≡◌, ℕ, List, [], ◌∷◌, ◌++◌, len
 use mathlib.Core.List.{IsPrefix}
 use Rattle.logbook.specs.Pages.{Book}
 use Rattle.past_model.specs.declared.entry.Entry.{Entry}
-use Rattle.past_model.specs.Past.{Past, opening, longer}
+use Rattle.past_model.specs.Past.{Past, past_in, opening, longer}
 
 -- a version's moment: what it is the replay of, and the book in which its store keeps its history
 pub record Moment : Type 0 where
@@ -37,7 +37,7 @@ beginning_of m = record { log = m.past.log; book = m.book }
 
 -- the moment of a version with so many vertices and these batches
 abbrev pub moment_of : ℕ → Beginning → Moment
-moment_of n k = record { past = record { vertex_count = n; log = k.log }; book = k.book }
+moment_of n k = record { past = past_in n k.log; book = k.book }
 
 -- no batch
 abbrev pub no_batch : Book → Beginning

@@ -1,3 +1,5 @@
 pub mod Batches
+pub mod Beginnings
+pub mod Below
 pub mod Pasts
 pub mod HomeLemmas

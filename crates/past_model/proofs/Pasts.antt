@@ -1,7 +1,7 @@
 -- The graph of a past, and a past with one entry more.
 use Rattle.std.proofs.Common.{◌≡◌, ℕ, ◌+◌, List, [], ◌∷◌, ◌++◌, refl, ap, subst, ◌∙◌}
 use Rattle.std.specs.List.{AllByRecursion}
-use Rattle.std.proofs.lemmas.List.{length_push, same_from_push}
+use Rattle.std.proofs.lemmas.List.{length_push}
 use Rattle.std.proofs.lemmas.Bool.{false≢true}
 use Rattle.past_model.specs.declared.entry.Entry.{Entry}
 use Rattle.graph_model.specs.Graph.{Graph, IsGraph, empty_graph}
@@ -44,14 +44,3 @@ IsGraph-replay n (e ∷ log) g same below is =
 
 pub IsGraph-graph_of : ReplayIsGraph
 IsGraph-graph_of p is = IsGraph-replay p.vertex_count p.log (empty_graph p.vertex_count) refl is (IsGraph-empty_graph p.vertex_count)
-
--- a past that ends with an entry is the past before it, and that entry, and no other
-pub longer_same : (p q : Past) (e f : Entry) → longer p e ≡ longer q f → (p ≡ q) × (e ≡ f)
-longer_same p q e f h =
-    let logs : p.log ++ e ∷ [] ≡ q.log ++ f ∷ [] = ap (λ (r : Past). r.log) h in
-    let counts : p.vertex_count ≡ q.vertex_count = ap (λ (r : Past). r.vertex_count) h in
-    let parts = same_from_push p.log q.log e f logs in
-    (ap (λ n. past_of n p.log) counts ∙ ap (past_of q.vertex_count) parts.0, parts.1)
-  where
-    past_of : ℕ → List Entry → Past
-    past_of n log = record { vertex_count = n; log = log }

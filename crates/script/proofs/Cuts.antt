@@ -4,12 +4,13 @@ use Rattle.std.specs.Prelude.{map, nat_lt, option_map, is_some}
 use Rattle.std.specs.List.{list_all}
 use Rattle.std.proofs.lemmas.Bool.{cases_Bool, cases_lt, le-ltb, ltb-true, leb-true, and_parts}
 use Rattle.map_model.specs.declared.reduction.Reduction.{Reduction}
+use Rattle.past_model.specs.Edits.{is_edit_below}
 use Rattle.past_model.specs.Past.{Past}
 use Rattle.past_model.specs.declared.edit.Edit.{Edit}
 use Rattle.past_model.specs.declared.edit.Edit.TheVariants.{Insert, Remove}
 use Rattle.session_model.specs.Session.{Session}
 use Rattle.session_model.specs.Commands.{Command, MakeGraph, PublishBatch, LoadProgram, TakePin, RunProgram, TellHome, ListEdges}
-use Rattle.session_model.specs.Faults.{is_edit_of, is_vertex_count, is_record_length, AreFewVertices, HasFewVertices}
+use Rattle.session_model.specs.Faults.{is_vertex_count, is_record_length, AreFewVertices, HasFewVertices}
 use Rattle.session_model.specs.Responses.{response, graph_response, load_response, run_response, home_response}
 use Rattle.script_model.specs.State.{OpenBatch, Script}
 use Rattle.script_model.specs.Parsing.{Statement, Asks, BeginBatch, BeginProgram, statement, BatchLine, OneEdit, EndBatch, batch_line}
@@ -158,11 +159,11 @@ outside-cut words s few = line_of-cut (saying_of words) s few ∙ line_of-saying
 
 -- ---- edits
 
-edit_in-cut : (e : Edit) (past : Past) → past.vertex_count ≤ 1048576 → is_edit_of past (cut_edit e) ≡ is_edit_of past e
+edit_in-cut : (e : Edit) (past : Past) → past.vertex_count ≤ 1048576 → is_edit_below past.vertex_count (cut_edit e) ≡ is_edit_below past.vertex_count e
 edit_in-cut (Insert u v) past small = rw (ltb-cut u past.vertex_count small, ltb-cut v past.vertex_count small) refl
 edit_in-cut (Remove u v) past small = rw (ltb-cut u past.vertex_count small, ltb-cut v past.vertex_count small) refl
 
-same_edit : (e : Edit) (past : Past) → past.vertex_count ≤ 1048576 → is_edit_of past e ≡ true → cut_edit e ≡ e
+same_edit : (e : Edit) (past : Past) → past.vertex_count ≤ 1048576 → is_edit_below past.vertex_count e ≡ true → cut_edit e ≡ e
 same_edit (Insert u v) past small is =
     let ends = and_parts _ _ is in
     let first : cut_number u ≡ u = cut_below u past.vertex_count small (ltb-true _ _ ends.0) in
@@ -177,7 +178,7 @@ same_edit (Remove u v) past small is =
 edit_at : (e : Edit) (begun : OpenBatch) (s : Script) (past : Option Past) → s.session.past ≡ past → AreFewVertices past → one_edit (cut_edit e) begun s ≡ one_edit e begun s
 edit_at e begun s None past-is few = rw past-is refl
 edit_at e begun s (Some past) past-is few =
-    elim (cases_Bool (is_edit_of past e)) [
+    elim (cases_Bool (is_edit_below past.vertex_count e)) [
       | inl is ↦ ap (λ (d : Edit). one_edit d begun s) (same_edit e past few is)
       | inr not_is ↦ rw (past-is, edit_in-cut e past few, not_is) refl
     ]

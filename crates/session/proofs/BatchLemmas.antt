@@ -1,13 +1,10 @@
 -- What is answered to a batch, test by test.
 use Rattle.std.proofs.Common.{◌≡◌, ℕ, Bool, true, false, ltb, leb, List, [], ◌∷◌, None, refl, ap, ◌∙◌, length}
-use Rattle.std.specs.List.{list_all}
-use Rattle.std.proofs.lemmas.Bool.{and_parts, ltb-true}
 use Rattle.past_model.specs.declared.edit.Edit.{Edit}
-use Rattle.past_model.specs.Edits.{AreEditsBelow}
 use Rattle.past_model.specs.Past.{Past, opening, longer, number_of}
 use Rattle.session_model.specs.declared.fault.Fault.TheVariants as faults
 use Rattle.session_model.specs.Session.{Session}
-use Rattle.session_model.specs.Faults.{is_batch_of, is_edit_of}
+use Rattle.session_model.specs.Faults.{is_batch_of}
 use Rattle.session_model.specs.Responses.{Answers, Fails, entry_of, published_answer, publish_response}
 use Rattle.session.specs.Handles.{StoreState}
 use Rattle.session.specs.Kept.{with_store}
@@ -16,14 +13,6 @@ use Rattle.session.specs.Kept.{with_store}
 pub same_test : (passed : Bool) (feed n : ℕ) (edits shown : List Edit) (past : Past) → passed ≡ is_batch_of feed shown (opening n) → shown ≡ edits → n ≡ past.vertex_count → passed ≡ is_batch_of feed edits past
 same_test passed feed n edits shown past test same count =
     test ∙ ap (λ (es : List Edit). is_batch_of feed es (opening n)) same ∙ ap (λ (m : ℕ). is_batch_of feed edits (opening m)) count
-
--- ends that pass the test are vertices
-pub edits_below : (past : Past) (edits : List Edit) → list_all (is_edit_of past) edits ≡ true → AreEditsBelow past.vertex_count edits
-edits_below past [] all = tt
-edits_below past (e ∷ edits) all =
-    let parts = and_parts _ _ all in
-    let ends = and_parts _ _ parts.0 in
-    ((ltb-true _ _ ends.0, ltb-true _ _ ends.1), edits_below past edits parts.1)
 
 pub batch_outside : (feed : ℕ) (edits : List Edit) (store : StoreState) (s : Session) → is_batch_of feed edits store.past ≡ false → publish_response feed edits (with_store s store) ≡ Fails faults.Range
 batch_outside feed edits store s outside = rw outside refl

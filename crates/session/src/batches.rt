@@ -1,10 +1,10 @@
 //! The batches of a session.
 
 ghost use Rattle.std.specs.Prelude.{◌≡◌, MatchOption, Some, true, false};
-ghost use Rattle.std.specs.List.{list_all};
+ghost use Rattle.past_model.specs.Edits.{is_edit_below};
 ghost use Rattle.past_model.specs.Past.{opening};
 ghost use Rattle.session_model.specs.Session.{Session as SessionState};
-ghost use Rattle.session_model.specs.Faults.{edit_fault, is_batch_of, is_edit_of, HasFewVertices};
+ghost use Rattle.session_model.specs.Faults.{edit_fault, is_batch_of, HasFewVertices};
 ghost use Rattle.session_model.specs.Responses.{publish_response};
 ghost use Rattle.session.specs.Edits.{edit_of, AddsEdit};
 ghost use Rattle.session.specs.Kept.{with_store};
@@ -15,12 +15,11 @@ use crate::error::CommandError;
 use crate::handles::Handles;
 use crate::session::Session;
 use gates::{Crew, Gate};
-use past_model::{Batch, Edit, MOST_BATCHES, MOST_EDITS};
+use past_model::{Batch, Edit, FEEDS, MOST_BATCHES, MOST_EDITS, are_below};
 use session_model::Fault;
 use std::alloc::Global;
 use std::sync::Wait;
 use std::thread::Threads;
-use store_model::FEEDS;
 
 /// An edit whose vertices are not tested: source and target.
 #[derive(Clone, Copy, Debug, PartialEq, Eq)]
@@ -103,8 +102,8 @@ fn publish<'a, Ga: Gate, R: Threads + Wait>(
 
 /// The edit, where its ends are vertices below a number of vertices.
 fn edit_below(edit: GivenEdit, vertices: u32) -> Option<Edit>
-    ensures { MatchOption result (is_edit_of (opening vertices) (edit_of edit) ≡ false)
-        (λ below. (is_edit_of (opening vertices) (edit_of edit) ≡ true) × (below ≡ edit_of edit)) }
+    ensures { MatchOption result (is_edit_below vertices (edit_of edit) ≡ false)
+        (λ below. (is_edit_below vertices (edit_of edit) ≡ true) × (below ≡ edit_of edit)) }
 {
     let vertices = u64::from(vertices);
     match edit {
@@ -123,15 +122,4 @@ fn is_batch(feed: u8, edits: &[Edit], vertices: u32) -> bool
     ensures { result ≡ is_batch_of feed edits.now (opening vertices) }
 {
     feed < FEEDS && are_below(edits, vertices)
-}
-
-/// Whether the ends of all edits are below a number of vertices.
-fn are_below(edits: &[Edit], vertices: u32) -> bool
-    ensures { result ≡ list_all (is_edit_of (opening vertices)) edits.now }
-{
-    edits.iter().all(|edit| match edit {
-        Edit::Insert(source, target) | Edit::Remove(source, target) => {
-            *source < vertices && *target < vertices
-        }
-    })
 }

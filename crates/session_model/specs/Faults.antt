@@ -3,14 +3,13 @@ use Rattle.std.specs.Prelude.{ℕ, ◌≤◌, ◌+◌, ◌==◌, ◌&&◌, not, 
 use Rattle.std.specs.List.{list_all}
 use Rattle.bpf_image.specs.declared.limits.TheConstants.{LEAST_RECORD_LENGTH, MOST_RECORD_LENGTH}
 use Rattle.past_model.specs.declared.edit.Edit.{Edit}
-use Rattle.past_model.specs.Edits.{source_of, target_of}
+use Rattle.past_model.specs.Edits.{is_edit_below, are_edits_below}
 use Rattle.past_model.specs.Past.{Past, number_of}
 use Rattle.session_model.specs.declared.fault.Fault.{Fault}
 use Rattle.session_model.specs.declared.fault.Fault.TheVariants as faults
-use Rattle.past_model.specs.declared.limits.TheConstants.{MOST_VERTICES, MOST_EDITS, MOST_BATCHES}
+use Rattle.past_model.specs.declared.limits.TheConstants.{MOST_VERTICES, MOST_EDITS, MOST_BATCHES, FEEDS}
 use Rattle.map_model.specs.declared.limits.TheConstants.{EDGE_BYTES}
 use Rattle.session_model.specs.declared.limits.TheConstants.{MOST_KEPT}
-use Rattle.store_model.specs.declared.limits.TheConstants.{FEEDS}
 use Rattle.session_model.specs.Session.{Session, program_named, pin_named}
 
 -- tests in their order: the first that holds tells the fault
@@ -35,19 +34,15 @@ is_record_length n = nat_le LEAST_RECORD_LENGTH n && nat_le n MOST_RECORD_LENGTH
 abbrev pub graph_fault : ℕ → Session → Option Fault
 graph_fault n s = first_fault ((is_some s.past, faults.Order) ∷ (not (is_vertex_count n), faults.Range) ∷ [])
 
--- both ends of an edit are vertices of the graph that a version shows
-abbrev pub is_edit_of : Past → Edit → Bool
-is_edit_of past e = nat_lt (source_of e) past.vertex_count && nat_lt (target_of e) past.vertex_count
-
--- an edit more, behind those of a batch
+-- an edit more, after those of a batch
 abbrev pub edit_fault : Edit → List Edit → Option Past → Option Fault
 edit_fault e edits None = Some faults.Order
 edit_fault e edits (Some past) =
-    first_fault ((not (is_edit_of past e), faults.Range) ∷ (nat_le MOST_EDITS (length edits), faults.TooMany) ∷ [])
+    first_fault ((not (is_edit_below past.vertex_count e), faults.Range) ∷ (nat_le MOST_EDITS (length edits), faults.TooMany) ∷ [])
 
 -- there is such a feed, and the edits are of the graph that a version shows
 abbrev pub is_batch_of : ℕ → List Edit → Past → Bool
-is_batch_of feed edits past = nat_lt feed FEEDS && list_all (is_edit_of past) edits
+is_batch_of feed edits past = nat_lt feed FEEDS && are_edits_below past.vertex_count edits
 
 -- a batch by a feed, of the graph that a version shows
 abbrev pub batch_fault : ℕ → List Edit → Past → Option Fault

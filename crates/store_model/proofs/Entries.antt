@@ -1,18 +1,21 @@
 -- No batch is lost, doubled or put in another order.
 use Rattle.std.proofs.Common.{◌≡◌, ◌==◌, option_map, ℕ, Bool, true, ◌&&◌, nat_lt, is_none, Option, Some, None, List, [], ◌∷◌, ◌++◌, length, refl, sym, ap, subst, ◌∙◌, append_assoc, append-nil}
-use Rattle.std.specs.List.{AllByRecursion, list_all}
-use Rattle.std.proofs.lemmas.Bool.{false≢true, and_parts, ltb-true}
+use Rattle.std.specs.List.{AllByRecursion}
+use Rattle.std.proofs.lemmas.Bool.{false≢true, and_parts}
 use Rattle.std.proofs.lemmas.List.Elements.{filter-append}
 use Rattle.past_model.specs.declared.edit.Edit.{Edit}
 use Rattle.past_model.specs.declared.entry.Entry.{Entry}
-use Rattle.past_model.specs.Edits.{source_of, target_of, AreEditsBelow}
-use Rattle.past_model.specs.Past.{Past}
+use Rattle.past_model.specs.declared.limits.TheConstants.{FEEDS}
+use Rattle.past_model.specs.Edits.{AreEditsBelow, are_edits_below}
+use Rattle.past_model.specs.Past.{Past, of_feed}
+use Rattle.past_model.proofs.Below.{below_from_test}
+use Rattle.store_model.specs.declared.limits.TheConstants.{QUEUE_PLACES}
 use Rattle.store_model.specs.declared.event.Event.{Event}
 use Rattle.store_model.specs.declared.event.Event.TheVariants.{Submit, Take, Part, Publish, Pin, Lend}
 use Rattle.store_model.specs.declared.reply.Reply.{Reply}
 use Rattle.store_model.specs.declared.reply.Reply.TheVariants.{Done, Refused, Slice, End}
-use Rattle.store_model.specs.Core.{Core, Holding, Run, opening_core, held_entries, entries, of_feed}
-use Rattle.store_model.specs.Events.{is_edit_below, can, Answers, after_take, after_publish, after_part, after, Happens, Steps, Ran, accepted_by, accepted_entries}
+use Rattle.store_model.specs.Core.{Core, Holding, Run, opening_core, held_entries, entries}
+use Rattle.store_model.specs.Events.{can, Answers, after_take, after_publish, after_part, after, Happens, Steps, Ran, accepted_by, accepted_entries}
 use Rattle.store_model.specs.Laws.{NothingLost, LogIsPast}
 use Rattle.store_model.proofs.Steps.{runs_keep}
 
@@ -88,15 +91,6 @@ nothing_lost n events replies s ran =
 abbrev pub AreBelow : ℕ → List Entry → Type 0
 AreBelow n es = AllByRecursion (λ (e : Entry). AreEditsBelow n e.batch) es
 
-pub below_from_test : (n : ℕ) (es : List Edit) → list_all (is_edit_below n) es ≡ true → AreEditsBelow n es
-below_from_test n [] h = tt
-below_from_test n (e ∷ es) h =
-    let parts = and_parts (is_edit_below n e) (list_all (is_edit_below n) es) h in
-    let ends = and_parts (nat_lt (source_of e) n) (nat_lt (target_of e) n) parts.0 in (
-      (ltb-true (source_of e) n ends.0, ltb-true (target_of e) n ends.1),
-      below_from_test n es parts.1,
-    )
-
 pub below_append : (n : ℕ) (xs ys : List Entry) → AreBelow n xs → AreBelow n ys → AreBelow n (xs ++ ys)
 below_append n [] ys low high = high
 below_append n (x ∷ xs) ys low high = (low.0, below_append n xs ys low.1 high)
@@ -107,8 +101,8 @@ below_front n (x ∷ xs) ys all = (all.0, below_front n xs ys all.1)
 
 accepted_below : (s : Core) (event : Event) (reply : Reply) → can s event ≡ true → AreBelow s.past.vertex_count (accepted_by event reply)
 accepted_below s (Submit feed batch) Done able =
-    let room = and_parts (nat_lt feed 2) (nat_lt (length s.queue) 64 && list_all (is_edit_below s.past.vertex_count) batch) able in
-    (below_from_test s.past.vertex_count batch (and_parts (nat_lt (length s.queue) 64) (list_all (is_edit_below s.past.vertex_count) batch) room.1).1, tt)
+    let room = and_parts (nat_lt feed FEEDS) (nat_lt (length s.queue) QUEUE_PLACES && are_edits_below s.past.vertex_count batch) able in
+    (below_from_test s.past.vertex_count batch (and_parts (nat_lt (length s.queue) QUEUE_PLACES) (are_edits_below s.past.vertex_count batch) room.1).1, tt)
 accepted_below s (Submit feed batch) Refused able = tt
 accepted_below s (Submit feed batch) (Slice words) able = tt
 accepted_below s (Submit feed batch) End able = tt

@@ -1,5 +1,5 @@
 -- All that the store has: what is published, what waits, what is in work, and the readers' runs.
-use Rattle.std.specs.Prelude.{◌==◌, ℕ, ◌/◌, Bool, not, ◌&&◌, List, [], ◌∷◌, ◌++◌, filter, replicate, slice_index_or, Option, Some, None}
+use Rattle.std.specs.Prelude.{◌==◌, ℕ, ◌/◌, Bool, not, ◌&&◌, List, [], ◌∷◌, ◌++◌, replicate, slice_index_or, Option, Some, None}
 use Rattle.std.specs.List.{list_any, list_all}
 use Rattle.past_model.specs.declared.limits.TheConstants.{RANGE_VERTICES}
 use Rattle.past_model.specs.declared.edit.Edit.{Edit}
@@ -61,7 +61,3 @@ held_entries (Some h) = h.entry ∷ []
 -- the batches that the store has, in the order in which they came
 abbrev pub entries : Core → List Entry
 entries s = s.past.log ++ (held_entries s.held ++ s.queue)
-
--- those that came by a feed
-abbrev pub of_feed : ℕ → List Entry → List Entry
-of_feed feed es = filter (λ (e : Entry). e.feed == feed) es

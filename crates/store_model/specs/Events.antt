@@ -1,20 +1,15 @@
 -- Events: which can happen, what they do and are answered, one and in lists.
 use Rattle.std.specs.Prelude.{◌≡◌, ℕ, ◌<◌, Bool, true, false, ◌&&◌, nat_lt, List, [], ◌∷◌, ◌++◌, length, slice_set, Option, Some, None, option_map, is_some, is_none, MatchOption}
-use Rattle.std.specs.List.{list_all}
-use Rattle.past_model.specs.declared.edit.Edit.{Edit}
 use Rattle.past_model.specs.declared.entry.Entry.{Entry}
-use Rattle.past_model.specs.Edits.{source_of, target_of}
+use Rattle.past_model.specs.Edits.{are_edits_below}
 use Rattle.past_model.specs.Past.{longer}
-use Rattle.store_model.specs.declared.limits.TheConstants.{FEEDS, READERS, QUEUE_PLACES}
+use Rattle.past_model.specs.declared.limits.TheConstants.{FEEDS}
+use Rattle.store_model.specs.declared.limits.TheConstants.{READERS, QUEUE_PLACES}
 use Rattle.store_model.specs.declared.event.Event.{Event}
 use Rattle.store_model.specs.declared.event.Event.TheVariants.{Submit, Take, Part, Publish, Pin, Lend}
 use Rattle.store_model.specs.declared.reply.Reply.{Reply}
 use Rattle.store_model.specs.declared.reply.Reply.TheVariants.{Done, Refused, Slice, End}
 use Rattle.store_model.specs.Core.{Core, Holding, Run, is_open, is_whole, words_of, run_of}
-
--- both ends of an edit are vertices below n
-abbrev pub is_edit_below : ℕ → Edit → Bool
-is_edit_below n e = nat_lt (source_of e) n && nat_lt (target_of e) n
 
 -- a batch is held, and passes a test
 abbrev pub is_held_and : (Holding → Bool) → Option Holding → Bool
@@ -24,7 +19,7 @@ is_held_and test (Some h) = test h
 -- an event can happen; each other one is refused
 abbrev pub can : Core → Event → Bool
 can s (Submit feed batch) =
-    nat_lt feed FEEDS && (nat_lt (length s.queue) QUEUE_PLACES && list_all (is_edit_below s.past.vertex_count) batch)
+    nat_lt feed FEEDS && (nat_lt (length s.queue) QUEUE_PLACES && are_edits_below s.past.vertex_count batch)
 can s Take = is_none s.held && nat_lt 0 (length s.queue)
 can s (Part range) = is_held_and (λ h. is_open h range) s.held
 can s Publish = is_held_and is_whole s.held

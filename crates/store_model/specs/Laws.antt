@@ -2,12 +2,12 @@
 use Rattle.std.specs.Prelude.{◌≡◌, ℕ, true, List, [], ◌∷◌, ◌++◌, Some, Vec}
 use Rattle.std.specs.declared.alloc.Global.{Global}
 use Rattle.past_model.specs.declared.edit.Edit.TheVariants.{Insert}
-use Rattle.past_model.specs.Past.{IsPast}
+use Rattle.past_model.specs.Past.{IsPast, of_feed}
 use Rattle.store_model.specs.declared.event.Event.{Event}
 use Rattle.store_model.specs.declared.event.Event.TheVariants.{Submit, Take, Part, Publish, Pin, Lend}
 use Rattle.store_model.specs.declared.reply.Reply.{Reply}
 use Rattle.store_model.specs.declared.reply.Reply.TheVariants.{Done, Slice, End}
-use Rattle.store_model.specs.Core.{Core, Run, opening_core, run_of, words_of, held_entries, entries, of_feed}
+use Rattle.store_model.specs.Core.{Core, Run, opening_core, run_of, words_of, held_entries, entries}
 use Rattle.store_model.specs.Events.{IsBeginning, Steps, Ran, accepted_entries}
 
 -- what was lent is a beginning of the words, and all of them once a lend answered the end

@@ -1,28 +1,30 @@
 -- What each event keeps of a world.
 use Rattle.std.proofs.Common.{◌≡◌, ℕ, zero, suc, ◌<◌, ◌≤◌, true, false, Option, Some, None, MatchOption, Result, Ok, Err, IfOk, OnOk, OnErr, is_some, nat_lt, ◌&&◌, List, [], ◌∷◌, ◌++◌, length, get_or, set, map, take, replicate, option_map, refl, sym, ap, subst, ◌∙◌, ◌⊎◌, inl, inr, length-set, le_refl, arith}
-use Rattle.std.specs.List.{list_all}
 use Rattle.std.proofs.lemmas.Bool.{and_parts, false≢true}
 use Rattle.std.proofs.lemmas.Option.{none-some, same_Some}
 use Rattle.std.proofs.lemmas.List.{length_push, map-set, take-append-le, take_all}
 use Rattle.past_model.specs.declared.edit.Edit.{Edit}
 use Rattle.past_model.specs.declared.entry.Entry.{Entry}
 use Rattle.graph_model.specs.Graph.{empty_graph, neighbours}
-use Rattle.past_model.specs.Edits.{AreEditsBelow}
-use Rattle.past_model.specs.Past.{Past, graph_of, opening, longer}
+use Rattle.past_model.specs.declared.limits.TheConstants.{FEEDS}
+use Rattle.past_model.specs.Edits.{AreEditsBelow, are_edits_below}
+use Rattle.past_model.specs.Past.{Past, graph_of, opening, longer, past_in}
+use Rattle.past_model.proofs.Below.{below_from_test}
 use Rattle.past_model.proofs.Pasts.{graph_of-longer, vertex_count-graph_of}
 use Rattle.migration.specs.Part.{Part}
 use Rattle.migration.specs.Table.{IsTable}
+use Rattle.store_model.specs.declared.limits.TheConstants.{QUEUE_PLACES}
 use Rattle.store_model.specs.declared.event.Event.TheVariants.{Submit, Part as OnePart, Publish, Pin, Lend}
 use Rattle.store_model.specs.declared.reply.Reply.{Reply}
 use Rattle.store_model.specs.declared.reply.Reply.TheVariants.{Done}
 use Rattle.store_model.specs.Core.{Core, Run, is_open, is_whole, words_of}
-use Rattle.store_model.specs.Events.{is_edit_below, can, after, after_lend, Answers, Lends}
-use Rattle.store_model.proofs.Entries.{below_from_test, below_append}
+use Rattle.store_model.specs.Events.{can, after, after_lend, Answers, Lends}
+use Rattle.store_model.proofs.Entries.{below_append}
 use Rattle.stream_core.specs.declared.reader_run.ReaderRun.{ReaderRun}
 use Rattle.stream_core.specs.Tables.{IsTableInWork}
 use Rattle.stream_core.specs.Work.{Work, holding_of, IsEditable, IsWorkAfter}
 use Rattle.stream_core.specs.Runs.{run_in, version_at, IsRunIn, IsLendable, IsLent}
-use Rattle.stream_core.specs.World.{past_of, core_of, IsWorld}
+use Rattle.stream_core.specs.World.{core_of, IsWorld}
 use Rattle.stream_core.proofs.TableLemmas.{table_begun, table_whole}
 
 -- ---- a store in which nothing has happened
@@ -48,8 +50,8 @@ first_world n parts some most table = record {
 pub world_submitted : (past : Past) (queue : List Entry) (held : Option Work) (parts : List Part) (runs : List (Option ReaderRun)) (feed : ℕ) (batch : List Edit)
     → IsWorld past queue held parts runs → can (core_of past queue held runs) (Submit feed batch) ≡ true → IsWorld past (queue ++ (record { feed = feed; batch = batch }) ∷ []) held parts runs
 world_submitted past queue held parts runs feed batch is able =
-    let room = and_parts (nat_lt feed 2) (nat_lt (length queue) 64 && list_all (is_edit_below past.vertex_count) batch) able in
-    let below = below_from_test past.vertex_count batch (and_parts (nat_lt (length queue) 64) (list_all (is_edit_below past.vertex_count) batch) room.1).1 in
+    let room = and_parts (nat_lt feed FEEDS) (nat_lt (length queue) QUEUE_PLACES && are_edits_below past.vertex_count batch) able in
+    let below = below_from_test past.vertex_count batch (and_parts (nat_lt (length queue) QUEUE_PLACES) (are_edits_below past.vertex_count batch) room.1).1 in
     record {
       some = is.some;
       most = is.most;
@@ -113,7 +115,7 @@ core_edited past queue w next runs range done =
 -- ---- a longer log keeps what runs are
 
 version_kept : (past : Past) (e : Entry) (number : ℕ) → number ≤ length past.log → version_at number (longer past e) ≡ version_at number past
-version_kept past e number low = ap (past_of past.vertex_count) (take-append-le number past.log (e ∷ []) low)
+version_kept past e number low = ap (past_in past.vertex_count) (take-append-le number past.log (e ∷ []) low)
 
 -- a run, by its version
 abbrev run_at : ReaderRun → Past → Run
@@ -183,7 +185,7 @@ abbrev pub new_run : Past → ℕ → List Part → ReaderRun
 new_run past vertex parts = record { number = length past.log; vertex = vertex; place = 0; ended = false; table = parts }
 
 version_now : (past : Past) → version_at (length past.log) past ≡ past
-version_now past = ap (past_of past.vertex_count) (take_all (length past.log) past.log (le_refl (length past.log)))
+version_now past = ap (past_in past.vertex_count) (take_all (length past.log) past.log (le_refl (length past.log)))
 
 pub world_pinned : (past : Past) (queue : List Entry) (held : Option Work) (parts : List Part) (runs : List (Option ReaderRun)) (reader vertex : ℕ)
     → IsWorld past queue held parts runs → IsWorld past queue held parts (set runs reader (Some (new_run past vertex parts)))

@@ -14,9 +14,6 @@ use Rattle.stream_core.specs.Tables.{IsTableInWork}
 use Rattle.stream_core.specs.Work.{Work, holding_of}
 use Rattle.stream_core.specs.Runs.{run_in, IsRunIn}
 
-abbrev pub past_of : ℕ → List Entry → Past
-past_of n log = record { vertex_count = n; log = log }
-
 abbrev pub core_of : Past → List Entry → Option Work → List (Option ReaderRun) → Core
 core_of past queue held runs = record {
   past = past;

@@ -3,20 +3,19 @@ ghost use Rattle.std.specs.Prelude.{◌≡◌, ◌≤◌, true, is_some, IfOk, O
 ghost use Rattle.past_model.specs.declared.limits.TheConstants.{MOST_VERTICES};
 ghost use Rattle.past_model.specs.Past.{graph_of};
 ghost use Rattle.migration.specs.Table.{IsTable, parts_of};
-ghost use Rattle.std.specs.List.{list_all};
 ghost use Rattle.store_model.specs.Core.{opening_core, run_of};
-ghost use Rattle.store_model.specs.Events.{is_edit_below, can, after, Answers};
+ghost use Rattle.store_model.specs.Events.{can, after, Answers};
 
 use crate::held::Held;
 use crate::reader_run::ReaderRun;
 use crate::table::Table;
 use migration::Shard;
-use past_model::{Batch, Edit, Entry};
+use past_model::{Batch, Entry, FEEDS};
 use std::alloc::{AllocError, Global};
 use std::collections::VecDeque;
 use std::marker::Model;
 use std::sync::Arc;
-use store_model::{Event, FEEDS, QUEUE_PLACES, READERS, Reply};
+use store_model::{Event, QUEUE_PLACES, READERS, Reply};
 
 /// All that the store has: the log of its batches, the queue, the batch in work, the shards that were
 /// published last, and each reader's run.
@@ -47,13 +46,14 @@ impl Drop for World {
 
 impl Model for World {
     ghost use Rattle.store_model.specs.Core.{Core};
-    ghost use Rattle.stream_core.specs.World.{past_of, core_of, IsWorld};
+    ghost use Rattle.past_model.specs.Past.{past_in};
+    ghost use Rattle.stream_core.specs.World.{core_of, IsWorld};
 
     ghost Value = { Core };
 
-    ghost view = { λ w. core_of (past_of w.vertex_count w.log.items) w.queue.items w.held w.runs.items };
+    ghost view = { λ w. core_of (past_in w.vertex_count w.log.items) w.queue.items w.held w.runs.items };
 
-    ghost invariant = { λ w. IsWorld (past_of w.vertex_count w.log.items) w.queue.items w.held w.table w.runs.items };
+    ghost invariant = { λ w. IsWorld (past_in w.vertex_count w.log.items) w.queue.items w.held w.table w.runs.items };
 }
 
 impl World {
@@ -97,7 +97,7 @@ impl World {
             Event::Submit { feed, batch } => {
                 *feed < FEEDS
                     && self.queue.len() < QUEUE_PLACES
-                    && are_edits_below(self.vertex_count, batch.edits())
+                    && batch.is_below(self.vertex_count)
             }
             Event::Take => self.held.is_none() && !self.queue.is_empty(),
             Event::Part { range } => match &self.held {
@@ -207,11 +207,4 @@ impl World {
         }
         Ok(Reply::End)
     }
-}
-
-// Whether both ends of each edit are among so many vertices.
-fn are_edits_below(vertex_count: u32, edits: &[Edit]) -> bool
-    ensures { result ≡ list_all (is_edit_below vertex_count) edits.now }
-{
-    edits.iter().all(|edit| edit.source() < vertex_count && edit.target() < vertex_count)
 }

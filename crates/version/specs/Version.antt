@@ -1,15 +1,11 @@
 -- What a version is kept to be.
 use Rattle.std.specs.Prelude.{◌≡◌, ◌≤◌, ℕ, List}
 use Rattle.past_model.specs.declared.limits.TheConstants.{MOST_VERTICES, MOST_BATCHES}
-use Rattle.past_model.specs.declared.entry.Entry.{Entry}
 use Rattle.graph_model.specs.Graph.{edge_count}
 use Rattle.past_model.specs.Past.{Past, IsPast, graph_of, number_of}
 use Rattle.past_model.specs.Homes.{home_of}
 use Rattle.migration.specs.Part.{Part}
 use Rattle.migration.specs.Table.{IsTable, home_in}
-
-abbrev pub past_of : ℕ → List Entry → Past
-past_of n log = record { vertex_count = n; log = log }
 
 -- how many vertices a version may have
 abbrev pub IsVertexCount : ℕ → Type 0

@@ -40,14 +40,14 @@ impl Drop for Version {
 }
 
 impl Model for Version {
-    ghost use Rattle.past_model.specs.Past.{Past};
-    ghost use Rattle.version.specs.Version.{IsVersion, past_of};
+    ghost use Rattle.past_model.specs.Past.{Past, past_in};
+    ghost use Rattle.version.specs.Version.{IsVersion};
 
     ghost Value = { Past };
 
-    ghost view = { λ v. past_of v.vertex_count v.log };
+    ghost view = { λ v. past_in v.vertex_count v.log };
 
-    ghost invariant = { λ v. IsVersion (past_of v.vertex_count v.log) v.shards v.edge_count };
+    ghost invariant = { λ v. IsVersion (past_in v.vertex_count v.log) v.shards v.edge_count };
 }
 
 impl Version {

@@ -4,7 +4,7 @@ use Rattle.std.proofs.lemmas.Bool.{eq-eqb, ne_eqb}
 use Rattle.std.proofs.lemmas.List.Elements.{filter-append}
 use native.Mathlib.Decide.{ℕ_discrete}
 use Rattle.past_model.specs.declared.entry.Entry.{Entry}
-use Rattle.store_model.specs.Core.{of_feed}
+use Rattle.past_model.specs.Past.{of_feed}
 
 -- f, but x at k
 abbrev pub changed : {A : Type 0} → (ℕ → A) → ℕ → A → ℕ → A

@@ -3,8 +3,9 @@ use Rattle.std.proofs.Common.{◌≡◌, ◌≢◌, ℕ, zero, suc, lt_of_not-le
 use Rattle.std.proofs.lemmas.Bool.{eq-eqb, ne_eqb}
 use native.Mathlib.Decide.{ℕ_discrete, dec_le}
 use Rattle.past_model.specs.declared.entry.Entry.{Entry}
-use Rattle.store_model.specs.declared.limits.TheConstants.{FEEDS, QUEUE_PLACES}
-use Rattle.store_model.specs.Core.{of_feed}
+use Rattle.past_model.specs.declared.limits.TheConstants.{FEEDS}
+use Rattle.store_model.specs.declared.limits.TheConstants.{QUEUE_PLACES}
+use Rattle.past_model.specs.Past.{of_feed}
 use Rattle.versions.specs.Hands.{taker}
 use Rattle.versions.specs.QueueRule.{Left}
 

@@ -6,7 +6,7 @@ use Rattle.crossbeam_queue.specs.Fifo.{Pushes, Learns}
 use Rattle.past_model.specs.declared.entry.Entry.{Entry}
 use Rattle.past_model.specs.Edits.{AreEditsBelow}
 use Rattle.store_model.specs.declared.limits.TheConstants.{QUEUE_PLACES}
-use Rattle.store_model.specs.Core.{of_feed}
+use Rattle.past_model.specs.Past.{of_feed}
 use Rattle.versions.specs.declared.intake.hand.Hand.{Hand}
 use Rattle.versions.specs.declared.intake.parcel.Parcel.{Parcel}
 use Rattle.versions.specs.Hands.{feeder}

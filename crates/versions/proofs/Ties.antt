@@ -4,7 +4,7 @@ use Rattle.past_model.specs.declared.edit.Edit.{Edit}
 use Rattle.past_model.specs.declared.entry.Entry.{Entry}
 use Rattle.past_model.specs.Edits.{AreEditsBelow}
 use Rattle.past_model.specs.Past.{Past}
-use Rattle.store_model.specs.declared.limits.TheConstants.{FEEDS}
+use Rattle.past_model.specs.declared.limits.TheConstants.{FEEDS}
 use Rattle.history.specs.Moment.{Moment}
 use Rattle.versions.specs.Ends.{Feeding, after_put}
 use Rattle.handle_model.specs.Calls.{IsSubmission, IsPublication, IsTaking}

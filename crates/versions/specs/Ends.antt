@@ -4,8 +4,9 @@ use Rattle.atomic_table.specs.Seated.{TableId}
 use Rattle.graph_model.specs.Graph.{numbers_below}
 use Rattle.past_model.specs.declared.edit.Edit.{Edit}
 use Rattle.past_model.specs.declared.entry.Entry.{Entry}
-use Rattle.store_model.specs.declared.limits.TheConstants.{FEEDS, QUEUE_PLACES}
-use Rattle.store_model.specs.Core.{of_feed}
+use Rattle.past_model.specs.declared.limits.TheConstants.{FEEDS}
+use Rattle.store_model.specs.declared.limits.TheConstants.{QUEUE_PLACES}
+use Rattle.past_model.specs.Past.{of_feed}
 
 -- a feed: how many vertices its edits are about, what it has put, in order, how often it was refused, and which queue
 -- it puts into

@@ -3,10 +3,9 @@ use Rattle.std.specs.Prelude.{◌≡◌, ℕ, ◌<◌, ◌≤◌, List, [], leng
 use Rattle.graph_model.specs.Graph.{numbers_below}
 use Rattle.past_model.specs.declared.edit.Edit.{Edit}
 use Rattle.past_model.specs.declared.entry.Entry.{Entry}
-use Rattle.store_model.specs.declared.limits.TheConstants.{FEEDS}
-use Rattle.past_model.specs.declared.limits.TheConstants.{MOST_EDITS}
+use Rattle.past_model.specs.declared.limits.TheConstants.{FEEDS, MOST_EDITS}
 use Rattle.past_model.specs.Edits.{AreEditsBelow}
-use Rattle.store_model.specs.Core.{of_feed}
+use Rattle.past_model.specs.Past.{of_feed}
 use Rattle.versions.specs.Ends.{Feeding, new_feeds, as_new, after_refusal, WasFull}
 use Rattle.versions.specs.declared.errors.SubmitCause.{SubmitCause}
 use Rattle.versions.specs.declared.errors.SubmitCause.TheVariants.{Full, VertexRange, TooManyEdits}

@@ -1,8 +1,7 @@
 -- A batch that was taken, and how far its publication has come.
 use Rattle.std.specs.Prelude.{◌≡◌, ◌<◌, List, [], ◌∷◌, Option, Some, None, Result, Ok, Err}
 use Rattle.past_model.specs.declared.entry.Entry.{Entry}
-use Rattle.store_model.specs.declared.limits.TheConstants.{FEEDS}
-use Rattle.past_model.specs.declared.limits.TheConstants.{MOST_BATCHES}
+use Rattle.past_model.specs.declared.limits.TheConstants.{MOST_BATCHES, FEEDS}
 use Rattle.past_model.specs.Edits.{AreEditsBelow, added, removed}
 use Rattle.past_model.specs.Past.{graph_of, number_of}
 use Rattle.history.specs.Moment.{Moment, after_entry}

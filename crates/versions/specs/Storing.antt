@@ -3,7 +3,7 @@ use Rattle.std.specs.Prelude.{◌≡◌, ◌<◌, ℕ, List, [], ◌∷◌, ◌+
 use Rattle.atomic_table.specs.Seated.{TableId}
 use Rattle.past_model.specs.declared.entry.Entry.{Entry}
 use Rattle.past_model.specs.Edits.{AreEditsBelow}
-use Rattle.store_model.specs.declared.limits.TheConstants.{FEEDS}
+use Rattle.past_model.specs.declared.limits.TheConstants.{FEEDS}
 use Rattle.history.specs.Moment.{Moment, opening_moment}
 use Rattle.versions.specs.Ends.{Feeding, new_feeds, one_more, taking, WasEmpty}
 use Rattle.versions.specs.Held.{entries_held}

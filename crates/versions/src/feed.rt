@@ -1,14 +1,14 @@
 //! The end at which batches are submitted.
-ghost use Rattle.std.specs.Prelude.{◌≡◌, ◌<◌, ◌↔◌, true, IfOk, IfErr};
+ghost use Rattle.std.specs.Prelude.{◌≡◌, ◌<◌, IfOk, IfErr};
 ghost use Rattle.past_model.specs.Edits.{AreEditsBelow};
-ghost use Rattle.store_model.specs.declared.limits.TheConstants.{FEEDS};
+ghost use Rattle.past_model.specs.declared.limits.TheConstants.{FEEDS};
 ghost use Rattle.versions.specs.Ends.{after_put, IsFeedOf};
 ghost use Rattle.versions.specs.Feeds.{AreFew, IsRefused};
 ghost use Rattle.versions.specs.Ties.{SubmitsAsEvent};
 
 use crate::errors::{SubmitCause, SubmitError};
 use crate::intake::Outlet;
-use past_model::{Batch, Edit, MOST_EDITS};
+use past_model::{Batch, MOST_EDITS};
 use std::marker::Model;
 use std::sync::Wait;
 
@@ -94,7 +94,7 @@ impl Feed {
                 batch,
             });
         }
-        if !are_below(batch.edits(), self.vertex_count) {
+        if !batch.is_below(self.vertex_count) {
             return Err(SubmitError {
                 cause: SubmitCause::VertexRange,
                 batch,
@@ -108,11 +108,4 @@ impl Feed {
             }),
         }
     }
-}
-
-/// Whether the ends of all edits are below a number of vertices.
-fn are_below(edits: &[Edit], vertices: u32) -> bool
-    ensures { (result ≡ true) ↔ AreEditsBelow vertices edits.now }
-{
-    edits.iter().all(|edit| edit.source() < vertices && edit.target() < vertices)
 }

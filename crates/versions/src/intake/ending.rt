@@ -1,8 +1,9 @@
 //! The end of a queue.
 ghost use Rattle.std.specs.Prelude.{◌≡◌, ℕ, ◌≤◌, ◌++◌, [], length, vec_capacity};
 ghost use Rattle.crossbeam_queue.specs.Passes.{view as hand_of, IsPassOf};
-ghost use Rattle.store_model.specs.declared.limits.TheConstants.{FEEDS, QUEUE_PLACES};
-ghost use Rattle.store_model.specs.Core.{of_feed};
+ghost use Rattle.past_model.specs.declared.limits.TheConstants.{FEEDS};
+ghost use Rattle.store_model.specs.declared.limits.TheConstants.{QUEUE_PLACES};
+ghost use Rattle.past_model.specs.Past.{of_feed};
 ghost use Rattle.versions.specs.Ends.{IsFeedOf};
 ghost use Rattle.versions.specs.Hands.{taker};
 ghost use Rattle.versions.specs.QueueRule.{Left};

@@ -1,7 +1,7 @@
 //! The end of the queue at which batches are taken.
 ghost use Rattle.std.specs.Prelude.{◌≡◌, ◌<◌, IfSome, IfNone};
 ghost use Rattle.past_model.specs.Edits.{AreEditsBelow};
-ghost use Rattle.store_model.specs.declared.limits.TheConstants.{FEEDS};
+ghost use Rattle.past_model.specs.declared.limits.TheConstants.{FEEDS};
 ghost use Rattle.versions.specs.Ends.{after_pop, after_nothing, WasEmpty};
 
 use crate::intake::delivery::{Queue, Seat, Take};
@@ -24,7 +24,8 @@ impl Model for Intake {
     ghost use Rattle.std.specs.Prelude.{◌≡◌, ◌≤◌, [], vec_capacity};
     ghost use Rattle.std.specs.Arc.{arc_value};
     ghost use Rattle.crossbeam_queue.specs.Passes.{view as hand_of, IsPassOf, ruled_capacity};
-    ghost use Rattle.store_model.specs.declared.limits.TheConstants.{FEEDS, QUEUE_PLACES};
+    ghost use Rattle.past_model.specs.declared.limits.TheConstants.{FEEDS};
+    ghost use Rattle.store_model.specs.declared.limits.TheConstants.{QUEUE_PLACES};
     ghost use Rattle.versions.specs.Hands.{taker};
     ghost use Rattle.versions.specs.Ends.{Taking, taking};
 

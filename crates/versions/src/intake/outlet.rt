@@ -1,6 +1,6 @@
 //! The end of the queue at which a feed puts its batches.
 ghost use Rattle.std.specs.Prelude.{◌≡◌, ◌<◌, IfOk, IfErr};
-ghost use Rattle.store_model.specs.declared.limits.TheConstants.{FEEDS};
+ghost use Rattle.past_model.specs.declared.limits.TheConstants.{FEEDS};
 ghost use Rattle.past_model.specs.Edits.{AreEditsBelow};
 ghost use Rattle.versions.specs.Ends.{after_put, after_refusal, WasFull, IsFeedOf};
 
@@ -24,7 +24,8 @@ impl Model for Outlet {
     ghost use Rattle.std.specs.Prelude.{◌≡◌, ◌<◌};
     ghost use Rattle.std.specs.Arc.{arc_value};
     ghost use Rattle.crossbeam_queue.specs.Passes.{view as hand_of, IsPassOf, ruled_capacity};
-    ghost use Rattle.store_model.specs.declared.limits.TheConstants.{FEEDS, QUEUE_PLACES};
+    ghost use Rattle.past_model.specs.declared.limits.TheConstants.{FEEDS};
+    ghost use Rattle.store_model.specs.declared.limits.TheConstants.{QUEUE_PLACES};
     ghost use Rattle.versions.specs.Hands.{feeder};
     ghost use Rattle.versions.specs.Ends.{Feeding, feeding};
 

@@ -1,7 +1,7 @@
 use Rattle.std.proofs.Common.{subst, List}
 use mathlib.Core.List.{IsPrefix}
 use Rattle.past_model.specs.declared.entry.Entry.{Entry}
-use Rattle.history.proofs.Beginnings.{prefix_shorter}
+use Rattle.past_model.proofs.Beginnings.{prefix_shorter}
 use Rattle.history.proofs.known.compare.Goals as goal
 
 pub returns-clause-left : goal.returns-clause-left

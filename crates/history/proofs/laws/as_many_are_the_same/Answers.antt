@@ -1,5 +1,5 @@
 use Rattle.std.proofs.Common.{sym, arith}
-use Rattle.history.proofs.Beginnings.{prefix_whole}
+use Rattle.past_model.proofs.Beginnings.{prefix_whole}
 use Rattle.history.proofs.laws.as_many_are_the_same.Goals as goal
 
 pub returns : goal.returns

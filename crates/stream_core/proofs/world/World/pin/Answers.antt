@@ -4,7 +4,8 @@ use Rattle.store_model.specs.declared.event.Event.TheVariants.{Pin}
 use Rattle.store_model.specs.declared.reply.Reply.TheVariants.{Done}
 use Rattle.store_model.specs.Events.{after}
 use Rattle.stream_core.specs.declared.reader_run.ReaderRun.{ReaderRun}
-use Rattle.stream_core.specs.World.{past_of, core_of, IsWorld}
+use Rattle.past_model.specs.Past.{past_in}
+use Rattle.stream_core.specs.World.{core_of, IsWorld}
 use Rattle.stream_core.proofs.WorldLemmas.{new_run, world_pinned, core_pinned}
 use Rattle.stream_core.proofs.world.World.pin.Goals as goal
 use Rattle.stream_core.proofs.world.World.pin.Goals.{Joined-index_mut}
@@ -14,7 +15,7 @@ run_of_parts number vertex parts = record { number = number; vertex = vertex; pl
 
 -- the runs with the new one in its place
 runs_are : (c : Joined-index_mut) → set c.self.inside.runs.items c.from.result (Some (run_of_parts c.len.result c.args.vertex c.in_ok-table.table))
-    ≡ set c.self.inside.runs.items c.args.reader (Some (new_run (past_of c.self.inside.vertex_count c.self.inside.log.items) c.args.vertex c.self.inside.table))
+    ≡ set c.self.inside.runs.items c.args.reader (Some (new_run (past_in c.self.inside.vertex_count c.self.inside.log.items) c.args.vertex c.self.inside.table))
 runs_are c =
     let runs = c.self.inside.runs.items in
     let count : c.len.result ≡ length c.self.inside.log.items = (let ok = c.self.inside.log.ok in let len = c.len.ensures in omega (arith, ok, len)) in
@@ -25,13 +26,13 @@ runs_are c =
 pub invariant_of-self : goal.invariant_of-self
 invariant_of-self c =
     let w = c.self.inside in
-    let past = past_of w.vertex_count w.log.items in
+    let past = past_in w.vertex_count w.log.items in
     subst (λ runs. IsWorld past w.queue.items w.held w.table runs) (sym (runs_are c)) (world_pinned past w.queue.items w.held w.table w.runs.items c.args.reader c.args.vertex c.self.invariant)
 
 pub returns-clause-ok : goal.returns-clause-ok
 returns-clause-ok c =
     let w = c.self.inside in
-    let past = past_of w.vertex_count w.log.items in
+    let past = past_in w.vertex_count w.log.items in
     ap (λ runs. core_of past w.queue.items w.held runs) (runs_are c)
     ∙ core_pinned past w.queue.items w.held w.table w.runs.items c.args.reader c.args.vertex
     ∙ ap (λ s. after s (Pin c.args.reader c.args.vertex) Done) c.self.view_is

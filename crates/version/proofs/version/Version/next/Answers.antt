@@ -2,23 +2,23 @@ use Rattle.std.proofs.Common.{◌≡◌, ◌+◌, ◌-◌, ◌++◌, ◌∷◌, 
 use Rattle.past_model.specs.declared.edit.Edit.{Edit}
 use Rattle.past_model.specs.declared.entry.Entry.{Entry}
 use Rattle.past_model.specs.Edits.{added, removed, AreEditsBelow}
-use Rattle.past_model.specs.Past.{Past, graph_of, number_of, longer}
+use Rattle.past_model.specs.Past.{Past, past_in, graph_of, number_of, longer}
 use Rattle.migration.specs.Table.{IsEditable, AreAfter}
-use Rattle.version.specs.Version.{IsVersion, past_of}
+use Rattle.version.specs.Version.{IsVersion}
 use Rattle.version.proofs.VersionLemmas.{editable, few_edges, Did, did, next_version}
 use Rattle.version.proofs.version.Version.next.Goals as goal
 use Rattle.version.proofs.version.Version.next.Goals.{In_ok-with}
 
 -- the past of this version
 abbrev here : (g : _) → In_ok-with g → Past
-here g c = past_of c.self.inside.vertex_count c.self.inside.log
+here g c = past_in c.self.inside.vertex_count c.self.inside.log
 
 below : (g : _) (c : In_ok-with g) → AreEditsBelow c.self.inside.vertex_count c.args.entry.now.batch
 below g c = subst (λ (p : Past). AreEditsBelow p.vertex_count c.args.entry.now.batch) (sym c.self.view_is) c.requires.below
 
 pub edit_table-requires : goal.edit_table-requires
 edit_table-requires g c =
-    let past : Past = past_of c.self.inside.vertex_count c.self.inside.log in
+    let past : Past = past_in c.self.inside.vertex_count c.self.inside.log in
     let below : AreEditsBelow past.vertex_count c.args.entry.now.batch = subst (λ (p : Past). AreEditsBelow p.vertex_count c.args.entry.now.batch) (sym c.self.view_is) c.requires.below in
     (search rules, subst (IsEditable c.self.inside.shards) (sym c.edits.ensures) (editable past c.self.inside.shards c.self.inside.edge_count c.args.entry.now.batch c.self.invariant below))
 
@@ -45,11 +45,11 @@ overflow_sub-version g c = let change = (done g c).change in omega (arith, chang
 pub invariant_of-version : goal.invariant_of-version
 invariant_of-version g c =
     let room : number_of (here g c) < 4096 = subst (λ (p : Past). number_of p < 4096) (sym c.self.view_is) c.requires.room in
-    subst (λ (log : List Entry). IsVersion (past_of c.self.inside.vertex_count log) c.in_ok-shards.shards (c.self.inside.edge_count + c.in_ok-shards.counts.added - c.in_ok-shards.counts.removed)) (sym (more g c))
+    subst (λ (log : List Entry). IsVersion (past_in c.self.inside.vertex_count log) c.in_ok-shards.shards (c.self.inside.edge_count + c.in_ok-shards.counts.added - c.in_ok-shards.counts.removed)) (sym (more g c))
     (next_version (here g c) c.self.inside.shards c.in_ok-shards.shards c.self.inside.edge_count c.args.entry.now c.in_ok-shards.counts c.self.invariant (below g c) room (after g c) c.in_ok-shards.ensures.homes)
 
 pub returns-clause-next : goal.returns-clause-next
-returns-clause-next g c = ap (past_of c.self.inside.vertex_count) (more g c) ∙ ap (λ (p : Past). longer p c.args.entry.now) c.self.view_is
+returns-clause-next g c = ap (past_in c.self.inside.vertex_count) (more g c) ∙ ap (λ (p : Past). longer p c.args.entry.now) c.self.view_is
 
 pub returns-clause-gained : goal.returns-clause-gained
 returns-clause-gained g c = (done g c).gained ∙ ap (λ (p : Past). added c.args.entry.now.batch (graph_of p)) c.self.view_is

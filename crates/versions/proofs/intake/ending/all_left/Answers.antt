@@ -2,7 +2,8 @@ use Rattle.std.proofs.Common.{◌≡◌, ◌<◌, ◌++◌, ◌∷◌, [], sym, 
 use Rattle.std.proofs.lemmas.List.{length-map}
 use Rattle.std.proofs.lemmas.Grind.{common_steps}
 use Rattle.crossbeam_queue.specs.Passes.{view}
-use Rattle.store_model.specs.declared.limits.TheConstants.{FEEDS, QUEUE_PLACES}
+use Rattle.past_model.specs.declared.limits.TheConstants.{FEEDS}
+use Rattle.store_model.specs.declared.limits.TheConstants.{QUEUE_PLACES}
 use Rattle.versions.specs.declared.intake.hand.Hand.{Hand}
 use Rattle.versions.specs.Hands.{taker}
 use Rattle.versions.specs.declared.intake.parcel.Parcel.{Parcel}

@@ -1,6 +1,7 @@
 use Rattle.std.proofs.Common.{◌≡◌, ◌≤◌, ◌++◌, vec_capacity}
 use Rattle.crossbeam_queue.specs.Passes.{view, IsPassOf}
-use Rattle.store_model.specs.declared.limits.TheConstants.{FEEDS, QUEUE_PLACES}
+use Rattle.past_model.specs.declared.limits.TheConstants.{FEEDS}
+use Rattle.store_model.specs.declared.limits.TheConstants.{QUEUE_PLACES}
 use Rattle.versions.specs.Hands.{taker}
 use Rattle.versions.proofs.intake.ending.all_left.Given as goal
 

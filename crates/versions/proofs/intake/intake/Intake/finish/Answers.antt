@@ -1,7 +1,7 @@
 use Rattle.std.proofs.Common.{◌≡◌, ◌++◌, ◌∷◌, [], sym, ap, ◌∙◌, subst, length, List}
 use Rattle.crossbeam_queue.specs.Passes.{view}
 use Rattle.past_model.specs.declared.entry.Entry.{Entry}
-use Rattle.store_model.specs.Core.{of_feed}
+use Rattle.past_model.specs.Past.{of_feed}
 use Rattle.versions.specs.declared.intake.hand.Hand.{Hand}
 use Rattle.versions.specs.Ends.{Taking}
 use Rattle.versions.specs.Hands.{taker}

@@ -1,7 +1,7 @@
 use Rattle.std.proofs.Common.{◌≡◌, ℕ, List, [], ◌∷◌, ◌++◌, ap, ◌∙◌, subst}
 use Rattle.crossbeam_queue.specs.Passes.{view}
 use Rattle.past_model.specs.declared.entry.Entry.{Entry}
-use Rattle.store_model.specs.declared.limits.TheConstants.{FEEDS}
+use Rattle.past_model.specs.declared.limits.TheConstants.{FEEDS}
 use Rattle.versions.specs.declared.intake.hand.Hand.{Hand}
 use Rattle.versions.specs.Hands.{taker}
 use Rattle.versions.specs.QueueRule.{Left}
