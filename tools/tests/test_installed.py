@@ -140,7 +140,7 @@ class Installed(unittest.TestCase):
 
     @unittest.skipIf(shutil.which("man") is None, "there is no man")
     def test_man_page(self):
-        for name, said in (("man1/edgebpf-c.1", "--workers"), ("man5/edgebpf-script.5", "fault 10 line 2"), ("man7/edgebpf-bpf.7", "calllocal")):
+        for name, said in (("man1/edgebpf-c.1", "--workers"), ("man5/edgebpf-script.5", "edgebpf: memory"), ("man7/edgebpf-bpf.7", "calllocal")):
             page = self.place / "share/man" / name
             words = ["man", "--warnings", "-l", page]
             run = subprocess.run(words, env={**os.environ, "MANWIDTH": "100", "LC_ALL": "C"}, capture_output=True, text=True)
