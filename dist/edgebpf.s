@@ -560,23 +560,23 @@
 	.section ".rodata..Lstatic.271","a",@progbits
 	.section ".rodata..Lstatic.272","a",@progbits
 	.section ".rodata..Lswitch.table.edgebpf::main::<#97bac553ee02a3fe>","a",@progbits
-	.section ".rodata..Lswitch.table.edgebpf::main::<#97bac553ee02a3fe>.2126.rel","a",@progbits
+	.section ".rodata..Lswitch.table.edgebpf::main::<#97bac553ee02a3fe>.2122.rel","a",@progbits
 	.section ".rodata..Lswitch.table.clap::builder::command::building::build_levels","a",@progbits
-	.section ".rodata..Lswitch.table.clap::builder::command::building::build_levels.2127","a",@progbits
-	.section ".data.rel.ro..Lswitch.table.clap::parser::parse::Parser::check_value.2128","aw",@progbits
+	.section ".rodata..Lswitch.table.clap::builder::command::building::build_levels.2123","a",@progbits
+	.section ".data.rel.ro..Lswitch.table.clap::parser::parse::Parser::check_value.2124","aw",@progbits
 	.section ".rodata..Lswitch.table.script::script::Script::perform::<#05923a1335ae6474>","a",@progbits
-	.section ".data.rel.ro..Lswitch.table.script::script::Script::perform::<#05923a1335ae6474>.2129","aw",@progbits
+	.section ".data.rel.ro..Lswitch.table.script::script::Script::perform::<#05923a1335ae6474>.2125","aw",@progbits
 	.section ".rodata..Lswitch.table.session::session::Session::perform::<#05923a1335ae6474>","a",@progbits
-	.section ".rodata..Lswitch.table.session::session::Session::perform::<#05923a1335ae6474>.2132","a",@progbits
+	.section ".rodata..Lswitch.table.session::session::Session::perform::<#05923a1335ae6474>.2128","a",@progbits
 	.section ".rodata..Lswitch.table.migration::edited_vertex::push_edited","a",@progbits
-	.section ".rodata..Lswitch.table.migration::edited_vertex::push_edited.2133","a",@progbits
-	.section ".rodata..Lswitch.table.bpf_isa::decode::instruction_in.2134","a",@progbits
-	.section ".rodata..Lswitch.table.bpf_isa::decode::instruction_in.2135","a",@progbits
-	.section ".rodata..Lswitch.table.bpf_isa::decode::instruction_in.2136","a",@progbits
-	.section ".rodata..Lswitch.table.bpf_isa::decode::instruction_in.2137","a",@progbits
+	.section ".rodata..Lswitch.table.migration::edited_vertex::push_edited.2129","a",@progbits
+	.section ".rodata..Lswitch.table.bpf_isa::decode::instruction_in.2130","a",@progbits
+	.section ".rodata..Lswitch.table.bpf_isa::decode::instruction_in.2131","a",@progbits
+	.section ".rodata..Lswitch.table.bpf_isa::decode::instruction_in.2132","a",@progbits
+	.section ".rodata..Lswitch.table.bpf_isa::decode::instruction_in.2133","a",@progbits
 	.section ".rodata..Lswitch.table.bpf_asm::reading::coding::put_instruction","a",@progbits
-	.section ".rodata..Lswitch.table.bpf_asm::reading::coding::put_instruction.2138","a",@progbits
-	.section ".rodata..Lswitch.table.bpf_asm::reading::coding::put_instruction.2139","a",@progbits
+	.section ".rodata..Lswitch.table.bpf_asm::reading::coding::put_instruction.2134","a",@progbits
+	.section ".rodata..Lswitch.table.bpf_asm::reading::coding::put_instruction.2135","a",@progbits
 	.section ".rodata.cst16","aM",@progbits,16
 	.balign 16
 .Lsection_0:
@@ -1752,7 +1752,7 @@
 	.reloc .Lsection_1+18921,R_X86_64_PLT32,"rattle_dealloc"-4
 	.reloc .Lsection_1+18927,R_X86_64_PC32,".bss..Lstatic.0"-5
 	.reloc .Lsection_1+18963,R_X86_64_PC32,".rodata..Lswitch.table.edgebpf::main::<#97bac553ee02a3fe>"-4
-	.reloc .Lsection_1+18977,R_X86_64_PC32,".rodata..Lswitch.table.edgebpf::main::<#97bac553ee02a3fe>.2126.rel"-4
+	.reloc .Lsection_1+18977,R_X86_64_PC32,".rodata..Lswitch.table.edgebpf::main::<#97bac553ee02a3fe>.2122.rel"-4
 	.reloc .Lsection_1+18997,R_X86_64_PLT32,".text.std_io::io::LibcRuntimeEprint::eprintln::<#f2bd7d2a36aceb2a>"-4
 	.reloc .Lsection_1+19044,R_X86_64_PLT32,"rattle_dealloc"-4
 	.reloc .Lsection_1+19061,R_X86_64_PLT32,"rattle_dealloc"-4
@@ -2951,7 +2951,7 @@
 	.reloc .Lsection_12+24408,R_X86_64_PC32,".rodata..Lstatic.14"-4
 	.reloc .Lsection_12+24467,R_X86_64_PC32,".Lstatic.13"-4
 	.reloc .Lsection_12+24587,R_X86_64_PC32,".rodata..Lswitch.table.clap::builder::command::building::build_levels"-4
-	.reloc .Lsection_12+24598,R_X86_64_PC32,".rodata..Lswitch.table.clap::builder::command::building::build_levels.2127"-4
+	.reloc .Lsection_12+24598,R_X86_64_PC32,".rodata..Lswitch.table.clap::builder::command::building::build_levels.2123"-4
 	.reloc .Lsection_12+24831,R_X86_64_PLT32,"rattle_dealloc"-4
 	.reloc .Lsection_12+24944,R_X86_64_PLT32,"rattle_dealloc"-4
 	.reloc .Lsection_12+24968,R_X86_64_PLT32,"rattle_dealloc"-4
@@ -11014,7 +11014,7 @@
 	.reloc .Lsection_129+7770,R_X86_64_PLT32,"memmove"-4
 	.reloc .Lsection_129+7892,R_X86_64_PC32,".rodata..Lstatic.121"-4
 	.reloc .Lsection_129+7995,R_X86_64_PC32,".Lswitch.table.clap::parser::parse::Parser::check_value"-4
-	.reloc .Lsection_129+8006,R_X86_64_PC32,".data.rel.ro..Lswitch.table.clap::parser::parse::Parser::check_value.2128"-4
+	.reloc .Lsection_129+8006,R_X86_64_PC32,".data.rel.ro..Lswitch.table.clap::parser::parse::Parser::check_value.2124"-4
 	.reloc .Lsection_129+8157,R_X86_64_PLT32,".text.core::fmt::formatter::Formatter::write_piece::<#fec9bc1a24fe1fcf>"-4
 	.reloc .Lsection_129+8377,R_X86_64_PLT32,".text.core::fmt::formatter::Formatter::write_piece::<#499173829830abb3>"-4
 	.reloc .Lsection_129+8546,R_X86_64_PLT32,"memcpy"-4
@@ -15536,7 +15536,7 @@
 	.reloc .Lsection_201+1747,R_X86_64_PC32,".rodata..Lstatic.189"-4
 	.reloc .Lsection_201+2017,R_X86_64_PLT32,".text.script::texts::put_number"-4
 	.reloc .Lsection_201+2044,R_X86_64_PC32,".rodata..Lswitch.table.script::script::Script::perform::<#05923a1335ae6474>"-4
-	.reloc .Lsection_201+2055,R_X86_64_PC32,".data.rel.ro..Lswitch.table.script::script::Script::perform::<#05923a1335ae6474>.2129"-4
+	.reloc .Lsection_201+2055,R_X86_64_PC32,".data.rel.ro..Lswitch.table.script::script::Script::perform::<#05923a1335ae6474>.2125"-4
 	.reloc .Lsection_201+2364,R_X86_64_PC32,".rodata..Lstatic.166"-4
 	.reloc .Lsection_201+2413,R_X86_64_PLT32,".text.script::texts::put_number"-4
 	.reloc .Lsection_201+2463,R_X86_64_PC32,".rodata..Lstatic.169"-4
@@ -17129,7 +17129,7 @@
 	.reloc .Lsection_203+7030,R_X86_64_PLT32,"memset"-4
 	.reloc .Lsection_203+7738,R_X86_64_PLT32,"rattle_alloc"-4
 	.reloc .Lsection_203+7887,R_X86_64_PLT32,".text.unlikely.std_alloc::vec::Vec::grow_amortized::<#8a136eccd536ec16>"-4
-	.reloc .Lsection_203+8157,R_X86_64_PC32,".rodata..Lswitch.table.session::session::Session::perform::<#05923a1335ae6474>.2132"-4
+	.reloc .Lsection_203+8157,R_X86_64_PC32,".rodata..Lswitch.table.session::session::Session::perform::<#05923a1335ae6474>.2128"-4
 	.reloc .Lsection_203+8176,R_X86_64_PLT32,".text.migration::shard::Shard::degree"-4
 	.reloc .Lsection_203+8219,R_X86_64_PLT32,"rattle_dealloc"-4
 	.reloc .Lsection_203+8270,R_X86_64_PLT32,"memmove"-4
@@ -17300,7 +17300,7 @@
 	.reloc .Lsection_203+25662,R_X86_64_PC32,".bss..Lstatic.0"-5
 	.reloc .Lsection_203+25716,R_X86_64_PC32,".bss..Lstatic.0"-5
 	.reloc .Lsection_203+25729,R_X86_64_PC32,".bss..Lstatic.0"-5
-	.reloc .Lsection_203+25788,R_X86_64_PC32,".Lswitch.table.session::session::Session::perform::<#05923a1335ae6474>.2131"-4
+	.reloc .Lsection_203+25788,R_X86_64_PC32,".Lswitch.table.session::session::Session::perform::<#05923a1335ae6474>.2127"-4
 	.reloc .Lsection_203+25882,R_X86_64_PLT32,"rattle_dealloc"-4
 	.reloc .Lsection_203+26000,R_X86_64_PLT32,"memset"-4
 	.reloc .Lsection_203+26031,R_X86_64_PLT32,"memcpy"-4
@@ -17455,7 +17455,7 @@
 	.reloc .Lsection_203+37698,R_X86_64_PC32,".rodata.session::session::Session::perform::<#05923a1335ae6474>"+136
 	.reloc .Lsection_203+38173,R_X86_64_PC32,".rodata.session::session::Session::perform::<#05923a1335ae6474>"+172
 	.reloc .Lsection_203+38533,R_X86_64_PC32,".rodata.session::session::Session::perform::<#05923a1335ae6474>"+152
-	.reloc .Lsection_203+38864,R_X86_64_PC32,".Lswitch.table.session::session::Session::perform::<#05923a1335ae6474>.2130"-4
+	.reloc .Lsection_203+38864,R_X86_64_PC32,".Lswitch.table.session::session::Session::perform::<#05923a1335ae6474>.2126"-4
 	.reloc .Lsection_203+39384,R_X86_64_PLT32,"rattle_alloc"-4
 	.reloc .Lsection_203+39410,R_X86_64_PLT32,"memset"-4
 	.reloc .Lsection_203+39764,R_X86_64_PLT32,"memset"-4
@@ -19943,7 +19943,7 @@
 	.reloc .Lsection_250+78,R_X86_64_PC32,".rodata.migration::edited_vertex::push_edited"-4
 	.reloc .Lsection_250+987,R_X86_64_PLT32,".text.migration::edited::edited_list"-4
 	.reloc .Lsection_250+1025,R_X86_64_PC32,".rodata..Lswitch.table.migration::edited_vertex::push_edited"-4
-	.reloc .Lsection_250+1032,R_X86_64_PC32,".rodata..Lswitch.table.migration::edited_vertex::push_edited.2133"-4
+	.reloc .Lsection_250+1032,R_X86_64_PC32,".rodata..Lswitch.table.migration::edited_vertex::push_edited.2129"-4
 	.reloc .Lsection_250+1071,R_X86_64_PLT32,".text.migration::lists::Lists::push"-4
 	.reloc .Lsection_250+1109,R_X86_64_PLT32,".text.migration::merge::sort_by_target"-4
 	.reloc .Lsection_250+1184,R_X86_64_PLT32,".text.neighbour_btree::tree::NeighbourTree::share"-4
@@ -23838,12 +23838,12 @@
 	.reloc .Lsection_331+193,R_X86_64_PLT32,".text.bpf_isa::row_table::alu_of"-4
 	.reloc .Lsection_331+287,R_X86_64_PC32,".rodata.bpf_isa::decode::instruction_in"+28
 	.reloc .Lsection_331+304,R_X86_64_PC32,".LCPI299_19"-4
-	.reloc .Lsection_331+339,R_X86_64_PC32,".rodata..Lswitch.table.bpf_isa::decode::instruction_in.2134"-4
-	.reloc .Lsection_331+350,R_X86_64_PC32,".rodata..Lswitch.table.bpf_isa::decode::instruction_in.2135"-4
-	.reloc .Lsection_331+361,R_X86_64_PC32,".rodata..Lswitch.table.bpf_isa::decode::instruction_in.2136"-4
-	.reloc .Lsection_331+401,R_X86_64_PC32,".rodata..Lswitch.table.bpf_isa::decode::instruction_in.2137"-4
+	.reloc .Lsection_331+339,R_X86_64_PC32,".rodata..Lswitch.table.bpf_isa::decode::instruction_in.2130"-4
+	.reloc .Lsection_331+350,R_X86_64_PC32,".rodata..Lswitch.table.bpf_isa::decode::instruction_in.2131"-4
+	.reloc .Lsection_331+361,R_X86_64_PC32,".rodata..Lswitch.table.bpf_isa::decode::instruction_in.2132"-4
+	.reloc .Lsection_331+401,R_X86_64_PC32,".rodata..Lswitch.table.bpf_isa::decode::instruction_in.2133"-4
 	.reloc .Lsection_331+409,R_X86_64_PC32,".LCPI299_20"-4
-	.reloc .Lsection_331+438,R_X86_64_PC32,".rodata..Lswitch.table.bpf_isa::decode::instruction_in.2137"-4
+	.reloc .Lsection_331+438,R_X86_64_PC32,".rodata..Lswitch.table.bpf_isa::decode::instruction_in.2133"-4
 	.reloc .Lsection_331+446,R_X86_64_PC32,".LCPI299_21"-4
 	.reloc .Lsection_331+480,R_X86_64_PC32,".LCPI299_22"-4
 	.reloc .Lsection_331+572,R_X86_64_PC32,".rodata.bpf_isa::decode::instruction_in"+84
@@ -28021,7 +28021,7 @@
 	.reloc .Lsection_383+561,R_X86_64_PC32,".rodata..Lswitch.table.bpf_asm::reading::coding::put_instruction"-4
 	.reloc .Lsection_383+618,R_X86_64_PC32,".rodata.bpf_asm::reading::coding::put_instruction"+68
 	.reloc .Lsection_383+682,R_X86_64_PC32,".rodata.bpf_asm::reading::coding::put_instruction"+68
-	.reloc .Lsection_383+722,R_X86_64_PC32,".rodata..Lswitch.table.bpf_asm::reading::coding::put_instruction.2138"-4
+	.reloc .Lsection_383+722,R_X86_64_PC32,".rodata..Lswitch.table.bpf_asm::reading::coding::put_instruction.2134"-4
 	.reloc .Lsection_383+854,R_X86_64_PC32,".rodata.bpf_asm::reading::coding::put_instruction"+68
 	.reloc .Lsection_383+906,R_X86_64_PC32,".rodata.bpf_asm::reading::coding::put_instruction"+124
 	.reloc .Lsection_383+957,R_X86_64_PC32,".rodata.bpf_asm::reading::coding::put_instruction"+68
@@ -28033,7 +28033,7 @@
 	.reloc .Lsection_383+1184,R_X86_64_PC32,".rodata.bpf_asm::reading::coding::put_instruction"+196
 	.reloc .Lsection_383+1234,R_X86_64_PC32,".rodata.bpf_asm::reading::coding::put_instruction"+196
 	.reloc .Lsection_383+1352,R_X86_64_PC32,".rodata.bpf_asm::reading::coding::put_instruction"+176
-	.reloc .Lsection_383+1418,R_X86_64_PC32,".rodata..Lswitch.table.bpf_asm::reading::coding::put_instruction.2139"-4
+	.reloc .Lsection_383+1418,R_X86_64_PC32,".rodata..Lswitch.table.bpf_asm::reading::coding::put_instruction.2135"-4
 	.reloc .Lsection_383+1587,R_X86_64_PLT32,"memcpy"-4
 	.reloc .Lsection_383+1660,R_X86_64_PLT32,".text.unlikely.std_alloc::vec::Vec::grow_amortized::<#1e4279ecd8dbdeef>"-4
 	.section ".rodata.bpf_asm::reading::coding::put_instruction","a",@progbits
@@ -28711,13 +28711,13 @@
 	.size ".Lswitch.table.clap::parser::parse::Parser::check_value",32
 ".Lswitch.table.clap::parser::parse::Parser::check_value":
 	.ascii "&\000\000\000\000\000\000\000\035\000\000\000\000\000\000\000&\000\000\000\000\000\000\000&\000\000\000\000\000\000\000"
-	.type ".Lswitch.table.session::session::Session::perform::<#05923a1335ae6474>.2130",@object
-	.size ".Lswitch.table.session::session::Session::perform::<#05923a1335ae6474>.2130",32
-".Lswitch.table.session::session::Session::perform::<#05923a1335ae6474>.2130":
+	.type ".Lswitch.table.session::session::Session::perform::<#05923a1335ae6474>.2126",@object
+	.size ".Lswitch.table.session::session::Session::perform::<#05923a1335ae6474>.2126",32
+".Lswitch.table.session::session::Session::perform::<#05923a1335ae6474>.2126":
 	.ascii "\001\000\000\000\000\000\000\000\002\000\000\000\000\000\000\000\004\000\000\000\000\000\000\000\010\000\000\000\000\000\000\000"
-	.type ".Lswitch.table.session::session::Session::perform::<#05923a1335ae6474>.2131",@object
-	.size ".Lswitch.table.session::session::Session::perform::<#05923a1335ae6474>.2131",32
-".Lswitch.table.session::session::Session::perform::<#05923a1335ae6474>.2131":
+	.type ".Lswitch.table.session::session::Session::perform::<#05923a1335ae6474>.2127",@object
+	.size ".Lswitch.table.session::session::Session::perform::<#05923a1335ae6474>.2127",32
+".Lswitch.table.session::session::Session::perform::<#05923a1335ae6474>.2127":
 	.ascii "\001\000\003\000\000\000\000\000\001\000\004\000\000\000\000\000\001\001\000\000\000\000\000\000\001\002\000\000\000\000\000\000"
 	.section ".rodata..Lstatic.27","a",@progbits
 .Lsection_420:
@@ -29534,7 +29534,7 @@
 .Lsection_558:
 	.ascii "\015\000\000\000\000\000\000\000\016\000\000\000\000\000\000\000\017\000\000\000\000\000\000\000\017\000\000\000\000\000\000\000"
 	.ascii "\016\000\000\000\000\000\000\000"
-	.section ".rodata..Lswitch.table.edgebpf::main::<#97bac553ee02a3fe>.2126.rel","a",@progbits
+	.section ".rodata..Lswitch.table.edgebpf::main::<#97bac553ee02a3fe>.2122.rel","a",@progbits
 	.balign 4
 .Lsection_559:
 	.ascii "\000\000\000\000\000\000\000\000\000\000\000\000\000\000\000\000\000\000\000\000"
@@ -29549,13 +29549,13 @@
 	.ascii "\000\000\000\000\000\000\000\000\000\000\000\000\000\000\000\000\002\000\000\000\000\000\000\000\002\000\000\000\000\000\000\000"
 	.ascii "\005\000\000\000\000\000\000\000\000\000\000\000\000\000\000\000\000\000\000\000\000\000\000\000\000\000\000\000\000\000\000\000"
 	.ascii "\000\000\000\000\000\000\000\000"
-	.section ".rodata..Lswitch.table.clap::builder::command::building::build_levels.2127","a",@progbits
+	.section ".rodata..Lswitch.table.clap::builder::command::building::build_levels.2123","a",@progbits
 	.balign 8
 .Lsection_561:
 	.ascii "\000\000\000\000\000\000\000\000\000\000\000\000\000\000\000\000\000\000\000\000\000\000\000\000\000\000\000\000\000\000\000\000"
 	.ascii "\377\000\000\000\000\000\000\000\000\000\000\000\000\000\000\000\000\000\000\000\000\000\000\000\000\000\000\000\000\000\000\000"
 	.ascii "\000\000\000\000\000\000\000\000"
-	.section ".data.rel.ro..Lswitch.table.clap::parser::parse::Parser::check_value.2128","aw",@progbits
+	.section ".data.rel.ro..Lswitch.table.clap::parser::parse::Parser::check_value.2124","aw",@progbits
 	.balign 8
 .Lsection_562:
 	.ascii "\000\000\000\000\000\000\000\000\000\000\000\000\000\000\000\000\000\000\000\000\000\000\000\000\000\000\000\000\000\000\000\000"
@@ -29567,7 +29567,7 @@
 	.balign 8
 .Lsection_563:
 	.ascii "\005\000\000\000\000\000\000\000\006\000\000\000\000\000\000\000\004\000\000\000\000\000\000\000"
-	.section ".data.rel.ro..Lswitch.table.script::script::Script::perform::<#05923a1335ae6474>.2129","aw",@progbits
+	.section ".data.rel.ro..Lswitch.table.script::script::Script::perform::<#05923a1335ae6474>.2125","aw",@progbits
 	.balign 8
 .Lsection_564:
 	.ascii "\000\000\000\000\000\000\000\000\000\000\000\000\000\000\000\000\000\000\000\000\000\000\000\000"
@@ -29577,7 +29577,7 @@
 	.section ".rodata..Lswitch.table.session::session::Session::perform::<#05923a1335ae6474>","a",@progbits
 .Lsection_565:
 	.ascii "\004\010\007\003\000\012\011\002\001\006\005"
-	.section ".rodata..Lswitch.table.session::session::Session::perform::<#05923a1335ae6474>.2132","a",@progbits
+	.section ".rodata..Lswitch.table.session::session::Session::perform::<#05923a1335ae6474>.2128","a",@progbits
 	.balign 8
 .Lsection_566:
 	.ascii "\000\000\000\000\000\000\000\000\000\000\000\000\000\000\000\000\000\000\000\000\000\000\000\000\001\000\000\000\000\000\000\000"
@@ -29586,29 +29586,29 @@
 	.balign 4
 .Lsection_567:
 	.ascii "\014\000\000\000\014\000\000\000\014\000\000\000\010\000\000\000\010\000\000\000"
-	.section ".rodata..Lswitch.table.migration::edited_vertex::push_edited.2133","a",@progbits
+	.section ".rodata..Lswitch.table.migration::edited_vertex::push_edited.2129","a",@progbits
 	.balign 4
 .Lsection_568:
 	.ascii "\000\004\000\000\000\004\000\000\000\004\000\000\000\004\000\000\000\003\000\000"
-	.section ".rodata..Lswitch.table.bpf_isa::decode::instruction_in.2134","a",@progbits
+	.section ".rodata..Lswitch.table.bpf_isa::decode::instruction_in.2130","a",@progbits
 .Lsection_569:
 	.ascii "\000\000\001\002\003\004\005\006\000\000\007\010\011\012"
-	.section ".rodata..Lswitch.table.bpf_isa::decode::instruction_in.2135","a",@progbits
+	.section ".rodata..Lswitch.table.bpf_isa::decode::instruction_in.2131","a",@progbits
 .Lsection_570:
 	.ascii "\006\007\007\007\007\007\007\007\000\000\007\007\007\007"
-	.section ".rodata..Lswitch.table.bpf_isa::decode::instruction_in.2136","a",@progbits
+	.section ".rodata..Lswitch.table.bpf_isa::decode::instruction_in.2132","a",@progbits
 .Lsection_571:
 	.ascii "\001\001\001\001\001\001\001\001\000\000\001\001\001\001"
-	.section ".rodata..Lswitch.table.bpf_isa::decode::instruction_in.2137","a",@progbits
+	.section ".rodata..Lswitch.table.bpf_isa::decode::instruction_in.2133","a",@progbits
 .Lsection_572:
 	.ascii "\000\001\002\003\004\005\006\000\000\007\010\011\012"
 	.section ".rodata..Lswitch.table.bpf_asm::reading::coding::put_instruction","a",@progbits
 .Lsection_573:
 	.ascii "\000\020 00@P`p\220\220\240\260\300"
-	.section ".rodata..Lswitch.table.bpf_asm::reading::coding::put_instruction.2138","a",@progbits
+	.section ".rodata..Lswitch.table.bpf_asm::reading::coding::put_instruction.2134","a",@progbits
 .Lsection_574:
 	.ascii "\020 0@P`p\240\260\300\320"
-	.section ".rodata..Lswitch.table.bpf_asm::reading::coding::put_instruction.2139","a",@progbits
+	.section ".rodata..Lswitch.table.bpf_asm::reading::coding::put_instruction.2135","a",@progbits
 	.balign 2
 .Lsection_575:
 	.ascii "\000\000\000\000\000\000\000\000\001\000\000\000\000\000\000\000\000\000\000\000\001\000\000\000\000\000\000\000"
