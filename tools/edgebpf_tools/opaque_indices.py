@@ -12,8 +12,6 @@ LOAD = re.compile(r"load i\d+, ptr (%[\w.]+)")
 CHANGE_OF_WIDTH = re.compile(r"(?:zext|sext|trunc)(?: nneg)? \w+ (%[\w.]+) to")
 STORE = re.compile(r"(\s+)store (i8|i16|i32|i64) (%[\w.]+), ptr (%[\w.]+)(.*)")
 ADDRESS = re.compile(r"= getelementptr [^,]*, ptr %[\w.]+, (.*)")
-# The registers of a width, as clang's constraints call them.
-REGISTERS = {"i32": "w", "i64": "r"}
 
 
 class Function:
@@ -60,13 +58,13 @@ def through_assembler(store, name):
     indent, width, value, variable, rest = store.groups()
     place = re.search(r", !dbg !\d+", rest)
     end = place[0] if place else ""
-    if width in REGISTERS:
-        register = REGISTERS[width]
-        yield f'{indent}{name} = call {width} asm "", "={register},0"({width} {value}){end}'
+    if width == "i64":
+        yield f'{indent}{name} = call i64 asm "", "=r,0"(i64 {value}){end}'
     else:
-        yield f"{indent}{name}.wide = zext {width} {value} to i32{end}"
-        yield f'{indent}{name}.same = call i32 asm "", "=w,0"(i32 {name}.wide){end}'
-        yield f"{indent}{name} = trunc i32 {name}.same to {width}{end}"
+        # A whole register: clang takes the upper half of a 32-bit result for zero, and an empty piece of assembler clears nothing.
+        yield f"{indent}{name}.wide = zext {width} {value} to i64{end}"
+        yield f'{indent}{name}.same = call i64 asm "", "=r,0"(i64 {name}.wide){end}'
+        yield f"{indent}{name} = trunc i64 {name}.same to {width}{end}"
     yield f"{indent}store {width} {name}, ptr {variable}{rest}"
 
 

@@ -126,29 +126,28 @@ class FromC(unittest.TestCase):
             self.assertLessEqual(20 * refused, accepted + refused)
 
     def test_random_functions(self):
-        """At most one of a hundred is refused, at a line and for an index of which too little is known. All others give the numbers of
-        native code. One that is refused so is compiled again with opaque indices, as `edgebpf-c` does."""
+        """Each is accepted as it is or with opaque indices, as `edgebpf-c` compiles what is refused; what is refused first is so at a line and
+        for an index of which too little is known. Both ways give the numbers of native code."""
         path = pathlib.Path(self.folder.name) / "random.c"
         path.write_text(random_c.source(0, RANDOM_FUNCTIONS))
         library = native_library(self.folder.name, "-O1", [path])
         self.graph.hand_to(library)
-        objects, again, refused = objects_of(path, self.folder.name), None, 0
-        functions = [function for function in objects.functions if not function.is_static]
-        self.assertEqual(len(functions), RANDOM_FUNCTIONS)
-        for function in functions:
-            with self.subTest(function=function.name):
-                program = link(objects, function, random_c.LENGTH)
-                verdict = judged(program.code, random_c.LENGTH)
-                if isinstance(verdict, Refused):
-                    self.assertEqual(verdict.cause, OUT_OF_RANGE)
-                    self.assertIsNotNone(objects.line(*program.places[verdict.pc]))
-                    again = again or objects_of(path, self.folder.name, has_opaque_indices=True)
-                    program = link(again, again.function_named(function.name), random_c.LENGTH)
-                    if isinstance(judged(program.code, random_c.LENGTH), Refused):
-                        refused += 1
-                        continue
-                self.equal(program, random_c.LENGTH, library, function.name)
-        self.assertLessEqual(100 * refused, RANDOM_FUNCTIONS)
+        accepted = set()
+        for has_opaque_indices in (False, True):
+            objects = objects_of(path, self.folder.name, has_opaque_indices=has_opaque_indices)
+            for function in objects.functions:
+                if function.is_static:
+                    continue
+                with self.subTest(function=function.name, has_opaque_indices=has_opaque_indices):
+                    program = link(objects, function, random_c.LENGTH)
+                    verdict = judged(program.code, random_c.LENGTH)
+                    if isinstance(verdict, Refused):
+                        self.assertEqual(verdict.cause, OUT_OF_RANGE)
+                        self.assertIsNotNone(objects.line(*program.places[verdict.pc]))
+                    else:
+                        accepted.add(function.name)
+                        self.equal(program, random_c.LENGTH, library, function.name)
+        self.assertEqual(accepted, {f"random_{number}" for number in range(RANDOM_FUNCTIONS)})
 
     def refused(self, objects, function, length, path, words):
         if words.startswith("cause "):
