@@ -23,9 +23,9 @@ CONTRACTS_HEAD = f"""\
 What each public call promises, in the words of its source. `{COMMAND}` writes this page of the `///` in `crates/*/src`.
 The clauses under each signature say the same exactly, and are proved. No contract says how long a call takes.
 
-- "Takes no memory" means that the call has no allocator, and so no answer for want of it. Where a call may answer want of memory, it
+- "Takes no memory" means that the call has no allocator, and so never reports that there is none. If a call may answer out of memory, it
   may do so at any growth. That it does so only then is not claimed.
-- `From<AllocError>` and `From<AllocFailed<T>>` of an error make its answer for want of memory.
+- `From<AllocError>` and `From<AllocFailed<T>>` of an error make its answer for out of memory.
 - A law is a call that does nothing: its contract states a theorem. A law of calls only makes public calls, often at their limits, and
   is proved from their contracts.
 - A value whose type has private fields was made by one of the calls below, and keeps what the type's text says.

@@ -231,7 +231,7 @@ def narrowing():
 
 
 def assembler_lines():
-    part = between(BPF, "The first fault is told with its line", "\nOnly when all lines are well")
+    part = between(BPF, "The first fault is reported with its line", "\nOnly when all lines are well")
     listed = between(BPF, "and `NumberRange`, where it is too far away. The causes have the numbers ", "`OutOfMemory`.")
     numbers = {name: int(cause) for cause, name in re.findall(r"([1-7]) `(\w+)`", listed)}
     for name, rest in re.findall(r"^[0-9]\. `(\w+)`(.*)$", part, re.M):
