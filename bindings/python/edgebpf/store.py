@@ -137,15 +137,16 @@ class Store:
 
     def pin(self):
         """The last version. It stays as it is while batches come. A process keeps at most 256 versions (`TooManyNames`)."""
-        batches = self._batches
-        if self._last is None or self._last[0] != batches:
+        # Another thread may pin meanwhile: what this call found or made is what it returns.
+        batches, last = self._batches, self._last
+        if last is None or last[0] != batches:
             if self._pins >= MOST_NAMES:
                 raise TooManyNames(f"the process keeps at most {MOST_NAMES} pinned versions")
             self._pins += 1
             name = f"v{next(self._names)}"
             words, _ = self._process.ask(f"pin {name}\n".encode())
-            self._last = batches, name, int(words[3]), int(words[5])
-        return Version(self, *self._last[1:])
+            self._last = last = batches, name, int(words[3]), int(words[5])
+        return Version(self, *last[1:])
 
     def _name_of(self, program):
         """The name under which the process has a program; it is loaded at its first use."""
