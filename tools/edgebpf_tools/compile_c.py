@@ -68,7 +68,9 @@ def is_object_file(path):
 def linked(options, folder):
     """The object file, the function that the program begins with, and the program."""
     if is_object_file(options.file):
-        return of_object(options, options.file)
+        found = of_object(options, options.file)
+        warn_of_result(options.file, found[1].name)
+        return found
     compiled = f"{folder}/program.o"
     sys.stderr.write(clang.compile_to_bpf(options.file, compiled, [HEADERS], options.optimize))
     found = of_object(options, compiled)

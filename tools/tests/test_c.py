@@ -80,6 +80,13 @@ class EdgebpfC(unittest.TestCase):
         pathlib.Path(broken).write_text("u64 f(\n")
         self.assertIn("clang refused", run_tool("edgebpf-c", broken, "f", "16").stderr)
 
+    def test_results_of_object_files(self):
+        made = f"{self.folder.name}/results.o"
+        flags = ["-O2", "-target", "bpf", "-mcpu=v3", "-g", f"-I{TOOLS}", "-c"]
+        subprocess.run([newest("clang"), *flags, self.file, "-o", made], check=True, capture_output=True)
+        self.assertIn("narrow answers int, of 4 bytes", run_tool("edgebpf-c", made, "narrow", "16").stderr)
+        self.assertIn("has no result", run_tool("edgebpf-c", made, "nothing", "16").stderr)
+
     def test_object_files(self):
         made = f"{self.folder.name}/programs.o"
         flags = ["-O2", "-target", "bpf", "-mcpu=v3", f"-I{TOOLS}", "-c"]
