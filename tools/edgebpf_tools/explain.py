@@ -10,8 +10,6 @@ from edgebpf_tools.explain_page import page
 from edgebpf_tools.refusal import Refusal
 
 TOOLS = pathlib.Path(__file__).resolve().parent.parent
-# Where a build of the program may be: proved here, built of dist/, or installed.
-BUILT = [TOOLS.parent / place / "edgebpf_explain" for place in ("crates/edgebpf_explain/out", "dist/build", "programs")]
 
 
 def command():
@@ -21,16 +19,21 @@ def command():
 
 
 def is_ready():
-    """Whether the program is there, so that nothing has to be built."""
-    return "EDGEBPF_EXPLAIN" in os.environ or any(path.exists() for path in BUILT)
+    """Whether the program is there, or is built of dist/ within a second. Nothing is proved for it."""
+    if "EDGEBPF_EXPLAIN" in os.environ:
+        return True
+    asked = [TOOLS / "proved_program", "--ready", "edgebpf_explain"]
+    return subprocess.run(asked, stdout=subprocess.DEVNULL, stderr=subprocess.DEVNULL).returncode == 0
 
 
-def explain(length, code=None, text=None):
+def explain(length, code=None, text=None, is_asked_for=False):
     """What is told of code in hexadecimal digits or of assembler text, and the status: 1 of a refused program. Of what is no
-    program nothing is told; the program's standard error, which says why, is passed on."""
+    program nothing is told; the program's standard error, which says why, is passed on. Unless the user asked for it, the program
+    does not say which build of it runs."""
     words = [str(length)] + ([] if code is None else [code])
+    environment = dict(os.environ) if is_asked_for else {"EDGEBPF_PROVED": "elsewhere", **os.environ}
     try:
-        run = subprocess.run([*command(), *words], input=text or "", stdout=subprocess.PIPE, text=True)
+        run = subprocess.run([*command(), *words], input=text or "", stdout=subprocess.PIPE, text=True, env=environment)
     except OSError as error:
         raise Refusal(f"{error.filename}: {error.strerror}") from None
     return run.stdout, run.returncode
@@ -54,7 +57,7 @@ def arguments(words):
 def perform(words):
     options = arguments(words)
     text = sys.stdin.read() if options.code is None else None
-    told, status = explain(options.length, options.code, text)
+    told, status = explain(options.length, options.code, text, is_asked_for=True)
     print(told, end="")
     if options.html and told:
         try:

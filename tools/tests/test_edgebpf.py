@@ -273,6 +273,21 @@ class Released(Checkout):
         self.assertEqual(run.stdout, "text\n")
         self.assertNotIn(BESIDE, run.stderr)
 
+    def test_ready_without_a_proof(self):
+        asked = [self.top / "tools/proved_program", "--ready", "edgebpf"]
+
+        def is_ready():
+            run = subprocess.run(asked, capture_output=True, text=True, env=self.environment())
+            self.assertEqual(run.stdout, "")
+            return run.returncode == 0
+
+        self.assertTrue(is_ready())
+        (self.top / "crates/low/src/lib.rt").write_text("//! changed\n")
+        self.assertFalse(is_ready())
+        self.assertEqual(self.prover_runs(), 0)
+        self.serve()
+        self.assertTrue(is_ready())
+
     def test_a_changed_text_is_refused(self):
         self.settle()
         with open(self.top / "dist/edgebpf.s", "a") as text:
