@@ -64,11 +64,11 @@ published s x y sees call =
 taken : (s : Core) (x y : Standing) → AllSee s x → IsTaken x y → LeadsTo s y
 taken s x y sees call =
     let seen : PublisherSees s x.past None = subst (PublisherSees s x.past) call.free sees.publisher in
-    let (t, step, held, queue) = takings_are x.past call.entry s seen (next_is s None x.waiting call.entry sees.queue call.next) in (
+    let (t, ran, held, queue) = takings_are x.past None call.entry s seen (next_is s None x.waiting call.entry sees.queue call.next) in (
       t,
       Take ∷ [],
       Done ∷ [],
-      (t, step, refl),
+      ran,
       subst (AllSee t) (sym call.now) (record { publisher = held; queue = queue ∙ ap (drop 1) sees.queue }),
     )
 

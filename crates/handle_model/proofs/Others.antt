@@ -12,7 +12,8 @@ use Rattle.past_model.specs.Past.{of_feed}
 use Rattle.store_model.specs.Core.{Core, Holding, run_of, entries}
 use Rattle.store_model.specs.Events.{IsBeginning, can, Answers, after, after_take, after_publish, after_lend, Happens, accepted_by}
 use Rattle.store_model.proofs.Entries.{entries_after, count_after}
-use Rattle.handle_model.specs.Laws.{is_submission_of, is_of_publisher, is_of_reader, OthersLeave, EachToItsOwn}
+use Rattle.handle_model.specs.Calls.{is_of_reader}
+use Rattle.handle_model.specs.Laws.{is_submission_of, is_of_publisher, OthersLeave, EachToItsOwn}
 
 -- what an event accepts came by another feed
 not_of : (feed : ℕ) (event : Event) (reply : Reply) → is_submission_of feed event ≡ false → of_feed feed (accepted_by event reply) ≡ []

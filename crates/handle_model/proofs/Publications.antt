@@ -137,10 +137,16 @@ ranges_are (e ∷ es) =
     )
 
 pub takings_are : TakingsAre
-takings_are past e s sees (rest, next) = (
-  record { past = past; queue = rest; held = Some (new_holding e); runs = s.runs },
-  subst (λ x. Steps x Take Done (record { past = past; queue = rest; held = Some (new_holding e); runs = s.runs }))
-      (core_is s past (e ∷ rest) None sees.published next sees.holds) (lt-ltb 0 (length (e ∷ rest)) (omega arith), refl, refl),
-  record { published = refl; holds = refl },
-  ap (drop 1) (sym next),
-)
+takings_are past None e s sees (rest, next) =
+    let t : Core = record { past = past; queue = rest; held = Some (new_holding e); runs = s.runs } in (
+      t,
+      (
+        t,
+        subst (λ x. Steps x Take Done t) (core_is s past (e ∷ rest) None sees.published next sees.holds) (lt-ltb 0 (length (e ∷ rest)) (omega arith), refl, refl),
+        refl,
+      ),
+      record { published = refl; holds = refl },
+      ap (drop 1) (sym next),
+    )
+takings_are past (Some h) e s sees is =
+    (s, refl, record { published = sees.published; holds = sees.holds ∙ ap (λ x. Some (new_holding x)) is }, refl)

@@ -1,8 +1,8 @@
 -- Which events the calls of handles are. Each word speaks of every store of which the handle's sight is: after
 -- these events, each of them done, the handle's sight is the later one.
-use Rattle.std.specs.Prelude.{◌≡◌, ◌==◌, ℕ, ◌<◌, Bool, true, not, ◌&&◌, List, [], ◌∷◌, ◌++◌, length, drop, map, Option, Some, None, Vec}
+use Rattle.std.specs.Prelude.{◌≡◌, ◌==◌, ℕ, ◌<◌, Bool, true, false, not, ◌&&◌, List, [], ◌∷◌, ◌++◌, length, drop, map, slice_set, Option, Some, None, Vec}
 use Rattle.std.specs.declared.alloc.Global.{Global}
-use Rattle.std.specs.List.{list_any}
+use Rattle.std.specs.List.{list_any, insert}
 use Rattle.past_model.specs.declared.edit.Edit.{Edit}
 use Rattle.past_model.specs.declared.entry.Entry.{Entry}
 use Rattle.past_model.specs.Past.{Past}
@@ -11,8 +11,8 @@ use Rattle.store_model.specs.declared.event.Event.{Event}
 use Rattle.store_model.specs.declared.event.Event.TheVariants.{Submit, Take, Part, Publish, Pin, Lend}
 use Rattle.store_model.specs.declared.reply.Reply.{Reply}
 use Rattle.store_model.specs.declared.reply.Reply.TheVariants.{Done, Slice, End}
-use Rattle.store_model.specs.Core.{Core, is_done, range_of}
-use Rattle.store_model.specs.Events.{Steps, Ran}
+use Rattle.store_model.specs.Core.{Core, Run, is_done, range_of}
+use Rattle.store_model.specs.Events.{IsBeginning, Steps, Ran}
 use Rattle.handle_model.specs.Sights.{FeedSees, PublisherSees, CursorSees}
 
 -- the batch was submitted, where the queue had room for it
@@ -61,17 +61,37 @@ IsPublication past held e later =
     → (t : Core) × Ran s (publication held ranges) (all_done (publication held ranges)) t × PublisherSees t later None
     × (t.queue ≡ waiting_after s.queue held)
 
--- the first batch that waits was taken, and is held
-abbrev pub IsTaking : Past → Entry → Type 0
-IsTaking past e =
-    (s : Core) → PublisherSees s past None → IsNext s None e
-    → (t : Core) × Steps s Take Done t × PublisherSees t past (Some e) × (t.queue ≡ drop 1 s.queue)
+-- the next batch was taken, unless it was held before, and it is held; nothing was published
+abbrev pub IsTaking : Past → Option Entry → Entry → Past → Type 0
+IsTaking past held e later =
+    (s : Core) → PublisherSees s past held → IsNext s held e
+    → (t : Core) × Ran s (take_unless_held held) (all_done (take_unless_held held)) t × PublisherSees t later (Some e)
+    × (t.queue ≡ waiting_after s.queue held)
 
--- a reader pinned the published version, and is lent a vertex's neighbours
-abbrev pub IsPin : Past → ℕ → List ℕ → Type 0
-IsPin past vertex words =
-    (s : Core) (reader : ℕ) → s.past ≡ past → reader < READERS → length s.runs ≡ READERS
-    → (t : Core) × Steps s (Pin reader vertex) Done t × CursorSees t reader past vertex words
+abbrev pub is_of_reader : ℕ → Event → Bool
+is_of_reader reader (Pin other vertex) = other == reader
+is_of_reader reader (Lend other) = other == reader
+is_of_reader reader (Submit feed batch) = false
+is_of_reader reader Take = false
+is_of_reader reader (Part range) = false
+is_of_reader reader Publish = false
+
+-- a run that was lent nothing yet
+abbrev pub new_run : Past → ℕ → Run
+new_run past vertex = record { past = past; vertex = vertex; lent = []; ended = false }
+
+-- the store, with this as the reader's run
+abbrev pub with_run : Core → ℕ → Run → Core
+with_run s reader run = record s { runs = slice_set s.runs reader (Some run) }
+
+-- A reader saw one version last, and then pinned another. Others do whatever they like in a store whose last version
+-- was the first of the two, until it has the second. Then the pin has its place among their events, and all
+-- but the reader's run is as without it.
+abbrev pub IsPin : Past → Past → Type 0
+IsPin seen pinned =
+    (s t : Core) (events : List Event) (replies : List Reply) (reader vertex : ℕ) → s.past ≡ seen → Ran s events replies t
+    → list_any (is_of_reader reader) events ≡ false → IsBeginning pinned.log t.past.log → reader < READERS → vertex < seen.vertex_count
+    → (place : ℕ) × Ran s (insert events place (Pin reader vertex)) (insert replies place Done) (with_run t reader (new_run pinned vertex))
 
 -- a cursor lent a slice, or told the end
 abbrev pub IsLend : Past → ℕ → List ℕ → Option (List ℕ) → List ℕ → Type 0

@@ -11,8 +11,8 @@ use Rattle.store_model.specs.declared.event.Event.TheVariants.{Submit, Take, Par
 use Rattle.store_model.specs.declared.reply.Reply.{Reply}
 use Rattle.store_model.specs.Core.{Core, run_of, entries}
 use Rattle.store_model.specs.Events.{IsBeginning, Steps, Ran}
-use Rattle.handle_model.specs.Sights.{PublisherSees}
-use Rattle.handle_model.specs.Calls.{IsSubmission, IsPublication, IsTaking, IsPin, IsLend, IsNext, AreRangesOf, publication}
+use Rattle.handle_model.specs.Sights.{PublisherSees, CursorSees}
+use Rattle.handle_model.specs.Calls.{IsSubmission, IsPublication, IsTaking, IsPin, IsLend, IsNext, AreRangesOf, publication, is_of_reader, new_run, with_run}
 
 -- a batch of a feed that there is, whose edits name vertices, is the next that the feed has sent
 abbrev pub SubmissionsAre : Type 0
@@ -28,12 +28,16 @@ PublicationsAre = (past : Past) (held : Option Entry) (e : Entry) → IsPublicat
 abbrev pub RangesAre : Type 0
 RangesAre = (batch : List Edit) → (ranges : List ℕ) × AreRangesOf batch ranges
 
+-- what is held before stays the next, and nothing is published
 abbrev pub TakingsAre : Type 0
-TakingsAre = (past : Past) (e : Entry) → IsTaking past e
+TakingsAre = (past : Past) (held : Option Entry) (e : Entry) → IsTaking past held e past
 
--- a pin's cursor at a vertex has all its neighbours to lend
+-- a version that continues the one that was seen can be pinned, and its cursor has all neighbours of its vertex to lend
 abbrev pub PinsAre : Type 0
-PinsAre = (past : Past) (vertex : ℕ) → vertex < past.vertex_count → IsPin past vertex (neighbours (graph_of past) vertex)
+PinsAre =
+    ((seen pinned : Past) → seen.vertex_count ≡ pinned.vertex_count → IsBeginning seen.log pinned.log → IsPin seen pinned)
+    × ((s : Core) (reader vertex : ℕ) (past : Past) → reader < length s.runs
+      → CursorSees (with_run s reader (new_run past vertex)) reader past vertex (neighbours (graph_of past) vertex))
 
 -- a slice that begins what is left, and the end where nothing is left
 abbrev pub LendsAre : Type 0
@@ -56,14 +60,6 @@ is_of_publisher Publish = true
 is_of_publisher (Submit feed batch) = false
 is_of_publisher (Pin reader vertex) = false
 is_of_publisher (Lend reader) = false
-
-abbrev pub is_of_reader : ℕ → Event → Bool
-is_of_reader reader (Pin other vertex) = other == reader
-is_of_reader reader (Lend other) = other == reader
-is_of_reader reader (Submit feed batch) = false
-is_of_reader reader Take = false
-is_of_reader reader (Part range) = false
-is_of_reader reader Publish = false
 
 -- an event of others changes nothing of what a handle sees; and batches that wait are only taken by the publisher
 pub record OthersLeave (s : Core) (event : Event) (t : Core) : Type 0 where

@@ -18,12 +18,13 @@ pub fn ranges_are()
     ensures { RangesAre }
 {}
 
-/// Taking a batch and not publishing it is the event of its name.
+/// Taking a batch and not publishing it is the event of its name; of a batch that was held before it is no event.
 pub fn takings_are()
     ensures { TakingsAre }
 {}
 
-/// A pin and a cursor at a vertex are the event of a pin: all the vertex's neighbours are to be lent.
+/// A pin of a version that continues the one which the reader saw last has its place as an event among those of others,
+/// whatever they are. Its cursor has all the vertex's neighbours to lend.
 pub fn pins_are()
     ensures { PinsAre }
 {}

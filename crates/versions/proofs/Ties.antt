@@ -5,12 +5,12 @@ use Rattle.past_model.specs.declared.entry.Entry.{Entry}
 use Rattle.past_model.specs.Edits.{AreEditsBelow}
 use Rattle.past_model.specs.Past.{Past}
 use Rattle.past_model.specs.declared.limits.TheConstants.{FEEDS}
-use Rattle.history.specs.Moment.{Moment}
+use Rattle.history.specs.Moment.{Moment, Begins}
 use Rattle.versions.specs.Ends.{Feeding, after_put}
 use Rattle.handle_model.specs.Calls.{IsSubmission, IsPublication, IsTaking}
 use Rattle.handle_model.proofs.Submissions.{submissions_are}
 use Rattle.handle_model.proofs.Publications.{publications_are, takings_are}
-use Rattle.handle_model.proofs.Lending.{pins_are}
+use Rattle.handle_model.proofs.Pinning.{pins_are}
 use Rattle.versions.specs.Receipts.{Publication}
 use Rattle.versions.specs.Storing.{Storing, IsPublished, IsKept}
 use Rattle.versions.specs.Ties.{SubmitsAsEvent, PublishesAsEvents, TakesAsEvent, PinsAsEvent}
@@ -24,11 +24,12 @@ publication_is s t p published =
     let past = ap (λ (x : Storing). x.moment.past) published.after ∙ ap (λ (x : Publication). x.moment.past) published.receipt in
     subst (IsPublication s.moment.past s.held p.entry) (sym past) (publications_are s.moment.past s.held p.entry)
 
-pub taking_is : (s t : Storing) → TakesAsEvent s t
-taking_is s t e free held = takings_are t.moment.past e
+pub taking_is : (s t : Storing) → IsKept s t → TakesAsEvent s t
+taking_is s t kept e held =
+    subst (λ past. IsTaking s.moment.past s.held e past) (ap (λ (x : Storing). x.moment.past) (sym kept.after)) (takings_are s.moment.past s.held e)
 
-pub pin_is : (m : Moment) → PinsAsEvent m
-pin_is m = pins_are m.past
+pub pin_is : (seen pinned : Moment) → Begins seen pinned → PinsAsEvent seen pinned
+pin_is seen pinned ((same, counts), (rest, is)) = pins_are.0 seen.past pinned.past (sym counts) (rest, sym is)
 
 -- the same of what the calls answer
 pub submitted_is : {E : Type 0} (result : Result (Unit {0}) E) (s t : Feeding) (batch : List Edit) → IfOk result (λ _. t ≡ after_put s batch)
@@ -44,4 +45,4 @@ published_is publication_of (Err e) s t published = tt
 
 pub taken_is : {X E : Type 0} (result : Result X E) (s t : Storing) → IfErr result (λ _. IsKept s t) → IfErr result (λ _. TakesAsEvent s t)
 taken_is (Ok done) s t kept = tt
-taken_is (Err e) s t kept = taking_is s t
+taken_is (Err e) s t kept = taking_is s t kept

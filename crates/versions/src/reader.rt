@@ -43,7 +43,7 @@ impl Reader {
     pub fn pin(&mut self) -> Result<Pin, PinError>
         ensures begins { IfOk result (λ pin. Begins self.old pin) }
         ensures seen { IfOk result (λ pin. self.new ≡ pin) }
-        ensures event { IfOk result (λ pin. PinsAsEvent pin) }
+        ensures event { IfOk result (λ pin. PinsAsEvent self.old pin) }
         ensures failed { IfErr result (λ _. self.new ≡ self.old) }
     {
         match self.side.pin() {
