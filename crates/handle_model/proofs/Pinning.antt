@@ -1,11 +1,10 @@
 -- A pin among the events of others.
-use Rattle.std.proofs.Common.{◌≡◌, ◌==◌, ℕ, zero, suc, ◌<◌, ◌&&◌, ◌⊎◌, inl, inr, nat_lt, Bool, true, false, Option, Some, None, is_some, option_map, MatchOption, List, [], ◌∷◌, ◌++◌, length, slice_set, refl, sym, ap, subst, ◌∙◌, append_assoc, append-nil, length-append, arith}
+use Rattle.std.proofs.Common.{◌≡◌, ◌==◌, ℕ, suc, ◌<◌, ◌⊎◌, inl, inr, nat_lt, false, Option, Some, None, is_some, option_map, MatchOption, List, [], ◌∷◌, ◌++◌, length, slice_set, refl, sym, ap, subst, ◌∙◌, append_assoc, append-nil, length-append, arith}
 use Rattle.std.specs.List.{list_any, insert}
 use Rattle.std.proofs.lemmas.Bool.{and_from, or_parts, lt-ltb, eqb-false}
 use Rattle.std.proofs.lemmas.List.{get_or-set_same, get_or-set_other, set_comm, append_cancel_left}
-use Rattle.graph_model.specs.Graph.{neighbours}
 use Rattle.past_model.specs.declared.entry.Entry.{Entry}
-use Rattle.past_model.specs.Past.{Past, graph_of, longer, past_in}
+use Rattle.past_model.specs.Past.{Past, longer, past_in}
 use Rattle.store_model.specs.declared.event.Event.{Event}
 use Rattle.store_model.specs.declared.event.Event.TheVariants.{Submit, Take, Part, Publish, Pin, Lend}
 use Rattle.store_model.specs.declared.reply.Reply.{Reply}
@@ -13,7 +12,7 @@ use Rattle.store_model.specs.declared.reply.Reply.TheVariants.{Done, Refused, Sl
 use Rattle.store_model.specs.Core.{Core, Holding, Run, run_of, words_of}
 use Rattle.store_model.specs.Events.{IsBeginning, can, Answers, Lends, after, after_take, after_publish, after_lend, Happens, Steps, Ran}
 use Rattle.store_model.proofs.Steps.{step_keeps, runs_keep}
-use Rattle.handle_model.specs.Calls.{is_of_reader, new_run, with_run, IsPin}
+use Rattle.handle_model.specs.Calls.{is_of_reader, new_run, with_run}
 use Rattle.handle_model.specs.Laws.{PinsAre}
 
 -- one reader's run is nothing to the events of others
@@ -124,7 +123,7 @@ begins s t events replies ran =
 past_is : (p q : Past) → p.vertex_count ≡ q.vertex_count → p.log ≡ q.log → p ≡ q
 past_is p q counts logs = ap (λ n. past_in n p.log) counts ∙ ap (past_in q.vertex_count) logs
 
-first_or : Entry → List Entry → Entry
+abbrev first_or : Entry → List Entry → Entry
 first_or d [] = d
 first_or d (e ∷ es) = e
 
