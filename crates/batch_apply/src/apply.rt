@@ -4,12 +4,12 @@ ghost use Rattle.batch_apply.specs.Applied.{IsApplied};
 
 use crate::edited::edit_table;
 use crate::errors::ApplyError;
-use gates::{Gate, Workers};
 use migration::{Counts, Table};
 use past_model::{Batch, MOST_EDITS, are_below};
 use std::alloc::Global;
 use std::sync::Wait;
 use std::thread::Threads;
+use workers::{Gate, Workers};
 
 /// The table of a graph after a batch, and what the batch did to the graph. The table stays. `TooManyEdits` exactly
 /// above 65,536 edits; else `VertexRange` exactly where an edit names a vertex that the graph does not have; then

@@ -1,20 +1,20 @@
 //! A table of shards after a batch.
 ghost use Rattle.std.specs.Prelude.{◌≡◌, ◌<◌, ◌≤◌, All, length, IfOk};
 ghost use Rattle.past_model.specs.declared.limits.TheConstants.{MOST_RANGES};
-ghost use Rattle.gates.specs.declared.limits.TheConstants.{MOST_WORKERS};
+ghost use Rattle.workers.specs.declared.limits.TheConstants.{MOST_WORKERS};
 ghost use Rattle.migration.specs.Made.{IsBatch};
 ghost use Rattle.migration.specs.Table.{IsEditable, AreAfter, AreMoved};
 ghost use Rattle.batch_apply.specs.Dealt.{IsReady, AreDealt, pieces_of};
 
 use crate::hands::{spread, work_alone};
 use crate::pieces::Pieces;
-use gates::{Gate, Refusal, Workers};
 use migration::{Counts, EditedShard, Grouping, Groups, Table};
 use past_model::Edit;
 use std::alloc::{AllocError, Global};
 use std::sync::Wait;
 use std::thread;
 use std::thread::Threads;
+use workers::{Gate, WorkError, Workers};
 
 /// The edited shards of all workers. With one worker no thread is started.
 fn made_by<Ga: Gate, R: Threads + Wait>(
@@ -24,7 +24,7 @@ fn made_by<Ga: Gate, R: Threads + Wait>(
     pieces: &Pieces,
     gate: &Ga,
     hands: usize,
-) -> Result<Vec<Vec<EditedShard>>, Refusal>
+) -> Result<Vec<Vec<EditedShard>>, WorkError>
     requires ready { All (IsReady table.now) pieces.now }
     requires few { length pieces.now ≤ MOST_RANGES }
     requires some { 0 < hands }
@@ -39,7 +39,7 @@ fn made_by<Ga: Gate, R: Threads + Wait>(
     thread::scope(
         thread::scope_env(),
         rt,
-        move |scope| -> Result<Vec<Vec<EditedShard>>, Refusal>
+        move |scope| -> Result<Vec<Vec<EditedShard>>, WorkError>
             requires { All (IsReady table.now) pieces.now × (length pieces.now ≤ MOST_RANGES)
                 × (0 < hands) × (hands ≤ MOST_WORKERS) }
             ensures { IfOk result (λ lists.
@@ -86,7 +86,7 @@ pub fn edit_table<Ga: Gate, R: Threads + Wait>(
     edits: &[Edit],
     workers: Workers,
     gate: &Ga,
-) -> Result<(Table, Counts), Refusal>
+) -> Result<(Table, Counts), WorkError>
     requires { IsEditable table.now edits.now }
     ensures after { IfOk result (λ next. AreAfter edits.now table.now next.0 next.1) }
     ensures homes { IfOk result (λ next. AreMoved table.now next.0) }

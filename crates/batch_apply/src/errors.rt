@@ -3,9 +3,9 @@ ghost use Rattle.std.specs.Prelude.{◌≡◌};
 ghost use Rattle.batch_apply.specs.declared.errors.ApplyError.TheVariants as apply;
 ghost use Rattle.batch_apply.specs.Refused.{refused_as};
 
-use gates::Refusal;
 use std::alloc::{AllocError, AllocFailed};
 use thiserror::Error;
+use workers::WorkError;
 
 /// Why a batch was not applied, or not split.
 #[derive(Clone, Copy, Debug, PartialEq, Eq, Error)]
@@ -24,13 +24,13 @@ pub enum ApplyError {
     WorkerRefused = 4,
 }
 
-impl From<Refusal> for ApplyError {
-    ghost from_gives = { λ refusal e. e ≡ refused_as refusal };
+impl From<WorkError> for ApplyError {
+    ghost from_gives = { λ error e. e ≡ refused_as error };
 
-    fn from(refusal: Refusal) -> ApplyError {
-        match refusal {
-            Refusal::OutOfMemory => ApplyError::OutOfMemory,
-            Refusal::WorkerRefused => ApplyError::WorkerRefused,
+    fn from(error: WorkError) -> ApplyError {
+        match error {
+            WorkError::OutOfMemory => ApplyError::OutOfMemory,
+            WorkError::WorkerRefused => ApplyError::WorkerRefused,
         }
     }
 }

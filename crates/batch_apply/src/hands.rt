@@ -1,14 +1,14 @@
 //! Workers, to whom the edited ranges are dealt in turn.
 ghost use Rattle.std.specs.Prelude.{◌≡◌, ◌<◌, ◌≤◌, All, length, IfOk};
 ghost use Rattle.past_model.specs.declared.limits.TheConstants.{MOST_RANGES};
-ghost use Rattle.gates.specs.declared.limits.TheConstants.{MOST_WORKERS};
+ghost use Rattle.workers.specs.declared.limits.TheConstants.{MOST_WORKERS};
 ghost use Rattle.batch_apply.specs.Dealt.{IsReady, IsDealt, AreDealt};
 
 use crate::pieces::Pieces;
-use gates::{Gate, Refusal};
 use migration::{EditedShard, Scratch, Table};
 use std::alloc::{AllocError, Global};
 use std::thread::{Promise, Scope, Threads};
+use workers::{Gate, WorkError};
 
 /// What a worker will have made.
 #[derive(Clone, Copy)]
@@ -86,7 +86,7 @@ pub(crate) fn spread<'s, E, Ga: Gate, R: Threads>(
     gate: &'s Ga,
     bound: usize,
     step: usize,
-) -> Result<Vec<Vec<EditedShard>>, Refusal>
+) -> Result<Vec<Vec<EditedShard>>, WorkError>
     requires ready { All (IsReady table.now) pieces.now }
     requires few { length pieces.now ≤ MOST_RANGES }
     requires bound { bound ≤ step }
@@ -111,7 +111,7 @@ pub(crate) fn spread<'s, E, Ga: Gate, R: Threads>(
             IsDealt table.entry.now pieces.entry.now first step made.items) }
     { work(alloc, table, pieces, gate, first, step) };
     let Ok(thread) = scope.spawn_with(share, worker) else {
-        return Err(Refusal::WorkerRefused);
+        return Err(WorkError::WorkerRefused);
     };
     let here = spread(rt, alloc, scope, table, pieces, gate, first, step);
     let there = thread.join(rt);

@@ -4,7 +4,7 @@ use Rattle.std.specs.Str.Parse.{IsNumeral, digits_value}
 use Rattle.std.specs.declared.alloc.Global.{Global}
 use Rattle.clap.specs.Words.{App}
 use Rattle.clap.specs.Simple.{on_top}
-use Rattle.gates.specs.declared.limits.TheConstants.{MOST_WORKERS}
+use Rattle.workers.specs.declared.limits.TheConstants.{MOST_WORKERS}
 
 -- the texts of the words behind the program's name
 abbrev pub arguments : List (String Global) → List (List ℕ)

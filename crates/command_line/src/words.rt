@@ -2,11 +2,11 @@
 ghost use Rattle.std.specs.Prelude.{◌≡◌, ◌≤◌, ◌<◌, ◌⊎◌, ◌∷◌, ℕ, [], codes, IfOk, IfErr, IsErrAnd};
 ghost use Rattle.clap.specs.Words.{app_of, kind_of, new_app};
 ghost use Rattle.command_line.specs.Asked.{AsksFor, AsksForAllowed, arguments, with_version};
-ghost use Rattle.gates.specs.declared.limits.TheConstants.{MOST_WORKERS};
+ghost use Rattle.workers.specs.declared.limits.TheConstants.{MOST_WORKERS};
 
 use clap::error::ErrorKind;
 use clap::{Arg, ArgAction, Command, Error};
-use gates::MOST_WORKERS;
+use workers::MOST_WORKERS;
 use std::alloc::Global;
 
 /// The release that `--version` names.

@@ -2,8 +2,8 @@
 ghost use Rattle.std.specs.Prelude.{◌≡◌};
 ghost use Rattle.edge_map.specs.Refused.{refused_as};
 
-use gates::Refusal;
 use thiserror::Error;
+use workers::WorkError;
 
 /// Why a map gave no answer.
 #[derive(Clone, Copy, Debug, PartialEq, Eq, Error)]
@@ -22,13 +22,13 @@ pub enum MapError {
     WorkerRefused = 4,
 }
 
-impl From<Refusal> for MapError {
-    ghost from_gives = { λ refusal e. e ≡ refused_as refusal };
+impl From<WorkError> for MapError {
+    ghost from_gives = { λ error e. e ≡ refused_as error };
 
-    fn from(refusal: Refusal) -> MapError {
-        match refusal {
-            Refusal::OutOfMemory => MapError::OutOfMemory,
-            Refusal::WorkerRefused => MapError::WorkerRefused,
+    fn from(error: WorkError) -> MapError {
+        match error {
+            WorkError::OutOfMemory => MapError::OutOfMemory,
+            WorkError::WorkerRefused => MapError::WorkerRefused,
         }
     }
 }

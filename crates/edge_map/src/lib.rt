@@ -17,9 +17,9 @@ mod work;
 
 pub use edge_fold::{MapOutcome, Reduction, Row, Verified};
 pub use errors::MapError;
-pub use gates::{Crew, Gate, OpenGate, Workers};
 pub use limits::{BLOCK_EDGES, PIECE_VERTICES};
 pub use list::{EdgeList, list_edges};
 pub use map::{MapRequest, map_edges, map_sources};
 pub use map_model::ListedEdge;
-pub use versions::Pin;
+pub use store::Pin;
+pub use workers::{Crew, Gate, OpenGate, Workers};

@@ -13,9 +13,9 @@ use edge_fold::{Memory, number_for_edge};
 use map_model::{EDGE_BYTES, ListedEdge};
 use std::alloc::AllocError;
 use std::marker::Model;
+use store::Pin;
 use verifier::Verified;
 use version::Version;
-use versions::Pin;
 
 /// Fills a block, which has room for all of it, with the next edges of a walk and their numbers.
 fn fill(

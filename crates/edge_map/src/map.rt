@@ -3,7 +3,7 @@ ghost use Rattle.std.specs.Prelude.{◌≡◌, ◌+◌, ◌<◌, ◌≤◌, [], 
 ghost use Rattle.past_model.specs.declared.limits.TheConstants.{MOST_VERTICES};
 ghost use Rattle.past_model.specs.Past.{graph_of};
 ghost use Rattle.map_model.specs.declared.limits.TheConstants.{EDGE_BYTES};
-ghost use Rattle.gates.specs.declared.limits.TheConstants.{MOST_WORKERS};
+ghost use Rattle.workers.specs.declared.limits.TheConstants.{MOST_WORKERS};
 ghost use Rattle.claims.specs.declared.limits.TheConstants.{PARTS};
 ghost use Rattle.edge_fold.specs.declared.rows.Rows.TheVariants.{OfEach, OfSources};
 ghost use Rattle.edge_map.specs.Maps.{IsMap, IsMapped};
@@ -19,15 +19,15 @@ use crate::plan::Plan;
 use crate::work::{spread, work};
 use claims::{Claimant, Counter};
 use edge_fold::{MapOutcome, Rows};
-use gates::{Crew, Gate, Refusal, Workers};
 use map_model::{EDGE_BYTES, Reduction};
 use std::alloc::{AllocError, Global};
 use std::sync::Wait;
 use std::thread;
 use std::thread::Threads;
+use store::Pin;
 use verifier::Verified;
 use version::Version;
-use versions::Pin;
+use workers::{Crew, Gate, WorkError, Workers};
 
 /// What is mapped: a program with its argument, the vertices whose edges it is run on, and what its numbers become.
 #[derive(Clone, Copy)]
@@ -49,7 +49,7 @@ fn done_by<Ga: Gate, R: Threads + Wait>(
     plan: Plan<'_>,
     me: Claimant,
     more: u8,
-) -> Result<Done, Refusal>
+) -> Result<Done, WorkError>
     requires of { me.counter ≡ plan.counter.now }
     requires parts { more < me.parts }
     requires fresh { me.claimed ≡ [] }
@@ -73,7 +73,7 @@ fn done_by<Ga: Gate, R: Threads + Wait>(
     thread::scope(
         thread::scope_env(),
         rt,
-        move |scope| -> Result<Done, Refusal>
+        move |scope| -> Result<Done, WorkError>
             requires { (me.counter ≡ counter.now) × (more < me.parts) × (me.claimed ≡ [])
                 × (length argument.now + EDGE_BYTES ≡ program.now.record_length)
                 × (length frontier.now ≤ MOST_VERTICES) }
@@ -109,7 +109,7 @@ fn map_allowed<Ga: Gate, R: Threads + Wait>(
     version: &Version,
     request: &MapRequest<'_>,
     rows: Rows,
-) -> Result<MapOutcome, Refusal>
+) -> Result<MapOutcome, WorkError>
     requires argument { length request.now.argument.now + EDGE_BYTES ≡ request.now.program.now.record_length }
     requires few { length request.now.frontier.now ≤ MOST_VERTICES }
     ensures { IfOk result (λ out. IsMap rows request.now.program.now (graph_of version.now) request.now.reduction

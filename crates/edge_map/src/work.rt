@@ -11,9 +11,9 @@ use crate::piece::{Piece, count_pieces, map_piece};
 use crate::plan::Plan;
 use claims::Claimant;
 use edge_fold::Memory;
-use gates::{Gate, Refusal};
 use std::alloc::{AllocError, Global};
 use std::thread::{Scope, Threads};
+use workers::{Gate, WorkError};
 
 /// One worker's pieces: those that it claims, until none is left. It has one memory for all its edges.
 pub(crate) fn work<Ga: Gate>(
@@ -70,7 +70,7 @@ pub(crate) fn spread<'s, E, Ga: Gate, R: Threads>(
     gate: &'s Ga,
     me: Claimant,
     more: u8,
-) -> Result<Done, Refusal>
+) -> Result<Done, WorkError>
     requires of { me.counter ≡ plan.counter.now }
     requires parts { more < me.parts }
     requires fresh { me.claimed ≡ [] }
@@ -111,7 +111,7 @@ pub(crate) fn spread<'s, E, Ga: Gate, R: Threads>(
         work(alloc, plan, gate, theirs)
     };
     let Ok(thread) = scope.spawn_with(plan, worker) else {
-        return Err(Refusal::WorkerRefused);
+        return Err(WorkError::WorkerRefused);
     };
     let here = spread(rt, alloc, scope, plan, gate, mine, more - 1);
     let there = thread.join(rt);

@@ -1,13 +1,13 @@
 //! A batch in its ranges, below the number of edits from which threads sort them, at it, and at the most; and the greatest batch on
 //! the greatest graph.
 use batch_apply::{ApplyError, apply_batch, split};
-use gates::{OpenGate, Workers};
 use migration::Table;
 use past_model::{Batch, Edit, MOST_VERTICES};
 use std::alloc::{AllocError, Global};
 use std::sync::Wait;
 use std::test::Fail;
 use std::thread::Threads;
+use workers::{OpenGate, Workers};
 
 // So many insertions, each out of a vertex that is so much above the one before.
 fn spread(alloc: Global, count: u32, apart: u32) -> Result<Batch, AllocError> {

@@ -9,7 +9,7 @@ use std::alloc::{AllocError, Global};
 use std::sync::Wait;
 use std::test::Fail;
 use std::thread::Threads;
-use versions::Edit;
+use store::Edit;
 
 // How many vertices the graph has, all of which are in the frontier.
 const VERTICES: u32 = 10_000;

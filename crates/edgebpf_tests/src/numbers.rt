@@ -5,7 +5,7 @@ use service::ServeError;
 use std::alloc::Global;
 use std::fmt::Display;
 use std::test::Fail;
-use versions::{PinError, PublishError, StoreError, SubmitCause};
+use store::{PinError, PublishError, StoreError, SubmitCause};
 
 #[test]
 fn of_stores(rt: HostRuntime) {

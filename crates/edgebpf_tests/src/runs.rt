@@ -9,8 +9,8 @@ use std::alloc::Global;
 use std::sync::Wait;
 use std::test::Fail;
 use std::thread::Threads;
+use store::{Edit, Pin, Version};
 use verifier::verify;
-use versions::{Edit, Pin, Version};
 
 mod programs;
 

@@ -1,12 +1,12 @@
 //! Whole scripts at ends that fail, or that give or take few bytes at once, and what a gate sees of one. What a script means is
 //! tried by `script_rows`.
 use crate::scripts::ends::{Balking, Interrupted};
-use gates::HoldingGate;
 use service::{Ending, Gate, OpenGate, ServeError, StdInput, StdOutput, Workers, serve};
 use std::alloc::{AllocError, Global};
 use std::sync::Wait;
 use std::test::Fail;
 use std::thread::Threads;
+use workers::HoldingGate;
 
 mod ends;
 

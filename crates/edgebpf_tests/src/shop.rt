@@ -8,7 +8,7 @@ use std::marker::Model;
 use std::sync::Wait;
 use std::test::Fail;
 use std::thread::Threads;
-use versions::{
+use store::{
     Batch, Edit, Ends, Feed, Finished, OpenGate, Pin, PinError, PublishError, Publisher, Reader,
     Receipt, Store, StoreError, SubmitCause, SubmitError, Workers,
 };
@@ -22,8 +22,8 @@ pub struct Shop {
 
 impl Model for Shop {
     ghost use Rattle.history.specs.Moment.{OneStore};
-    ghost use Rattle.versions.specs.Feeds.{AreFeedsOf};
-    ghost use Rattle.versions.specs.Storing.{Storing};
+    ghost use Rattle.store.specs.Feeds.{AreFeedsOf};
+    ghost use Rattle.store.specs.Storing.{Storing};
 
     ghost Value = { Storing };
 

@@ -5,8 +5,8 @@ use std::alloc::{AllocError, Global};
 use std::sync::Wait;
 use std::test::Fail;
 use std::thread::Threads;
+use store::{Batch, Edit, PinError, Reader, SubmitCause};
 use store_model::READERS;
-use versions::{Batch, Edit, PinError, Reader, SubmitCause};
 
 mod threads;
 

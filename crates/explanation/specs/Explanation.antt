@@ -28,8 +28,8 @@ use Rattle.verifier.specs.Tables.{state_at}
 use Rattle.verifier.specs.Known.{IsKnown}
 use Rattle.explanation.specs.declared.source.SourceLine.{SourceLine}
 use Rattle.explanation.specs.declared.advice.Advice.{Advice}
-use Rattle.explanation.specs.declared.outcome.Outcome.{Outcome}
-use Rattle.explanation.specs.declared.outcome.Outcome.TheVariants.{Accepted, Refused}
+use Rattle.explanation.specs.declared.verdict.Verdict.{Verdict}
+use Rattle.explanation.specs.declared.verdict.Verdict.TheVariants.{Accepted, Refused}
 use Rattle.explanation.specs.declared.labels.Label.TheVariants as labels
 use Rattle.explanation.specs.Labels.{label_text}
 use Rattle.explanation.specs.Starts.{starts_below}
@@ -67,9 +67,9 @@ state_line None = codes "    no run comes here\n"
 state_line (Some s) = state_text s
 
 -- what is told at a pc: nothing at the second unit of a wide instruction
-abbrev pub pc_text : Program → List SourceLine → Outcome → List (Option (Box AbstractState)) → ℕ → List ℕ
-pc_text p source outcome states pc =
-    if is_start p pc then instruction_line p source pc (starts_below p pc) ++ (if is_told outcome pc then state_line (state_at states pc) else [])
+abbrev pub pc_text : Program → List SourceLine → Verdict → List (Option (Box AbstractState)) → ℕ → List ℕ
+pc_text p source verdict states pc =
+    if is_start p pc then instruction_line p source pc (starts_below p pc) ++ (if is_told verdict pc then state_line (state_at states pc) else [])
     else []
 
 -- ---- what is said of the program
@@ -142,7 +142,7 @@ refused_text p source states r =
 abbrev pub accepted_text : (bound frames : ℕ) → List ℕ
 accepted_text bound frames = label_text labels.Accepted ++ decimal bound ++ label_text labels.Frames ++ decimal frames ++ newline
 
-abbrev pub end_text : Program → List SourceLine → List (Option (Box AbstractState)) → Outcome → List ℕ
+abbrev pub end_text : Program → List SourceLine → List (Option (Box AbstractState)) → Verdict → List ℕ
 end_text p source states (Accepted bound frames) = accepted_text bound frames
 end_text p source states (Refused r) = refused_text p source states r
 
@@ -151,18 +151,18 @@ end_text p source states (Refused r) = refused_text p source states r
 abbrev pub head_text : Program → List ℕ
 head_text p = label_text labels.Program ++ decimal (units p) ++ label_text labels.Records ++ decimal p.record_length ++ label_text labels.Bytes
 
-abbrev pub explanation_text : Program → List SourceLine → List (Option (Box AbstractState)) → Outcome → List ℕ
-explanation_text p source states outcome =
-    head_text p ++ (pieces_to (pc_text p source outcome states) (units p) ++ end_text p source states outcome)
+abbrev pub explanation_text : Program → List SourceLine → List (Option (Box AbstractState)) → Verdict → List ℕ
+explanation_text p source states verdict =
+    head_text p ++ (pieces_to (pc_text p source verdict states) (units p) ++ end_text p source states verdict)
 
--- the verdict that an outcome stands for
-abbrev pub verdict_of : Outcome → Verdict
+-- the verdict that an verdict stands for
+abbrev pub verdict_of : Verdict → Verdict
 verdict_of (Accepted bound frames) = verdicts.Accepted bound frames
 verdict_of (Refused r) = verdicts.Refused r
 
--- a text and an outcome explain a program: the outcome is its verdict, and the text tells it with what is known at the pcs
-pub record Explains (p : Program) (source : List SourceLine) (text : List ℕ) (outcome : Outcome) : Type 0 where
+-- a text and an verdict explain a program: the verdict is its verdict, and the text tells it with what is known at the pcs
+pub record Explains (p : Program) (source : List SourceLine) (text : List ℕ) (verdict : Verdict) : Type 0 where
   pub states : List (Option (Box AbstractState))
   pub is_known : IsKnown p states
-  pub is_verdict : verdict p ≡ verdict_of outcome
-  pub is_told_so : text ≡ explanation_text p source states outcome
+  pub is_verdict : verdict p ≡ verdict_of verdict
+  pub is_told_so : text ≡ explanation_text p source states verdict

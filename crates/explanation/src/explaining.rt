@@ -8,9 +8,9 @@ ghost use Rattle.explanation.specs.Explanation.{head_text, explanation_text, Exp
 use crate::ending::put_end;
 use crate::labels::{Label, words_of_label};
 use crate::listing::put_listing;
-use crate::outcome::Outcome;
 use crate::source::SourceLine;
 use crate::values::{put, put_field};
+use crate::verdict::Verdict;
 use abstract_state::AbstractState;
 use bpf_image::Image;
 use bpf_model::Cause;
@@ -53,16 +53,16 @@ fn write_all(
     image: &Image,
     source: &[SourceLine<'_>],
     states: &[Option<Box<AbstractState>>],
-    outcome: Outcome,
+    verdict: Verdict,
 ) -> Result<String, AllocError>
-    requires { StandsInside (units image.now) outcome }
+    requires { StandsInside (units image.now) verdict }
     ensures { IfOk result (λ text. string_bytes text
-        ≡ explanation_text image.now source.now states.now outcome) }
+        ≡ explanation_text image.now source.now states.now verdict) }
 {
     let mut text = String::new(alloc);
     put_head(&mut text, image)?;
-    put_listing(&mut text, image, source, outcome, states)?;
-    put_end(&mut text, image, source, states, outcome)?;
+    put_listing(&mut text, image, source, verdict, states)?;
+    put_end(&mut text, image, source, states, verdict)?;
     Ok(text)
 }
 
@@ -72,7 +72,7 @@ pub struct Explanation {
     /// The text for a person.
     pub text: String,
     /// What the verifier answers.
-    pub outcome: Outcome,
+    pub verdict: Verdict,
 }
 
 /// The instructions of a program, what is known before each of them, and what the verifier answers: the bound and the
@@ -83,25 +83,25 @@ pub fn explain(
     image: Image,
     source: &[SourceLine<'_>],
 ) -> Result<Explanation, AllocError>
-    ensures { IfOk result (λ told. Explains image source.now (string_bytes told.text) told.outcome) }
+    ensures { IfOk result (λ told. Explains image source.now (string_bytes told.text) told.verdict) }
 {
     // An image has code, so that a unit which is refused stands in it.
     let _code = image.code();
     let states = known_states(alloc, &image)?;
     match verify(alloc, image) {
         Ok(verified) => {
-            let outcome = Outcome::Accepted {
+            let verdict = Verdict::Accepted {
                 bound: verified.bound(),
                 frames: verified.frames(),
             };
-            let text = write_all(alloc, verified.image(), source, &states, outcome)?;
-            Ok(Explanation { text, outcome })
+            let text = write_all(alloc, verified.image(), source, &states, verdict)?;
+            Ok(Explanation { text, verdict })
         }
         Err((image, refusal)) => {
             rule_or_memory(refusal)?;
-            let outcome = Outcome::Refused(refusal);
-            let text = write_all(alloc, &image, source, &states, outcome)?;
-            Ok(Explanation { text, outcome })
+            let verdict = Verdict::Refused(refusal);
+            let text = write_all(alloc, &image, source, &states, verdict)?;
+            Ok(Explanation { text, verdict })
         }
     }
 }

@@ -8,11 +8,11 @@ mod explaining;
 mod instructions;
 mod labels;
 mod listing;
-mod outcome;
 mod source;
 mod values;
+mod verdict;
 mod words;
 
 pub use explaining::{Explanation, explain};
-pub use outcome::Outcome;
 pub use source::{SourceLine, source_lines};
+pub use verdict::Verdict;

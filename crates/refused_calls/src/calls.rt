@@ -8,9 +8,9 @@ use past_model::{Batch, Edit};
 use std::alloc::{AllocError, Global};
 use std::sync::Wait;
 use std::thread::Threads;
+use store::{Ends, OpenGate, Store, Workers};
 use stream_core::{Event, Reply, run, shards};
 use verifier::verify;
-use versions::{Ends, OpenGate, Store, Workers};
 
 // How many vertices the graphs have: three ranges.
 const VERTICES: u32 = 600;

@@ -9,7 +9,7 @@ use past_model::{Batch, Edit};
 use std::alloc::{AllocError, Global};
 use std::sync::Wait;
 use std::thread::Threads;
-use versions::{OpenGate, Workers};
+use store::{OpenGate, Workers};
 
 // How many vertices the graph has, and so how many targets a vertex can have.
 const VERTICES: u32 = 1200;

@@ -6,7 +6,7 @@ use crate::stop::Stop;
 use std::alloc::{AllocError, Global};
 use std::sync::Wait;
 use std::thread::Threads;
-use versions::{
+use store::{
     Batch, Edit, Ends, Finished, OpenGate, PublishError, Publisher, Reader, Receipt, Store,
     Version, Workers,
 };

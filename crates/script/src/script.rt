@@ -6,7 +6,7 @@ ghost use Rattle.script_model.specs.Lexing.{is_plain};
 ghost use Rattle.script_model.specs.State.{new_script};
 ghost use Rattle.script_model.specs.declared.limits.TheConstants.{MOST_LINE_BYTES};
 ghost use Rattle.script_model.specs.Execution.{execution, block_execution};
-ghost use Rattle.script_model.specs.Script.{end_outcome, next_line};
+ghost use Rattle.script_model.specs.Script.{end_meaning, next_line};
 ghost use Rattle.script_model.specs.Texts.{fault_text};
 ghost use Rattle.script.specs.Executes.{Tells, Steps, AsksStore, OnStore};
 ghost use Rattle.script.specs.Kept.{HasBatch};
@@ -110,8 +110,8 @@ impl Script {
     /// Ends a script whose lines are all executed: a block that is still open is a fault of the line that
     /// opened it.
     pub fn finish(&self, text: &mut Vec<u8>) -> Result<Ending, ScriptError>
-        ensures text { OnOk result (text.new.items ≡ text.old.items ++ (end_outcome self.now.block).text) }
-        ensures ending { IfOk result (λ e. e ≡ (end_outcome self.now.block).ending) }
+        ensures text { OnOk result (text.new.items ≡ text.old.items ++ (end_meaning self.now.block).text) }
+        ensures ending { IfOk result (λ e. e ≡ (end_meaning self.now.block).ending) }
         ensures error { IfErr result (λ e. e ≡ ScriptError.OutOfMemory) }
     {
         match &self.block {

@@ -10,37 +10,37 @@ use Rattle.script_model.specs.Texts.{fault_text}
 use Rattle.script_model.specs.Execution.{Execution, Says, Stops, execution}
 
 -- all that is written, and how the script ended
-pub record Outcome : Type 0 where
+pub record Meaning : Type 0 where
   pub text : List ℕ
   pub ending : Ending
 
 -- text that comes before
-abbrev pub after_text : List ℕ → Outcome → Outcome
+abbrev pub after_text : List ℕ → Meaning → Meaning
 after_text text o = record { text = text ++ o.text; ending = o.ending }
 
-abbrev pub fault_outcome : LineFault → ℕ → Outcome
-fault_outcome fault line = record { text = fault_text fault line; ending = endings.Fault }
+abbrev pub fault_meaning : LineFault → ℕ → Meaning
+fault_meaning fault line = record { text = fault_text fault line; ending = endings.Fault }
 
 -- the end of the input: a block that is still open is a fault of the line that opened it
-abbrev pub end_outcome : Option Block → Outcome
-end_outcome None = record { text = []; ending = endings.Complete }
-end_outcome (Some block) = fault_outcome faults.OpenBlock (first_line block)
+abbrev pub end_meaning : Option Block → Meaning
+end_meaning None = record { text = []; ending = endings.Complete }
+end_meaning (Some block) = fault_meaning faults.OpenBlock (first_line block)
 
 -- goes on after a line of this number
-abbrev pub outcome_after : Execution → ℕ → (List ℕ → Script → Outcome) → Outcome
-outcome_after (Says text s) line go = go text s
-outcome_after (Stops fault) line go = fault_outcome fault line
+abbrev pub meaning_after : Execution → ℕ → (List ℕ → Script → Meaning) → Meaning
+meaning_after (Says text s) line go = go text s
+meaning_after (Stops fault) line go = fault_meaning fault line
 
 -- the script with one line more behind it
 abbrev pub next_line : ℕ → Script → Script
 next_line line s = record s { line = line + 1 }
 
 -- what some lines mean to a script
-abbrev pub outcome_from : Script → List (List ℕ) → Outcome
-outcome_from s [] = end_outcome s.block
-outcome_from s (bytes ∷ lines) =
-    outcome_after (execution s bytes) s.line (λ text next. after_text text (outcome_from (next_line s.line next) lines))
+abbrev pub meaning_from : Script → List (List ℕ) → Meaning
+meaning_from s [] = end_meaning s.block
+meaning_from s (bytes ∷ lines) =
+    meaning_after (execution s bytes) s.line (λ text next. after_text text (meaning_from (next_line s.line next) lines))
 
 -- what a script's bytes mean
-abbrev pub meaning : List ℕ → Outcome
-meaning bytes = outcome_from new_script (script_lines bytes)
+abbrev pub meaning : List ℕ → Meaning
+meaning bytes = meaning_from new_script (script_lines bytes)

@@ -13,7 +13,7 @@ use Rattle.script_model.specs.Lexing.{is_newline, without_last_empty, script_lin
 use Rattle.script_model.specs.State.{Script, new_script}
 use Rattle.script_model.specs.Texts.{fault_text}
 use Rattle.script_model.specs.Execution.{Says, Stops, execution}
-use Rattle.script_model.specs.Script.{Outcome, after_text, fault_outcome, end_outcome, next_line, outcome_from, meaning}
+use Rattle.script_model.specs.Script.{Meaning, after_text, fault_meaning, end_meaning, next_line, meaning_from, meaning}
 use Rattle.service.specs.Served.{Served, Settled, IsOneLine}
 
 abbrev parts : List ℕ → List (List ℕ)
@@ -44,7 +44,7 @@ keeps_first line (o ∷ os) left h = refl
 pub lines_first : (line left : List ℕ) → IsOneLine line → script_lines (line ++ (10 ∷ left)) ≡ line ∷ script_lines left
 lines_first line left one = rw (split_line line left one) (keeps_first line (parts left) left refl)
 
-after_after : (a b : List ℕ) (o : Outcome) → after_text a (after_text b o) ≡ after_text (a ++ b) o
+after_after : (a b : List ℕ) (o : Meaning) → after_text a (after_text b o) ≡ after_text (a ++ b) o
 after_after a b o = ap (λ (t : List ℕ). record { text = t; ending = o.ending }) (sym (append_assoc a b o.text))
 
 -- nothing is read yet
@@ -59,18 +59,18 @@ served_more read said s left more h rest =
     rw (first, second) (h (more ++ rest))
 
 -- what follows from the first line
-served_at : (read said line left : List ℕ) (s : Script) (rest : List ℕ) → Served read said s (line ++ (10 ∷ left)) → IsOneLine line → meaning (read ++ rest) ≡ after_text said (outcome_from s (line ∷ script_lines (left ++ rest)))
+served_at : (read said line left : List ℕ) (s : Script) (rest : List ℕ) → Served read said s (line ++ (10 ∷ left)) → IsOneLine line → meaning (read ++ rest) ≡ after_text said (meaning_from s (line ∷ script_lines (left ++ rest)))
 served_at read said line left s rest h one =
     let joined : (line ++ (10 ∷ left)) ++ rest ≡ line ++ (10 ∷ (left ++ rest)) = append_assoc line (10 ∷ left) rest in
     let lines : script_lines ((line ++ (10 ∷ left)) ++ rest) ≡ line ∷ script_lines (left ++ rest) = ap (λ (bytes : List ℕ). script_lines bytes) joined ∙ lines_first line (left ++ rest) one in
-    h rest ∙ ap (λ (ls : List (List ℕ)). after_text said (outcome_from s ls)) lines
+    h rest ∙ ap (λ (ls : List (List ℕ)). after_text said (meaning_from s ls)) lines
 
 -- a line that was executed
 pub served_line : (read said line left : List ℕ) (s : Script) (text : List ℕ) (next : Script) → Served read said s (line ++ (10 ∷ left)) → IsOneLine line → execution s line ≡ Says text next → Served read (said ++ text) (next_line s.line next) left
 served_line read said line left s text next h one says rest =
     let here = served_at read said line left s rest h one in
-    let goes : outcome_from s (line ∷ script_lines (left ++ rest)) ≡ after_text text (outcome_from (next_line s.line next) (script_lines (left ++ rest))) = rw says refl in
-    here ∙ ap (λ (o : Outcome). after_text said o) goes ∙ after_after said text (outcome_from (next_line s.line next) (script_lines (left ++ rest)))
+    let goes : meaning_from s (line ∷ script_lines (left ++ rest)) ≡ after_text text (meaning_from (next_line s.line next) (script_lines (left ++ rest))) = rw says refl in
+    here ∙ ap (λ (o : Meaning). after_text said o) goes ∙ after_after said text (meaning_from (next_line s.line next) (script_lines (left ++ rest)))
 
 pub served_step : (read said line left : List ℕ) (s : Script) (text : List ℕ) (behind next : Script) → Served read said s (line ++ (10 ∷ left)) → IsOneLine line → execution s line ≡ Says text behind → next ≡ next_line s.line behind → Served read (said ++ text) next left
 served_step read said line left s text behind next h one says is =
@@ -80,8 +80,8 @@ served_step read said line left s text behind next h one says is =
 pub served_fault : (read said line left : List ℕ) (s : Script) (fault : LineFault) → Served read said s (line ++ (10 ∷ left)) → IsOneLine line → execution s line ≡ Stops fault → Settled read (said ++ fault_text fault s.line)
 served_fault read said line left s fault h one fails rest =
     let here = served_at read said line left s rest h one in
-    let goes : outcome_from s (line ∷ script_lines (left ++ rest)) ≡ fault_outcome fault s.line = rw fails refl in
-    here ∙ ap (λ (o : Outcome). after_text said o) goes
+    let goes : meaning_from s (line ∷ script_lines (left ++ rest)) ≡ fault_meaning fault s.line = rw fails refl in
+    here ∙ ap (λ (o : Meaning). after_text said o) goes
 
 -- bytes that end no line begin the first part
 parts_begin : (left rest : List ℕ) → IsOneLine left → (first : List ℕ) × (others : List (List ℕ)) × (parts (left ++ rest) ≡ (left ++ first) ∷ others)
@@ -111,10 +111,10 @@ too_long s line long =
 pub served_long : (read said left : List ℕ) (s : Script) → Served read said s left → IsOneLine left → MOST_LINE_BYTES < length left → Settled read (said ++ fault_text faults.LongLine s.line)
 served_long read said left s h one long rest =
     let begin = lines_begin left rest (omega arith) one in
-    let here : meaning (read ++ rest) ≡ after_text said (outcome_from s ((left ++ begin.0) ∷ begin.1)) = h rest ∙ ap (λ (ls : List (List ℕ)). after_text said (outcome_from s ls)) begin.2 in
+    let here : meaning (read ++ rest) ≡ after_text said (meaning_from s ((left ++ begin.0) ∷ begin.1)) = h rest ∙ ap (λ (ls : List (List ℕ)). after_text said (meaning_from s ls)) begin.2 in
     let fails = too_long s (left ++ begin.0) (omega (arith, length-append left begin.0)) in
-    let goes : outcome_from s ((left ++ begin.0) ∷ begin.1) ≡ fault_outcome faults.LongLine s.line = rw fails refl in
-    here ∙ ap (λ (o : Outcome). after_text said o) goes
+    let goes : meaning_from s ((left ++ begin.0) ∷ begin.1) ≡ fault_meaning faults.LongLine s.line = rw fails refl in
+    here ∙ ap (λ (o : Meaning). after_text said o) goes
 
 parts_one : (left : List ℕ) → IsOneLine left → parts left ≡ left ∷ []
 parts_one [] one = refl
@@ -126,25 +126,25 @@ lines_one [] one some = absurd (omega arith)
 lines_one (b ∷ left) one some = ap (λ (ps : List (List ℕ)). without_last_empty ps) (parts_one (b ∷ left) one)
 
 -- the input is at its end
-at_end : (read said left : List ℕ) (s : Script) → Served read said s left → meaning read ≡ after_text said (outcome_from s (script_lines left))
+at_end : (read said left : List ℕ) (s : Script) → Served read said s left → meaning read ≡ after_text said (meaning_from s (script_lines left))
 at_end read said left s h =
-    ap (λ (bytes : List ℕ). meaning bytes) (sym (append-nil read)) ∙ h [] ∙ ap (λ (bytes : List ℕ). after_text said (outcome_from s (script_lines bytes))) (append-nil left)
+    ap (λ (bytes : List ℕ). meaning bytes) (sym (append-nil read)) ∙ h [] ∙ ap (λ (bytes : List ℕ). after_text said (meaning_from s (script_lines bytes))) (append-nil left)
 
-pub served_end : (read said : List ℕ) (s : Script) → Served read said s [] → meaning read ≡ after_text said (end_outcome s.block)
+pub served_end : (read said : List ℕ) (s : Script) → Served read said s [] → meaning read ≡ after_text said (end_meaning s.block)
 served_end read said s h = at_end read said [] s h
 
 -- and its last line lacks its end
-pub served_last : (read said left : List ℕ) (s : Script) (text : List ℕ) (next : Script) → Served read said s left → IsOneLine left → 0 < length left → execution s left ≡ Says text next → meaning read ≡ after_text (said ++ text) (end_outcome next.block)
+pub served_last : (read said left : List ℕ) (s : Script) (text : List ℕ) (next : Script) → Served read said s left → IsOneLine left → 0 < length left → execution s left ≡ Says text next → meaning read ≡ after_text (said ++ text) (end_meaning next.block)
 served_last read said left s text next h one some says =
-    let lines = ap (λ (ls : List (List ℕ)). after_text said (outcome_from s ls)) (lines_one left one some) in
-    let goes : outcome_from s (left ∷ []) ≡ after_text text (end_outcome next.block) = rw says refl in
-    at_end read said left s h ∙ lines ∙ ap (λ (o : Outcome). after_text said o) goes ∙ after_after said text (end_outcome next.block)
+    let lines = ap (λ (ls : List (List ℕ)). after_text said (meaning_from s ls)) (lines_one left one some) in
+    let goes : meaning_from s (left ∷ []) ≡ after_text text (end_meaning next.block) = rw says refl in
+    at_end read said left s h ∙ lines ∙ ap (λ (o : Meaning). after_text said o) goes ∙ after_after said text (end_meaning next.block)
 
-pub served_last_fault : (read said left : List ℕ) (s : Script) (fault : LineFault) → Served read said s left → IsOneLine left → 0 < length left → execution s left ≡ Stops fault → meaning read ≡ after_text said (fault_outcome fault s.line)
+pub served_last_fault : (read said left : List ℕ) (s : Script) (fault : LineFault) → Served read said s left → IsOneLine left → 0 < length left → execution s left ≡ Stops fault → meaning read ≡ after_text said (fault_meaning fault s.line)
 served_last_fault read said left s fault h one some fails =
-    let lines = ap (λ (ls : List (List ℕ)). after_text said (outcome_from s ls)) (lines_one left one some) in
-    let goes : outcome_from s (left ∷ []) ≡ fault_outcome fault s.line = rw fails refl in
-    at_end read said left s h ∙ lines ∙ ap (λ (o : Outcome). after_text said o) goes
+    let lines = ap (λ (ls : List (List ℕ)). after_text said (meaning_from s ls)) (lines_one left one some) in
+    let goes : meaning_from s (left ∷ []) ≡ fault_meaning fault s.line = rw fails refl in
+    at_end read said left s h ∙ lines ∙ ap (λ (o : Meaning). after_text said o) goes
 
 -- bytes that are not none are some
 pub some_left : (left : List ℕ) → false ≡ (length left == 0) → 0 < length left

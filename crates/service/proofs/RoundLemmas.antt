@@ -10,7 +10,7 @@ use Rattle.script_model.specs.declared.ending.Ending.TheVariants as endings
 use Rattle.script_model.specs.State.{Script, new_script}
 use Rattle.script_model.specs.Lexing.{script_lines}
 use Rattle.script_model.specs.Texts.{edge_text}
-use Rattle.script_model.specs.Script.{Outcome, outcome_from, meaning}
+use Rattle.script_model.specs.Script.{Meaning, meaning_from, meaning}
 use Rattle.service.specs.declared.serve_error.ServeError.{ServeError}
 use Rattle.service.specs.Ends.{TakesFront}
 use Rattle.service.specs.Served.{Served, Settled, Serving, Listing, Settling}
@@ -84,12 +84,12 @@ serving_after old mid new bytes middle left last text said told serving more sam
 -- ---- what is written
 
 abbrev rest_of : Script → List ℕ → List ℕ
-rest_of s bytes = (outcome_from s (script_lines bytes)).text
+rest_of s bytes = (meaning_from s (script_lines bytes)).text
 
 -- what is written so far
 pub written_begins : (read : List ℕ) (held holds : Option (List ℕ)) (s : Stand) → IsWritten read held holds s → (rest : List ℕ) → TakesFront held holds (meaning (read ++ rest)).text
 written_begins read held holds s (said, wrote, h) rest =
-    (said, rest_of s.script (s.pending ++ rest), ap (λ (o : Outcome). o.text) (h rest), wrote)
+    (said, rest_of s.script (s.pending ++ rest), ap (λ (o : Meaning). o.text) (h rest), wrote)
 
 -- the same of what the bytes read mean by themselves
 pub written_front : (read : List ℕ) (held holds : Option (List ℕ)) (s : Stand) → IsWritten read held holds s → TakesFront held holds (meaning read).text
@@ -112,7 +112,7 @@ adds_written read held kept holds s new bytes whole script b x adds wrote_more (
 pub adds_begins : (read : List ℕ) (held kept holds : Option (List ℕ)) (s : Stand) (bytes left whole : List ℕ) (script next : Script) → bytes ≡ s.pending → script ≡ s.script → Adds script next bytes left whole → TakesFront kept holds whole → IsWritten read held kept s → (rest : List ℕ) → TakesFront held holds (meaning (read ++ rest)).text
 adds_begins read held kept holds s bytes left whole script next b x adds took (before, wrote, h) rest =
     let here : Served read before script bytes = rw (x, b) h in
-    takes_more held kept holds before whole _ (rest_of next (left ++ rest)) wrote took (ap (λ (o : Outcome). o.text) (adds read before here rest))
+    takes_more held kept holds before whole _ (rest_of next (left ++ rest)) wrote took (ap (λ (o : Meaning). o.text) (adds read before here rest))
 
 -- the same where the script is settled
 settled_adds : (read before bytes text said : List ℕ) (script : Script) → text ≡ [] → Settling script bytes text said → Served read before script bytes → Settled read (before ++ said)
@@ -129,7 +129,7 @@ pub settled_begins : (read : List ℕ) (held kept holds : Option (List ℕ)) (s 
 settled_begins read held kept holds s bytes text said script b x none settling took (before, wrote, h) rest =
     let here : Served read before script bytes = rw (x, b) h in
     let settled = settled_adds read before bytes text said script none settling here in
-    takes_more held kept holds before said _ [] wrote took (ap (λ (o : Outcome). o.text) (settled rest) ∙ sym (append-nil (before ++ said)))
+    takes_more held kept holds before said _ [] wrote took (ap (λ (o : Meaning). o.text) (settled rest) ∙ sym (append-nil (before ++ said)))
 
 -- ---- between two reads
 
@@ -160,7 +160,7 @@ turn_fails was has kept old new e (more, took_more) had held (read, took, (said,
   read ++ more,
   consumes_more had was has read more took took_more,
   inl (λ rest.
-      (said, rest_of old.script (old.pending ++ (more ++ rest)), ap (λ (bytes : List ℕ). (meaning bytes).text) (append_assoc read more rest) ∙ ap (λ (o : Outcome). o.text) (h (more ++ rest)), wrote)),
+      (said, rest_of old.script (old.pending ++ (more ++ rest)), ap (λ (bytes : List ℕ). (meaning bytes).text) (append_assoc read more rest) ∙ ap (λ (o : Meaning). o.text) (h (more ++ rest)), wrote)),
 )
 
 settled_ends : (read said : List ℕ) (ending : Ending) (left : Option (List ℕ)) → ending ≡ endings.Fault → Settled read said → IsMeant read said ending left

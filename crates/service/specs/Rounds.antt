@@ -9,7 +9,7 @@ use Rattle.script_model.specs.declared.ending.Ending.{Ending}
 use Rattle.script_model.specs.declared.ending.Ending.TheVariants as endings
 use Rattle.script_model.specs.declared.limits.TheConstants.{MOST_LINE_BYTES}
 use Rattle.service.specs.Stand.{Stand}
-use Rattle.script_model.specs.Script.{after_text, end_outcome, meaning}
+use Rattle.script_model.specs.Script.{after_text, end_meaning, meaning}
 use Rattle.service.specs.Ends.{TakesFront}
 use Rattle.service.specs.Served.{Served, Settled, IsOneLine}
 use Rattle.service.specs.Serves.{Serves}
@@ -52,7 +52,7 @@ Advances (Err e) kept holds old new =
 -- all lines that were read are executed, and what they say is written but for the text
 abbrev pub IsLast : (read : List ℕ) → (held holds : Option (List ℕ)) → Stand → Type 0
 IsLast read held holds s =
-    (said : List ℕ) × Appends held holds said × (meaning read ≡ after_text (said ++ s.text) (end_outcome s.script.block))
+    (said : List ℕ) × Appends held holds said × (meaning read ≡ after_text (said ++ s.text) (end_meaning s.script.block))
 
 -- the script ends, and what the bytes read mean by themselves is written, or a beginning of it
 abbrev pub Ends : Result Ending ServeError → (kept holds : Option (List ℕ)) → (old : Stand) → Type 0

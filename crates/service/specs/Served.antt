@@ -10,13 +10,13 @@ use Rattle.script_model.specs.declared.limits.TheConstants.{MOST_LINE_BYTES}
 use Rattle.script_model.specs.Lexing.{is_newline, script_lines}
 use Rattle.script_model.specs.State.{Script}
 use Rattle.script_model.specs.Texts.{edge_text}
-use Rattle.script_model.specs.Script.{after_text, outcome_from, meaning}
+use Rattle.script_model.specs.Script.{after_text, meaning_from, meaning}
 
 -- however the script goes on, it means what was said so far, and then what the bytes that are left mean
 -- to this script
 abbrev pub Served : List ℕ → List ℕ → Script → List ℕ → Type 0
 Served read said s left =
-    (rest : List ℕ) → meaning (read ++ rest) ≡ after_text said (outcome_from s (script_lines (left ++ rest)))
+    (rest : List ℕ) → meaning (read ++ rest) ≡ after_text said (meaning_from s (script_lines (left ++ rest)))
 
 -- however it goes on, it means this
 abbrev pub Settled : List ℕ → List ℕ → Type 0

@@ -2,7 +2,7 @@
 use Rattle.std.proofs.Common.{◌≡◌, Option, Some, None, IfSome, refl, inl, inr, subst, ◌∙◌}
 use Rattle.past_model.specs.declared.entry.Entry.{Entry}
 use Rattle.past_model.specs.Past.{Past}
-use Rattle.versions.specs.Storing.{Storing, IsKept}
+use Rattle.store.specs.Storing.{Storing, IsKept}
 use Rattle.session.specs.Handles.{StoreState, IsUnpublished}
 
 abbrev with_held : Past → Option Entry → StoreState

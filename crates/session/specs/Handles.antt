@@ -5,10 +5,10 @@ use Rattle.past_model.specs.declared.limits.TheConstants.{MOST_VERTICES}
 use Rattle.past_model.specs.Edits.{added, removed}
 use Rattle.past_model.specs.Past.{Past, opening, graph_of, number_of, longer}
 use Rattle.history.specs.Moment.{Moment, Begins}
-use Rattle.versions.specs.Ends.{Feeding}
-use Rattle.versions.specs.Feeds.{AreFeedsOf}
-use Rattle.versions.specs.Receipts.{Publication}
-use Rattle.versions.specs.Storing.{Storing}
+use Rattle.store.specs.Ends.{Feeding}
+use Rattle.store.specs.Feeds.{AreFeedsOf}
+use Rattle.store.specs.Receipts.{Publication}
+use Rattle.store.specs.Storing.{Storing}
 use Rattle.session.specs.declared.error.CommandError.{CommandError}
 use Rattle.session.specs.declared.error.CommandError.TheVariants as errors
 

@@ -14,12 +14,12 @@ use crate::answer::Answer;
 use crate::error::CommandError;
 use crate::handles::Handles;
 use crate::session::Session;
-use gates::{Crew, Gate};
 use past_model::{Batch, Edit, FEEDS, MOST_BATCHES, MOST_EDITS, are_below};
 use session_model::Fault;
 use std::alloc::Global;
 use std::sync::Wait;
 use std::thread::Threads;
+use workers::{Crew, Gate};
 
 /// An edit whose vertices are not tested: source and target.
 #[derive(Clone, Copy, Debug, PartialEq, Eq)]

@@ -15,7 +15,7 @@ use session_model::Fault;
 use std::alloc::Global;
 use std::mem;
 use std::sync::Wait;
-use versions::StoreError;
+use store::StoreError;
 
 impl Session {
     /// How many vertices the graph has, where there is one.

@@ -7,13 +7,13 @@ ghost use Rattle.session_model.specs.Responses.{entry_of};
 ghost use Rattle.session.specs.Handles.{Publishes, new_store};
 
 use crate::error::CommandError;
-use gates::{Crew, Gate};
 use past_model::{Batch, Edit};
 use std::alloc::Global;
 use std::marker::Model;
 use std::sync::Wait;
 use std::thread::Threads;
-use versions::{Ends, Pin, PublishError, Receipt, Store, StoreError};
+use store::{Ends, Pin, PublishError, Receipt, Store, StoreError};
+use workers::{Crew, Gate};
 
 /// The ends of a store. Whoever opens one has to close it. Contracts see it as what the last version is the replay of, and
 /// the batch that was taken and could not be published.

@@ -6,8 +6,8 @@ ghost use Rattle.session_model.specs.Session.{program_named, pin_named};
 ghost use Rattle.session.specs.Kept.{kept_program, kept_pin, program_of, past_of};
 
 use std::sync::Arc;
+use store::Pin;
 use verifier::Verified;
-use versions::Pin;
 
 /// A program that was accepted, under its name.
 pub struct NamedProgram {

@@ -23,7 +23,7 @@ pub use batches::GivenEdit;
 pub use command::Command;
 pub use edge_map::{EdgeList, ListedEdge};
 pub use error::CommandError;
-pub use gates::{Crew, Gate, OpenGate, Workers};
 pub use listing::Listing;
 pub use session::Session;
 pub use session_model::Fault;
+pub use workers::{Crew, Gate, OpenGate, Workers};

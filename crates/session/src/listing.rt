@@ -10,8 +10,8 @@ ghost use Rattle.verifier.specs.Walks.{longest};
 use edge_map::{EdgeList, list_edges};
 use std::marker::Model;
 use std::sync::Arc;
+use store::Pin;
 use verifier::Verified;
-use versions::Pin;
 
 /// All edges of a version, sources ascending and targets ascending for each, each with the number that a program exits
 /// with for it. It holds the version and the program, whatever becomes of the session, and has run nothing yet.

@@ -13,8 +13,8 @@ use crate::session::Session;
 use map_model::EDGE_BYTES;
 use session_model::Fault;
 use std::sync::Arc;
+use store::Pin;
 use verifier::Verified;
-use versions::Pin;
 
 /// What a list is asked for: a program and a pin by their names.
 #[derive(Clone, Copy)]

@@ -15,14 +15,14 @@ use crate::frontier::{all_vertices, are_below, narrowed};
 use crate::kept::{find_pin, find_program};
 use crate::session::Session;
 use edge_map::{MapError, MapOutcome, MapRequest, map_sources};
-use gates::{Crew, Gate};
 use map_model::Reduction;
 use session_model::Fault;
 use std::alloc::{AllocError, Global};
 use std::sync::{Arc, Wait};
 use std::thread::Threads;
+use store::{Pin, Version};
 use verifier::Verified;
-use versions::{Pin, Version};
+use workers::{Crew, Gate};
 
 /// What a run is asked for: a program and a pin by their names, how numbers are reduced, the argument's
 /// bytes, and the frontier (none for all vertices).

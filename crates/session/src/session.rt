@@ -13,11 +13,11 @@ use crate::handles::Handles;
 use crate::kept::{NamedPin, NamedProgram};
 use crate::lists::Names;
 use crate::runs::Run;
-use gates::{Crew, Gate};
 use std::alloc::Global;
 use std::marker::Model;
 use std::sync::Wait;
 use std::thread::Threads;
+use workers::{Crew, Gate};
 
 /// What commands have made so far. Whoever makes one has to close it.
 pub struct Session {

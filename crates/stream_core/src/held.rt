@@ -1,7 +1,7 @@
 //! The batch in work.
 ghost use Rattle.std.specs.Prelude.{◌≡◌, [], ◌∷◌, ◌++◌, OnOk, OnErr};
 
-use crate::table::Table;
+use crate::version_shards::VersionShards;
 use past_model::{Entry, RANGE_VERTICES};
 use std::alloc::{AllocError, Global};
 use std::marker::Model;
@@ -11,7 +11,7 @@ use std::marker::Model;
 pub(crate) struct Held {
     entry: Entry,
     done: Vec<u32>,
-    table: Table,
+    table: VersionShards,
 }
 
 impl Model for Held {
@@ -29,7 +29,7 @@ impl Held {
     ghost use Rattle.stream_core.specs.Work.{holding_of, IsEditable, IsWorkAfter};
 
     /// A batch of which nothing is done, and the shards that it is to edit.
-    pub(crate) fn begin(alloc: Global, entry: Entry, table: Table) -> Held
+    pub(crate) fn begin(alloc: Global, entry: Entry, table: VersionShards) -> Held
         ensures { result ≡ record { entry = entry; done = []; parts = table } }
     {
         Held {
@@ -49,7 +49,7 @@ impl Held {
     }
 
     /// Puts the shards in the place of those that were published before.
-    pub(crate) fn show(self, published: &mut Table)
+    pub(crate) fn show(self, published: &mut VersionShards)
         ensures { published.new ≡ self.parts }
     {
         *published = self.table;

@@ -6,7 +6,7 @@ mod execution;
 mod held;
 mod lend;
 mod reader_run;
-mod table;
+mod version_shards;
 mod world;
 
 pub use execution::{run, shards, step};

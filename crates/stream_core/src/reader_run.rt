@@ -3,7 +3,7 @@ ghost use Rattle.std.specs.Prelude.{◌≡◌, IfOk, OnErr};
 ghost use Rattle.past_model.specs.Past.{Past};
 
 use crate::lend::lent_from;
-use crate::table::Table;
+use crate::version_shards::VersionShards;
 use std::alloc::{AllocError, Global};
 use store_model::Reply;
 
@@ -15,7 +15,7 @@ pub(crate) struct ReaderRun {
     pub vertex: u32,
     pub place: usize,
     pub ended: bool,
-    pub table: Table,
+    pub table: VersionShards,
 }
 
 impl ReaderRun {

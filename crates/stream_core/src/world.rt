@@ -8,7 +8,7 @@ ghost use Rattle.store_model.specs.Events.{can, after, Answers};
 
 use crate::held::Held;
 use crate::reader_run::ReaderRun;
-use crate::table::Table;
+use crate::version_shards::VersionShards;
 use migration::Shard;
 use past_model::{Batch, Entry, FEEDS};
 use std::alloc::{AllocError, Global};
@@ -25,7 +25,7 @@ pub struct World {
     log: Vec<Entry>,
     queue: VecDeque<Entry>,
     held: Option<Held>,
-    table: Table,
+    table: VersionShards,
     runs: Vec<Option<ReaderRun>>,
 }
 
@@ -77,7 +77,7 @@ impl World {
             log: Vec::new(alloc),
             queue: VecDeque::new(alloc),
             held: None,
-            table: Table::empty(alloc, vertex_count)?,
+            table: VersionShards::empty(alloc, vertex_count)?,
             runs,
         })
     }

@@ -10,13 +10,13 @@ ghost use Rattle.past_model.specs.Past.{IsPast, graph_of, number_of, opening, lo
 use crate::log::Log;
 use batch_apply::edit_table;
 use cursors::Cursor;
-use gates::{Gate, Refusal, Workers};
 use migration::{Counts, Table};
 use past_model::{Entry, Home};
 use std::alloc::{AllocError, Global};
 use std::marker::Model;
 use std::sync::Wait;
 use std::thread::Threads;
+use workers::{Gate, WorkError, Workers};
 
 /// One state of a graph: what the log of its batches makes of the graph without an edge. It never
 /// changes after it was made. Contracts see it as the past that it is the replay of.
@@ -147,7 +147,7 @@ impl Version {
         entry: &Entry,
         workers: Workers,
         gate: &Ga,
-    ) -> Result<(Version, Counts), Refusal>
+    ) -> Result<(Version, Counts), WorkError>
         requires room { number_of self.now < MOST_BATCHES }
         requires below { AreEditsBelow self.now.vertex_count entry.now.batch }
         ensures next { IfOk result (λ next. next.0 ≡ longer self.now entry.now) }

@@ -2,7 +2,7 @@
 ghost use Rattle.std.specs.Prelude.{◌≡◌, IfOk};
 ghost use Rattle.past_model.specs.Edits.{AreEditsBelow};
 ghost use Rattle.history.specs.Moment.{OneStore};
-ghost use Rattle.versions.specs.Ends.{IsFeedOf};
+ghost use Rattle.store.specs.Ends.{IsFeedOf};
 
 use crate::edits::batch_of;
 use crate::shop::Shop;
@@ -11,7 +11,7 @@ use std::sync::Wait;
 use std::test::Fail;
 use std::thread;
 use std::thread::{Threads, join_mut};
-use versions::{Batch, Edit, Feed, OpenGate, Publisher, Reader, SubmitCause, Workers};
+use store::{Batch, Edit, Feed, OpenGate, Publisher, Reader, SubmitCause, Workers};
 
 // How many batches each feed submits.
 const EACH: u32 = 200;

@@ -1,4 +1,4 @@
-use Rattle.versions.specs.Ends.{IsFeedOf}
+use Rattle.store.specs.Ends.{IsFeedOf}
 use Rattle.edgebpf_tests.proofs.stores.threads.submit.Given as goal
 
 abbrev pub invariant-tries : goal.invariant-tries

@@ -1,4 +1,4 @@
-use Rattle.versions.specs.Ends.{IsFeedOf}
+use Rattle.store.specs.Ends.{IsFeedOf}
 use Rattle.edgebpf_tests.proofs.stores.threads.submit_all.Given as goal
 
 abbrev pub invariant-numbers : goal.invariant-numbers

@@ -1,0 +1,58 @@
+//! What the verifier answers.
+ghost use Rattle.std.specs.Prelude.{◌≡◌};
+ghost use Rattle.explanation.specs.Judging.{judges_values as judges_values_of, is_of_the_whole as is_of_the_whole_of, is_told};
+
+use bpf_model::Cause;
+use verifier::Refusal;
+
+/// What the verifier answers.
+#[derive(Clone, Copy, Debug, PartialEq, Eq)]
+pub enum Verdict {
+    /// With the greatest number of instructions that a run counts, and the greatest number of frames.
+    Accepted { bound: u32, frames: u8 },
+    /// With the first broken rule.
+    Refused(Refusal),
+}
+
+/// Whether a rule is one of the last pass, which looks at what is known.
+pub(crate) fn judges_values(cause: Cause) -> bool
+    ensures { result ≡ judges_values_of cause }
+{
+    match cause {
+        Cause::BadInstruction
+        | Cause::JumpOut
+        | Cause::JumpBack
+        | Cause::CallTarget
+        | Cause::FallsOff
+        | Cause::TooDeep
+        | Cause::TooLong
+        | Cause::OutOfMemory => false,
+        Cause::UnsetRegister
+        | Cause::FrameRegister
+        | Cause::PointerUse
+        | Cause::OutOfRange
+        | Cause::UnsetStackByte
+        | Cause::HelperArgument
+        | Cause::UnknownHelper
+        | Cause::ResultNotNumber => true,
+    }
+}
+
+/// Whether a rule is broken by a program as a whole.
+pub(crate) fn is_of_the_whole(cause: Cause) -> bool
+    ensures { result ≡ is_of_the_whole_of cause }
+{
+    matches!(cause, Cause::TooDeep | Cause::TooLong)
+}
+
+impl Verdict {
+    /// Whether it is told what is known at a pc.
+    pub(crate) fn tells(self, pc: usize) -> bool
+        ensures { result ≡ is_told self pc }
+    {
+        match self {
+            Verdict::Accepted { .. } => true,
+            Verdict::Refused(refusal) => judges_values(refusal.cause) && pc <= refusal.pc,
+        }
+    }
+}

@@ -1,0 +1,14 @@
+pub mod Ends
+pub mod QueueViews
+pub mod QueueRule
+pub mod BoardViews
+pub mod BoardRule
+pub mod Pool
+pub mod Showing
+pub mod Recorded
+pub mod Receipts
+pub mod Refused
+pub mod Held
+pub mod Storing
+pub mod Feeds
+pub mod Ties

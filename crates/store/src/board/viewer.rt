@@ -1,0 +1,131 @@
+//! A reader's side: pins, lessons, and readers beside it.
+ghost use Rattle.std.specs.Prelude.{◌≡◌, ◌⊎◌, IfOk, IfErr};
+ghost use Rattle.history.specs.Moment.{OneStore, Begins};
+
+use crate::board::errors::{NoPlace, PinError};
+use crate::board::pool::{Back, Lend, Membership, Pool, Twin};
+use crate::board::rule::{Inner, Look};
+use crate::recorded::Recorded;
+use history::{Known, compare};
+use std::marker::Model;
+use std::sync::Arc;
+
+/// A reader's side of the board. Contracts see it as the moment that it saw last.
+pub(crate) struct Viewer {
+    pub(super) vertex_count: u32,
+    pub(super) number: u64,
+    pub(super) known: Known,
+    // It is there, but while a version is pinned.
+    pub(super) inner: Option<Inner>,
+    pub(super) pool: Arc<Pool>,
+    pub(super) membership: Membership,
+}
+
+impl Model for Viewer {
+    ghost use Rattle.std.specs.Prelude.{◌≡◌, IfSome};
+    ghost use Rattle.std.specs.Arc.{arc_value};
+    ghost use Rattle.left_right.specs.Sides.{view as board_view_of};
+    ghost use Rattle.crossbeam_queue.specs.Passes.{view as member_of, IsPassOf};
+    ghost use Rattle.history.specs.Moment.{Moment, moment_of, count_of};
+    ghost use Rattle.store.specs.BoardViews.{Knows};
+    ghost use Rattle.store.specs.Pool.{IsMember};
+
+    ghost Value = { Moment };
+
+    ghost view = { λ r. moment_of r.vertex_count r.known };
+
+    ghost invariant = { λ r. (r.number ≡ count_of r.known)
+        × IfSome r.inner (λ inner. Knows (moment_of r.vertex_count r.known) (board_view_of inner.place))
+        × IsPassOf (arc_value r.pool) r.membership
+        × IsMember (moment_of r.vertex_count r.known) (member_of r.membership) };
+}
+
+impl Viewer {
+    /// The version that is shown at a moment of this call. It continues what this reader saw. Nobody is waited for.
+    pub(crate) fn pin(&mut self) -> Result<Recorded, PinError>
+        ensures begins { IfOk result (λ version. Begins self.old version) }
+        ensures seen { IfOk result (λ version. self.new ≡ version) }
+        ensures failed { IfErr result (λ _. self.new ≡ self.old) }
+    {
+        let version = self.look()?;
+        // The history's tokens decide which of the two is longer: the version never is the shorter one.
+        if version.number() < self.number {
+            return Err(PinError::NoShare);
+        }
+        self.learn(&version);
+        Ok(version)
+    }
+
+    // A version of this reader's store.
+    fn look(&mut self) -> Result<Recorded, PinError>
+        ensures same { self.new ≡ self.old }
+        ensures store { IfOk result (λ version. OneStore self.old version) }
+    {
+        let Some(inner) = self.inner.take() else {
+            return Err(PinError::Closed);
+        };
+        match inner.enter_as::<Look>() {
+            Ok(reading) => {
+                let version = reading.get().version.share();
+                self.inner = Some(reading.leave());
+                version.map_err(|_| PinError::NoShare)
+            }
+            Err(inner) => {
+                self.inner = Some(inner);
+                Err(PinError::Closed)
+            }
+        }
+    }
+
+    /// Learns that a version is there: from now on, what is pinned continues it.
+    pub(crate) fn learn(&mut self, version: &Recorded)
+        requires { OneStore self.old version.now }
+        ensures one { (self.new ≡ self.old) ⊎ (self.new ≡ version.now) }
+        ensures this { Begins self.old self.new }
+        ensures that { Begins version.now self.new }
+    {
+        let known = version.known();
+        compare(&self.known, &known);
+        if version.number() > self.number {
+            self.number = version.number();
+            self.known = known;
+        }
+    }
+
+    /// Another reader, which has seen as much. It can go to another thread.
+    pub(crate) fn another(&mut self) -> Result<Viewer, NoPlace>
+        ensures other { IfOk result (λ other. other ≡ self.old) }
+        ensures same { self.new ≡ self.old }
+    {
+        let pool = Arc::try_clone(&self.pool).map_err(|_| NoPlace)?;
+        let Some(inner) = pool.try_pop_as::<Lend>(&mut self.membership) else {
+            return Err(NoPlace);
+        };
+        let membership = pool.another::<Twin>(&mut self.membership);
+        Ok(Viewer {
+            vertex_count: self.vertex_count,
+            number: self.number,
+            known: self.known.again(),
+            inner: Some(inner),
+            pool,
+            membership,
+        })
+    }
+}
+
+impl Drop for Viewer {
+    // Its place is free again.
+    fn drop(self) {
+        let Viewer {
+            vertex_count: _,
+            number: _,
+            known: _,
+            inner,
+            pool,
+            mut membership,
+        } = self;
+        if let Some(inner) = inner {
+            let _ = pool.try_push_as::<Back>(&mut membership, inner);
+        }
+    }
+}

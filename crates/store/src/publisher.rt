@@ -1,0 +1,163 @@
+//! The end at which versions are made.
+ghost use Rattle.std.specs.Prelude.{◌≡◌, ◌≤◌, ◌↔◌, ◌++◌, length, option_map, IfOk, IfErr, IfSome, IfNone, IsErrOf};
+ghost use Rattle.std.specs.Arc.{arc_value};
+ghost use Rattle.past_model.specs.declared.limits.TheConstants.{MOST_BATCHES};
+ghost use Rattle.past_model.specs.Past.{number_of};
+ghost use Rattle.store_model.specs.declared.limits.TheConstants.{QUEUE_PLACES};
+ghost use Rattle.history.specs.Moment.{OneStore};
+ghost use Rattle.store.specs.Held.{entry_in, entry_held, IsNoted};
+ghost use Rattle.store.specs.Feeds.{AreFeedsOf, AreDelivered};
+ghost use Rattle.store.specs.Ties.{PublishesAsEvents, TakesAsEvent};
+ghost use Rattle.store.specs.Storing.{taken_of, IsPublished, IsIdle, IsKept};
+
+use crate::committer::Committer;
+use crate::errors::PublishError;
+use crate::feed::Feed;
+use crate::finished::Finished;
+use crate::held::{Held, Stopped};
+use crate::queue::Receiver;
+use crate::receipt::Receipt;
+use past_model::MOST_BATCHES;
+use std::marker::Model;
+use std::sync::Wait;
+use std::thread::Threads;
+use workers::{Gate, Workers};
+
+/// The one that makes the versions of a graph, each of the one before and a batch that a feed submitted. It has to be
+/// ended by `finish`. Contracts see it as a `Storing`.
+pub struct Publisher {
+    pub(crate) committer: Committer,
+    pub(crate) held: Option<Held>,
+    pub(crate) receiver: Receiver,
+}
+
+impl Model for Publisher {
+    ghost use Rattle.std.specs.Prelude.{◌≡◌, ◌++◌};
+    ghost use Rattle.store.specs.Held.{entry_held, entries_held, IsHolding};
+    ghost use Rattle.store.specs.Storing.{Storing};
+
+    ghost Value = { Storing };
+
+    ghost view = { λ p. record {
+      moment = p.committer.moment;
+      held = entry_held p.held;
+      empties = p.receiver.empties;
+      queue = p.receiver.queue;
+    } };
+
+    ghost invariant = { λ p. (p.receiver.taken ≡ p.committer.moment.past.log ++ entries_held (entry_held p.held))
+        × (p.receiver.vertex_count ≡ p.committer.moment.past.vertex_count) × IsHolding p.committer p.held };
+}
+
+impl Publisher {
+    /// Publishes one batch: the held one, and else the one that waits longest in the queue. `None`, and nothing is
+    /// published, where neither is there. The batch is applied by workers, and what is published is the same for each
+    /// number of them, gate and order in which threads run; each edited range's number is a piece of the gate's.
+    /// `LogFull` comes exactly after 4,096 batches, and takes nothing. After `OutOfMemory`, and after `WorkerRefused`,
+    /// which one worker cannot meet, nothing is published, and the batch is held.
+    pub fn step<Ga: Gate, R: Threads + Wait>(
+        &mut self,
+        rt: &R,
+        workers: Workers,
+        gate: &Ga,
+    ) -> Result<Option<Receipt>, PublishError>
+        ensures same_queue { self.new.queue ≡ self.old.queue }
+        ensures same_store { OneStore self.old.moment self.new.moment }
+        ensures published { IfOk result (λ done. IfSome done (λ receipt. IsPublished self.old receipt self.new)) }
+        ensures events { IfOk result (λ done.
+            IfSome done (λ receipt. PublishesAsEvents self.old receipt.entry self.new)) }
+        ensures idle { IfOk result (λ done. IfNone done (IsIdle self.old self.new)) }
+        ensures kept { IfErr result (λ _. IsKept self.old self.new) }
+        ensures taking { IfErr result (λ _. TakesAsEvent self.old self.new) }
+        ensures full { IsErrOf result PublishError.LogFull ↔ (number_of self.old.moment.past ≡ MOST_BATCHES) }
+        ensures full_same { IsErrOf result PublishError.LogFull → self.new ≡ self.old }
+    {
+        self.publish_next(rt, workers, gate)
+    }
+
+    // Publishes the batch that comes next.
+    fn publish_next<Ga: Gate, R: Threads + Wait>(
+        &mut self,
+        rt: &R,
+        workers: Workers,
+        gate: &Ga,
+    ) -> Result<Option<Receipt>, PublishError>
+        ensures same_queue { self.new.queue ≡ self.old.queue }
+        ensures same_store { OneStore self.old.moment self.new.moment }
+        ensures published { IfOk result (λ done. IfSome done (λ receipt. IsPublished self.old receipt self.new)) }
+        ensures idle { IfOk result (λ done. IfNone done (IsIdle self.old self.new)) }
+        ensures kept { IfErr result (λ _. IsKept self.old self.new) }
+        ensures full { IsErrOf result PublishError.LogFull ↔ (number_of self.old.moment.past ≡ MOST_BATCHES) }
+        ensures full_same { IsErrOf result PublishError.LogFull → self.new ≡ self.old }
+    {
+        if self.committer.number() >= MOST_BATCHES {
+            return Err(PublishError::LogFull);
+        }
+        match self.held.take() {
+            Some(held) => note(
+                self.committer.go_on(held, rt, workers, gate),
+                &mut self.held,
+            ),
+            None => match self.receiver.pop(rt) {
+                Some(entry) => note(
+                    self.committer.go_on(Held::Taken(entry), rt, workers, gate),
+                    &mut self.held,
+                ),
+                None => Ok(None),
+            },
+        }
+    }
+
+    /// The feed of the batch that was taken and is not published, where there is one.
+    pub fn holds(&self) -> Option<u8>
+        ensures { result ≡ option_map (λ entry. entry.feed) self.now.held }
+    {
+        match &self.held {
+            None => None,
+            Some(held) => Some(held.entry().feed),
+        }
+    }
+
+    /// Ends the store, once its feeds are handed in, from A on. It takes no memory. Readers are told from then on
+    /// that the store is closed.
+    pub fn finish<R: Wait>(self, feeds: [Feed; 2], rt: &R) -> Finished
+        requires { AreFeedsOf self feeds }
+        ensures last { arc_value result.last ≡ self.moment.past }
+        ensures held { result.held ≡ self.held }
+        ensures delivered { AreDelivered (taken_of self ++ result.left.items) feeds }
+        ensures few { length result.left.items ≤ QUEUE_PLACES }
+    {
+        let Publisher {
+            committer,
+            held,
+            receiver,
+        } = self;
+        let mut each = feeds.into_iter();
+        let (Some(first), Some(second)) = (each.next(), each.next()) else {
+            unreachable!()
+        };
+        let left = receiver.finish(first.into_sender(), second.into_sender(), rt);
+        Finished {
+            last: committer.close(rt),
+            held: held.map(Held::into_entry),
+            left,
+        }
+    }
+}
+
+// The receipt; or the batch is held again.
+fn note(
+    answer: Result<Receipt, Stopped>,
+    held: &mut Option<Held>,
+) -> Result<Option<Receipt>, PublishError>
+    requires { held.old ≡ None }
+    ensures { IsNoted answer result held.new }
+{
+    match answer {
+        Ok(receipt) => Ok(Some(receipt)),
+        Err(stopped) => {
+            *held = Some(stopped.held);
+            Err(PublishError::from(stopped.want))
+        }
+    }
+}
