@@ -1,4 +1,5 @@
 //! A batch on a table of shards.
+ghost use Rattle.std.specs.Prelude.{◌≡◌, IsErrOf};
 ghost use Rattle.migration.specs.Table.{IsOfGraph};
 ghost use Rattle.batch_apply.specs.Applied.{IsApplied};
 
@@ -26,7 +27,8 @@ pub fn apply_batch<Ga: Gate, R: Threads + Wait>(
     gate: &Ga,
 ) -> Result<(Table, Counts), ApplyError>
     requires { IsOfGraph table.now }
-    ensures { IsApplied table.now batch.now result }
+    ensures applied { IsApplied table.now batch.now result }
+    ensures alone { workers.count ≡ 1 → IsErrOf result ApplyError.WorkerRefused → ⊥ }
 {
     let edits = batch.edits();
     if edits.len() > MOST_EDITS {

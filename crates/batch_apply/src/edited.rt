@@ -1,9 +1,10 @@
 //! A table of shards after a batch.
-ghost use Rattle.std.specs.Prelude.{◌≡◌, ◌<◌, ◌≤◌, All, length, IfOk};
+ghost use Rattle.std.specs.Prelude.{◌≡◌, ◌<◌, ◌≤◌, All, length, IfOk, IfErr};
 ghost use Rattle.past_model.specs.declared.limits.TheConstants.{MOST_RANGES};
 ghost use Rattle.workers.specs.declared.limits.TheConstants.{MOST_WORKERS};
 ghost use Rattle.migration.specs.Made.{IsBatch};
 ghost use Rattle.migration.specs.Table.{IsEditable, AreAfter, AreMoved};
+ghost use Rattle.workers.specs.declared.work_error.WorkError.TheVariants.{OutOfMemory};
 ghost use Rattle.batch_apply.specs.Dealt.{IsReady, AreDealt, pieces_of};
 
 use crate::hands::{spread, work_alone};
@@ -31,6 +32,7 @@ fn made_by<Ga: Gate, R: Threads + Wait>(
     requires hands { hands ≤ MOST_WORKERS }
     ensures dealt { IfOk result (λ lists. AreDealt table.now pieces.now hands lists.items) }
     ensures all { IfOk result (λ lists. length lists.items ≡ hands) }
+    ensures alone { hands ≡ 1 → IfErr result (λ e. e ≡ OutOfMemory) }
 {
     if hands == 1 {
         let lists = work_alone(alloc, table, pieces, gate, hands)?;
@@ -90,6 +92,7 @@ pub fn edit_table<Ga: Gate, R: Threads + Wait>(
     requires { IsEditable table.now edits.now }
     ensures after { IfOk result (λ next. AreAfter edits.now table.now next.0 next.1) }
     ensures homes { IfOk result (λ next. AreMoved table.now next.0) }
+    ensures alone { workers.count ≡ 1 → IfErr result (λ e. e ≡ OutOfMemory) }
 {
     let groups = Groups::of(alloc, Grouping::ByRange, table.count(), edits)?;
     let pieces = Pieces::of(alloc, &groups, edits.len())?;

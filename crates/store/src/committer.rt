@@ -1,10 +1,11 @@
 //! How a taken batch becomes the version that readers are shown.
-ghost use Rattle.std.specs.Prelude.{◌≡◌, ◌≤◌, IfOk};
+ghost use Rattle.std.specs.Prelude.{◌≡◌, ◌≤◌, IfOk, IfErr};
 ghost use Rattle.std.specs.Arc.{arc_value};
 ghost use Rattle.past_model.specs.declared.limits.TheConstants.{MOST_BATCHES};
 ghost use Rattle.past_model.specs.Edits.{added, removed};
 ghost use Rattle.past_model.specs.Past.{number_of, graph_of, longer};
 ghost use Rattle.history.specs.Moment.{after_entry};
+ghost use Rattle.workers.specs.declared.work_error.WorkError.TheVariants.{OutOfMemory};
 ghost use Rattle.store.specs.Held.{at_rest, and_waiting, entry_in, IsNext, IsChange, AreOwnersOf, IsHeld, IsGoneOn};
 
 use crate::board::Board;
@@ -61,7 +62,8 @@ impl Committer {
         gate: &Ga,
     ) -> Result<Receipt, Stopped>
         requires { IsHeld self.old held }
-        ensures { IsGoneOn self.old (entry_in held) result self.new }
+        ensures gone_on { IsGoneOn self.old (entry_in held) result self.new }
+        ensures alone { workers.count ≡ 1 → IfErr result (λ s. s.want ≡ OutOfMemory) }
     {
         match held {
             Held::Taken(entry) => self.add(entry, rt, workers, gate),
@@ -80,7 +82,8 @@ impl Committer {
     ) -> Result<Receipt, Stopped>
         requires next { IsNext self.old.moment entry }
         requires rest { self.old ≡ at_rest self.old.moment }
-        ensures { IsGoneOn self.old entry result self.new }
+        ensures gone_on { IsGoneOn self.old entry result self.new }
+        ensures alone { workers.count ≡ 1 → IfErr result (λ s. s.want ≡ OutOfMemory) }
     {
         let (shown, counts) = match self.next(&entry, rt, workers, gate) {
             Ok(made) => made,
@@ -119,6 +122,7 @@ impl Committer {
         ensures next { IfOk result (λ made. arc_value made.0 ≡ longer self.now.moment.past entry.now) }
         ensures gained { IfOk result (λ made. made.1.added ≡ added entry.now.batch (graph_of self.now.moment.past)) }
         ensures lost { IfOk result (λ made. made.1.removed ≡ removed entry.now.batch (graph_of self.now.moment.past)) }
+        ensures alone { workers.count ≡ 1 → IfErr result (λ e. e ≡ OutOfMemory) }
     {
         let (version, counts) = self
             .current
@@ -138,7 +142,8 @@ impl Committer {
         requires change { IsChange self.old.moment change }
         requires owners { AreOwnersOf (after_entry self.old.moment change.entry) owners }
         requires rest { self.old ≡ at_rest self.old.moment }
-        ensures { IsGoneOn self.old change.entry result self.new }
+        ensures gone_on { IsGoneOn self.old change.entry result self.new }
+        ensures alone { workers.count ≡ 1 → IfErr result (λ s. s.want ≡ OutOfMemory) }
     {
         let Owners { shown, kept, told } = owners;
         match self.board.append(shown) {
@@ -163,7 +168,8 @@ impl Committer {
         requires kept { kept ≡ after_entry self.old.moment change.entry }
         requires told { told ≡ after_entry self.old.moment change.entry }
         requires waits { self.old ≡ and_waiting self.old.moment (after_entry self.old.moment change.entry) }
-        ensures { IsGoneOn self.old change.entry result self.new }
+        ensures gone_on { IsGoneOn self.old change.entry result self.new }
+        ensures alone { workers.count ≡ 1 → IfErr result (λ s. s.want ≡ OutOfMemory) }
     {
         match self.board.show(rt) {
             Ok(()) => {

@@ -1,5 +1,6 @@
 //! A batch that was taken, and how far its publication has come.
 ghost use Rattle.std.specs.Prelude.{◌≡◌};
+ghost use Rattle.workers.specs.declared.work_error.WorkError.TheVariants.{OutOfMemory};
 ghost use Rattle.store.specs.Held.{entry_in};
 
 use crate::recorded::{Owners, Recorded};
@@ -35,7 +36,8 @@ pub struct Stopped {
 impl Stopped {
     /// It is in want of memory.
     pub(crate) fn for_memory(held: Held) -> Stopped
-        ensures { result.held ≡ held }
+        ensures held { result.held ≡ held }
+        ensures want { result.want ≡ OutOfMemory }
     {
         Stopped {
             held,

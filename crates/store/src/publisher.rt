@@ -71,6 +71,7 @@ impl Publisher {
         ensures taking { IfErr result (λ _. TakesAsEvent self.old self.new) }
         ensures full { IsErrOf result PublishError.LogFull ↔ (number_of self.old.moment.past ≡ MOST_BATCHES) }
         ensures full_same { IsErrOf result PublishError.LogFull → self.new ≡ self.old }
+        ensures alone { workers.count ≡ 1 → IsErrOf result PublishError.WorkerRefused → ⊥ }
     {
         self.publish_next(rt, workers, gate)
     }
@@ -89,6 +90,7 @@ impl Publisher {
         ensures kept { IfErr result (λ _. IsKept self.old self.new) }
         ensures full { IsErrOf result PublishError.LogFull ↔ (number_of self.old.moment.past ≡ MOST_BATCHES) }
         ensures full_same { IsErrOf result PublishError.LogFull → self.new ≡ self.old }
+        ensures alone { workers.count ≡ 1 → IsErrOf result PublishError.WorkerRefused → ⊥ }
     {
         if self.committer.number() >= MOST_BATCHES {
             return Err(PublishError::LogFull);

@@ -1,10 +1,11 @@
 //! A version: what it answers, and the next one of it and a batch.
-ghost use Rattle.std.specs.Prelude.{◌≡◌, ◌/◌, ◌%◌, ◌<◌, ◌≤◌, length, slice_get, IfOk};
+ghost use Rattle.std.specs.Prelude.{◌≡◌, ◌/◌, ◌%◌, ◌<◌, ◌≤◌, length, slice_get, IfOk, IfErr};
 ghost use Rattle.past_model.specs.declared.limits.TheConstants.{MOST_BATCHES, MOST_VERTICES};
 ghost use Rattle.graph_model.specs.Graph.{neighbours, edge_count, degree};
 ghost use Rattle.past_model.specs.Edits.{AreEditsBelow, added, removed};
 ghost use Rattle.past_model.specs.Homes.{home_of};
 ghost use Rattle.graph_model.specs.Views.{is_edge, neighbour_words, neighbours_among, word_bytes};
+ghost use Rattle.workers.specs.declared.work_error.WorkError.TheVariants.{OutOfMemory};
 ghost use Rattle.past_model.specs.Past.{IsPast, graph_of, number_of, opening, longer};
 
 use crate::log::Log;
@@ -153,6 +154,7 @@ impl Version {
         ensures next { IfOk result (λ next. next.0 ≡ longer self.now entry.now) }
         ensures gained { IfOk result (λ next. next.1.added ≡ added entry.now.batch (graph_of self.now)) }
         ensures lost { IfOk result (λ next. next.1.removed ≡ removed entry.now.batch (graph_of self.now)) }
+        ensures alone { workers.count ≡ 1 → IfErr result (λ e. e ≡ OutOfMemory) }
     {
         let (shards, counts) = edit_table(
             rt,
