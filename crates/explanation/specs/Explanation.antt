@@ -155,12 +155,12 @@ abbrev pub explanation_text : Program → List SourceLine → List (Option (Box 
 explanation_text p source states verdict =
     head_text p ++ (pieces_to (pc_text p source verdict states) (units p) ++ end_text p source states verdict)
 
--- the verdict that an verdict stands for
+-- the verifier's answer that it stands for
 abbrev pub verdict_of : Verdict → Verdict
 verdict_of (Accepted bound frames) = verdicts.Accepted bound frames
 verdict_of (Refused r) = verdicts.Refused r
 
--- a text and an verdict explain a program: the verdict is its verdict, and the text tells it with what is known at the pcs
+-- a text and a verdict explain a program: the verdict is the verifier's, and the text says it with what is known at the pcs
 pub record Explains (p : Program) (source : List SourceLine) (text : List ℕ) (verdict : Verdict) : Type 0 where
   pub states : List (Option (Box AbstractState))
   pub is_known : IsKnown p states
