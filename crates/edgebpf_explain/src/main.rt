@@ -4,7 +4,7 @@
 mod telling;
 mod words;
 
-use explanation::{Explanation, Verdict};
+use explanation::{Explanation, Judgement};
 use std::alloc::Global;
 use std::io::ErrorKind;
 use std::process::ExitCode;
@@ -55,9 +55,9 @@ fn main(rt: HostRuntime) -> ExitCode {
                 let _ = eprintln!(rt; "edgebpf-explain: write");
                 return ExitCode::from(WRONG_WORDS);
             }
-            match explanation.verdict {
-                Verdict::Accepted { .. } => ExitCode::from(0),
-                Verdict::Refused(_) => ExitCode::from(1),
+            match explanation.judgement {
+                Judgement::Accepted { .. } => ExitCode::from(0),
+                Judgement::Refused(_) => ExitCode::from(1),
             }
         }
         Err(failure) => {

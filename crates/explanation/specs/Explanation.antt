@@ -28,8 +28,8 @@ use Rattle.verifier.specs.Tables.{state_at}
 use Rattle.verifier.specs.Known.{IsKnown}
 use Rattle.explanation.specs.declared.source.SourceLine.{SourceLine}
 use Rattle.explanation.specs.declared.advice.Advice.{Advice}
-use Rattle.explanation.specs.declared.verdict.Verdict.{Verdict}
-use Rattle.explanation.specs.declared.verdict.Verdict.TheVariants.{Accepted, Refused}
+use Rattle.explanation.specs.declared.judgement.Judgement.{Judgement}
+use Rattle.explanation.specs.declared.judgement.Judgement.TheVariants.{Accepted, Refused}
 use Rattle.explanation.specs.declared.labels.Label.TheVariants as labels
 use Rattle.explanation.specs.Labels.{label_text}
 use Rattle.explanation.specs.Starts.{starts_below}
@@ -67,9 +67,9 @@ state_line None = codes "    no run comes here\n"
 state_line (Some s) = state_text s
 
 -- what is told at a pc: nothing at the second unit of a wide instruction
-abbrev pub pc_text : Program → List SourceLine → Verdict → List (Option (Box AbstractState)) → ℕ → List ℕ
-pc_text p source verdict states pc =
-    if is_start p pc then instruction_line p source pc (starts_below p pc) ++ (if is_told verdict pc then state_line (state_at states pc) else [])
+abbrev pub pc_text : Program → List SourceLine → Judgement → List (Option (Box AbstractState)) → ℕ → List ℕ
+pc_text p source judgement states pc =
+    if is_start p pc then instruction_line p source pc (starts_below p pc) ++ (if is_told judgement pc then state_line (state_at states pc) else [])
     else []
 
 -- ---- what is said of the program
@@ -142,7 +142,7 @@ refused_text p source states r =
 abbrev pub accepted_text : (bound frames : ℕ) → List ℕ
 accepted_text bound frames = label_text labels.Accepted ++ decimal bound ++ label_text labels.Frames ++ decimal frames ++ newline
 
-abbrev pub end_text : Program → List SourceLine → List (Option (Box AbstractState)) → Verdict → List ℕ
+abbrev pub end_text : Program → List SourceLine → List (Option (Box AbstractState)) → Judgement → List ℕ
 end_text p source states (Accepted bound frames) = accepted_text bound frames
 end_text p source states (Refused r) = refused_text p source states r
 
@@ -151,18 +151,18 @@ end_text p source states (Refused r) = refused_text p source states r
 abbrev pub head_text : Program → List ℕ
 head_text p = label_text labels.Program ++ decimal (units p) ++ label_text labels.Records ++ decimal p.record_length ++ label_text labels.Bytes
 
-abbrev pub explanation_text : Program → List SourceLine → List (Option (Box AbstractState)) → Verdict → List ℕ
-explanation_text p source states verdict =
-    head_text p ++ (pieces_to (pc_text p source verdict states) (units p) ++ end_text p source states verdict)
+abbrev pub explanation_text : Program → List SourceLine → List (Option (Box AbstractState)) → Judgement → List ℕ
+explanation_text p source states judgement =
+    head_text p ++ (pieces_to (pc_text p source judgement states) (units p) ++ end_text p source states judgement)
 
--- the verifier's answer that it stands for
-abbrev pub verdict_of : Verdict → Verdict
+-- the verdict that a judgement stands for
+abbrev pub verdict_of : Judgement → Verdict
 verdict_of (Accepted bound frames) = verdicts.Accepted bound frames
 verdict_of (Refused r) = verdicts.Refused r
 
--- a text and a verdict explain a program: the verdict is the verifier's, and the text says it with what is known at the pcs
-pub record Explains (p : Program) (source : List SourceLine) (text : List ℕ) (verdict : Verdict) : Type 0 where
+-- a text and a judgement explain a program: the judgement is its verdict, and the text tells it with what is known at the pcs
+pub record Explains (p : Program) (source : List SourceLine) (text : List ℕ) (judgement : Judgement) : Type 0 where
   pub states : List (Option (Box AbstractState))
   pub is_known : IsKnown p states
-  pub is_verdict : verdict p ≡ verdict_of verdict
-  pub is_told_so : text ≡ explanation_text p source states verdict
+  pub is_verdict : verdict p ≡ verdict_of judgement
+  pub is_told_so : text ≡ explanation_text p source states judgement

@@ -2,8 +2,8 @@
 use Rattle.std.specs.Prelude.{ℕ, ◌<◌, ◌&&◌, nat_le, Bool, true, false, ⊤}
 use Rattle.bpf_model.specs.declared.cause.Cause.{Cause}
 use Rattle.bpf_model.specs.declared.cause.Cause.TheVariants as causes
-use Rattle.explanation.specs.declared.verdict.Verdict.{Verdict}
-use Rattle.explanation.specs.declared.verdict.Verdict.TheVariants.{Accepted, Refused}
+use Rattle.explanation.specs.declared.judgement.Judgement.{Judgement}
+use Rattle.explanation.specs.declared.judgement.Judgement.TheVariants.{Accepted, Refused}
 
 -- a rule of the last pass, which looks at what is known
 abbrev pub judges_values : Cause → Bool
@@ -25,7 +25,7 @@ judges_values causes.ResultNotNumber = true
 judges_values causes.OutOfMemory = false
 
 -- what is known is told of all pcs of an accepted program, and of those up to the one that breaks a rule of values
-abbrev pub is_told : Verdict → ℕ → Bool
+abbrev pub is_told : Judgement → ℕ → Bool
 is_told (Accepted bound frames) pc = true
 is_told (Refused r) pc = judges_values r.cause && nat_le pc r.pc
 
@@ -36,6 +36,6 @@ is_of_the_whole causes.TooLong = true
 is_of_the_whole _ = false
 
 -- a refusal stands inside a code of so many units
-abbrev pub StandsInside : ℕ → Verdict → Type 0
+abbrev pub StandsInside : ℕ → Judgement → Type 0
 StandsInside end (Accepted bound frames) = ⊤
 StandsInside end (Refused r) = r.pc < end

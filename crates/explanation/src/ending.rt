@@ -24,11 +24,11 @@ ghost use Rattle.explanation.specs.Explanation.{
 use crate::advice::{Advice, advice_at};
 use crate::cursor::Cursor;
 use crate::instructions::{decoded, put_instruction};
+use crate::judgement::{Judgement, is_of_the_whole};
 use crate::labels::{Label, words_of_label};
 use crate::listing::known_at;
 use crate::source::SourceLine;
 use crate::values::{put, put_field, put_frame, put_register_line};
-use crate::verdict::{Verdict, is_of_the_whole};
 use crate::words::{words_of_advice, words_of_cause};
 use abstract_state::AbstractState;
 use bpf_image::{Image, Lengths};
@@ -279,14 +279,14 @@ pub(crate) fn put_end(
     image: &Image,
     source: &[SourceLine<'_>],
     states: &[Option<Box<AbstractState>>],
-    verdict: Verdict,
+    judgement: Judgement,
 ) -> Result<(), AllocError>
-    requires { StandsInside (units image.now) verdict }
+    requires { StandsInside (units image.now) judgement }
     ensures { OnOk result (string_bytes text.new
-        ≡ string_bytes text.old ++ end_text image.now source.now states.now verdict) }
+        ≡ string_bytes text.old ++ end_text image.now source.now states.now judgement) }
 {
-    match verdict {
-        Verdict::Accepted { bound, frames } => put_accepted(text, bound, frames),
-        Verdict::Refused(refusal) => put_refusal(text, image, source, states, refusal),
+    match judgement {
+        Judgement::Accepted { bound, frames } => put_accepted(text, bound, frames),
+        Judgement::Refused(refusal) => put_refusal(text, image, source, states, refusal),
     }
 }

@@ -6,11 +6,11 @@ ghost use Rattle.explanation.specs.Judging.{StandsInside};
 ghost use Rattle.explanation.specs.Explanation.{head_text, explanation_text, Explains};
 
 use crate::ending::put_end;
+use crate::judgement::Judgement;
 use crate::labels::{Label, words_of_label};
 use crate::listing::put_listing;
 use crate::source::SourceLine;
 use crate::values::{put, put_field};
-use crate::verdict::Verdict;
 use abstract_state::AbstractState;
 use bpf_image::Image;
 use bpf_model::Cause;
@@ -53,16 +53,16 @@ fn write_all(
     image: &Image,
     source: &[SourceLine<'_>],
     states: &[Option<Box<AbstractState>>],
-    verdict: Verdict,
+    judgement: Judgement,
 ) -> Result<String, AllocError>
-    requires { StandsInside (units image.now) verdict }
+    requires { StandsInside (units image.now) judgement }
     ensures { IfOk result (λ text. string_bytes text
-        ≡ explanation_text image.now source.now states.now verdict) }
+        ≡ explanation_text image.now source.now states.now judgement) }
 {
     let mut text = String::new(alloc);
     put_head(&mut text, image)?;
-    put_listing(&mut text, image, source, verdict, states)?;
-    put_end(&mut text, image, source, states, verdict)?;
+    put_listing(&mut text, image, source, judgement, states)?;
+    put_end(&mut text, image, source, states, judgement)?;
     Ok(text)
 }
 
@@ -72,7 +72,7 @@ pub struct Explanation {
     /// The text for a person.
     pub text: String,
     /// What the verifier answers.
-    pub verdict: Verdict,
+    pub judgement: Judgement,
 }
 
 /// The instructions of a program, what is known before each of them, and what the verifier answers: the bound and the
@@ -83,25 +83,25 @@ pub fn explain(
     image: Image,
     source: &[SourceLine<'_>],
 ) -> Result<Explanation, AllocError>
-    ensures { IfOk result (λ told. Explains image source.now (string_bytes told.text) told.verdict) }
+    ensures { IfOk result (λ told. Explains image source.now (string_bytes told.text) told.judgement) }
 {
     // An image has code, so that a unit which is refused stands in it.
     let _code = image.code();
     let states = known_states(alloc, &image)?;
     match verify(alloc, image) {
         Ok(verified) => {
-            let verdict = Verdict::Accepted {
+            let judgement = Judgement::Accepted {
                 bound: verified.bound(),
                 frames: verified.frames(),
             };
-            let text = write_all(alloc, verified.image(), source, &states, verdict)?;
-            Ok(Explanation { text, verdict })
+            let text = write_all(alloc, verified.image(), source, &states, judgement)?;
+            Ok(Explanation { text, judgement })
         }
         Err((image, refusal)) => {
             rule_or_memory(refusal)?;
-            let verdict = Verdict::Refused(refusal);
-            let text = write_all(alloc, &image, source, &states, verdict)?;
-            Ok(Explanation { text, verdict })
+            let judgement = Judgement::Refused(refusal);
+            let text = write_all(alloc, &image, source, &states, judgement)?;
+            Ok(Explanation { text, judgement })
         }
     }
 }

@@ -6,13 +6,13 @@ mod cursor;
 mod ending;
 mod explaining;
 mod instructions;
+mod judgement;
 mod labels;
 mod listing;
 mod source;
 mod values;
-mod verdict;
 mod words;
 
 pub use explaining::{Explanation, explain};
+pub use judgement::Judgement;
 pub use source::{SourceLine, source_lines};
-pub use verdict::Verdict;

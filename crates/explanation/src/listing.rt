@@ -8,9 +8,9 @@ ghost use Rattle.explanation.specs.Starts.{IsAt};
 
 use crate::cursor::Cursor;
 use crate::instructions::put_instruction;
+use crate::judgement::Judgement;
 use crate::source::SourceLine;
 use crate::values::{put, put_state};
-use crate::verdict::Verdict;
 use abstract_state::AbstractState;
 use bpf_image::Image;
 use std::alloc::AllocError;
@@ -45,20 +45,20 @@ fn put_pc(
     text: &mut String,
     image: &Image,
     source: &[SourceLine<'_>],
-    verdict: Verdict,
+    judgement: Judgement,
     states: &[Option<Box<AbstractState>>],
     pc: usize,
     cursor: Cursor,
 ) -> Result<(), AllocError>
     requires { IsAt image.now pc cursor }
     ensures { OnOk result (string_bytes text.new
-        ≡ string_bytes text.old ++ pc_text image.now source.now verdict states.now pc) }
+        ≡ string_bytes text.old ++ pc_text image.now source.now judgement states.now pc) }
 {
     if cursor.next != pc {
         return Ok(());
     }
     put_instruction(text, image, source, pc, cursor.ordinal)?;
-    if verdict.tells(pc) {
+    if judgement.tells(pc) {
         put_known_line(text, known_at(states, pc))?;
     }
     Ok(())
@@ -70,16 +70,16 @@ pub(crate) fn put_listing(
     text: &mut String,
     image: &Image,
     source: &[SourceLine<'_>],
-    verdict: Verdict,
+    judgement: Judgement,
     states: &[Option<Box<AbstractState>>],
 ) -> Result<(), AllocError>
     ensures { OnOk result (string_bytes text.new
         ≡ string_bytes text.old
-        ++ pieces_to (pc_text image.now source.now verdict states.now) (units image.now)) }
+        ++ pieces_to (pc_text image.now source.now judgement states.now) (units image.now)) }
 {
     let mut cursor = Cursor::first();
     for pc in 0..image.code().len() / 8 {
-        put_pc(text, image, source, verdict, states, pc, cursor)?;
+        put_pc(text, image, source, judgement, states, pc, cursor)?;
         cursor = cursor.past(image, pc);
     }
     Ok(())

@@ -5,7 +5,7 @@ use Rattle.bpf_image.specs.Program.{Program, IsImage, units}
 use Rattle.abstract_state.specs.declared.state.AbstractState.{AbstractState}
 use Rattle.verifier.specs.Verdict.{verdict}
 use Rattle.verifier.specs.Verdict as verdicts
-use Rattle.explanation.specs.declared.verdict.Verdict.TheVariants.{Refused}
+use Rattle.explanation.specs.declared.judgement.Judgement.TheVariants.{Refused}
 use Rattle.explanation.specs.Explanation.{explanation_text}
 use Rattle.explanation.proofs.Inside.{refused_inside}
 use Rattle.explanation.proofs.explaining.explain.Goals as goal

@@ -7,7 +7,7 @@ use verifier::Refusal;
 
 /// What the verifier answers.
 #[derive(Clone, Copy, Debug, PartialEq, Eq)]
-pub enum Verdict {
+pub enum Judgement {
     /// With the greatest number of instructions that a run counts, and the greatest number of frames.
     Accepted { bound: u32, frames: u8 },
     /// With the first broken rule.
@@ -45,14 +45,14 @@ pub(crate) fn is_of_the_whole(cause: Cause) -> bool
     matches!(cause, Cause::TooDeep | Cause::TooLong)
 }
 
-impl Verdict {
+impl Judgement {
     /// Whether it is told what is known at a pc.
     pub(crate) fn tells(self, pc: usize) -> bool
         ensures { result ≡ is_told self pc }
     {
         match self {
-            Verdict::Accepted { .. } => true,
-            Verdict::Refused(refusal) => judges_values(refusal.cause) && pc <= refusal.pc,
+            Judgement::Accepted { .. } => true,
+            Judgement::Refused(refusal) => judges_values(refusal.cause) && pc <= refusal.pc,
         }
     }
 }
