@@ -140,7 +140,7 @@ further : (pinned : Past) (reader vertex : ℕ) (s mid t : Core) (event : Event)
     (rest more : List Entry) → s.past.vertex_count ≡ pinned.vertex_count → pinned.log ≡ s.past.log ++ e ∷ rest → t.past.log ≡ pinned.log ++ more → Grown s mid
     → Steps s event reply mid → Ran mid events replies t
     → ((left : List Entry) → mid.past.vertex_count ≡ pinned.vertex_count → pinned.log ≡ mid.past.log ++ left
-      → (place : ℕ) × Ran mid (insert events place (Pin reader vertex)) (insert replies place Done) (with_run t reader (new_run pinned vertex)))
+    → (place : ℕ) × Ran mid (insert events place (Pin reader vertex)) (insert replies place Done) (with_run t reader (new_run pinned vertex)))
     → (place : ℕ) × Ran s (insert (event ∷ events) place (Pin reader vertex)) (insert (reply ∷ replies) place Done) (with_run t reader (new_run pinned vertex))
 further pinned reader vertex s mid t event reply events replies e rest more counts log now (inl same) step ran onwards =
     let (place, found) = onwards (e ∷ rest) (ap (λ p. p.vertex_count) same ∙ counts) (log ∙ ap (λ p. p.log ++ e ∷ rest) (sym same)) in
@@ -165,7 +165,7 @@ placed pinned reader vertex s t events replies [] more counts log now ran others
         with_run s reader (new_run pinned vertex),
         (
           and_from (nat_lt reader 16) (nat_lt vertex s.past.vertex_count) (lt-ltb reader 16 there)
-          (lt-ltb vertex s.past.vertex_count (subst (λ n. vertex < n) (sym counts) inside)),
+              (lt-ltb vertex s.past.vertex_count (subst (λ n. vertex < n) (sym counts) inside)),
           refl,
           ap (λ p. with_run s reader (new_run p vertex)) same,
         ),

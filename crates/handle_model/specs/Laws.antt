@@ -37,7 +37,7 @@ abbrev pub PinsAre : Type 0
 PinsAre =
     ((seen pinned : Past) → seen.vertex_count ≡ pinned.vertex_count → IsBeginning seen.log pinned.log → IsPin seen pinned)
     × ((s : Core) (reader vertex : ℕ) (past : Past) → reader < length s.runs
-      → CursorSees (with_run s reader (new_run past vertex)) reader past vertex (neighbours (graph_of past) vertex))
+    → CursorSees (with_run s reader (new_run past vertex)) reader past vertex (neighbours (graph_of past) vertex))
 
 -- a slice that begins what is left, and the end where nothing is left
 abbrev pub LendsAre : Type 0
