@@ -39,7 +39,6 @@ impl Reader {
     /// A hold on the version that is shown at a moment of this call. It continues what this reader saw or learned,
     /// and is what it saw last. Nobody is waited for. After an error the reader is as it was: `Closed` once the
     /// publisher has ended, `NoShare` where the version cannot have one owner more.
-    #[tactic(auto, using(crate::proofs::Ties::pin_is))]
     pub fn pin(&mut self) -> Result<Pin, PinError>
         ensures begins { IfOk result (λ pin. Begins self.old pin) }
         ensures seen { IfOk result (λ pin. self.new ≡ pin) }
