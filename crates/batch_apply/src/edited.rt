@@ -15,7 +15,7 @@ use std::alloc::{AllocError, Global};
 use std::sync::Wait;
 use std::thread;
 use std::thread::Threads;
-use workers::{Gate, WorkError, Workers};
+use workers::{Gate, OpenGate, WorkError, Workers};
 
 /// The edited shards of all workers. With one worker no thread is started.
 fn made_by<Ga: Gate, R: Threads + Wait>(
@@ -100,4 +100,21 @@ pub fn edit_table<Ga: Gate, R: Threads + Wait>(
     let lists = made_by(rt, alloc, table, &pieces, gate, hands)?;
     let next = put_in(alloc, table, &groups, &pieces, &lists)?;
     Ok(next)
+}
+
+/// The table after a batch, and what the batch did, as `edit_table` answers, by the caller's own thread alone: it needs no
+/// right to start a thread or to wait. The old table stays. The only error is want of memory.
+pub fn edit_table_alone(
+    alloc: Global,
+    table: &Table,
+    edits: &[Edit],
+) -> Result<(Table, Counts), AllocError>
+    requires { IsEditable table.now edits.now }
+    ensures after { IfOk result (λ next. AreAfter edits.now table.now next.0 next.1) }
+    ensures homes { IfOk result (λ next. AreMoved table.now next.0) }
+{
+    let groups = Groups::of(alloc, Grouping::ByRange, table.count(), edits)?;
+    let pieces = Pieces::of(alloc, &groups, edits.len())?;
+    let lists = work_alone(alloc, table, &pieces, &OpenGate, 1)?;
+    put_in(alloc, table, &groups, &pieces, &lists)
 }

@@ -12,5 +12,5 @@ mod runs;
 
 pub use apply::apply_batch;
 pub use by_range::split;
-pub use edited::edit_table;
+pub use edited::{edit_table, edit_table_alone};
 pub use errors::ApplyError;

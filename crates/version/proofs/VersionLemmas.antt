@@ -19,7 +19,7 @@ use Rattle.past_model.proofs.Pasts.{graph_of-longer, vertex_count-graph_of, numb
 use Rattle.migration.specs.declared.counts.Counts.{Counts}
 use Rattle.migration.specs.Part.{Part, row_at, vertex_at}
 use Rattle.migration.specs.Table.{IsTable, IsEditable, AreAfter, AreMoved, part_at, row_in, home_in}
-use Rattle.version.specs.Version.{IsVersion, IsVertexCount}
+use Rattle.version.specs.Version.{IsVersion, IsVertexCount, IsMade}
 
 -- edits below a version's vertices are below its graph's
 below_graph : (p : Past) (es : List Edit) → AreEditsBelow p.vertex_count es → AreEditsBelow (graph_of p).vertex_count es
@@ -118,6 +118,23 @@ next_version p parts next edges e counts v below short after moved =
       most = v.most;
       past = IsPast-longer p e v.past below;
       short = omega (arith, number_of-longer p e);
+    }
+
+-- what a batch made of a version's parts, as `with_batch` asks for it
+pub made : (p : Past) (parts next : List Part) (edges : ℕ) (e : Entry) (counts : Counts) → IsVersion p parts edges → AreEditsBelow p.vertex_count e.batch → number_of p < 4096 → AreAfter e.batch parts next counts → AreMoved parts next → IsMade p e next counts
+made p parts next edges e counts v below short after moved =
+    let done = did p parts next edges e counts v below after in
+    let few = done.few in
+    let change = done.change in
+    let so_far = few_edges p parts edges v in
+    let edges_are = v.edges_are in
+    record {
+      gained = done.gained;
+      lost = done.lost;
+      room = short;
+      few = omega (arith, few, so_far, edges_are);
+      some = omega (arith, change, edges_are);
+      version = subst (λ n. IsVersion (longer p e) next (n + counts.added - counts.removed)) edges_are (next_version p parts next edges e counts v below short after moved);
     }
 
 same_bool : (a b : Bool) → (a ≡ true → b ≡ true) → (b ≡ true → a ≡ true) → a ≡ b

@@ -1,9 +1,12 @@
 -- What a version is kept to be.
-use Rattle.std.specs.Prelude.{◌≡◌, ◌≤◌, ℕ, List}
+use Rattle.std.specs.Prelude.{◌≡◌, ◌≤◌, ◌<◌, ◌+◌, ◌-◌, ◌^◌, ℕ, List}
 use Rattle.past_model.specs.declared.limits.TheConstants.{MOST_VERTICES, MOST_BATCHES}
 use Rattle.graph_model.specs.Graph.{edge_count}
-use Rattle.past_model.specs.Past.{Past, IsPast, graph_of, number_of}
+use Rattle.past_model.specs.declared.entry.Entry.{Entry}
+use Rattle.past_model.specs.Edits.{added, removed}
+use Rattle.past_model.specs.Past.{Past, IsPast, graph_of, number_of, longer}
 use Rattle.past_model.specs.Homes.{home_of}
+use Rattle.migration.specs.declared.counts.Counts.{Counts}
 use Rattle.migration.specs.Part.{Part}
 use Rattle.migration.specs.Table.{IsTable, home_in}
 
@@ -21,3 +24,12 @@ pub record IsVersion (p : Past) (parts : List Part) (edges : ℕ) : Type 0 where
   pub most : p.vertex_count ≤ MOST_VERTICES
   pub past : IsPast p
   pub short : number_of p ≤ MOST_BATCHES
+
+-- parts and counts that a batch made of a version: those of the version with one batch more, and what the batch did
+pub record IsMade (p : Past) (e : Entry) (parts : List Part) (counts : Counts) : Type 0 where
+  pub gained : counts.added ≡ added e.batch (graph_of p)
+  pub lost : counts.removed ≡ removed e.batch (graph_of p)
+  pub room : number_of p < MOST_BATCHES
+  pub few : edge_count (graph_of p) + counts.added < 2 ^ 64
+  pub some : counts.removed ≤ edge_count (graph_of p) + counts.added
+  pub version : IsVersion (longer p e) parts (edge_count (graph_of p) + counts.added - counts.removed)

@@ -9,7 +9,7 @@ ghost use Rattle.workers.specs.declared.work_error.WorkError.TheVariants.{OutOfM
 ghost use Rattle.past_model.specs.Past.{IsPast, graph_of, number_of, opening, longer};
 
 use crate::log::Log;
-use batch_apply::edit_table;
+use batch_apply::{edit_table, edit_table_alone};
 use cursors::Cursor;
 use migration::{Counts, Table};
 use past_model::{Entry, Home};
@@ -52,7 +52,7 @@ impl Model for Version {
 }
 
 impl Version {
-    ghost use Rattle.version.specs.Version.{IsVertexCount};
+    ghost use Rattle.version.specs.Version.{IsVertexCount, IsMade};
 
     /// The version with nothing published.
     pub fn opening(alloc: Global, vertex_count: u32) -> Result<Version, AllocError>
@@ -156,14 +156,37 @@ impl Version {
         ensures lost { IfOk result (λ next. next.1.removed ≡ removed entry.now.batch (graph_of self.now)) }
         ensures alone { workers.count ≡ 1 → IfErr result (λ e. e ≡ OutOfMemory) }
     {
-        let (shards, counts) = edit_table(
-            rt,
-            alloc,
-            &self.shards,
-            entry.batch.edits(),
-            workers,
-            gate,
-        )?;
+        let made = edit_table(rt, alloc, &self.shards, entry.batch.edits(), workers, gate)?;
+        let next = self.with_batch(alloc, entry, made)?;
+        Ok(next)
+    }
+
+    /// What `next` answers, by the caller's own thread alone: it needs no right to start a thread or to wait. The only error is
+    /// want of memory.
+    pub fn next_alone(&self, alloc: Global, entry: &Entry) -> Result<(Version, Counts), AllocError>
+        requires room { number_of self.now < MOST_BATCHES }
+        requires below { AreEditsBelow self.now.vertex_count entry.now.batch }
+        ensures next { IfOk result (λ next. next.0 ≡ longer self.now entry.now) }
+        ensures gained { IfOk result (λ next. next.1.added ≡ added entry.now.batch (graph_of self.now)) }
+        ensures lost { IfOk result (λ next. next.1.removed ≡ removed entry.now.batch (graph_of self.now)) }
+    {
+        let made = edit_table_alone(alloc, &self.shards, entry.batch.edits())?;
+        self.with_batch(alloc, entry, made)
+    }
+
+    // The version of what a batch made of this one's shards.
+    fn with_batch(
+        &self,
+        alloc: Global,
+        entry: &Entry,
+        made: (Table, Counts),
+    ) -> Result<(Version, Counts), AllocError>
+        requires { IsMade self.now entry.now made.0 made.1 }
+        ensures next { IfOk result (λ next. next.0 ≡ longer self.now entry.now) }
+        ensures gained { IfOk result (λ next. next.1.added ≡ added entry.now.batch (graph_of self.now)) }
+        ensures lost { IfOk result (λ next. next.1.removed ≡ removed entry.now.batch (graph_of self.now)) }
+    {
+        let (shards, counts) = made;
         let version = Version {
             vertex_count: self.vertex_count,
             log: self.log.with(alloc, entry.share()?)?,

@@ -1,0 +1,39 @@
+use Rattle.std.proofs.Common.{◌/◌, ◌<◌, sym, ap, subst, ◌∙◌, arith}
+use Rattle.std.specs.List.{AllByRecursion}
+use Rattle.past_model.specs.Edits.{source_of}
+use Rattle.migration.specs.Groups.{Grouped}
+use Rattle.migration.specs.Table.{IsEditable}
+use Rattle.migration.specs.Made.{IsBatch}
+use Rattle.migration.proofs.RangeLemmas.{in_ranges}
+use Rattle.migration.proofs.TableLemmas.{few_parts}
+use Rattle.batch_apply.proofs.Dealing.{all_ready, few_pieces}
+use Rattle.batch_apply.proofs.edited.edit_table_alone.Goals as goal
+
+pub of-requires : goal.of-requires
+of-requires c =
+    subst (λ n. AllByRecursion (λ e. source_of e / 256 < n) c.args.edits.now) (sym c.count.ensures) (in_ranges c.requires.graph c.args.table.now c.args.edits.now c.requires.table c.requires.below)
+
+pub of-requires-2 : goal.of-requires-2
+of-requires-2 c = omega (arith, ap (λ (g : Grouped). g.count) c.in_ok-groups.ensures, c.count.ensures, few_parts c.requires.graph c.args.table.now c.requires.table c.requires.small)
+
+pub work_alone-requires-clause-ready : goal.work_alone-requires-clause-ready
+work_alone-requires-clause-ready c κs =
+    let parts = c.args.table.now in
+    let groups = c.in_ok-groups.groups in
+    let is = c.in_ok-groups.ensures in
+    let batch : IsBatch groups parts = record {
+      by_range = ap (λ (g : Grouped). g.grouping) is;
+      count = ap (λ (g : Grouped). g.count) is ∙ c.count.ensures;
+      editable = subst (IsEditable parts) (sym (ap (λ (g : Grouped). g.edits) is)) c.requires;
+    } in
+    all_ready groups parts c.in_ok-pieces.pieces batch c.in_ok-pieces.ensures
+
+pub work_alone-requires-clause-few : goal.work_alone-requires-clause-few
+work_alone-requires-clause-few c κs =
+    few_pieces c.in_ok-groups.groups c.in_ok-pieces.pieces c.in_ok-pieces.ensures
+    (omega (arith, ap (λ (g : Grouped). g.count) c.in_ok-groups.ensures, c.count.ensures, few_parts c.requires.graph c.args.table.now c.requires.table c.requires.small))
+
+pub put_in-requires-clause-few : goal.put_in-requires-clause-few
+put_in-requires-clause-few c =
+    few_pieces c.in_ok-groups.groups c.in_ok-pieces.pieces c.in_ok-pieces.ensures
+    (omega (arith, ap (λ (g : Grouped). g.count) c.in_ok-groups.ensures, c.count.ensures, few_parts c.requires.graph c.args.table.now c.requires.table c.requires.small))

@@ -1,0 +1,25 @@
+use Rattle.std.proofs.Common.{◌<◌, List, sym, subst}
+use Rattle.past_model.specs.declared.edit.Edit.{Edit}
+use Rattle.past_model.specs.Edits.{AreEditsBelow}
+use Rattle.past_model.specs.Past.{Past, past_in, number_of}
+use Rattle.migration.specs.Table.{IsEditable, AreAfter}
+use Rattle.version.specs.Version.{IsMade}
+use Rattle.version.proofs.VersionLemmas.{editable, made}
+use Rattle.version.proofs.version.Version.next_alone.Goals as goal
+
+pub edit_table_alone-requires : goal.edit_table_alone-requires
+edit_table_alone-requires c =
+    let past : Past = past_in c.self.inside.vertex_count c.self.inside.log in
+    let below : AreEditsBelow past.vertex_count c.args.entry.now.batch = subst (λ (p : Past). AreEditsBelow p.vertex_count c.args.entry.now.batch) (sym c.self.view_is) c.requires.below in
+    (subst (IsEditable c.self.inside.shards) (sym c.edits.ensures) (editable past c.self.inside.shards c.self.inside.edge_count c.args.entry.now.batch c.self.invariant below))
+
+pub with_batch-requires : goal.with_batch-requires
+with_batch-requires c =
+    let past : Past = past_in c.self.inside.vertex_count c.self.inside.log in
+    let below : AreEditsBelow past.vertex_count c.args.entry.now.batch = subst (λ (p : Past). AreEditsBelow p.vertex_count c.args.entry.now.batch) (sym c.self.view_is) c.requires.below in
+    let room : number_of past < 4096 = subst (λ (p : Past). number_of p < 4096) (sym c.self.view_is) c.requires.room in
+    let shards = c.in_ok-made.made.0 in
+    let counts = c.in_ok-made.made.1 in
+    let after : AreAfter c.args.entry.now.batch c.self.inside.shards shards counts = subst (λ (es : List Edit). AreAfter es c.self.inside.shards shards counts) c.edits.ensures c.in_ok-made.ensures.after in
+    subst (λ (p : Past). IsMade p c.args.entry.now shards counts) c.self.view_is
+    (made past c.self.inside.shards shards c.self.inside.edge_count c.args.entry.now counts c.self.invariant below room after c.in_ok-made.ensures.homes)
