@@ -39,9 +39,14 @@ IsThere l (InBlock k) = k < length l.blocks.items
 IsThere l (InArray k) = IsOpen l.array k
 IsThere l (InTree k) = k < length l.trees.items
 
--- each vertex's place is there, and no more blocks, runs or trees are than vertices
+-- no list stands at two of these places
+abbrev pub AreApart : List Place → Type 0
+AreApart ps = (i j : ℕ) → (i ≡ j → ⊥) → i < length ps → j < length ps → slice_index_or ps i Nowhere ≡ slice_index_or ps j Nowhere → slice_index_or ps i Nowhere ≡ Nowhere
+
+-- each vertex's place is there and its own, and no more blocks, runs or trees are than vertices
 pub record AreKept (l : Lists) : Type 0 where
   pub there : AllByRecursion (IsThere l) l.places.items
+  pub apart : AreApart l.places.items
   pub packed : ArePacked l.shorts
   pub shorts : length l.shorts.ends.items ≤ length l.places.items
   pub blocks : length l.blocks.items ≤ length l.places.items
