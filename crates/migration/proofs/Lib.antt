@@ -8,9 +8,13 @@ pub mod EditedLemmas
 pub mod TableLemmas
 pub mod BlockLemmas
 pub mod ShortLemmas
+pub mod SplicedLemmas
 pub mod ListLemmas
+pub mod ReplacedLemmas
+pub mod RunLemmas
 pub mod PageLemmas
 pub mod BegunLemmas
+pub mod CopiedLemmas
 pub mod HomeLemmas
 pub mod PutLemmas
 pub mod HousedLemmas

@@ -61,7 +61,7 @@ length-rows_in [] = refl
 length-rows_in (page ∷ pages) = ap length (flat_map-cons rows_at page pages) ∙ length-append (rows_at page) (rows_in pages) ∙ ap (λ n. length (rows_at page) + n) (length-rows_in pages)
 
 -- as many homes as lists
-same_count : (l : Lists) → length (homes_of l) ≡ length (rows_of l)
+pub same_count : (l : Lists) → length (homes_of l) ≡ length (rows_of l)
 same_count l = length-map l.places.items home_of ∙ sym (length-map l.places.items (list_at l))
 
 pub same_counts_in : (pages : List Page) → length (homes_in pages) ≡ length (rows_in pages)

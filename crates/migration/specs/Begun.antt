@@ -1,5 +1,5 @@
 -- A shard under edit: the lists of its first vertices are made.
-use Rattle.std.specs.Prelude.{◌≡◌, ℕ, ◌+◌, ◌<◌, ◌≤◌, List, [], length, slice_index_or}
+use Rattle.std.specs.Prelude.{◌≡◌, ℕ, ◌+◌, ◌<◌, ◌≤◌, List, [], ◌++◌, length, slice_index_or}
 use Rattle.past_model.specs.declared.edit.Edit.{Edit}
 use Rattle.past_model.specs.declared.home.Home.{Home}
 use Rattle.past_model.specs.declared.home.Home.TheVariants.{Block}
@@ -9,7 +9,7 @@ use Rattle.past_model.specs.Homes.{home_after}
 use Rattle.migration.specs.declared.counts.Counts.{Counts}
 use Rattle.migration.specs.declared.lists.Lists.{Lists}
 use Rattle.migration.specs.Blocks.{is_new, is_gone}
-use Rattle.migration.specs.Lists.{rows_of, homes_of}
+use Rattle.migration.specs.Lists.{AreKept, rows_of, homes_of}
 use Rattle.migration.specs.Part.{Part, vertex_at, row_at, home_at, IsPart, AreEditsOf, IsShard}
 
 -- the lists of the first vertices of a part of a graph after edits, and how many edges out of them are new and are gone
@@ -45,3 +45,10 @@ pub record IsNext (es : List Edit) (first : ℕ) (page : Lists) (counts : Counts
   pub homes : List Home
   pub start : length rows ≡ first
   pub begun : AreBegun es part rows homes counts
+
+-- the page after edits, and the counts up to its end, where those are the counts of the lists before it
+pub record IsPageAfter (es : List Edit) (first : ℕ) (page : Lists) (counts : Counts) (next : Lists) (done : Counts) : Type 0 where
+  pub kept : AreKept next
+  pub count : length (rows_of next) ≡ length (rows_of page)
+  pub begun : (p : Part) (rows : List (List ℕ)) (homes : List Home) → IsPageOf es p first page → length rows ≡ first
+      → AreBegun es p rows homes counts → AreBegun es p (rows ++ rows_of next) (homes ++ homes_of next) done

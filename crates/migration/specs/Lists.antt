@@ -1,8 +1,9 @@
 -- The lists of a range's vertices, each in its home.
-use Rattle.std.specs.Prelude.{◌≡◌, ℕ, ◌<◌, ◌≤◌, List, [], ◌∷◌, ◌++◌, length, map, slice_index_or}
+use Rattle.std.specs.Prelude.{◌≡◌, ℕ, ◌<◌, ◌≤◌, List, [], ◌∷◌, ◌++◌, length, map, slice_index_or, slice_set}
 use Rattle.std.specs.List.{AllByRecursion}
 use Rattle.past_model.specs.declared.home.Home.{Home}
 use Rattle.past_model.specs.declared.home.Home.TheVariants.{Block, Gapped, Tree}
+use Rattle.past_model.specs.declared.home.TheConstants.{BLOCK_MOST}
 use Rattle.gapped_array.specs.Table.{IsOpen, list_at as run_at}
 use Rattle.migration.specs.declared.lists.Place.{Place}
 use Rattle.migration.specs.declared.lists.Place.TheVariants.{Nowhere, InShort, InBlock, InArray, InTree}
@@ -64,3 +65,15 @@ pub record AreSame (old new : Lists) : Type 0 where
   pub kept : AreKept new
   pub rows : rows_of new ≡ rows_of old
   pub homes : homes_of new ≡ homes_of old
+
+-- another list at one of the vertices, in a home, and all others as they were
+pub record IsReplaced (old new : Lists) (vertex : ℕ) (row : List ℕ) (home : Home) : Type 0 where
+  pub kept : AreKept new
+  pub rows : rows_of new ≡ slice_set (rows_of old) vertex row
+  pub homes : homes_of new ≡ slice_set (homes_of old) vertex home
+
+-- the same of a list at home in its block, which stays there
+pub record IsPutInBlock (old new : Lists) (vertex : ℕ) (row : List ℕ) : Type 0 where
+  pub home : slice_index_or (homes_of old) vertex Block ≡ Block
+  pub few : length row ≤ BLOCK_MOST
+  pub replaced : IsReplaced old new vertex row Block

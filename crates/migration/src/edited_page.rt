@@ -1,4 +1,4 @@
-//! A page after edits.
+//! A page after edits, in one of two ways.
 ghost use Rattle.std.specs.Prelude.{◌≡◌, ◌+◌, ◌<◌, ◌≤◌, ◌++◌, ℕ, List, length, IfOk};
 ghost use Rattle.past_model.specs.declared.home.Home.{Home};
 ghost use Rattle.migration.specs.declared.groups.Grouping.TheVariants.{ByVertex};
@@ -6,15 +6,19 @@ ghost use Rattle.migration.specs.Begun.{AreBegun, IsNext, IsPageOf};
 ghost use Rattle.migration.specs.Lists.{AreKept, rows_of, homes_of};
 ghost use Rattle.migration.specs.Part.{Part};
 
+use crate::copied_page::copied_page;
 use crate::counts::Counts;
-use crate::edited_vertex::push_edited;
 use crate::groups::Groups;
 use crate::lists::Lists;
+use crate::rebuilt_page::rebuilt_page;
 use crate::scratch::Scratch;
 use std::alloc::{AllocError, Global};
 
+/// A page in which more vertices have edits than these is rebuilt; another one is copied, and changed in the copy.
+const MOST_CHANGED: usize = 8;
+
 /// A page after the edits of its shard, where it begins at this vertex of it, and what the edits did to the lists up to
-/// its end, where these are the counts of those before it. Each changed list is made once.
+/// its end, where these are the counts of those before it. A page of which few vertices have edits is copied as memory.
 pub(crate) fn edited_page(
     alloc: Global,
     page: &Lists,
@@ -34,18 +38,11 @@ pub(crate) fn edited_page(
         → AreBegun groups.now.edits p rows homes counts
         → AreBegun groups.now.edits p (rows ++ rows_of next.0) (homes ++ homes_of next.0) next.1) }
 {
-    let mut counts = counts;
-    scratch.lists.clear();
-    for place in 0..page.count() {
-        let vertex = first + place;
-        if groups.is_empty(vertex) {
-            scratch.lists.push_kept(page, place)?;
-            continue;
+    if groups.count_filled(first, first + page.count()) <= MOST_CHANGED {
+        if let Some(next) = copied_page(alloc, page, first, groups, counts, scratch)? {
+            return Ok(next);
         }
-        groups.read(vertex, &mut scratch.own)?;
-        let more = push_edited(alloc, page, place, scratch)?;
-        counts = counts.plus(more);
     }
-    let next = scratch.lists.taken(alloc)?;
-    Ok((next, counts))
+    let next = rebuilt_page(alloc, page, first, groups, counts, scratch)?;
+    Ok(next)
 }

@@ -41,8 +41,29 @@ fn put_edit(
     Ok(())
 }
 
-// A tree after edits of its vertex, which ascend by their targets, and what they did. Of edits with the same target
-// the last one decides, and only that one is put in. The first edit on a path copies it, later ones change the copy.
+/// Puts edits of its vertex, which ascend by their targets, into a tree, and returns what they did. Of edits with the
+/// same target the last one decides, and only that one is put in. The first edit on a path copies it where another tree
+/// shares it, later ones change the copy.
+pub(crate) fn put_edits(
+    alloc: Global,
+    edits: &[Edit],
+    tree: &mut NeighbourTree,
+) -> Result<Counts, AllocError>
+    requires sorted { IsNonDecreasingBy target_of edits.now }
+    requires targets { AllByRecursion (λ e. target_of e < WORD_LIMIT) edits.now }
+    ensures { IfOk result (λ counts. (u n : ℕ) (p : ℕ → Bool) → AreEditsFrom u n edits.now
+        → tree.old ≡ filter p (numbers_below n) → IsMerged edits.now u n p tree.new counts) }
+{
+    let mut counts = Counts::NONE;
+    for (place, edit) in edits.iter().enumerate() {
+        if !is_superseded(edits, place) {
+            put_edit(alloc, edit, tree, &mut counts)?;
+        }
+    }
+    Ok(counts)
+}
+
+// A tree after edits of its vertex, which ascend by their targets, and what they did.
 fn with_edits(
     alloc: Global,
     tree: &NeighbourTree,
@@ -54,12 +75,7 @@ fn with_edits(
         → tree.now ≡ filter p (numbers_below n) → IsMerged edits.now u n p next.0 next.1) }
 {
     let mut next = tree.share()?;
-    let mut counts = Counts::NONE;
-    for (place, edit) in edits.iter().enumerate() {
-        if !is_superseded(edits, place) {
-            put_edit(alloc, edit, &mut next, &mut counts)?;
-        }
-    }
+    let counts = put_edits(alloc, edits, &mut next)?;
     Ok((next, counts))
 }
 

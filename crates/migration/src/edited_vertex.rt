@@ -15,7 +15,7 @@ use past_model::Home;
 use std::alloc::{AllocError, Global};
 
 /// A tree with at least so many words for each edit gets the edits put in; any other list is rebuilt.
-const WORDS_AN_EDIT: usize = 32;
+pub(crate) const WORDS_AN_EDIT: usize = 32;
 
 // Merges a list of a page with the edits in the scratch, and puts the merged list last.
 fn push_merged(

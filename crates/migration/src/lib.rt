@@ -4,18 +4,23 @@
 
 mod block;
 mod buffer;
+mod copied_page;
 mod counts;
 mod edited;
 mod edited_page;
+mod edited_run;
 mod edited_shard;
 mod edited_tree;
 mod edited_vertex;
 mod groups;
+mod in_place;
 mod letting_go;
 mod lists;
+mod lists_changed;
 mod merge;
 mod nearby;
 mod pages;
+mod rebuilt_page;
 mod scratch;
 mod shard;
 mod shards;

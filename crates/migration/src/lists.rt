@@ -4,7 +4,7 @@ ghost use Rattle.migration.specs.declared.pages.TheConstants.{PAGE_VERTICES};
 ghost use Rattle.past_model.specs.declared.home.Home.TheVariants.{Block, Gapped, Tree};
 ghost use Rattle.past_model.specs.Homes.{IsHomeOf};
 ghost use Rattle.word_sets.specs.Words.{IsSet, has_word};
-ghost use Rattle.migration.specs.declared.lists.Place.TheVariants.{InShort, InBlock, InArray, InTree};
+ghost use Rattle.migration.specs.declared.lists.Place.TheVariants.{Nowhere, InShort, InBlock, InArray, InTree};
 ghost use Rattle.migration.specs.declared.short_blocks.TheConstants.{SHORT_PLACES};
 ghost use Rattle.migration.specs.Lists.{AreKept, AreSame, IsThere, IsPushed, list_at, rows_of, homes_of, home_of};
 ghost use Rattle.migration.specs.Lent.{IsLentAt};
@@ -112,6 +112,7 @@ impl Lists {
         ensures list { slice_index_or (rows_of self.now) vertex [] ≡ list_at self.now result }
         ensures home { slice_index_or (homes_of self.now) vertex Block ≡ home_of result }
         ensures there { IsThere self.now result }
+        ensures own { slice_index_or self.now.places.items vertex Nowhere ≡ result }
     {
         self.places[vertex]
     }

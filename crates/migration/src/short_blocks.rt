@@ -1,8 +1,8 @@
 //! The blocks of lists of few words, which take no more room than these.
-ghost use Rattle.std.specs.Prelude.{◌≡◌, ◌+◌, ◌<◌, ◌≤◌, ◌++◌, ◌∷◌, [], length, IfOk};
+ghost use Rattle.std.specs.Prelude.{◌≡◌, ◌+◌, ◌^◌, ◌<◌, ◌≤◌, ◌++◌, ◌∷◌, ℕ, [], length, take, drop, slice_index, IfOk};
 ghost use Rattle.migration.specs.declared.pages.TheConstants.{PAGE_VERTICES};
 ghost use Rattle.word_sets.specs.Words.{IsSet};
-ghost use Rattle.migration.specs.ShortBlocks.{ArePacked, set_at};
+ghost use Rattle.migration.specs.ShortBlocks.{ArePacked, AreShifted, IsSetPut, set_at};
 
 use crate::nearby::push_words;
 use crate::pages::PAGE_VERTICES;
@@ -20,6 +20,51 @@ pub(crate) struct ShortBlocks {
     pub words: Vec<u32>,
     /// Where each set's words end.
     pub ends: ArrayVec<u16, PAGE_VERTICES>,
+}
+
+// Words with those from `start` to `end` replaced, in just the room that they need.
+fn spliced(
+    alloc: Global,
+    old: &[u32],
+    start: usize,
+    end: usize,
+    words: &[u32],
+) -> Result<Vec<u32>, AllocError>
+    requires order { start ≤ end }
+    requires within { end ≤ length old.now }
+    ensures { IfOk result (λ new. new.items ≡ take start old.now ++ (words.now ++ drop end old.now)) }
+{
+    let before = &old[..start];
+    let behind = &old[end..];
+    let mut new = Vec::with_capacity(alloc, before.len() + words.len() + behind.len())?;
+    new.extend_from_slice(before)?;
+    new.extend_from_slice(words)?;
+    new.extend_from_slice(behind)?;
+    Ok(new)
+}
+
+// The same ends in other memory.
+fn copied(ends: &[u16]) -> ArrayVec<u16, PAGE_VERTICES>
+    requires { length ends.now ≤ PAGE_VERTICES }
+    ensures { result.items ≡ ends.now }
+{
+    let mut copy = ArrayVec::new();
+    match copy.try_extend_from_slice(ends) {
+        Ok(()) => copy,
+        Err(_) => unreachable!(),
+    }
+}
+
+// Moves the ends from one on, where so many words went before them and so many came.
+fn shift(ends: &mut ArrayVec<u16, PAGE_VERTICES>, from: usize, gone: u16, come: u16)
+    requires gone { (k : ℕ) → from ≤ k → k < length ends.old.items → gone ≤ slice_index ends.old.items k }
+    requires come { (k : ℕ) → from ≤ k → k < length ends.old.items
+        → slice_index ends.old.items k + come < 2 ^ 16 }
+    ensures { AreShifted from gone come ends.old.items ends.new.items }
+{
+    for place in from..ends.len() {
+        ends[place] = ends[place] - gone + come;
+    }
 }
 
 impl ShortBlocks {
@@ -54,6 +99,17 @@ impl ShortBlocks {
         })
     }
 
+    /// The same sets in other memory, in no more room than they need.
+    pub(crate) fn copy(&self, alloc: Global) -> Result<ShortBlocks, AllocError>
+        ensures words { IfOk result (λ copy. copy.words.items ≡ self.now.words.items) }
+        ensures ends { IfOk result (λ copy. copy.ends.items ≡ self.now.ends.items) }
+    {
+        Ok(ShortBlocks {
+            words: Vec::from_slice(alloc, &self.words)?,
+            ends: copied(&self.ends),
+        })
+    }
+
     /// A set's words, ascending.
     pub(crate) fn words(&self, number: usize) -> &[u32]
         requires packed { ArePacked self.now }
@@ -81,6 +137,26 @@ impl ShortBlocks {
     {
         push_words(&mut self.words, words)?;
         self.ends.push(self.words.len() as u16);
+        Ok(())
+    }
+
+    /// Puts a set in place of one of these, and leaves all others.
+    pub(crate) fn replace(
+        &mut self,
+        alloc: Global,
+        number: usize,
+        words: &[u32],
+    ) -> Result<(), AllocError>
+        requires packed { ArePacked self.old }
+        requires inside { number < length self.old.ends.items }
+        requires set { IsSet words.now }
+        requires short { length words.now ≤ SHORT_PLACES }
+        ensures { IfOk result (λ _. IsSetPut self.old self.new number words.now) }
+    {
+        let gone = self.words(number).len();
+        let end = usize::from(self.ends[number]);
+        self.words = spliced(alloc, &self.words, end - gone, end, words)?;
+        shift(&mut self.ends, number, gone as u16, words.len() as u16);
         Ok(())
     }
 }

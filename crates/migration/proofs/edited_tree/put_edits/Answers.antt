@@ -2,12 +2,12 @@ use Rattle.std.proofs.Common.{◌≡◌, ◌+◌, ◌<◌, ◌≤◌, length, re
 use Rattle.past_model.specs.declared.edit.Edit.TheVariants.{Insert}
 use Rattle.migration.proofs.MergeLemmas.{IsMerging, no_edit_merged, all_edits_merged, superseded, strictly_later}
 use Rattle.migration.proofs.PutLemmas.{unmoved, put_one, few_put}
-use Rattle.migration.proofs.edited_tree.with_edits.Goals as goal
-use Rattle.migration.proofs.edited_tree.with_edits.Goals.{then-not-is_superseded+in_ok-put_edit, else-not-is_superseded}
+use Rattle.migration.proofs.edited_tree.put_edits.Goals as goal
+use Rattle.migration.proofs.edited_tree.put_edits.Goals.{then-not-is_superseded+in_ok-put_edit, else-not-is_superseded}
 
 pub loop-place-init : goal.loop-place-init
 loop-place-init c = record {
-  merging = λ u n p from is. no_edit_merged n p c.args.edits.now u c.in_ok-next.next (c.in_ok-next.ensures ∙ is);
+  merging = λ u n p from is. no_edit_merged n p c.args.edits.now u c.args.tree.now is;
   few_added = omega arith;
   few_removed = omega arith;
 }
@@ -22,11 +22,11 @@ loop-place-preserved c =
     let joined = c.if-not-is_superseded in
     elim joined.branch [
       | then-not-is_superseded+in_ok-put_edit w ↦ (
-          let xs = c.loop-place.next in
+          let xs = c.loop-place.tree in
           let ys = w.put_edit.new.tree in
           let before = c.loop-place.counts in
           let after = w.put_edit.new.counts in
-          let same : unmoved ys after ≡ unmoved joined.next joined.counts = sym (ap (λ l. unmoved l joined.counts) w.next-is ∙ ap (unmoved ys) w.counts-is) in
+          let same : unmoved ys after ≡ unmoved joined.tree joined.counts = sym (ap (λ l. unmoved l joined.counts) w.tree-is ∙ ap (unmoved ys) w.counts-is) in
           let few = few_put _ xs ys before after w.in_ok-put_edit.ensures in
           let counts = w.counts-is in
           record {
@@ -37,8 +37,8 @@ loop-place-preserved c =
             few_removed = subst (λ n. n.removed ≤ i + 1) (sym counts) (omega (arith, few.1, few_removed));
           })
       | else-not-is_superseded w ↦ (
-          let before = unmoved c.loop-place.next c.loop-place.counts in
-          let same : before ≡ unmoved joined.next joined.counts = sym (ap (λ l. unmoved l joined.counts) w.next-is ∙ ap (unmoved c.loop-place.next) w.counts-is) in
+          let before = unmoved c.loop-place.tree c.loop-place.counts in
+          let same : before ≡ unmoved joined.tree joined.counts = sym (ap (λ l. unmoved l joined.counts) w.tree-is ∙ ap (unmoved c.loop-place.tree) w.counts-is) in
           let counts = w.counts-is in
           record {
             merging = λ u n p from is.
@@ -51,4 +51,4 @@ loop-place-preserved c =
 
 pub returns : goal.returns
 returns c =
-    λ u n p from is. all_edits_merged n p c.args.edits.now u c.loop-place.place (unmoved c.loop-place.next c.loop-place.counts) (c.loop-place.invariant.merging u n p from is) (omega arith)
+    λ u n p from is. all_edits_merged n p c.args.edits.now u c.loop-place.place (unmoved c.loop-place.tree c.loop-place.counts) (c.loop-place.invariant.merging u n p from is) (omega arith)

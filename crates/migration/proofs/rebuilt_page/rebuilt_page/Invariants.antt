@@ -3,7 +3,7 @@ use Rattle.past_model.specs.declared.home.Home.{Home}
 use Rattle.migration.specs.Begun.{AreBegun, IsPageOf}
 use Rattle.migration.specs.Lists.{AreKept, rows_of, homes_of}
 use Rattle.migration.specs.Part.{Part}
-use Rattle.migration.proofs.edited_page.edited_page.Given as goal
+use Rattle.migration.proofs.rebuilt_page.rebuilt_page.Given as goal
 
 abbrev pub invariant-loop-place : goal.invariant-loop-place
 invariant-loop-place l = record {

@@ -7,8 +7,8 @@ use Rattle.migration.specs.Lists.{rows_of, homes_of}
 use Rattle.migration.specs.Part.{home_at}
 use Rattle.migration.proofs.PartLemmas.{own_edits, few_more}
 use Rattle.migration.proofs.BegunLemmas.{edits_in, one_kept, one_edited, behind, merged_of_page, own_of_page}
-use Rattle.migration.proofs.edited_page.edited_page.Goals as goal
-use Rattle.migration.proofs.edited_page.edited_page.Goals.{In_ok-more}
+use Rattle.migration.proofs.rebuilt_page.rebuilt_page.Goals as goal
+use Rattle.migration.proofs.rebuilt_page.rebuilt_page.Goals.{In_ok-more}
 
 pub loop-place-init : goal.loop-place-init
 loop-place-init c = record {

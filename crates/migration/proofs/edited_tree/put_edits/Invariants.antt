@@ -3,11 +3,11 @@ use Rattle.graph_model.specs.Graph.{numbers_below}
 use Rattle.migration.specs.Merge.{AreEditsFrom}
 use Rattle.migration.proofs.MergeLemmas.{IsMerging}
 use Rattle.migration.proofs.PutLemmas.{unmoved}
-use Rattle.migration.proofs.edited_tree.with_edits.Given as goal
+use Rattle.migration.proofs.edited_tree.put_edits.Given as goal
 
 abbrev pub invariant-loop-place : goal.invariant-loop-place
 invariant-loop-place l = record {
-  merging : (u n : ℕ) (p : ℕ → Bool) → AreEditsFrom u n l.edits → l.tree ≡ filter p (numbers_below n) → IsMerging n p l.edits u l.place (unmoved l.next l.counts);
+  merging : (u n : ℕ) (p : ℕ → Bool) → AreEditsFrom u n l.edits → l.initial.tree ≡ filter p (numbers_below n) → IsMerging n p l.edits u l.place (unmoved l.tree l.counts);
   few_added : l.counts.added ≤ l.place;
   few_removed : l.counts.removed ≤ l.place;
 }
