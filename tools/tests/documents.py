@@ -247,11 +247,12 @@ def all_cases():
 
 
 def traps():
-    """The number and name of each trap, the bytes of its program and the pc where it stops."""
+    """The number and name of each trap, the bytes of its program and of its table, and the pc where it stops."""
     for row in rows(between(BPF, "| Kind | When | Program |", "\nWhere several apply")):
         kind, name = re.match(r"([0-9]+) `(\w+)`", row[0]).groups()
         pc = re.search(r", at pc ([0-9]+)$", row[2])
-        yield int(kind), name, bytes.fromhex(codes(row[2])[0]), int(pc[1]) if pc else 0
+        code, table = (*codes(row[2]), "")[:2]
+        yield int(kind), name, bytes.fromhex(code), bytes.fromhex(table), int(pc[1]) if pc else 0
 
 
 def disassembly():

@@ -32,9 +32,9 @@ COUNTS = {"faults": 10, "assembler_faults": 6, "answers_of_code": 2, "zeros": 1,
 COUNTS |= {"helper_programs": 5, "gathering": 3, "causes": 17, "bounds": 1, "narrowing": 4, "assembler_lines": 5}
 
 
-def stop_of(code):
-    """Why the machine stops that runs a code on a record of 16 bytes, and where."""
-    machine = Machine(bytes(16), Graph(4, {}, 0))
+def stop_of(code, table):
+    """Why the machine stops that runs a code with a table on a record of 16 bytes, and where."""
+    machine = Machine(bytes(16), Graph(4, {}, 0), table)
     while True:
         pc = machine.pc
         try:
@@ -86,9 +86,9 @@ class TheDocuments(unittest.TestCase):
 
     def test_each_trap(self):
         traps = list(documents.traps())
-        self.assertEqual([kind for kind, *_ in traps], list(range(1, 11)))
-        for _, name, code, pc in traps:
-            self.assertEqual(stop_of(code), (re.sub("(?<=[a-z])(?=[A-Z])", " ", name).lower(), pc), name)
+        self.assertEqual([kind for kind, *_ in traps], list(range(1, 12)))
+        for _, name, code, table, pc in traps:
+            self.assertEqual(stop_of(code, table), (re.sub("(?<=[a-z])(?=[A-Z])", " ", name).lower(), pc), name)
 
     def test_texts(self):
         code, text = documents.disassembly()

@@ -155,8 +155,10 @@ impl Image {
         ensures exact { result ≡ lengths_of self.now }
         ensures image { IsImage self.now }
     {
+        let table_length = self.table().len() as u16;
         Lengths {
             record_length: self.record_length,
+            table_length,
         }
     }
 

@@ -4,4 +4,6 @@
 pub struct Lengths {
     /// The bytes of the record.
     pub record_length: u16,
+    /// The bytes of the table. Without a table there are none.
+    pub table_length: u16,
 }

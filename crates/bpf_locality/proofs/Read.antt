@@ -1,7 +1,7 @@
--- No step depends on a byte that is not live.
+-- No step depends on a byte that may not be read.
 use Rattle.std.proofs.Common.{◌≡◌, ℕ, suc, ◌+◌, ◌-◌, ◌/◌, true, false, List, [], ◌∷◌, length, Option, Some, None, Result, Ok, Err, refl, sym, subst, ◌∙◌, arith, inl, inr, if◌then◌else◌}
-use Rattle.std.specs.Prelude.{nat_le, nat_lt, ◌&&◌, ◌||◌, ◌==◌, ℤ, pos, negsuc, unwrap_or}
-use Rattle.std.proofs.lemmas.Bool.{cases_Bool, cond-true, cond-false, or_left, or_right}
+use Rattle.std.specs.Prelude.{nat_le, nat_lt, ◌&&◌, ◌||◌, ◌==◌, Bool, ℤ, pos, negsuc, unwrap_or}
+use Rattle.std.proofs.lemmas.Bool.{cases_Bool, cond-true, cond-false, or_cases, or_left, or_right}
 use Rattle.std.proofs.lemmas.Bool.Decides.{nat_tests}
 use Rattle.bpf_isa.specs.declared.register.Register.{Register}
 use Rattle.bpf_isa.specs.declared.instruction.Size.{Size}
@@ -21,22 +21,22 @@ use Rattle.bpf_model.specs.declared.helper.Helper.{Helper}
 use Rattle.bpf_model.specs.declared.helper.Helper.TheVariants as helpers
 use Rattle.bpf_model.specs.declared.trap.TrapKind.{TrapKind}
 use Rattle.bpf_model.specs.declared.trap.TrapKind.TheVariants.{UnsetRegister}
-use Rattle.bpf_model.specs.State.{Partial, Saved, State, without_values, number_at, register_of, address_at, may_access, live_frames, most_frames, frame_top, frame_bytes, in_record, in_frames}
+use Rattle.bpf_model.specs.State.{Partial, Saved, State, without_values, number_at, register_of, address_at, may_read, may_write, live_frames, most_frames, frame_top, frame_bytes, in_record, in_frame, in_frames, in_table}
 use Rattle.bpf_model.specs.Arithmetic.{move_signed_number}
 use Rattle.bpf_model.specs.Calls.{enter}
 use Rattle.bpf_model.specs.Helpers.{helper_of, helper_effect, argument, gather, is_room, with_answer, no_neighbour}
 use Rattle.bpf_model.specs.Step.{Next, Goes, number_or_trap, next_with_result, jump, load, low_bytes, store, call, leave, call_helper, effect, effect_of_reading, step_at, step, operand_of, load_extension, immediate_value}
-use Rattle.bpf_locality.specs.Locality.{is_live, AreAlike, LeadAlike}
+use Rattle.bpf_locality.specs.Locality.{is_readable, AreAlike, LeadAlike}
 use Rattle.bpf_locality.proofs.Asking.{degree_told, edge_told, edge_from, neighbour_told, neighbour_of, gather_to, gather_first, gather_of}
-use Rattle.bpf_locality.proofs.Places.{byte_is_live, stored_same, number_same}
+use Rattle.bpf_locality.proofs.Places.{byte_is_readable, stored_same, number_same}
 
 -- the state with another memory
 abbrev with_memory : State → Partial → State
 with_memory s m = record s { memory = m }
 
--- a memory that has a state's live bytes
+-- a memory that has those bytes of a state that may be read
 abbrev Agrees : Lengths → State → Partial → Type 0
-Agrees l s m = (a : ℕ) → is_live l s a ≡ true → m a ≡ s.memory a
+Agrees l s m = (a : ℕ) → is_readable l s a ≡ true → m a ≡ s.memory a
 
 reading_alike : (l : Lengths) (known : Option ℕ) (kind : TrapKind) (at : ℤ) (go other : ℕ → Next) → ((v : ℕ) → LeadAlike l (go v) (other v))
     → LeadAlike l (number_or_trap known kind at go) (number_or_trap known kind at other)
@@ -56,31 +56,31 @@ jump_alike l s m z same = (_, refl, record { pc = refl; registers = refl; caller
 load_alike : (l : Lengths) (s : State) (m : Partial) (a : ℕ) (size : Size) (go other : ℕ → Next) → Agrees l s m → ((v : ℕ) → LeadAlike l (go v) (other v))
     → LeadAlike l (load l s a size go) (load l (with_memory s m) a size other)
 load_alike l s m a size go other same alike =
-    elim (cases_Bool (may_access l s a (size_bytes size))) [
+    elim (cases_Bool (may_read l s a (size_bytes size))) [
       | inl may ↦ (let number : number_at m a (size_bytes size) ≡ number_at s.memory a (size_bytes size) =
-          number_same m s.memory a (size_bytes size) (λ i lt. same (a + i) (byte_is_live l s a (size_bytes size) i lt may)) in
+          number_same m s.memory a (size_bytes size) (λ i lt. same (a + i) (byte_is_readable l s a (size_bytes size) i lt may)) in
           rw (may, number) (reading_alike l _ _ _ go other alike))
       | inr forbidden ↦ rw forbidden refl
     ]
 
 store_alike : (l : Lengths) (s : State) (m : Partial) (a : ℕ) (size : Size) (v : ℕ) → Agrees l s m → LeadAlike l (store l s a size v) (store l (with_memory s m) a size v)
 store_alike l s m a size v same =
-    elim (cases_Bool (may_access l s a (size_bytes size))) [
+    elim (cases_Bool (may_write l s a (size_bytes size))) [
       | inl may ↦ rw may (_, refl, record { pc = refl; registers = refl; callers = refl; bytes = λ x live. stored_same m s.memory a (low_bytes size v) x (same x live) })
       | inr forbidden ↦ rw forbidden refl
     ]
 
--- a byte that is live behind a call was live before it, or is in the frame that was laid out
-live_before : (l : Lengths) (s : State) (distance : ℤ) (a : ℕ) → is_live l (enter s distance) a ≡ true
-    → (nat_le (frame_top (live_frames s) - frame_bytes) a && nat_lt a (frame_top (live_frames s) - frame_bytes + frame_bytes)) ≡ false → is_live l s a ≡ true
-live_before l s distance a live outside = grind (arith, nat_tests)
+-- a byte that may be read behind a call might be before it, or is in the frame that was laid out
+readable_before : (l : Lengths) (s : State) (distance : ℤ) (a : ℕ) → is_readable l (enter s distance) a ≡ true
+    → (nat_le (frame_top (live_frames s) - frame_bytes) a && nat_lt a (frame_top (live_frames s) - frame_bytes + frame_bytes)) ≡ false → is_readable l s a ≡ true
+readable_before l s distance a may outside = grind (arith, nat_tests)
 
-laid_out_alike : (l : Lengths) (s : State) (m : Partial) (distance : ℤ) (a : ℕ) → Agrees l s m → is_live l (enter s distance) a ≡ true
+laid_out_alike : (l : Lengths) (s : State) (m : Partial) (distance : ℤ) (a : ℕ) → Agrees l s m → is_readable l (enter s distance) a ≡ true
     → without_values m (frame_top (live_frames s) - frame_bytes) frame_bytes a ≡ without_values s.memory (frame_top (live_frames s) - frame_bytes) frame_bytes a
 laid_out_alike l s m distance a same live =
     elim (cases_Bool (nat_le (frame_top (live_frames s) - frame_bytes) a && nat_lt a (frame_top (live_frames s) - frame_bytes + frame_bytes))) [
       | inl inside ↦ cond-true _ _ _ inside ∙ sym (cond-true _ _ _ inside)
-      | inr outside ↦ cond-false _ _ _ outside ∙ same a (live_before l s distance a live outside) ∙ sym (cond-false _ _ _ outside)
+      | inr outside ↦ cond-false _ _ _ outside ∙ same a (readable_before l s distance a live outside) ∙ sym (cond-false _ _ _ outside)
     ]
 
 call_alike : (l : Lengths) (s : State) (m : Partial) (distance : ℤ) → Agrees l s m → LeadAlike l (call s distance) (call (with_memory s m) distance)
@@ -90,12 +90,20 @@ call_alike l s m distance same =
       | inr full ↦ rw full refl
     ]
 
--- a byte that is live with fewer callers is live with one more
-live_with_one_more : (l : Lengths) (n a : ℕ) → (in_record l.record_length a 1 || in_frames n a 1) ≡ true → (in_record l.record_length a 1 || in_frames (suc n) a 1) ≡ true
-live_with_one_more l n a live =
-    elim (cases_Bool (in_record l.record_length a 1)) [
-      | inl here ↦ or_left _ _ here
-      | inr other ↦ (let below : in_frames n a 1 ≡ true = grind (arith, nat_tests) in or_right _ _ (or_right _ _ below))
+-- whether a byte may be read while so many frames are live
+abbrev read_with : Lengths → ℕ → ℕ → Bool
+read_with l frames a = (in_record l.record_length a 1 || in_frames frames a 1) || in_table l.table_length a 1
+
+-- a byte that may be read with fewer callers may be with one more
+read_with_one_more : (l : Lengths) (n a : ℕ) → read_with l n a ≡ true → read_with l (suc n) a ≡ true
+read_with_one_more l n a may =
+    elim (or_cases (in_record l.record_length a 1 || in_frames n a 1) (in_table l.table_length a 1) may) [
+      | inl live ↦ (let still : (in_record l.record_length a 1 || in_frames (suc n) a 1) ≡ true = (elim (or_cases (in_record l.record_length a 1) (in_frames n a 1) live) [
+        | inl here ↦ or_left _ _ here
+        | inr below ↦ or_right (in_record l.record_length a 1) _ (or_right (in_frame n a 1) _ below)
+      ]) in
+          or_left _ (in_table l.table_length a 1) still)
+      | inr within ↦ or_right (in_record l.record_length a 1 || in_frames (suc n) a 1) _ within
     ]
 
 leave_alike : (l : Lengths) (s : State) (m : Partial) (callers : List Saved) (result : ℕ) → s.callers ≡ callers → Agrees l s m
@@ -108,7 +116,7 @@ leave_alike l s m (caller ∷ callers) result is same = (
     pc = refl;
     registers = refl;
     callers = refl;
-    bytes = λ a live. same a (subst (λ (cs : List Saved). (in_record l.record_length a 1 || in_frames (suc (length cs)) a 1) ≡ true) (sym is) (live_with_one_more l (suc (length callers)) a live));
+    bytes = λ a may. same a (subst (λ (cs : List Saved). read_with l (suc (length cs)) a ≡ true) (sym is) (read_with_one_more l (suc (length callers)) a may));
   },
 )
 
@@ -116,7 +124,7 @@ gather_alike : (l : Lengths) (g : Graph) (s : State) (m : Partial) (v first a ro
     → LeadAlike l (gather l g s v first a room) (gather l g (with_memory s m) v first a room)
 gather_alike l g s m v first a room same =
     elim (cases_Bool (is_room room)) [
-      | inl allowed ↦ rw allowed (elim (cases_Bool (may_access l s a room)) [
+      | inl allowed ↦ rw allowed (elim (cases_Bool (may_write l s a room)) [
         | inl may ↦ rw may (
           _,
           refl,

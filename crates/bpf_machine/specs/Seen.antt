@@ -1,5 +1,6 @@
 -- A machine with the bytes that it is lent, as a state of a run.
-use Rattle.std.specs.Prelude.{◌≡◌, ℕ, zero, suc, ◌+◌, ◌-◌, ◌*◌, ◌/◌, ◌%◌, nat_le, ◌&&◌, if◌then◌else◌, ℤ, pos, List, [], ◌∷◌, Option, None, Result, Ok, Err, slice_index_or}
+use Rattle.std.specs.Prelude.{◌≡◌, ℕ, zero, suc, ◌+◌, ◌-◌, ◌*◌, ◌/◌, ◌%◌, nat_le, ◌&&◌, if◌then◌else◌, ℤ, pos, List, [], ◌∷◌, length, Option, None, Result, Ok, Err, slice_index_or}
+use Rattle.bpf_image.specs.declared.lengths.Lengths.{Lengths}
 use Rattle.bpf_model.specs.declared.trap.TrapKind.{TrapKind}
 use Rattle.bpf_model.specs.State.{Saved, State, Partial, record_memory, frame_bytes}
 use Rattle.bpf_model.specs.Step.{Next, Goes, Exits, Traps}
@@ -10,6 +11,10 @@ use Rattle.bpf_machine.specs.declared.stack.TheConstants.{FRAME_START}
 use Rattle.bpf_machine.specs.Cells.{cells_of}
 use Rattle.bpf_machine.specs.declared.turn.Turn.{Turn}
 use Rattle.bpf_machine.specs.declared.turn.Turn.TheVariants.{Went, Exited, Trapped}
+
+-- how much a run is lent: the bytes of a record, and those of a table
+abbrev pub lent : List ℕ → List ℕ → Lengths
+lent bytes table = record { record_length = length bytes; table_length = length table }
 
 -- where a list of values has one
 abbrev pub values_of : List (Option ℕ) → Partial

@@ -1,10 +1,9 @@
 //! What one instruction does.
 ghost use Rattle.std.specs.Prelude.{◌≡◌, ◌≤◌, ◌≤ℤ◌, pos, length};
 ghost use Rattle.bpf_isa.specs.declared.limits.TheConstants.{MOST_UNITS};
-ghost use Rattle.bpf_image.specs.declared.limits.TheConstants.{MOST_RECORD_LENGTH};
-ghost use Rattle.bpf_image.specs.Program.{record_alone};
+ghost use Rattle.bpf_image.specs.declared.limits.TheConstants.{MOST_RECORD_LENGTH, MOST_TABLE_LENGTH};
 ghost use Rattle.bpf_model.specs.Step.{effect};
-ghost use Rattle.bpf_machine.specs.Seen.{state_of, answer, Keeps};
+ghost use Rattle.bpf_machine.specs.Seen.{lent, state_of, answer, Keeps};
 
 use crate::access::{load_plain, load_signed, store_immediate, store_register};
 use crate::alu::{move_signed, negate_register, operate, swap_register};
@@ -21,13 +20,15 @@ use graph_model::GraphView;
 pub(crate) fn perform<G: GraphView>(
     machine: &mut Machine,
     bytes: &mut [u8],
+    table: &[u8],
     graph: &G,
     instruction: Instruction,
 ) -> Turn
     requires from { pos 0 ≤ℤ machine.old.pc }
     requires limit { machine.old.pc ≤ℤ pos MOST_UNITS }
     requires record { length bytes.old ≤ MOST_RECORD_LENGTH }
-    ensures step { effect (record_alone (length bytes.old)) (G.graph graph.now) instruction
+    requires table { length table.now ≤ MOST_TABLE_LENGTH }
+    ensures step { effect (lent bytes.old table.now) (G.graph graph.now) instruction
         (state_of machine.old bytes.old)
         ≡ answer result (state_of machine.new bytes.new) }
     ensures kept { Keeps result bytes.old bytes.new }
@@ -58,7 +59,7 @@ pub(crate) fn perform<G: GraphView>(
             right,
             distance,
         } => branch(machine, width, comparison, left, right, distance),
-        Instruction::CallHelper { number } => call_helper(machine, bytes, graph, number),
+        Instruction::CallHelper { number } => call_helper(machine, bytes, table, graph, number),
         Instruction::CallLocal { distance } => call(machine, distance),
         Instruction::Exit => exit(machine),
         Instruction::Load {
@@ -66,25 +67,25 @@ pub(crate) fn perform<G: GraphView>(
             destination,
             base,
             offset,
-        } => load_plain(machine, bytes, size, destination, base, offset),
+        } => load_plain(machine, bytes, table, size, destination, base, offset),
         Instruction::LoadSigned {
             size,
             destination,
             base,
             offset,
-        } => load_signed(machine, bytes, size, destination, base, offset),
+        } => load_signed(machine, bytes, table, size, destination, base, offset),
         Instruction::Store {
             size,
             base,
             offset,
             immediate,
-        } => store_immediate(machine, bytes, size, base, offset, immediate),
+        } => store_immediate(machine, bytes, table, size, base, offset, immediate),
         Instruction::StoreRegister {
             size,
             base,
             offset,
             source,
-        } => store_register(machine, bytes, size, base, offset, source),
+        } => store_register(machine, bytes, table, size, base, offset, source),
         Instruction::Wide { destination, value } => machine.put(2, destination, value),
     }
 }

@@ -4,14 +4,14 @@ ghost use Rattle.bpf_isa.specs.declared.instruction.Instruction.TheVariants.{Cal
 ghost use Rattle.bpf_isa.specs.declared.limits.TheConstants.{MOST_UNITS};
 ghost use Rattle.bpf_image.specs.declared.limits.TheConstants.{MOST_RECORD_LENGTH};
 ghost use Rattle.graph_model.specs.Views.{neighbour_words, neighbours_among, word_bytes};
-ghost use Rattle.bpf_image.specs.Program.{record_alone};
 ghost use Rattle.bpf_image.specs.declared.lengths.Lengths.{Lengths};
 ghost use Rattle.bpf_model.specs.State.{with_value, without_values};
 ghost use Rattle.bpf_model.specs.Helpers.{is_room, with_answer, helper_effect, write_neighbours};
 ghost use Rattle.bpf_model.specs.Step.{Goes, effect};
-ghost use Rattle.bpf_machine.specs.Seen.{values_of, state_of, answer, Keeps};
+ghost use Rattle.bpf_machine.specs.Seen.{values_of, lent, state_of, answer, Keeps};
 
 use crate::machine::Machine;
+use crate::memory::write_refusal;
 use crate::stores::store_bytes;
 use crate::turn::Turn;
 use bpf_isa::Register;
@@ -133,13 +133,14 @@ fn fill<G: GraphView>(graph: &G, request: &Request, words: &mut [u8]) -> u32
 fn write<G: GraphView>(
     machine: &mut Machine,
     bytes: &mut [u8],
+    table: &[u8],
     graph: &G,
     request: &Request,
 ) -> Turn
     requires pc { machine.old.pc ≤ℤ pos MOST_UNITS }
     requires record { length bytes.old ≤ MOST_RECORD_LENGTH }
     requires room { IsTrue (is_room request.now.room) }
-    ensures step { write_neighbours (record_alone (length bytes.old)) (G.graph graph.now)
+    ensures step { write_neighbours (lent bytes.old table.now) (G.graph graph.now)
         (state_of machine.old bytes.old)
         request.now.vertex request.now.first request.now.address request.now.room
         ≡ answer result (state_of machine.new bytes.new) }
@@ -150,16 +151,16 @@ fn write<G: GraphView>(
     let count = fill(graph, request, words);
     let frames = machine.live_frames();
     if !store_bytes(&mut machine.stack, frames, bytes, request.address, words) {
-        return Turn::Trapped(TrapKind::OutsideMemory);
+        return Turn::Trapped(write_refusal(table, request.address, request.room));
     }
     go_on_with(machine, u64::from(count))
 }
 
 /// The neighbours of a vertex from a place on, in memory.
-fn gather<G: GraphView>(machine: &mut Machine, bytes: &mut [u8], graph: &G) -> Turn
+fn gather<G: GraphView>(machine: &mut Machine, bytes: &mut [u8], table: &[u8], graph: &G) -> Turn
     requires pc { machine.old.pc ≤ℤ pos MOST_UNITS }
     requires record { length bytes.old ≤ MOST_RECORD_LENGTH }
-    ensures step { helper_effect (record_alone (length bytes.old)) (G.graph graph.now) Helper.Gather
+    ensures step { helper_effect (lent bytes.old table.now) (G.graph graph.now) Helper.Gather
         (state_of machine.old bytes.old)
         ≡ answer result (state_of machine.new bytes.new) }
     ensures kept { Keeps result bytes.old bytes.new }
@@ -185,19 +186,20 @@ fn gather<G: GraphView>(machine: &mut Machine, bytes: &mut [u8], graph: &G) -> T
         address,
         room,
     };
-    write(machine, bytes, graph, &request)
+    write(machine, bytes, table, graph, &request)
 }
 
 /// A call of the helper that has this number, if one has it.
 pub(crate) fn call_helper<G: GraphView>(
     machine: &mut Machine,
     bytes: &mut [u8],
+    table: &[u8],
     graph: &G,
     number: i32,
 ) -> Turn
     requires pc { machine.old.pc ≤ℤ pos MOST_UNITS }
     requires record { length bytes.old ≤ MOST_RECORD_LENGTH }
-    ensures step { effect (record_alone (length bytes.old)) (G.graph graph.now) (CallHelper number)
+    ensures step { effect (lent bytes.old table.now) (G.graph graph.now) (CallHelper number)
         (state_of machine.old bytes.old)
         ≡ answer result (state_of machine.new bytes.new) }
     ensures kept { Keeps result bytes.old bytes.new }
@@ -208,6 +210,6 @@ pub(crate) fn call_helper<G: GraphView>(
         Some(Helper::HasEdge) => has_edge(machine, graph),
         Some(Helper::Neighbour) => neighbour(machine, graph),
         Some(Helper::VertexCount) => go_on_with(machine, u64::from(graph.vertex_count())),
-        Some(Helper::Gather) => gather(machine, bytes, graph),
+        Some(Helper::Gather) => gather(machine, bytes, table, graph),
     }
 }

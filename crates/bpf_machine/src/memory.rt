@@ -1,13 +1,12 @@
 //! Which region an address lies in.
-ghost use Rattle.std.specs.Prelude.{◌≡◌, ◌+◌, ◌^◌, ◌<◌, ◌≤◌, nat_le, ◌&&◌, true, length};
-ghost use Rattle.bpf_image.specs.declared.limits.TheConstants.{MOST_RECORD_LENGTH};
-ghost use Rattle.bpf_image.specs.Program.{record_alone};
-ghost use Rattle.bpf_model.specs.State.{may_access, in_frames, live_frames, number_at};
-ghost use Rattle.bpf_machine.specs.Seen.{state_of};
+ghost use Rattle.std.specs.Prelude.{◌≡◌, ℕ, ◌+◌, ◌^◌, ◌<◌, ◌≤◌, nat_le, ◌&&◌, true, List, length};
+ghost use Rattle.bpf_image.specs.declared.limits.TheConstants.{MOST_RECORD_LENGTH, MOST_TABLE_LENGTH};
+ghost use Rattle.bpf_model.specs.State.{may_read, write_trap, in_table, in_frames, live_frames, number_at};
+ghost use Rattle.bpf_machine.specs.Seen.{lent, state_of};
 
 use crate::machine::Machine;
 use crate::stack::{FRAME_START, find_spot};
-use bpf_model::{FRAME_BYTES, FRAME_SPACE, RECORD_BASE, STACK_BASE};
+use bpf_model::{FRAME_BYTES, FRAME_SPACE, RECORD_BASE, STACK_BASE, TABLE_BASE, TrapKind};
 
 /// Whether so many bytes from an address lie wholly in a region.
 pub(crate) fn lies_within(base: u64, room: u64, address: u64, size: u64) -> bool
@@ -29,16 +28,42 @@ fn is_in_frame(machine: &Machine, bytes: &[u8], address: u64, size: u64) -> bool
     find_spot(machine.live_frames(), address, size).is_some()
 }
 
-/// Whether an access is allowed: wholly in the record, or wholly in one live frame.
-pub(crate) fn is_allowed(machine: &Machine, bytes: &[u8], address: u64, size: u64) -> bool
+/// Whether so many bytes lie wholly in the table.
+fn is_in_table(table: &[u8], address: u64, size: u64) -> bool
+    ensures { result ≡ in_table (length table.now) address size }
+{
+    lies_within(TABLE_BASE, table.len() as u64, address, size)
+}
+
+/// Whether bytes may be read: wholly in the record, wholly in one live frame, or wholly in the table.
+pub(crate) fn is_readable(
+    machine: &Machine,
+    bytes: &[u8],
+    table: &[u8],
+    address: u64,
+    size: u64,
+) -> bool
     requires some { 1 ≤ size }
     requires record { length bytes.now ≤ MOST_RECORD_LENGTH }
+    requires table { length table.now ≤ MOST_TABLE_LENGTH }
     ensures exact { result
-        ≡ may_access (record_alone (length bytes.now)) (state_of machine.now bytes.now) address size }
+        ≡ may_read (lent bytes.now table.now) (state_of machine.now bytes.now) address size }
     ensures room { result ≡ true → address + size < 2 ^ 64 }
 {
     let in_record = lies_within(RECORD_BASE, bytes.len() as u64, address, size);
-    in_record || is_in_frame(machine, bytes, address, size)
+    let is_live = in_record || is_in_frame(machine, bytes, address, size);
+    is_live || is_in_table(table, address, size)
+}
+
+/// Why bytes that may not be written are refused: they lie wholly in the table, or outside.
+pub(crate) fn write_refusal(table: &[u8], address: u64, size: u64) -> TrapKind
+    ensures { (bytes : List ℕ) → result ≡ write_trap (lent bytes table.now) address size }
+{
+    if is_in_table(table, address, size) {
+        TrapKind::ReadOnly
+    } else {
+        TrapKind::OutsideMemory
+    }
 }
 
 /// The byte at an address, where there is one that is set.

@@ -44,7 +44,7 @@ fn take_turn<G: GraphView>(
         return Turn::Trapped(TrapKind::OutsideCode);
     };
     match decode_at(code, place) {
-        Ok((instruction, _)) => perform(machine, bytes, graph, instruction),
+        Ok((instruction, _)) => perform(machine, bytes, image.table(), graph, instruction),
         Err(_) => Turn::Trapped(TrapKind::BadInstruction),
     }
 }

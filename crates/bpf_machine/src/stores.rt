@@ -2,18 +2,17 @@
 ghost use Rattle.std.specs.Prelude.{◌≡◌, ◌+◌, ◌≤◌, ◌<◌, ◌≤ℤ◌, ◌||◌, true, false, pos, length};
 ghost use Rattle.bpf_isa.specs.declared.limits.TheConstants.{MOST_UNITS};
 ghost use Rattle.bpf_image.specs.declared.limits.TheConstants.{MOST_RECORD_LENGTH};
-ghost use Rattle.bpf_image.specs.Program.{record_alone};
 ghost use Rattle.bpf_model.specs.State.{Partial, with_value, with_values, record_base, in_record, in_frames, most_frames};
 ghost use Rattle.bpf_model.specs.Step.{store};
 ghost use Rattle.bpf_machine.specs.Cells.{cells_of};
-ghost use Rattle.bpf_machine.specs.Seen.{values_of, memory_of, state_of, answer, Keeps};
+ghost use Rattle.bpf_machine.specs.Seen.{values_of, memory_of, lent, state_of, answer, Keeps};
 
 use crate::machine::Machine;
-use crate::memory::lies_within;
+use crate::memory::{lies_within, write_refusal};
 use crate::stack::{Stack, find_spot};
 use crate::turn::Turn;
 use bpf_isa::Size;
-use bpf_model::{RECORD_BASE, TrapKind};
+use bpf_model::RECORD_BASE;
 
 /// Sets a byte of the record.
 fn set_record_byte(bytes: &mut [u8], place: usize, byte: u8)
@@ -74,13 +73,14 @@ pub(crate) fn store_bytes(
 pub(crate) fn store_to(
     machine: &mut Machine,
     bytes: &mut [u8],
+    table: &[u8],
     address: u64,
     size: Size,
     value: u64,
 ) -> Turn
     requires pc { machine.old.pc ≤ℤ pos MOST_UNITS }
     requires record { length bytes.old ≤ MOST_RECORD_LENGTH }
-    ensures step { store (record_alone (length bytes.old)) (state_of machine.old bytes.old) address size value
+    ensures step { store (lent bytes.old table.now) (state_of machine.old bytes.old) address size value
         ≡ answer result (state_of machine.new bytes.new) }
     ensures kept { Keeps result bytes.old bytes.new }
 {
@@ -88,7 +88,7 @@ pub(crate) fn store_to(
     let low = &spelled[..usize::from(size.bytes())];
     let frames = machine.live_frames();
     if !store_bytes(&mut machine.stack, frames, bytes, address, low) {
-        return Turn::Trapped(TrapKind::OutsideMemory);
+        return Turn::Trapped(write_refusal(table, address, low.len() as u64));
     }
     machine.pc += 1;
     Turn::Went

@@ -13,7 +13,7 @@ mod trap;
 pub use cause::Cause;
 pub use helper::Helper;
 pub use limits::{
-    FRAME_BYTES, FRAME_SPACE, MOST_FRAMES, MOST_GATHER_BYTES, RECORD_BASE, STACK_BASE,
+    FRAME_BYTES, FRAME_SPACE, MOST_FRAMES, MOST_GATHER_BYTES, RECORD_BASE, STACK_BASE, TABLE_BASE,
 };
 pub use outcome::Outcome;
 pub use trap::TrapKind;

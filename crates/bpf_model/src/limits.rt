@@ -7,6 +7,9 @@ pub const RECORD_BASE: u64 = 0x1_0000_0000;
 /// The address above which the frames lie, one above the other.
 pub const STACK_BASE: u64 = 0x2_0000_0000;
 
+/// The address at which the table begins, of a program that has one.
+pub const TABLE_BASE: u64 = 0x3_0000_0000;
+
 /// How many bytes of addresses belong to each frame. Those of the frame itself are the last of them.
 pub const FRAME_SPACE: u64 = 4_096;
 

@@ -8,7 +8,7 @@ pub enum TrapKind {
     OutsideCode = 2,
     /// A register is read that is not set.
     UnsetRegister = 3,
-    /// An access lies neither wholly in the record nor wholly in one live frame.
+    /// An access lies neither wholly in the record nor wholly in one live frame, and a load not wholly in the table.
     OutsideMemory = 4,
     /// A stack byte is read that is not set.
     UnsetByte = 5,
@@ -22,4 +22,6 @@ pub enum TrapKind {
     RoomNotAllowed = 9,
     /// The function exits while R0 is not set.
     UnsetResult = 10,
+    /// A store, or the helper gather, writes to bytes that lie wholly in the table.
+    ReadOnly = 11,
 }

@@ -193,7 +193,10 @@ fn put_broken(
 fn advice(cause: Cause, instruction: Option<Instruction>, state: Option<&AbstractState>) -> Advice
     ensures { result ≡ advice_for cause instruction (option_map (λ s. s.now) state.entry) }
 {
-    let lengths = Lengths { record_length: 16 };
+    let lengths = Lengths {
+        record_length: 16,
+        table_length: 0,
+    };
     match (instruction, state) {
         (Some(instruction), Some(state)) => advice_at(cause, instruction, state),
         (Some(instruction), None) => advice_at(cause, instruction, &AbstractState::entry(lengths)),

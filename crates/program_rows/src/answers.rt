@@ -15,7 +15,10 @@ use std::alloc::Global;
 pub(crate) fn answer(alloc: Global, block: &Block<'_>, input: &str) -> Result<String> {
     let number = block.number;
     let record_length = u16::try_from(number).unwrap_or(0);
-    let lengths = Lengths { record_length };
+    let lengths = Lengths {
+        record_length,
+        table_length: 0,
+    };
     match block.kind {
         "decode" => decoded(alloc, number, input),
         "assemble" => assembled(alloc, input),

@@ -1,5 +1,5 @@
 //! Images, made and loaded.
-use crate::code::bytes_of;
+use crate::code::{bytes_of, code_of};
 use anyhow::Result;
 use bpf_image::{Image, ImageError};
 use std::alloc::{AllocError, Global};
@@ -40,6 +40,22 @@ pub(crate) fn made(alloc: Global, record_length: u16, input: &str) -> Result<Str
         Ok(image) => stored(alloc, &image),
         Err((_, error)) => Ok(fault(alloc, error)?),
     }
+}
+
+/// The image of a program for records of this length, with the table whose bytes stand behind that word; none where
+/// these make no image.
+pub(crate) fn image_of(alloc: Global, record_length: u16, input: &str) -> Result<Option<Image>> {
+    let Some((program, digits)) = input.split_once(" table ") else {
+        let Ok(image) = Image::new(record_length, code_of(alloc, input)?) else {
+            return Ok(None);
+        };
+        return Ok(Some(image));
+    };
+    let code = code_of(alloc, program)?;
+    let Ok(image) = Image::with_table(record_length, code, bytes_of(alloc, digits)?) else {
+        return Ok(None);
+    };
+    Ok(Some(image))
 }
 
 /// The record length, the code and the table of a loaded image, if it is stored in these bytes again.

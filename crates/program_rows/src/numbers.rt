@@ -65,6 +65,7 @@ fn trap_kinds(alloc: Global) -> Result<String, AllocError> {
         TrapKind::UnknownHelper,
         TrapKind::RoomNotAllowed,
         TrapKind::UnsetResult,
+        TrapKind::ReadOnly,
     ] {
         write!(text, "{} {kind:?}\n", kind as u8)?;
     }

@@ -1,8 +1,7 @@
 //! Runs of the machine.
-use crate::code::code_of;
 use crate::edgeless::Edgeless;
+use crate::images::image_of;
 use anyhow::Result;
-use bpf_image::Image;
 use bpf_machine::{Outcome, run_checked};
 use std::alloc::{AllocError, Global};
 
@@ -31,7 +30,7 @@ fn with_record(alloc: Global, told: String, record: &[u8]) -> Result<String, All
 
 /// How a program's run over that record ends with so much fuel, on a graph of three vertices without an edge.
 pub(crate) fn ran(alloc: Global, fuel: u64, input: &str) -> Result<String> {
-    let Ok(image) = Image::new(16, code_of(alloc, input)?) else {
+    let Some(image) = image_of(alloc, 16, input)? else {
         return Ok(String::from_str(alloc, "no image")?);
     };
     let mut record = RECORD;

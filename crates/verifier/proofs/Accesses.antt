@@ -10,7 +10,7 @@ use Rattle.bpf_isa.specs.declared.instruction.SignedSize.{SignedSize}
 use Rattle.bpf_isa.specs.declared.instruction.SignedSize.TheVariants.{SignedByte, SignedHalf, SignedWord}
 use Rattle.bpf_isa.specs.declared.instruction.Extension.TheVariants.{From8To64, From16To64, From32To64}
 use Rattle.bpf_model.specs.Arithmetic.{move_signed_number}
-use Rattle.bpf_model.specs.State.{State, record_base, with_values, frame_top, frame_bytes, in_frame, may_access, address_at}
+use Rattle.bpf_model.specs.State.{State, record_base, with_values, frame_top, frame_bytes, in_frame, may_read, may_write, address_at}
 use Rattle.bpf_model.specs.Step.{Goes, load_extension, low_bytes, load, store, next_with_result}
 use Rattle.bpf_isa.specs.Sizes.{size_bytes, plain_size}
 use Rattle.bpf_image.specs.declared.limits.TheConstants.{MOST_RECORD_LENGTH}
@@ -32,14 +32,18 @@ use Rattle.verifier.proofs.KnownValues.{top, top_below}
 use Rattle.verifier.proofs.Stored.{stored_number}
 use Rattle.verifier.proofs.RegisterWrites.{put_follows}
 
--- an access in the record or in the current frame
-pub allowed : (l : Lengths) (s : State) (a size : ℕ) → IsAllowed l (top s) a size → may_access l s a size ≡ true
+-- bytes in the record or in the current frame may be written
+pub allowed : (l : Lengths) (s : State) (a size : ℕ) → IsAllowed l (top s) a size → may_write l s a size ≡ true
 allowed l s a size (inl within) = or_left _ _ within
 allowed l s a size (inr inside) =
     let here : in_frame (length s.callers) a size ≡ true = and_from _ _ (le-leb _ _ inside.0) (le-leb _ _ inside.1) in
     or_right _ _ (or_left _ _ here)
 
--- it lies beside the callers' frames
+-- and read
+readable : (l : Lengths) (s : State) (a size : ℕ) → IsAllowed l (top s) a size → may_read l s a size ≡ true
+readable l s a size is = or_left _ _ (allowed l s a size is)
+
+-- they lie beside the callers' frames
 pub apart_below : (l : Lengths) (n a size k i : ℕ) → l.record_length ≤ MOST_RECORD_LENGTH → IsAllowed l (frame_top n) a size → k < n → i < frame_bytes → (frame_top k - frame_bytes + i < a) ⊎ (a + size ≤ frame_top k - frame_bytes + i)
 apart_below l n a size k i short (inl within) low lt =
     let both = and_parts (nat_le record_base a) (nat_le (a + size) (record_base + l.record_length)) within in
@@ -52,7 +56,7 @@ pub load_follows : (l : Lengths) (pc : ℕ) (i : Instruction) (b : AbstractValue
 load_follows l pc i b z a s d size x ws short fits at described base h =
     let w = writes_from (pc + 1) a d (load_result l a b z (size_bytes size)) ws h in
     let n = load_describes l (top s) a s.registers s.memory b w.value z size x (omega (arith, short)) (omega arith) (top_below l a s described) fits w.from described.parts base in
-    let may = allowed l s (address_at x z) (size_bytes size) n.1 in
+    let may = readable l s (address_at x z) (size_bytes size) n.1 in
     rw (may, n.2) (put_follows l pc 1 i a s d (ok w.value) n.0 ws at described (subst (λ r. write_ways (pc + 1) a d r ≡ ok ws) w.from h) (λ v e. let same : w.value ≡ v = cc in subst (λ u. Describes l (top s) u (Some n.0)) same n.3))
 
 any_number : (l : Lengths) (t n : ℕ) → n < 2 ^ 64 → Describes l t (Number 0 (2 ^ 64 - 1)) (Some n)
@@ -74,7 +78,7 @@ load_extended_follows l pc i b z a s d size x ws short fits at described base h 
     let w = writes_from (pc + 1) a d (load_signed_result l a b z size) ws h in
     let u = any_from (load_result l a b z (size_bytes (plain_size size))) w.value w.from in
     let n = load_describes l (top s) a s.registers s.memory b u.0 z (plain_size size) x (omega (arith, short)) (omega arith) (top_below l a s described) fits u.1 described.parts base in
-    let may = allowed l s (address_at x z) (size_bytes (plain_size size)) n.1 in
+    let may = readable l s (address_at x z) (size_bytes (plain_size size)) n.1 in
     let m = move_signed_number (load_extension size) n.0 in
     rw (may, n.2) (put_follows l pc 1 i a s d (ok w.value) m ws at described (subst (λ r. write_ways (pc + 1) a d r ≡ ok ws) w.from h) (λ v e. let same : Number 0 (2 ^ 64 - 1) ≡ v = (let f : w.value ≡ v = cc in u.2 ∙ f) in subst (λ t. Describes l (top s) t (Some m)) same (any_number l (top s) m (extended_64 size n.0))))
 
