@@ -6,8 +6,8 @@ ghost use Rattle.workers.specs.declared.limits.TheConstants.{MOST_WORKERS};
 
 use clap::error::ErrorKind;
 use clap::{Arg, ArgAction, Command, Error};
-use workers::MOST_WORKERS;
 use std::alloc::Global;
+use workers::MOST_WORKERS;
 
 /// The release that `--version` names.
 const VERSION: &str = "0.1.0";
