@@ -1,0 +1,159 @@
+/* edgebpf in process: a store of a graph that changes, versions of it that stay, and verified programs over their edges.
+   README.md beside this file says who owns what, and which threads may do what. */
+#ifndef EDGEBPF_H
+#define EDGEBPF_H
+
+#include <stddef.h>
+#include <stdint.h>
+
+#ifdef __cplusplus
+extern "C" {
+#endif
+
+/* What a call answers: 0 where it is done, and else why nothing was done. */
+enum {
+    EDGEBPF_DONE = 0,
+    EDGEBPF_NO_MEMORY = 1,
+    EDGEBPF_EMPTY = 2,
+    EDGEBPF_OTHER_KIND = 3,
+    EDGEBPF_VERTEX_COUNT = 4,
+    EDGEBPF_VERTEX_RANGE = 5,
+    EDGEBPF_TOO_MANY_EDITS = 6,
+    EDGEBPF_LOG_FULL = 7,
+    EDGEBPF_FEED = 8,
+    EDGEBPF_LENGTHS = 9,
+    EDGEBPF_REFUSED = 10,
+    EDGEBPF_RECORD_LENGTH = 11,
+    EDGEBPF_CODE_LENGTH = 12,
+    EDGEBPF_ARGUMENT_LENGTH = 13,
+    EDGEBPF_REDUCTION = 14,
+    EDGEBPF_WRONG_TEXT = 15,
+    EDGEBPF_NO_NEIGHBOUR = 16
+};
+
+/* The same in words. */
+static inline const char *edgebpf_words(uint32_t status) {
+    static const char *const words[] = {
+        "done",
+        "out of memory",
+        "the handle is empty",
+        "the handle holds something of another kind",
+        "the number of vertices is not from 1 to 1048576",
+        "an edit names a vertex that the graph does not have",
+        "there are more than 65536 edits",
+        "4096 batches were applied, and there is room for no more",
+        "there is no such feed",
+        "the lengths of the arrays do not fit together",
+        "the verifier refuses the program",
+        "the record length is not from 16 to 256",
+        "the code is not 1 to 4096 units of 8 bytes",
+        "the argument is not as long as the record less 16 bytes",
+        "there is no such reduction",
+        "the text means no code",
+        "the vertex has no neighbour at this place",
+    };
+    return status < sizeof words / sizeof *words ? words[status] : "there is no such status";
+}
+
+/* An array is a pointer that is not NULL, and a count. This is one without a byte. */
+#define EDGEBPF_NO_BYTES ((const uint8_t *)"")
+
+/* Limits. */
+#define EDGEBPF_MOST_VERTICES 1048576u
+#define EDGEBPF_MOST_EDITS 65536u
+#define EDGEBPF_MOST_BATCHES 4096u
+
+/* Handles. {0} is the empty one. A handle is closed once and never copied; whoever has it owns it. */
+typedef struct edgebpf_handle { void *at; } edgebpf_handle;
+typedef struct edgebpf_store { edgebpf_handle handle; } edgebpf_store;
+typedef struct edgebpf_version { edgebpf_handle handle; } edgebpf_version;
+typedef struct edgebpf_program { edgebpf_handle handle; } edgebpf_program;
+
+/* What a batch did: how many edges are new, how many are gone, and the number of the version that it made. */
+typedef struct edgebpf_change { uint64_t added, removed, number; } edgebpf_change;
+
+/* What a version is: how many batches made it, how many edges and how many vertices it has. */
+typedef struct edgebpf_info { uint64_t number, edges; uint32_t vertices; } edgebpf_info;
+
+/* Neighbours that lie one behind another, ascending. */
+typedef struct edgebpf_slice { const uint32_t *at; size_t count; } edgebpf_slice;
+
+/* What the verifier says: the most instructions and stack frames of a run, or the broken rule and the unit that breaks it. */
+typedef struct edgebpf_verdict { uint32_t bound, frames, cause, pc; } edgebpf_verdict;
+
+/* What came of a text: the bytes of its code, or the line (from 1) and the fault; line 0 where it is no UTF-8. */
+typedef struct edgebpf_assembled { size_t length, line; uint32_t cause; } edgebpf_assembled;
+
+/* What all edges of a run have together. */
+typedef struct edgebpf_totals { uint64_t edges, total; } edgebpf_totals;
+
+enum { EDGEBPF_SUM = 0, EDGEBPF_MIN = 1, EDGEBPF_MAX = 2 };
+
+/* A store of a graph of 1 to 1,048,576 vertices, without an edge. VERTEX_COUNT. */
+uint32_t edgebpf_store_new(uint32_t vertices, edgebpf_store *out);
+
+/* Applies a batch of edits in their order, of feed 0 or 1: an edge from each source to the target at its place, which is taken
+   out where `removes` is not 0. LENGTHS, TOO_MANY_EDITS, VERTEX_RANGE, LOG_FULL, FEED, tested in this order. Where the
+   answer is not 0 the store is as it was; after NO_MEMORY the same call may be made again. */
+uint32_t edgebpf_store_apply(edgebpf_store *store, uint8_t feed, const uint32_t *sources, size_t source_count,
+                             const uint32_t *targets, size_t target_count, const uint8_t *removes, size_t remove_count,
+                             edgebpf_change *change);
+
+/* The last version, which stays as it is. */
+uint32_t edgebpf_store_pin(edgebpf_store *store, edgebpf_version *out);
+
+/* Another handle of the same version, for another thread. */
+uint32_t edgebpf_version_share(edgebpf_version *version, edgebpf_version *out);
+
+uint32_t edgebpf_version_info(edgebpf_version *version, edgebpf_info *info);
+
+/* How many neighbours a vertex has; whether there is an edge (1 or 0); the neighbour at a place, from 0 (NO_NEIGHBOUR). A
+   vertex outside the graph has no neighbour. */
+uint32_t edgebpf_version_degree(edgebpf_version *version, uint32_t vertex, uint32_t *count);
+uint32_t edgebpf_version_has_edge(edgebpf_version *version, uint32_t source, uint32_t target, uint32_t *answer);
+uint32_t edgebpf_version_neighbour(edgebpf_version *version, uint32_t vertex, uint32_t place, uint32_t *neighbour);
+
+/* The slices in which a vertex's neighbours lie, as many as there is room for: where `lent` is less than `room`, these are
+   all. Nobody may write to them, and they end with the last handle of the version. */
+uint32_t edgebpf_version_lend(edgebpf_version *version, uint32_t vertex, edgebpf_slice *slices, size_t room, size_t *lent);
+
+/* All edges: `starts` has one place for each vertex and one more, `targets` one for each edge. LENGTHS. */
+uint32_t edgebpf_version_copy(edgebpf_version *version, uint64_t *starts, size_t start_count, uint32_t *targets,
+                              size_t target_count);
+
+/* Verifies a program for records of 16 to 256 bytes. RECORD_LENGTH, CODE_LENGTH, REFUSED (then `verdict` says why). */
+uint32_t edgebpf_program_new(uint16_t record_length, const uint8_t *code, size_t code_length, edgebpf_verdict *verdict,
+                             edgebpf_program *out);
+
+/* Another handle of the same program, for another thread. */
+uint32_t edgebpf_program_share(edgebpf_program *program, edgebpf_program *out);
+
+/* The code that a text means. WRONG_TEXT; LENGTHS where there is less room than `told->length`. */
+uint32_t edgebpf_assemble(const uint8_t *text, size_t text_length, uint8_t *code, size_t room, edgebpf_assembled *told);
+
+/* What the verifier knows of a program, as text. RECORD_LENGTH, CODE_LENGTH; LENGTHS where there is less room than `count`. */
+uint32_t edgebpf_explain(uint16_t record_length, const uint8_t *code, size_t code_length, uint8_t *text, size_t room,
+                         size_t *count);
+
+/* Runs a program on each edge of the vertices of a frontier, which may name vertices in any order, at most 1,048,576 of them.
+   `values` has one place for each. REDUCTION, LENGTHS, ARGUMENT_LENGTH, tested in this order. */
+uint32_t edgebpf_run(edgebpf_version *version, edgebpf_program *program, const uint8_t *argument, size_t argument_length,
+                     const uint32_t *frontier, size_t frontier_count, uint32_t reduction, uint64_t *values,
+                     size_t value_count, edgebpf_totals *totals);
+
+/* The number of each edge, in the order of edgebpf_version_copy. LENGTHS, ARGUMENT_LENGTH. */
+uint32_t edgebpf_numbers(edgebpf_version *version, edgebpf_program *program, const uint8_t *argument,
+                         size_t argument_length, uint64_t *numbers, size_t number_count);
+
+/* Lets go of what a handle holds, and leaves it empty. An empty one may be closed. */
+void edgebpf_close(edgebpf_handle *handle);
+
+static inline void edgebpf_close_store(edgebpf_store *store) { edgebpf_close(&store->handle); }
+static inline void edgebpf_close_version(edgebpf_version *version) { edgebpf_close(&version->handle); }
+static inline void edgebpf_close_program(edgebpf_program *program) { edgebpf_close(&program->handle); }
+
+#ifdef __cplusplus
+}
+#endif
+
+#endif

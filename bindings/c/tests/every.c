@@ -1,0 +1,189 @@
+/* Calls each function on a graph of four vertices, whose answers were found by hand, and meets each status. */
+#include "check.h"
+
+static edgebpf_store store;
+static edgebpf_version first, last;
+static edgebpf_program targets_of;
+
+/* 0 to 1, 2 and 3; 2 to 0; 3 to itself: after a batch of five edges, and one that takes out two of which one is there. */
+static void applies_batches(void) {
+    const uint32_t sources[] = {0, 0, 1, 2, 3}, targets[] = {1, 2, 2, 0, 3};
+    const uint8_t none[5] = {0};
+    const uint32_t next_sources[] = {1, 0, 3}, next_targets[] = {2, 3, 1};
+    const uint8_t next_removes[] = {1, 0, 7};
+    edgebpf_change change = {9, 9, 9};
+    CHECK(edgebpf_store_new(4, &store) == EDGEBPF_DONE);
+    CHECK(edgebpf_store_apply(&store, 0, sources, 5, targets, 5, none, 5, &change) == EDGEBPF_DONE);
+    CHECK(change.added == 5 && change.removed == 0 && change.number == 1);
+    CHECK(edgebpf_store_pin(&store, &first) == EDGEBPF_DONE);
+    CHECK(edgebpf_store_apply(&store, 1, next_sources, 3, next_targets, 3, next_removes, 3, &change) == EDGEBPF_DONE);
+    CHECK(change.added == 1 && change.removed == 1 && change.number == 2);
+    CHECK(edgebpf_store_pin(&store, &last) == EDGEBPF_DONE);
+}
+
+static void answers_questions(void) {
+    edgebpf_info info;
+    edgebpf_version shared = {{0}};
+    uint32_t answer = 9;
+    CHECK(edgebpf_version_info(&last, &info) == EDGEBPF_DONE);
+    CHECK(info.number == 2 && info.edges == 5 && info.vertices == 4);
+    CHECK(edgebpf_version_info(&first, &info) == EDGEBPF_DONE);
+    CHECK(info.number == 1 && info.edges == 5 && info.vertices == 4);
+    CHECK(edgebpf_version_degree(&last, 0, &answer) == EDGEBPF_DONE && answer == 3);
+    CHECK(edgebpf_version_degree(&last, 1, &answer) == EDGEBPF_DONE && answer == 0);
+    CHECK(edgebpf_version_degree(&last, UINT32_MAX, &answer) == EDGEBPF_DONE && answer == 0);
+    CHECK(edgebpf_version_has_edge(&last, 1, 2, &answer) == EDGEBPF_DONE && answer == 0);
+    CHECK(edgebpf_version_has_edge(&first, 1, 2, &answer) == EDGEBPF_DONE && answer == 1);
+    CHECK(edgebpf_version_neighbour(&last, 0, 1, &answer) == EDGEBPF_DONE && answer == 2);
+    CHECK(edgebpf_version_neighbour(&last, 0, 3, &answer) == EDGEBPF_NO_NEIGHBOUR && answer == 2);
+    CHECK(edgebpf_version_share(&last, &shared) == EDGEBPF_DONE);
+    CHECK(edgebpf_version_info(&shared, &info) == EDGEBPF_DONE && info.number == 2);
+    edgebpf_close_version(&shared);
+}
+
+static void lends_and_copies(void) {
+    edgebpf_slice slices[8];
+    size_t lent = 9, seen = 0;
+    uint64_t starts[5];
+    uint32_t targets[5];
+    const uint64_t wanted_starts[] = {0, 3, 3, 4, 5};
+    const uint32_t wanted[] = {1, 2, 3, 0, 3};
+    CHECK(edgebpf_version_lend(&last, 0, slices, 8, &lent) == EDGEBPF_DONE && lent <= 3);
+    for (size_t i = 0; i < lent; i++)
+        for (size_t j = 0; j < slices[i].count; j++) CHECK(slices[i].at[j] == ++seen);
+    CHECK(seen == 3);
+    CHECK(edgebpf_version_lend(&last, 1, slices, 8, &lent) == EDGEBPF_DONE && lent == 0);
+    CHECK(edgebpf_version_lend(&last, 77, slices, 8, &lent) == EDGEBPF_DONE && lent == 0);
+    CHECK(edgebpf_version_copy(&last, starts, 5, targets, 5) == EDGEBPF_DONE);
+    CHECK(!memcmp(starts, wanted_starts, sizeof starts) && !memcmp(targets, wanted, sizeof targets));
+    CHECK(edgebpf_version_copy(&last, starts, 4, targets, 5) == EDGEBPF_LENGTHS);
+    CHECK(edgebpf_version_copy(&last, starts, 5, targets, 4) == EDGEBPF_LENGTHS);
+}
+
+static void verifies_programs(void) {
+    const uint8_t unset[] = {0xbf, 0x50, 0, 0, 0, 0, 0, 0, 0x95, 0, 0, 0, 0, 0, 0, 0}; /* mov r0, r5; exit */
+    edgebpf_verdict verdict;
+    edgebpf_program other = {{0}};
+    CHECK(edgebpf_program_new(16, target_code, 16, &verdict, &targets_of) == EDGEBPF_DONE);
+    CHECK(verdict.bound == 2 && verdict.frames == 1);
+    CHECK(edgebpf_program_new(16, unset, 16, &verdict, &other) == EDGEBPF_REFUSED && !other.handle.at);
+    CHECK(verdict.cause == 8 && verdict.pc == 0); /* UnsetRegister */
+    CHECK(edgebpf_program_new(15, target_code, 16, &verdict, &other) == EDGEBPF_RECORD_LENGTH);
+    CHECK(edgebpf_program_new(257, target_code, 16, &verdict, &other) == EDGEBPF_RECORD_LENGTH);
+    CHECK(edgebpf_program_new(16, target_code, 12, &verdict, &other) == EDGEBPF_CODE_LENGTH);
+    CHECK(edgebpf_program_new(16, target_code, 0, &verdict, &other) == EDGEBPF_CODE_LENGTH);
+    CHECK(edgebpf_program_share(&targets_of, &other) == EDGEBPF_DONE && other.handle.at);
+    edgebpf_close_program(&other);
+    CHECK(!other.handle.at);
+}
+
+static void reads_and_writes_texts(void) {
+    const char *text = "ldxw r0, [r1+4]\nexit\n", *wrong = "mov r0, 1\n\nfoo r0\n";
+    uint8_t code[64], *told;
+    edgebpf_assembled made;
+    size_t count = 0, again = 0;
+    CHECK(edgebpf_assemble((const uint8_t *)text, strlen(text), code, sizeof code, &made) == EDGEBPF_DONE);
+    CHECK(made.length == 16 && !memcmp(code, target_code, 16));
+    CHECK(edgebpf_assemble((const uint8_t *)text, strlen(text), code, 15, &made) == EDGEBPF_LENGTHS && made.length == 16);
+    CHECK(edgebpf_assemble((const uint8_t *)wrong, strlen(wrong), code, sizeof code, &made) == EDGEBPF_WRONG_TEXT);
+    CHECK(made.line == 3 && made.cause == 2); /* UnknownName */
+    CHECK(edgebpf_assemble((const uint8_t *)"\xff", 1, code, sizeof code, &made) == EDGEBPF_WRONG_TEXT);
+    CHECK(made.line == 0 && made.cause == 0);
+    CHECK(edgebpf_explain(16, target_code, 16, code, 0, &count) == EDGEBPF_LENGTHS && count > 0);
+    told = malloc(count);
+    CHECK(told && edgebpf_explain(16, target_code, 16, told, count, &again) == EDGEBPF_DONE && again == count);
+    free(told);
+    CHECK(edgebpf_explain(16, target_code, 9, code, sizeof code, &count) == EDGEBPF_CODE_LENGTH);
+}
+
+static void runs_programs(void) {
+    const uint32_t frontier[] = {3, 0, 1};
+    uint64_t values[3], numbers[5];
+    const uint64_t wanted[] = {1, 2, 3, 0, 3};
+    edgebpf_totals totals = {7, 7};
+    CHECK(edgebpf_run(&last, &targets_of, EDGEBPF_NO_BYTES, 0, frontier, 3, EDGEBPF_SUM, values, 3, &totals) == EDGEBPF_DONE);
+    CHECK(values[0] == 3 && values[1] == 6 && values[2] == 0 && totals.edges == 4 && totals.total == 9);
+    CHECK(edgebpf_run(&last, &targets_of, EDGEBPF_NO_BYTES, 0, frontier, 3, EDGEBPF_MIN, values, 3, &totals) == EDGEBPF_DONE);
+    CHECK(values[0] == 3 && values[1] == 1 && values[2] == UINT64_MAX && totals.total == 1);
+    CHECK(edgebpf_run(&last, &targets_of, EDGEBPF_NO_BYTES, 0, frontier, 3, EDGEBPF_MAX, values, 3, &totals) == EDGEBPF_DONE);
+    CHECK(values[1] == 3 && values[2] == 0 && totals.total == 3);
+    totals.total = 7;
+    CHECK(edgebpf_run(&last, &targets_of, EDGEBPF_NO_BYTES, 0, frontier, 3, 3, values, 3, &totals) == EDGEBPF_REDUCTION);
+    CHECK(edgebpf_run(&last, &targets_of, EDGEBPF_NO_BYTES, 0, frontier, 3, EDGEBPF_SUM, values, 2, &totals) == EDGEBPF_LENGTHS);
+    CHECK(edgebpf_run(&last, &targets_of, target_code, 1, frontier, 3, EDGEBPF_SUM, values, 3, &totals) == EDGEBPF_ARGUMENT_LENGTH);
+    CHECK(totals.total == 7);
+    CHECK(edgebpf_numbers(&last, &targets_of, EDGEBPF_NO_BYTES, 0, numbers, 5) == EDGEBPF_DONE);
+    CHECK(!memcmp(numbers, wanted, sizeof wanted));
+    CHECK(edgebpf_numbers(&last, &targets_of, EDGEBPF_NO_BYTES, 0, numbers, 4) == EDGEBPF_LENGTHS);
+    CHECK(edgebpf_numbers(&last, &targets_of, target_code, 2, numbers, 5) == EDGEBPF_ARGUMENT_LENGTH);
+}
+
+static void refuses_batches(void) {
+    static uint32_t many[EDGEBPF_MOST_EDITS + 1];
+    static uint8_t marks[EDGEBPF_MOST_EDITS + 1];
+    const uint32_t outside = 4, inside = 3;
+    const uint8_t mark = 0;
+    edgebpf_change change = {9, 9, 9};
+    edgebpf_info info;
+    edgebpf_version now = {{0}};
+    CHECK(edgebpf_store_apply(&store, 0, many, 2, many, 1, marks, 2, &change) == EDGEBPF_LENGTHS);
+    CHECK(edgebpf_store_apply(&store, 0, many, 2, many, 2, marks, 3, &change) == EDGEBPF_LENGTHS);
+    CHECK(edgebpf_store_apply(&store, 0, many, COUNT(many), many, COUNT(many), marks, COUNT(many), &change) == EDGEBPF_TOO_MANY_EDITS);
+    CHECK(edgebpf_store_apply(&store, 0, &inside, 1, &outside, 1, &mark, 1, &change) == EDGEBPF_VERTEX_RANGE);
+    CHECK(edgebpf_store_apply(&store, 0, &outside, 1, &inside, 1, &mark, 1, &change) == EDGEBPF_VERTEX_RANGE);
+    CHECK(edgebpf_store_apply(&store, 2, &inside, 1, &inside, 1, &mark, 1, &change) == EDGEBPF_FEED);
+    CHECK(change.added == 9 && change.removed == 9 && change.number == 9);
+    CHECK(edgebpf_store_pin(&store, &now) == EDGEBPF_DONE && edgebpf_version_info(&now, &info) == EDGEBPF_DONE);
+    CHECK(info.number == 2 && info.edges == 5);
+    edgebpf_close_version(&now);
+    for (uint32_t number = 3; number <= EDGEBPF_MOST_BATCHES; number++)
+        CHECK(edgebpf_store_apply(&store, 0, many, 0, many, 0, marks, 0, &change) == EDGEBPF_DONE && change.number == number);
+    CHECK(edgebpf_store_apply(&store, 0, many, 0, many, 0, marks, 0, &change) == EDGEBPF_LOG_FULL);
+}
+
+static void tells_what_handles_hold(void) {
+    edgebpf_store none = {{0}};
+    edgebpf_version out = {{0}};
+    edgebpf_info info;
+    edgebpf_change change;
+    uint32_t one = 0, answer;
+    uint64_t value;
+    uint8_t mark = 0;
+    size_t lent;
+    edgebpf_slice slice;
+    edgebpf_totals totals;
+    CHECK(edgebpf_store_apply(&none, 0, &one, 1, &one, 1, &mark, 1, &change) == EDGEBPF_EMPTY);
+    CHECK(edgebpf_store_pin(&none, &out) == EDGEBPF_EMPTY);
+    CHECK(edgebpf_version_info(&out, &info) == EDGEBPF_EMPTY);
+    CHECK(edgebpf_version_lend(&out, 0, &slice, 1, &lent) == EDGEBPF_EMPTY);
+    CHECK(edgebpf_run(&out, &targets_of, EDGEBPF_NO_BYTES, 0, &one, 1, 0, &value, 1, &totals) == EDGEBPF_EMPTY);
+    CHECK(edgebpf_store_pin((edgebpf_store *)&last, &out) == EDGEBPF_OTHER_KIND && !out.handle.at);
+    CHECK(edgebpf_version_share((edgebpf_version *)&store, &out) == EDGEBPF_OTHER_KIND);
+    CHECK(edgebpf_version_degree((edgebpf_version *)&targets_of, 0, &answer) == EDGEBPF_OTHER_KIND);
+    CHECK(edgebpf_run(&last, (edgebpf_program *)&store, EDGEBPF_NO_BYTES, 0, &one, 1, 0, &value, 1, &totals) == EDGEBPF_OTHER_KIND);
+    CHECK(edgebpf_version_info(&last, &info) == EDGEBPF_DONE && info.number == 2);
+    CHECK(edgebpf_store_new(0, &none) == EDGEBPF_VERTEX_COUNT && !none.handle.at);
+    CHECK(edgebpf_store_new(EDGEBPF_MOST_VERTICES + 1, &none) == EDGEBPF_VERTEX_COUNT && !none.handle.at);
+    edgebpf_close_store(&none);
+    CHECK(!strcmp(edgebpf_words(EDGEBPF_NO_NEIGHBOUR), "the vertex has no neighbour at this place"));
+    CHECK(!strcmp(edgebpf_words(EDGEBPF_NO_NEIGHBOUR + 1), "there is no such status"));
+}
+
+int main(void) {
+    applies_batches();
+    answers_questions();
+    lends_and_copies();
+    verifies_programs();
+    reads_and_writes_texts();
+    runs_programs();
+    refuses_batches();
+    tells_what_handles_hold();
+    edgebpf_close_store(&store);
+    lends_and_copies(); /* a version outlives its store */
+    edgebpf_close_version(&last);
+    edgebpf_close_version(&last);
+    edgebpf_close_version(&first);
+    edgebpf_close_program(&targets_of);
+    puts("every function, and every status but the want of memory");
+    return 0;
+}

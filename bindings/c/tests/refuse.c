@@ -1,0 +1,115 @@
+/* A heap that refuses the Nth request, for each N: the call answers that there is no memory, all is as it was, the same call
+   then succeeds, and at the end no block is left. It stands in place of heap.c. */
+#include "check.h"
+#include <stdbool.h>
+
+typedef struct { bool is_there; void *at; } block;
+
+static long refused_at, asked, blocks;
+
+static block answer(void *at) { return (block){at != NULL, at}; }
+
+static bool is_refused(void) { return ++asked == refused_at; }
+
+block rattle_alloc(size_t size, size_t align) {
+    void *at = is_refused() ? NULL : malloc(size ? size : align);
+    blocks += at != NULL;
+    return answer(at);
+}
+
+block rattle_realloc(void *at, size_t kept, size_t size, size_t align) {
+    (void)kept;
+    return answer(is_refused() ? NULL : realloc(at, size ? size : align));
+}
+
+void rattle_dealloc(void *at) {
+    blocks--;
+    free(at);
+}
+
+enum { VERTICES = 3000, EDITS = 600, BATCHES = 3 };
+
+static uint32_t sources[EDITS], targets[EDITS], frontier[VERTICES];
+static uint8_t removes[EDITS];
+static uint64_t values[VERTICES];
+static int refusals;
+
+/* Whether a call has to be made again: it was refused memory, and that once at most. */
+static bool again(uint32_t status) {
+    if (status == EDGEBPF_DONE) return false;
+    CHECK(status == EDGEBPF_NO_MEMORY);
+    CHECK(++refusals == 1);
+    return true;
+}
+
+/* The first and the last batch are spread over the graph, the second one is of one vertex, whose list outgrows its home. */
+static void write_batch(int batch) {
+    for (int i = 0; i < EDITS; i++) {
+        sources[i] = batch == 1 ? 7 : random_below(VERTICES);
+        targets[i] = random_below(VERTICES);
+        removes[i] = batch == 2 && random_below(2);
+    }
+}
+
+static void check_last(edgebpf_store *store, uint64_t number, uint64_t edges) {
+    edgebpf_version pin = {{0}};
+    edgebpf_info info;
+    while (again(edgebpf_store_pin(store, &pin))) continue;
+    CHECK(edgebpf_version_info(&pin, &info) == EDGEBPF_DONE);
+    CHECK(info.number == number && info.edges == edges);
+    edgebpf_close_version(&pin);
+}
+
+static void apply_all(edgebpf_store *store) {
+    uint64_t edges = 0;
+    edgebpf_change change;
+    random_state = 5;
+    for (int batch = 0; batch < BATCHES; batch++) {
+        write_batch(batch);
+        while (again(edgebpf_store_apply(store, 0, sources, EDITS, targets, EDITS, removes, EDITS, &change)))
+            check_last(store, batch, edges);
+        edges += change.added - change.removed;
+        check_last(store, batch + 1, edges);
+    }
+}
+
+static void run_all(edgebpf_store *store) {
+    const char *text = "ldxw r0, [r1+4]\nexit\n";
+    edgebpf_version pin = {{0}}, shared = {{0}};
+    edgebpf_program program = {{0}}, other = {{0}};
+    edgebpf_verdict verdict;
+    edgebpf_assembled made;
+    edgebpf_totals totals;
+    static uint8_t code[64], told[4096];
+    size_t count;
+    for (int i = 0; i < VERTICES; i++) frontier[i] = i;
+    while (again(edgebpf_store_pin(store, &pin))) continue;
+    while (again(edgebpf_version_share(&pin, &shared))) continue;
+    while (again(edgebpf_assemble((const uint8_t *)text, strlen(text), code, sizeof code, &made))) continue;
+    while (again(edgebpf_program_new(16, code, made.length, &verdict, &program))) CHECK(!program.handle.at);
+    while (again(edgebpf_program_share(&program, &other))) continue;
+    while (again(edgebpf_explain(16, code, made.length, told, sizeof told, &count))) continue;
+    while (again(edgebpf_run(&pin, &program, EDGEBPF_NO_BYTES, 0, frontier, VERTICES, EDGEBPF_SUM, values, VERTICES, &totals)))
+        continue;
+    edgebpf_close_version(&pin);
+    edgebpf_close_version(&shared);
+    edgebpf_close_program(&program);
+    edgebpf_close_program(&other);
+}
+
+int main(void) {
+    long tries = 0;
+    do {
+        edgebpf_store store = {{0}};
+        refused_at = ++tries;
+        asked = 0;
+        refusals = 0;
+        while (again(edgebpf_store_new(VERTICES, &store))) continue;
+        apply_all(&store);
+        run_all(&store);
+        edgebpf_close_store(&store);
+        CHECK(blocks == 0);
+    } while (refusals);
+    printf("refused each of %ld requests in turn, and no block was left\n", tries - 1);
+    return 0;
+}

@@ -1,0 +1,73 @@
+//! Programs.
+ghost use Rattle.std.specs.Prelude.{◌≡◌, ◌≢◌};
+ghost use Rattle.bpf_image.specs.Program.{without_table};
+ghost use Rattle.embedding.specs.declared.statuses.TheConstants.{DONE, REFUSED};
+ghost use Rattle.embedding.specs.Holding.{OnProgram, HoldsProgram};
+ghost use Rattle.embedding.specs.Batches.{IsHandedOut};
+ghost use Rattle.embedding.specs.Programs.{IsAccepted, IsRefused};
+
+use embedding::{
+    Assembled, EMPTY, Handle, Verdict, assemble_into, explain_into, new_program, share_program_held,
+};
+use std::alloc::Global;
+
+/// Verifies a program of this code for records of this length.
+#[unsafe(no_mangle)]
+pub extern "C" fn edgebpf_program_new(
+    alloc: Global,
+    record_length: u16,
+    code: &[u8],
+    verdict: &mut Verdict,
+    out: &mut Handle,
+) -> u32
+    ensures made { result ≡ DONE → HoldsProgram out.new.held (without_table code.now record_length) }
+    ensures told { result ≡ DONE → IsAccepted (without_table code.now record_length) verdict.new }
+    ensures refused { result ≡ REFUSED → IsRefused (without_table code.now record_length) verdict.new }
+    ensures left { result ≢ DONE → out.new.held ≡ out.old.held }
+{
+    new_program(alloc, record_length, code, verdict, out)
+}
+
+/// Another handle of the same program, for another thread.
+#[unsafe(no_mangle)]
+pub extern "C" fn edgebpf_program_share(
+    alloc: Global,
+    program: &mut Handle,
+    out: &mut Handle,
+) -> u32
+    ensures kept { program.new.held ≡ program.old.held }
+    ensures told { OnProgram program.old.held result (out.new.held ≡ out.old.held)
+        (λ p. IsHandedOut result (HoldsProgram out.new.held p) (out.new.held ≡ out.old.held)) }
+{
+    match program.take(alloc) {
+        None => EMPTY,
+        Some(held) => {
+            let answer = share_program_held(alloc, &held, out);
+            program.put(held);
+            answer
+        }
+    }
+}
+
+/// The code that a text means.
+#[unsafe(no_mangle)]
+pub extern "C" fn edgebpf_assemble(
+    alloc: Global,
+    text: &[u8],
+    code: &mut [u8],
+    told: &mut Assembled,
+) -> u32 {
+    assemble_into(alloc, text, code, told)
+}
+
+/// What the verifier knows of a program, as text for a person.
+#[unsafe(no_mangle)]
+pub extern "C" fn edgebpf_explain(
+    alloc: Global,
+    record_length: u16,
+    code: &[u8],
+    text: &mut [u8],
+    count: &mut usize,
+) -> u32 {
+    explain_into(alloc, record_length, code, text, count)
+}

@@ -1,0 +1,75 @@
+//! Stores.
+ghost use Rattle.std.specs.Prelude.{◌≡◌, ◌≢◌, None};
+ghost use Rattle.past_model.specs.Past.{opening};
+ghost use Rattle.version.specs.Version.{IsVertexCount};
+ghost use Rattle.embedding.specs.declared.statuses.TheConstants.{DONE, NO_MEMORY, VERTEX_COUNT};
+ghost use Rattle.embedding.specs.Holding.{OnStore, HoldsStore, HoldsVersion};
+ghost use Rattle.embedding.specs.Batches.{IsAppliedTo, IsHandedOut};
+
+use embedding::{Arrays, Change, EMPTY, Handle, apply_held, new_store, pin_held};
+use std::alloc::Global;
+
+/// A store of a graph of so many vertices, from 1 to 1,048,576, without an edge.
+#[unsafe(no_mangle)]
+pub extern "C" fn edgebpf_store_new(alloc: Global, vertex_count: u32, out: &mut Handle) -> u32
+    ensures made { result ≡ DONE → HoldsStore out.new.held (opening vertex_count) }
+    ensures left { result ≢ DONE → out.new.held ≡ out.old.held }
+    ensures fault { result ≢ DONE → result ≢ NO_MEMORY → result ≡ VERTEX_COUNT }
+    ensures outside { result ≡ VERTEX_COUNT → IsVertexCount vertex_count → ⊥ }
+    ensures inside { result ≢ VERTEX_COUNT → IsVertexCount vertex_count }
+{
+    new_store(alloc, vertex_count, out)
+}
+
+/// Applies a batch: for each place an edge from a source to a target, which is put in, or taken out where `removes` is not 0.
+#[unsafe(no_mangle)]
+pub extern "C" fn edgebpf_store_apply(
+    alloc: Global,
+    store: &mut Handle,
+    feed: u8,
+    sources: &[u32],
+    targets: &[u32],
+    removes: &[u8],
+    change: &mut Change,
+) -> u32
+    ensures { IsAppliedTo feed sources.now targets.now removes.now store.old.held result store.new.held change.old change.new }
+{
+    let arrays = Arrays {
+        sources,
+        targets,
+        removes,
+    };
+    match store.take(alloc) {
+        None => EMPTY,
+        Some(mut held) => {
+            let answer = apply_held(alloc, &mut held, feed, arrays, change);
+            store.put(held);
+            answer
+        }
+    }
+}
+
+/// The last version.
+#[unsafe(no_mangle)]
+pub extern "C" fn edgebpf_store_pin(alloc: Global, store: &mut Handle, out: &mut Handle) -> u32
+    ensures kept { store.new.held ≡ store.old.held }
+    ensures told { OnStore store.old.held result (out.new.held ≡ out.old.held)
+        (λ p. IsHandedOut result (HoldsVersion out.new.held p) (out.new.held ≡ out.old.held)) }
+{
+    match store.take(alloc) {
+        None => EMPTY,
+        Some(held) => {
+            let answer = pin_held(alloc, &held, out);
+            store.put(held);
+            answer
+        }
+    }
+}
+
+/// Lets go of what a handle holds, and leaves it empty.
+#[unsafe(no_mangle)]
+pub extern "C" fn edgebpf_close(alloc: Global, handle: &mut Handle)
+    ensures { handle.new.held ≡ None }
+{
+    let _held = handle.take(alloc);
+}

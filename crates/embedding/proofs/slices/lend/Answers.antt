@@ -1,0 +1,40 @@
+use Rattle.std.proofs.Common.{length, ap, arith}
+use Rattle.std.proofs.lemmas.List.{length-append, length-set}
+use Rattle.embedding.proofs.SliceCounts.{counted_more}
+use Rattle.embedding.proofs.slices.lend.Goals as goal
+
+pub slices-init : goal.slices-init
+slices-init c = record {
+  fit = omega arith;
+  some = omega (arith, ap length c.cursor-cursor.ensures);
+}
+
+pub slices-preserved : goal.slices-preserved
+slices-preserved c =
+    let here = c.slices-test.true in
+    let some = c.slices.invariant.some in
+    let cut = ap length c.in-Some.ensures.lent.1 in
+    let count = c.slice_from.ensures in
+    record {
+      fit = omega (arith, here, length-set c.slices.slices c.slices.lent c.slice_from.result);
+      some = omega (arith, some, cut, count, length-append c.in-Some.words.now c.next_slice.new.self, counted_more c.slices.slices c.slices.lent c.slice_from.result here);
+    }
+
+pub returns-in_default : goal.returns-in_default
+returns-in_default c =
+    let some = c.slices.invariant.some in
+    record {
+      fit = c.slices.invariant.fit;
+      some = omega (arith, some);
+      all = λ below. (let none = ap length c.in_default.ensures.lent.0 in omega (arith, some, none));
+    }
+
+pub returns : goal.returns
+returns c =
+    let some = c.slices.invariant.some in
+    let past = c.slices-test.false in
+    record {
+      fit = c.slices.invariant.fit;
+      some = omega (arith, some);
+      all = λ below. absurd (omega (arith, past, below));
+    }

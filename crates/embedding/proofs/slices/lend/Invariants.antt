@@ -1,0 +1,14 @@
+use Rattle.std.proofs.Common.{◌≡◌, ◌+◌, ◌-◌, ◌≤◌, length, take}
+use Rattle.graph_model.specs.Graph.{degree}
+use Rattle.past_model.specs.Past.{graph_of}
+use Rattle.embedding.specs.Slices.{counted}
+use Rattle.embedding.proofs.slices.lend.Given as goal
+
+abbrev pub invariant-slices : goal.invariant-slices
+invariant-slices l = record {
+  fit : l.lent ≤ length l.slices;
+  some : counted (take l.lent l.slices) + length l.cursor ≡ degree (graph_of l.version) l.vertex;
+}
+
+abbrev pub decreases-slices : goal.decreases-slices
+decreases-slices l = length l.slices - l.lent

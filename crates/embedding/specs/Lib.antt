@@ -1,0 +1,10 @@
+pub mod Handle
+pub mod Holding
+pub mod Applying
+pub mod Spelled
+pub mod Batches
+pub mod Questions
+pub mod Slices
+pub mod Programs
+pub mod Texts
+pub mod Runs

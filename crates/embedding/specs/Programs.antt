@@ -1,0 +1,29 @@
+-- What is told of a program.
+use Rattle.std.specs.Prelude.{◌≡◌, ◌≢◌, ℕ, min, List, Result, Ok, Err, length}
+use Rattle.bpf_isa.specs.declared.limits.TheConstants.{MOST_UNITS}
+use Rattle.explanation.specs.Words.{cause_number}
+use Rattle.bpf_image.specs.Program.{Program, without_table, IsRecordLength, IsCodeLength}
+use Rattle.verifier.specs.Verdict.{Verdict, Accepted, Refused, verdict}
+use Rattle.embedding.specs.declared.statuses.TheConstants.{DONE, NO_MEMORY, RECORD_LENGTH, CODE_LENGTH}
+use Rattle.embedding.specs.declared.programs.Verdict.{Verdict as Told}
+
+-- the image of a code, or why there is none
+abbrev pub IsImageOf : List ℕ → ℕ → Result Program ℕ → Type 0
+IsImageOf code n (Ok image) = image ≡ without_table code n
+IsImageOf code n (Err status) =
+    (status ≢ DONE)
+    × (status ≡ RECORD_LENGTH → IsRecordLength n → ⊥)
+    × (status ≡ CODE_LENGTH → IsRecordLength n × (IsCodeLength (length code) → ⊥))
+    × (status ≢ RECORD_LENGTH → status ≢ CODE_LENGTH → status ≡ NO_MEMORY)
+
+-- the verifier accepts it with this bound and these frames
+abbrev pub IsAccepted : Program → Told → Type 0
+IsAccepted p told = verdict p ≡ Accepted told.bound told.frames
+
+-- it refuses it, by this rule and at this place
+abbrev pub refusal_told : Verdict → Told → Type 0
+refusal_told (Accepted bound frames) told = ⊥
+refusal_told (Refused r) told = (told.cause ≡ cause_number r.cause) × (told.pc ≡ min r.pc MOST_UNITS)
+
+abbrev pub IsRefused : Program → Told → Type 0
+IsRefused p told = refusal_told (verdict p) told

@@ -1,0 +1,38 @@
+//! What a host in another language holds of this one: a store, its versions and verified programs behind handles, and the
+//! calls on what handles hold. Each call answers a status, and none asks its caller for anything.
+#![tactic(auto)]
+
+mod changes;
+mod copies;
+mod edits;
+mod handle;
+mod held;
+mod numbers;
+mod programs;
+mod questions;
+mod raw_box;
+mod runs;
+mod slices;
+mod statuses;
+mod store;
+mod texts;
+
+pub use changes::{apply_held, new_store, pin_held};
+pub use copies::copy_held;
+pub use edits::Arrays;
+pub use handle::{Handle, hand_out};
+pub use held::Held;
+pub use numbers::number_held;
+pub use programs::{Verdict, new_program, share_program_held};
+pub use questions::{
+    Info, degree_held, has_edge_held, info_held, neighbour_held, share_version_held,
+};
+pub use runs::{Totals, run_held};
+pub use slices::{Slice, lend_held};
+pub use statuses::{
+    ARGUMENT_LENGTH, CODE_LENGTH, DONE, EMPTY, FEED, LENGTHS, LOG_FULL, NO_MEMORY, NO_NEIGHBOUR,
+    OTHER_KIND, RECORD_LENGTH, REDUCTION, REFUSED, TOO_MANY_EDITS, VERTEX_COUNT, VERTEX_RANGE,
+    WRONG_TEXT,
+};
+pub use store::{Change, Store};
+pub use texts::{Assembled, assemble_into, explain_into};

@@ -1,0 +1,61 @@
+//! The slices in which a vertex's neighbours lie, lent where they lie.
+ghost use Rattle.std.specs.Prelude.{◌≡◌, ◌<◌, ◌≤◌, Some, length};
+ghost use Rattle.graph_model.specs.Graph.{degree};
+ghost use Rattle.past_model.specs.Past.{graph_of};
+ghost use Rattle.embedding.specs.declared.statuses.TheConstants.{DONE};
+ghost use Rattle.embedding.specs.Holding.{OnVersion};
+ghost use Rattle.embedding.specs.Slices.{counted, AreLent};
+
+use crate::held::Held;
+use crate::statuses::{DONE, OTHER_KIND};
+use version::Version;
+
+/// Where some neighbours lie, one behind another, and how many they are.
+#[repr(C)]
+#[derive(Clone, Copy)]
+pub struct Slice {
+    pub at: *const u32,
+    pub count: usize,
+}
+
+// A slice that begins with this word.
+fn slice_from(first: &u32, count: usize) -> Slice
+    ensures { result.count ≡ count }
+{
+    Slice {
+        at: std::ptr::from_ref(first),
+        count,
+    }
+}
+
+// Writes the slices of a vertex, as far as there is room, and tells how many.
+fn lend(version: &Version, vertex: u32, slices: &mut [Slice]) -> usize
+    ensures { AreLent (degree (graph_of version.now) vertex) result slices.new }
+{
+    let mut cursor = version.cursor(vertex);
+    let mut lent = 0usize;
+    'slices: while lent < slices.len() {
+        let Some(words) = cursor.next_slice() else {
+            return lent;
+        };
+        slices[lent] = slice_from(&words[0], words.len());
+        lent += 1;
+    }
+    lent
+}
+
+/// Writes the slices in which a vertex's neighbours lie, in order, and tells how many it wrote: as many as there is room for,
+/// and fewer only where these are all. They stay where they are while any handle of the version is open.
+pub fn lend_held(held: &Held, vertex: u32, slices: &mut [Slice], lent: &mut usize) -> u32
+    ensures { OnVersion (Some held.now) result ((slices.new ≡ slices.old) × (lent.new ≡ lent.old))
+        (λ p. (result ≡ DONE) × AreLent (degree (graph_of p) vertex) lent.new slices.new) }
+{
+    match held {
+        Held::Version(version) => {
+            *lent = lend(version, vertex, slices);
+            DONE
+        }
+        Held::Store(_) => OTHER_KIND,
+        Held::Program(_) => OTHER_KIND,
+    }
+}

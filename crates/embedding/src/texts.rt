@@ -1,0 +1,76 @@
+//! Programs as text, and what the verifier knows of them as text.
+ghost use Rattle.std.specs.Prelude.{◌≡◌, ◌≢◌, length};
+ghost use Rattle.embedding.specs.declared.statuses.TheConstants.{DONE};
+ghost use Rattle.embedding.specs.Texts.{IsWritten};
+
+use crate::programs::image_of;
+use crate::statuses::{DONE, LENGTHS, NO_MEMORY, WRONG_TEXT};
+use bpf_asm::{TextCause, assemble};
+use explanation::explain;
+use std::alloc::Global;
+
+/// What came of a text: how many bytes of code it means, or why and in which line it means none. The others are 0.
+#[repr(C)]
+#[derive(Clone, Copy, Debug, PartialEq, Eq)]
+pub struct Assembled {
+    /// How many bytes the code has.
+    pub length: usize,
+    /// The line, from 1; 0 where the text is no UTF-8.
+    pub line: usize,
+    /// The fault, by its number; 0 where the text is no UTF-8.
+    pub cause: u32,
+}
+
+// Writes bytes where the host wants them, and how many they are. `LENGTHS`, and none is written, exactly where there is too
+// little room.
+fn write_out(bytes: &[u8], out: &mut [u8], count: &mut usize) -> u32
+    ensures { IsWritten bytes.now out.old result out.new count.new }
+{
+    *count = bytes.len();
+    if bytes.len() > out.len() {
+        return LENGTHS;
+    }
+    out[..bytes.len()].copy_from_slice(bytes);
+    DONE
+}
+
+/// Writes the code that a text means, and how many bytes it has. `WRONG_TEXT` where it means none; `LENGTHS` where there is
+/// too little room, and then no code is written.
+pub fn assemble_into(alloc: Global, text: &[u8], code: &mut [u8], told: &mut Assembled) -> u32 {
+    *told = Assembled {
+        length: 0,
+        line: 0,
+        cause: 0,
+    };
+    let Ok(text) = std::str::from_utf8(text) else {
+        return WRONG_TEXT;
+    };
+    match assemble(alloc, text) {
+        Ok(bytes) => write_out(&bytes, code, &mut told.length),
+        Err(error) if error.cause == TextCause::OutOfMemory => NO_MEMORY,
+        Err(error) => {
+            told.line = error.line;
+            told.cause = error.cause as u32;
+            WRONG_TEXT
+        }
+    }
+}
+
+/// Writes what the verifier knows of a program, as text for a person, and how many bytes that has. `LENGTHS` where there is
+/// too little room, and then no text is written.
+pub fn explain_into(
+    alloc: Global,
+    record_length: u16,
+    code: &[u8],
+    text: &mut [u8],
+    count: &mut usize,
+) -> u32 {
+    let image = match image_of(alloc, record_length, code) {
+        Ok(image) => image,
+        Err(status) => return status,
+    };
+    match explain(alloc, image, &[]) {
+        Ok(told) => write_out(told.text.as_bytes(), text, count),
+        Err(_) => NO_MEMORY,
+    }
+}
