@@ -1,4 +1,6 @@
 //! Images, made and loaded.
+ghost use Rattle.std.specs.Prelude.{◌≡◌, IfOk, IfSome};
+
 use crate::code::{bytes_of, code_of};
 use anyhow::Result;
 use bpf_image::{Image, ImageError};
@@ -44,7 +46,9 @@ pub(crate) fn made(alloc: Global, record_length: u16, input: &str) -> Result<Str
 
 /// The image of a program for records of this length, with the table whose bytes stand behind that word; none where
 /// these make no image.
-pub(crate) fn image_of(alloc: Global, record_length: u16, input: &str) -> Result<Option<Image>> {
+pub(crate) fn image_of(alloc: Global, record_length: u16, input: &str) -> Result<Option<Image>>
+    ensures { IfOk result (λ found. IfSome found (λ image. image.record_length ≡ record_length)) }
+{
     let Some((program, digits)) = input.split_once(" table ") else {
         let Ok(image) = Image::new(record_length, code_of(alloc, input)?) else {
             return Ok(None);
