@@ -2,20 +2,22 @@
 
     import edgebpf
 
-    with edgebpf.connect(vertices=4) as store:
+    with edgebpf.Store(vertices=4) as store:
         store.batch("A", inserts=([0, 0, 1], [1, 2, 2]))
         target = edgebpf.assemble("ldxw r0, [r1+4]; exit")
         with store.pin() as version:
             result = version.run(target, "sum")
             result.total, result.values        # 5, array([3, 2, 0, 0], dtype=uint64)
 
-The graph lives in an `edgebpf` process, which `connect` starts and `Store.close` ends. Batches and runs may have several workers there.
+The graph of a `Store` lives in this process, in the memory of `libedgebpf.so`. That of `connect` lives in an `edgebpf` process, which it
+starts and `close` ends; batches and runs may have several workers there.
 """
 from edgebpf.errors import (
     ArgumentLength, Closed, Error, LogFull, NoMemory, Refused, TooManyEdits, TooManyNames, VertexRange, WrongText,
 )
+from edgebpf.native import Store, Version
 from edgebpf.programs import Program, assemble, compile_c
-from edgebpf.store import Counts, Result, Store, Version, connect
+from edgebpf.store import Counts, Result, connect
 
 __all__ = [
     "ArgumentLength", "Closed", "Counts", "Error", "LogFull", "NoMemory", "Program", "Refused", "Result", "Store", "TooManyEdits",

@@ -1,13 +1,16 @@
 """Programs: BPF code or text that the verifier has accepted."""
+import ctypes
 import os
 import pathlib
 import shutil
 import subprocess
 
+from edgebpf import library
 from edgebpf.errors import Error, Refused, WrongText
 
 EDGE_BYTES = 16
 MOST_RECORD = 256
+MOST_UNITS = 4_096
 CHECKOUT = pathlib.Path(__file__).resolve().parents[3]
 
 
@@ -44,7 +47,10 @@ class Program:
     def _take(self, code, text, record):
         if not EDGE_BYTES <= record <= MOST_RECORD:
             raise ValueError(f"a record has {EDGE_BYTES} to {MOST_RECORD} bytes, not {record}")
-        self.code, self.text, self.record = code, text, record
+        self.code, self.text, self.record, self._handle = code, text, record, None
+        if library.path():
+            self._verify()
+            return
         run = subprocess.run([command("edgebpf")], input=b"graph 1\n" + self._lines("p"), capture_output=True)
         words = run.stdout.decode().splitlines()[-1].split() if run.stdout else []
         if words[:2] == ["program", "p"]:
@@ -57,6 +63,27 @@ class Program:
             raise ValueError("code has 1 to 4,096 whole units of 8 bytes")
         else:
             raise Error(f"edgebpf could not verify the program: {run.stderr.decode().strip() or ' '.join(words)}")
+
+    def _verify(self):
+        """Verifies the program by the library."""
+        handle, verdict = library.Handle(), library.Verdict()
+        status = library.load()["program_new"](self.record, *library.text(self._bytes()), ctypes.addressof(verdict), handle.at)
+        if status == library.REFUSED:
+            raise Refused(verdict.cause, verdict.pc, self)
+        library.check(status)
+        self._handle, self.bound, self.frames = handle, verdict.bound, verdict.frames
+
+    def _bytes(self):
+        """The code, by the library's assembler where the program is a text."""
+        if self.code is not None:
+            return self.code
+        told, text = library.Assembled(), self.text.encode()
+        code = ctypes.create_string_buffer(8 * MOST_UNITS)
+        status = library.load()["assemble"](*library.text(text), ctypes.addressof(code), len(code), ctypes.addressof(told))
+        if status == library.WRONG_TEXT:
+            raise WrongText(told.cause, told.line)
+        library.check(status)
+        return code.raw[:told.length]
 
     def _lines(self, name):
         """The lines of a script that load the program under a name."""

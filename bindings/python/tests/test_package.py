@@ -44,7 +44,8 @@ class Package(unittest.TestCase):
         blocks = python_blocks(TOP / "README.md") + python_blocks(FOLDER / "README.md")
         self.assertGreaterEqual(len(blocks), 2)
         for block in blocks:
-            exec(compile(block, "README.md", "exec"), {})
+            if "edgebpf.Store(" not in block or edgebpf.library.path():
+                exec(compile(block, "README.md", "exec"), {})
 
     def test_cookbook(self):
         """Its example in Python runs beside the files of its programs in C."""

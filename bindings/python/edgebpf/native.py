@@ -1,0 +1,187 @@
+"""A store in this process, over `libedgebpf.so`, and its versions."""
+import ctypes
+import threading
+
+import numpy as np
+
+from edgebpf import library
+from edgebpf.errors import ArgumentLength, Closed, TooManyEdits, VertexRange
+from edgebpf.programs import EDGE_BYTES, Program
+from edgebpf.store import MOST_EDITS, MOST_VERTICES, Counts, Result, vertices_of
+
+NUMBERS = {"sum": 0, "min": 1, "max": 2}
+FEEDS = {"A": 0, "B": 1}
+LEAST_ROOM = 64
+making = threading.Lock()
+
+
+def words_of(parts):
+    """Arrays of vertices behind one another, as the library wants them."""
+    return np.ascontiguousarray(np.concatenate(parts).astype(np.uint32))
+
+
+def edges_of(edges, count):
+    sources, targets = (vertices_of(ends, count) for ends in edges)
+    if len(sources) != len(targets):
+        raise ValueError("there are as many targets as sources")
+    return sources, targets
+
+
+def handle_of(program):
+    """The library's handle of a program, which is verified there at its first use."""
+    if not isinstance(program, Program):
+        raise TypeError("a program is made by Program, assemble or compile_c")
+    with making:
+        if program._handle is None:
+            program._verify()
+        return program._handle
+
+
+class Lent:
+    """A slice of a version's memory. It keeps the version, and numpy reads it where it lies."""
+
+    def __init__(self, at, count, handle):
+        self.__array_interface__ = {"data": (at, True), "shape": (count,), "typestr": "<u4", "version": 3}
+        self.handle = handle
+
+
+class Store:
+    """A graph in this process, without an edge at first. Batches and runs have one worker; it may be used by several threads, which take
+    turns, and is a context manager. vertices: 1 to 1,048,576."""
+
+    def __init__(self, vertices):
+        if not 1 <= vertices <= MOST_VERTICES:
+            raise ValueError(f"a graph has 1 to {MOST_VERTICES} vertices")
+        self.vertices, self._handle = vertices, library.Handle()
+        library.check(library.load()["store_new"](vertices, self._handle.at))
+
+    def _open(self):
+        if self._handle is None:
+            raise Closed("the store is closed")
+        return self._handle
+
+    def batch(self, feed="A", inserts=((), ()), removes=((), ())):
+        """Applies one batch by feed "A" or "B", and returns its `Counts`.
+
+        inserts, removes: pairs of arrays (sources, targets), each of whole numbers below `vertices`. Insertions are applied
+        before removals. Raises `TooManyEdits`, `VertexRange`, `LogFull` and `NoMemory`; then the store is as it was.
+        """
+        if feed not in FEEDS:
+            raise ValueError("a feed is A or B")
+        handle, change = self._open(), library.Change()
+        new, old = edges_of(inserts, self.vertices), edges_of(removes, self.vertices)
+        sources, targets = words_of((new[0], old[0])), words_of((new[1], old[1]))
+        if len(sources) > MOST_EDITS:
+            raise TooManyEdits(f"{len(sources)} edits; a batch has at most {MOST_EDITS}")
+        marks = np.repeat(np.array([0, 1], np.uint8), [len(new[0]), len(old[0])])
+        arrays = *library.array(sources), *library.array(targets), *library.array(marks)
+        with handle.lock:
+            library.check(library.load()["store_apply"](handle.at, FEEDS[feed], *arrays, ctypes.addressof(change)))
+        return Counts(change.number, change.added, change.removed)
+
+    def pin(self):
+        """The last version. It stays as it is while batches come."""
+        handle, pin = self._open(), library.Handle()
+        with handle.lock:
+            library.check(library.load()["store_pin"](handle.at, pin.at))
+        return Version(pin)
+
+    def close(self):
+        """Lets the store go; its versions stay. May be called twice."""
+        self._handle = None
+
+    def __enter__(self):
+        return self
+
+    def __exit__(self, *_):
+        self.close()
+
+
+class Version:
+    """A version of a store's graph. `number` is how many batches it has, `vertices` and `edges` how large it is. It is let go where it
+    is closed, or with the last view of it."""
+
+    def __init__(self, handle):
+        info = library.Info()
+        self._handle, self._csr = handle, None
+        library.check(library.load()["version_info"](handle.at, ctypes.addressof(info)))
+        self.number, self.vertices, self.edges = info.number, info.vertices, info.edges
+
+    def _open(self):
+        if self._handle is None:
+            raise Closed("the version is closed")
+        return self._handle
+
+    def run(self, program, reduction="sum", frontier=None, argument=b""):
+        """Runs a program for each edge of some vertices, and reduces the numbers.
+
+        reduction: "sum" (modulo 2^64), "min" or "max". frontier: an ascending array of vertices, or None for all.
+        argument: as many bytes as the program's record has beyond 16.
+        """
+        number, totals = NUMBERS[reduction], library.Totals()
+        frontier = np.arange(self.vertices) if frontier is None else vertices_of(frontier, self.vertices)
+        if np.any(frontier[1:] <= frontier[:-1]):
+            raise ValueError("a frontier ascends, and has no vertex twice")
+        frontier, values = words_of((frontier,)), np.empty(len(frontier), np.uint64)
+        arrays = *library.array(frontier), number, *library.array(values), ctypes.addressof(totals)
+        self._ask("run", program, argument, arrays)
+        return Result(values, totals.edges, totals.total)
+
+    def numbers(self, program, argument=b""):
+        """The number of each edge, a uint64 array in the order of `csr`."""
+        numbers = np.empty(self.edges, np.uint64)
+        self._ask("numbers", program, argument, library.array(numbers))
+        return numbers
+
+    def csr(self):
+        """All edges: `starts`, an int64 array of `vertices` + 1 places, and `targets`, a uint32 array, ascending for each source. Both
+        are read-only, for `scipy.sparse.csr_array((ones, targets, starts))`."""
+        handle = self._open()
+        if self._csr is None:
+            starts, targets = np.empty(self.vertices + 1, np.uint64), np.empty(self.edges, np.uint32)
+            with handle.lock:
+                library.check(library.load()["version_copy"](handle.at, *library.array(starts), *library.array(targets)))
+            arrays = starts.view(np.int64), targets
+            for one in arrays:
+                one.flags.writeable = False
+            self._csr = arrays
+        return self._csr
+
+    def slices(self, vertex):
+        """The read-only arrays in which the targets of a vertex lie, ascending. They are not copied, and keep the version."""
+        if not 0 <= vertex < self.vertices:
+            raise VertexRange(f"a vertex is not below {self.vertices}")
+        handle, room, lent = self._open(), LEAST_ROOM, ctypes.c_size_t()
+        while True:
+            slices = (library.Slice * room)()
+            with handle.lock:
+                library.check(library.load()["version_lend"](handle.at, vertex, ctypes.addressof(slices), room, ctypes.addressof(lent)))
+            if lent.value < room:
+                return [np.asarray(Lent(slices[i].at, slices[i].count, handle)) for i in range(lent.value)]
+            room *= 4
+
+    def neighbours(self, vertex):
+        """The targets of a vertex, ascending, as a read-only uint32 array: a view where they lie in one slice, else a copy."""
+        slices = self.slices(vertex)
+        if len(slices) == 1:
+            return slices[0]
+        whole = np.concatenate(slices) if slices else np.empty(0, np.uint32)
+        whole.flags.writeable = False
+        return whole
+
+    def close(self):
+        """Gives the version up. Views of it stay. May be called twice."""
+        self._handle = None
+
+    def __enter__(self):
+        return self
+
+    def __exit__(self, *_):
+        self.close()
+
+    def _ask(self, call, program, argument, arrays):
+        handle, code = self._open(), handle_of(program)
+        if len(argument) != program.record - EDGE_BYTES:
+            raise ArgumentLength(f"the argument has {program.record - EDGE_BYTES} bytes, not {len(argument)}")
+        with handle.lock, code.lock:
+            library.check(library.load()[call](handle.at, code.at, *library.text(bytes(argument)), *arrays))
