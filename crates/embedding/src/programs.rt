@@ -15,7 +15,7 @@ use bpf_image::{Image, ImageError};
 use bpf_isa::MOST_UNITS;
 use std::alloc::Global;
 use std::sync::Arc;
-use verifier::{Cause, Verified, WorkError, verify};
+use verifier::{Cause, Refusal, Verified, verify};
 
 /// What the verifier says of a program: the bound and the frames of one that it accepts, the cause and the place of one that
 /// it refuses. The others are 0.
@@ -59,7 +59,7 @@ fn accepted(program: &Verified) -> Verdict
 }
 
 // What is told of one that is refused.
-fn refused(refusal: WorkError) -> Verdict
+fn refused(refusal: Refusal) -> Verdict
     ensures cause { result.cause ≡ cause_number refusal.cause }
     ensures pc { result.pc ≡ min refusal.pc MOST_UNITS }
 {
