@@ -1,10 +1,9 @@
 //! A map over edges.
-ghost use Rattle.std.specs.Prelude.{◌≡◌, ◌+◌, ◌<◌, ◌≤◌, [], length, IfOk, IfErr, IsErrOf};
+ghost use Rattle.std.specs.Prelude.{◌≡◌, ◌+◌, ◌<◌, ◌≤◌, [], length, IfOk};
 ghost use Rattle.past_model.specs.declared.limits.TheConstants.{MOST_VERTICES};
 ghost use Rattle.past_model.specs.Past.{graph_of};
 ghost use Rattle.map_model.specs.declared.limits.TheConstants.{EDGE_BYTES};
 ghost use Rattle.workers.specs.declared.limits.TheConstants.{MOST_WORKERS};
-ghost use Rattle.workers.specs.declared.work_error.WorkError.TheVariants.{OutOfMemory};
 ghost use Rattle.claims.specs.declared.limits.TheConstants.{PARTS};
 ghost use Rattle.edge_fold.specs.declared.rows.Rows.TheVariants.{OfEach, OfSources};
 ghost use Rattle.edge_map.specs.Maps.{IsMap, IsMapped};
@@ -54,8 +53,7 @@ fn done_by<Ga: Gate, R: Threads + Wait>(
     requires of { me.counter ≡ plan.counter.now }
     requires parts { more < me.parts }
     requires fresh { me.claimed ≡ [] }
-    ensures done { IfOk result (λ done. IsWork (task_of plan.entry) me.parts done.claimant done.pieces.items) }
-    ensures alone { more ≡ 0 → IfErr result (λ e. e ≡ OutOfMemory) }
+    ensures { IfOk result (λ done. IsWork (task_of plan.entry) me.parts done.claimant done.pieces.items) }
 {
     let rt = crew.rt;
     let gate = crew.gate;
@@ -99,8 +97,7 @@ fn done_by<Ga: Gate, R: Threads + Wait>(
 
 /// How many threads are started besides the caller's: no more than have a piece to claim.
 fn more_workers(workers: Workers, pieces: u64) -> u8
-    ensures most { result < MOST_WORKERS }
-    ensures alone { workers.count ≡ 1 → result ≡ 0 }
+    ensures { result < MOST_WORKERS }
 {
     u64::from(workers.count() - 1).min(pieces.saturating_sub(1)) as u8
 }
@@ -115,9 +112,8 @@ fn map_allowed<Ga: Gate, R: Threads + Wait>(
 ) -> Result<MapOutcome, WorkError>
     requires argument { length request.now.argument.now + EDGE_BYTES ≡ request.now.program.now.record_length }
     requires few { length request.now.frontier.now ≤ MOST_VERTICES }
-    ensures mapped { IfOk result (λ out. IsMap rows request.now.program.now (graph_of version.now) request.now.reduction
+    ensures { IfOk result (λ out. IsMap rows request.now.program.now (graph_of version.now) request.now.reduction
         request.now.argument.now request.now.frontier.now out) }
-    ensures alone { crew.now.workers.count ≡ 1 → IfErr result (λ e. e ≡ OutOfMemory) }
 {
     let (counter, me) = Counter::new(alloc)?;
     let plan = Plan {
@@ -145,9 +141,8 @@ pub(crate) fn map_version<Ga: Gate, R: Threads + Wait>(
     request: &MapRequest<'_>,
     rows: Rows,
 ) -> Result<MapOutcome, MapError>
-    ensures mapped { IsMapped rows request.now.program.now (graph_of version.now) request.now.reduction
+    ensures { IsMapped rows request.now.program.now (graph_of version.now) request.now.reduction
         request.now.argument.now request.now.frontier.now result }
-    ensures alone { crew.now.workers.count ≡ 1 → IsErrOf result MapError.WorkerRefused → ⊥ }
 {
     if request.argument.len() + EDGE_BYTES != usize::from(request.program.image().record_length()) {
         return Err(MapError::ArgumentLength);
@@ -174,9 +169,8 @@ pub fn map_edges<Ga: Gate, R: Threads + Wait>(
     pin: &Pin,
     request: &MapRequest<'_>,
 ) -> Result<MapOutcome, MapError>
-    ensures mapped { IsMapped OfEach request.now.program.now (graph_of pin.now.past) request.now.reduction
+    ensures { IsMapped OfEach request.now.program.now (graph_of pin.now.past) request.now.reduction
         request.now.argument.now request.now.frontier.now result }
-    ensures alone { crew.now.workers.count ≡ 1 → IsErrOf result MapError.WorkerRefused → ⊥ }
 {
     map_version(crew, alloc, pin.version(), request, Rows::OfEach)
 }
@@ -188,9 +182,8 @@ pub fn map_sources<Ga: Gate, R: Threads + Wait>(
     pin: &Pin,
     request: &MapRequest<'_>,
 ) -> Result<MapOutcome, MapError>
-    ensures mapped { IsMapped OfSources request.now.program.now (graph_of pin.now.past) request.now.reduction
+    ensures { IsMapped OfSources request.now.program.now (graph_of pin.now.past) request.now.reduction
         request.now.argument.now request.now.frontier.now result }
-    ensures alone { crew.now.workers.count ≡ 1 → IsErrOf result MapError.WorkerRefused → ⊥ }
 {
     map_version(crew, alloc, pin.version(), request, Rows::OfSources)
 }
