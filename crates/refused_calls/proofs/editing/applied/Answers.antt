@@ -4,7 +4,7 @@ use Rattle.refused_calls.proofs.editing.applied.Goals as goal
 pub returns : goal.returns
 returns g c =
     let before = c.requires in
-    let done = c.in_ok-next.ensures in
+    let done = c.in_ok-next.ensures.applied in
     record {
       graph = after_batch c.args.batch.now before.graph;
       small = before.small;
