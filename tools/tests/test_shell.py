@@ -182,11 +182,15 @@ class Terminal(unittest.TestCase):
             os.execv(PYTHON, [PYTHON, str(TOOLS / "edgebpf-shell")])
         self.addCleanup(os.close, self.leader)
 
-    def until(self, part):
-        """What the terminal shows up to a part that is new."""
-        begun = time.monotonic()
+    def until(self, part, again=None):
+        """What the terminal shows up to a part that is new. `again` is typed once more after each five seconds in vain: Python's readline
+        may miss a signal that comes just before it waits for a key, and a person would press Ctrl-C once more."""
+        begun = typed = time.monotonic()
         while part not in self.seen:
             self.assertLess(time.monotonic() - begun, 30, f"not seen: {part!r} in {self.seen!r}")
+            if again and time.monotonic() - typed > 5:
+                typed = time.monotonic()
+                self.types(again)
             if select.select([self.leader], [], [], 1)[0]:
                 try:
                     self.seen += os.read(self.leader, 4096).decode().replace("\r", "")
@@ -221,12 +225,12 @@ class Terminal(unittest.TestCase):
         self.types("graph 4\n")
         self.until("graph 4\nedgebpf> ")
         self.types("pin x\x03")
-        self.until("(dropped)\nedgebpf> ")
+        self.until("(dropped)\nedgebpf> ", again="\x03")
         for line in ("batch A\n", "+ 0 1\n"):
             self.types(line)
             self.until("batch> ")
         self.types("+ 0 2\x03")
-        self.until(".cancel drops the block that was begun\nbatch> ")
+        self.until(".cancel drops the block that was begun\nbatch> ", again="\x03")
         self.types("end\npin x\n")
         self.until("pin x version 1 edges 1\nedgebpf> ")
         self.types("exit\n")
