@@ -75,7 +75,7 @@ typedef struct edgebpf_change { uint64_t added, removed, number; } edgebpf_chang
 /* What a version is: how many batches made it, how many edges and how many vertices it has. */
 typedef struct edgebpf_info { uint64_t number, edges; uint32_t vertices; } edgebpf_info;
 
-/* Neighbours that lie one behind another, ascending. */
+/* Neighbours that lie one after another, ascending. */
 typedef struct edgebpf_slice { const uint32_t *at; size_t count; } edgebpf_slice;
 
 /* What the verifier says: the most instructions and stack frames of a run, or the broken rule and the unit that breaks it. */

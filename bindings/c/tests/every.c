@@ -184,6 +184,6 @@ int main(void) {
     edgebpf_close_version(&last);
     edgebpf_close_version(&first);
     edgebpf_close_program(&targets_of);
-    puts("every function, and every status but the want of memory");
+    puts("every function, and every status but the lack of memory");
     return 0;
 }

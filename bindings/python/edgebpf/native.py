@@ -16,7 +16,7 @@ making = threading.Lock()
 
 
 def words_of(parts):
-    """Arrays of vertices behind one another, as the library wants them."""
+    """Arrays of vertices one after another, as the library wants them."""
     return np.ascontiguousarray(np.concatenate(parts).astype(np.uint32))
 
 
