@@ -60,7 +60,7 @@ def to_read(text):
 
 
 def main():
-    """Prints one table, with a sum behind each part and at the end."""
+    """Prints one table, with a sum after each part and at the end."""
     crates = Path(__file__).resolve().parent.parent.parent / "crates"
     print("| | File, under `crates/` | Lines | To read | Has |\n|---|---|---|---|---|")
     place, all_lines, all_read = 0, 0, 0

@@ -45,7 +45,7 @@ CRATES_HEAD = f"""\
 `{COMMAND}` writes this page of `crates.txt` and the first lines of each crate. [ARCHITECTURE.md](ARCHITECTURE.md) says how they work together.
 
 Programs stand on `bpf_isa`, the store on `past_model`, and neither knows the other. A crate stands above all that it uses, so a change
-proves the crates above it anew, and none beside it.
+proves the crates above it again, and none beside it.
 """
 
 # What a tower stands on.

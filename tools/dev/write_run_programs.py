@@ -1,7 +1,7 @@
 #!/usr/bin/env python3
 """Writes the programs that the tests of bpf_runs run both ways: those of examples/, and those that clang compiled.
 
-Run it at the top of the repository, behind tests/native_numbers/make.py. An example's text is assembled by tests/second_implementation/assembler.py.
+Run it at the top of the repository, after tests/native_numbers/make.py. An example's text is assembled by tests/second_implementation/assembler.py.
 """
 import sys
 from pathlib import Path

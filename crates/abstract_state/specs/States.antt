@@ -57,7 +57,7 @@ abbrev pub callee_state : AbstractState → AbstractState
 callee_state s =
     record { registers = Unset ∷ argument_of s 1 ∷ argument_of s 2 ∷ argument_of s 3 ∷ argument_of s 4 ∷ argument_of s 5 ∷ Unset ∷ Unset ∷ Unset ∷ Unset ∷ Stack (pos 0) ∷ []; bytes_set = replicate frame_bytes false; slots = replicate frame_slots Unset }
 
--- behind a call nothing is known of R1 to R5 and R0 is the answer; the rest is as it was
+-- after a call nothing is known of R1 to R5 and R0 is the answer; the rest is as it was
 abbrev pub state_behind_helper : AbstractState → (answer : AbstractValue) → AbstractState
 state_behind_helper s answer =
     record s { registers = answer ∷ Unset ∷ Unset ∷ Unset ∷ Unset ∷ Unset ∷ known_of s 6 ∷ known_of s 7 ∷ known_of s 8 ∷ known_of s 9 ∷ known_of s 10 ∷ [] }

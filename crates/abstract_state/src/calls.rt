@@ -1,4 +1,4 @@
-//! What is known where a function of the program is called, and behind calls.
+//! What is known where a function of the program is called, and after calls.
 ghost use Rattle.std.specs.Prelude.{◌≡◌};
 ghost use Rattle.abstract_state.specs.States.{known_of, argument_value, argument_of, callee_state, state_behind_helper, state_behind_call};
 
@@ -42,7 +42,7 @@ pub fn enter_call(state: &AbstractState) -> AbstractState
     }
 }
 
-/// What is known behind the call of a helper: R0 is its answer, nothing is known of R1 to R5, and R6 to R10
+/// What is known after the call of a helper: R0 is its answer, nothing is known of R1 to R5, and R6 to R10
 /// and the frame are as they were.
 pub fn return_from_helper(state: &mut AbstractState, answer: AbstractValue)
     ensures { state.new ≡ state_behind_helper state.old answer }
@@ -55,7 +55,7 @@ pub fn return_from_helper(state: &mut AbstractState, answer: AbstractValue)
     ];
 }
 
-/// What is known behind a call of the program's own function, which answers with any number.
+/// What is known after a call of the program's own function, which answers with any number.
 pub fn return_from_call(state: &mut AbstractState)
     ensures { state.new ≡ state_behind_call state.old }
 {

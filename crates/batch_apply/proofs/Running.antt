@@ -1,4 +1,4 @@
--- Edits that lie behind one another, in runs.
+-- Edits that lie one after another, in runs.
 use Rattle.std.proofs.Common.{◌≡◌, ℕ, ◌+◌, ◌-◌, ◌≤◌, List, [], ◌∷◌, ◌++◌, length, map, take, drop, All, refl, ap, ◌∙◌, arith}
 use Rattle.std.specs.List.{AllByRecursion}
 use Rattle.std.proofs.Math.Seq.{drop-append_seam, take-length}
@@ -8,7 +8,7 @@ use Rattle.past_model.specs.declared.edit.Edit.{Edit}
 use Rattle.batch_apply.specs.declared.pieces.Run.{Run}
 use Rattle.batch_apply.specs.Pieces.{piece_in, IsWithin}
 
--- edits behind those of a run do not change its piece
+-- edits after those of a run do not change its piece
 same_piece : (es fs : List Edit) (run : Run) → IsWithin (length es) run → piece_in (es ++ fs) run ≡ piece_in es run
 same_piece es fs run within =
     let low = within.0 in
@@ -22,7 +22,7 @@ same_pieces es fs [] within = refl
 same_pieces es fs (run ∷ runs) within =
     ap (λ p. p ∷ map (piece_in (es ++ fs)) runs) (same_piece es fs run within.0) ∙ ap (λ l. piece_in es run ∷ l) (same_pieces es fs runs within.1)
 
--- the piece of a run of all edits behind some
+-- the piece of a run of all edits after some
 last_piece : (es fs : List Edit) (run : Run) → run.start ≡ length es → run.end ≡ length es + length fs → piece_in (es ++ fs) run ≡ (run.range, fs)
 last_piece es fs run start end =
     let own : drop run.start (es ++ fs) ≡ fs = ap (λ n. drop n (es ++ fs)) start ∙ drop-append_seam es fs in

@@ -18,7 +18,7 @@ AreHeld parts es = (g : Graph) → IsTable g parts → AreEditsBelow g.vertex_co
 abbrev pub IsAllowed : List Part → List Edit → Type 0
 IsAllowed parts es = (length es ≤ MOST_EDITS) × AreHeld parts es
 
--- the table after the batch and its counts, or the first test that fails; for want of memory or of a worker neither fails
+-- the table after the batch and its counts, or the first test that fails; for lack of memory or of a worker neither fails
 abbrev pub IsApplied : List Part → List Edit → Result (List Part × Counts) ApplyError → Type 0
 IsApplied parts es (Ok next) = IsAllowed parts es × AreAfter es parts next.0 next.1 × AreMoved parts next.0
 IsApplied parts es (Err TooManyEdits) = MOST_EDITS < length es

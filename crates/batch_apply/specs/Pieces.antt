@@ -1,4 +1,4 @@
--- Ranges with their edits, where these lie one behind another.
+-- Ranges with their edits, where these lie one after another.
 use Rattle.std.specs.Prelude.{ℕ, ◌-◌, ◌≤◌, List, take, drop}
 use Rattle.past_model.specs.declared.edit.Edit.{Edit}
 use Rattle.batch_apply.specs.declared.pieces.Run.{Run}

@@ -103,7 +103,7 @@ pub fn edit_table<Ga: Gate, R: Threads + Wait>(
 }
 
 /// The table after a batch, and what the batch did, as `edit_table` answers, by the caller's own thread alone: it needs no
-/// right to start a thread or to wait. The old table stays. The only error is want of memory.
+/// right to start a thread or to wait. The old table stays. The only error is lack of memory.
 pub fn edit_table_alone(
     alloc: Global,
     table: &Table,

@@ -16,7 +16,7 @@ pub(crate) struct Run {
     pub end: usize,
 }
 
-/// Ranges with their edits, which lie one behind another. Contracts see them as the list of these pieces.
+/// Ranges with their edits, which lie one after another. Contracts see them as the list of these pieces.
 #[derive(Drop)]
 pub(crate) struct Pieces {
     edits: Vec<Edit>,
@@ -46,7 +46,7 @@ impl Pieces {
         })
     }
 
-    /// Puts a range with these edits behind the others.
+    /// Puts a range with these edits after the others.
     fn push(&mut self, range: u32, edits: &[Edit]) -> Result<(), AllocError>
         ensures { IfOk result (λ _. self.new ≡ self.old ++ (range, edits.now) ∷ []) }
     {

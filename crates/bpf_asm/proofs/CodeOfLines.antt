@@ -14,7 +14,7 @@ use Rattle.bpf_asm.specs.Said.{said_item, IsWritten}
 use Rattle.bpf_asm.specs.Statements.{Item, Blank, Labelled, Plain, Goes}
 use Rattle.bpf_asm.specs.Assembly.{code_from, bytes_first, item_bytes, item_units, place, jump_instruction, spelling_of, unless_memory}
 
--- some code, and what is behind it
+-- some code, and what comes after it
 abbrev pub behind_code : List ℕ → Result (List ℕ) AssembleError → Result (List ℕ) AssembleError
 behind_code code (Ok others) = Ok (code ++ others)
 behind_code code (Err e) = Err e

@@ -43,7 +43,7 @@ some_text : (text : List ℕ) (none : Bool) → none ≡ (length text == 0) → 
 some_text [] none is some = absurd (grind (arith, nat_tests))
 some_text (b ∷ text) none is some = refl
 
--- one argument and those behind the comma
+-- one argument and those after the comma
 behind : (text : List ℕ) (a : Argument) (q : Option (Bor (List ℕ))) (r : Bor (List ℕ)) → all_arguments (parts 44 text) ≡ with_argument (Some a) (all_arguments (parts_behind 44 q)) → q ≡ Some r → all_arguments (parts 44 text) ≡ with_argument (Some a) (all_arguments (parts 44 r.now))
 behind text a q r first is = first ∙ ap (λ (o : Option (Bor (List ℕ))). with_argument (Some a) (all_arguments (parts_behind 44 o))) is
 

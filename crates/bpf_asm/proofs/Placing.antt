@@ -1,4 +1,4 @@
--- The instructions of a code, one behind another.
+-- The instructions of a code, one after another.
 use Rattle.std.proofs.Common.{◌≡◌, ◌≤◌, ◌<◌, ◌+◌, ◌-◌, ◌*◌, ℕ, zero, suc, Bool, true, false, List, [], ◌∷◌, ◌++◌, length, refl, sym, ap, ◌∙◌, append_assoc, arith}
 use Rattle.std.specs.Prelude.{Result, Ok, Err, ◌||◌, ◌==◌}
 use Rattle.std.proofs.lemmas.Bool.Decides.{nat_tests}
@@ -13,7 +13,7 @@ use Rattle.bpf_asm.specs.declared.errors.DisassembleError.TheVariants.{BadCode}
 use Rattle.bpf_asm.specs.Listing.{placed_from, placed_first, is_start}
 use Rattle.std.proofs.lemmas.List.Folds.{list_any-append}
 
--- instructions, and those behind them
+-- instructions, and those after them
 abbrev pub after : List Placed → Result (List Placed) DisassembleError → Result (List Placed) DisassembleError
 after placed (Ok others) = Ok (placed ++ others)
 after placed (Err e) = Err e

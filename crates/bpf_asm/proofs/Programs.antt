@@ -66,7 +66,7 @@ program_listed code all d program =
 
 -- ---- from a text to the program
 
--- the first of some instructions, and those behind it
+-- the first of some instructions, and those after it
 pub record HasFirst (pc : ℕ) (r : Result (Instruction × ℕ) DecodeError) (rest : Result (List Placed) DisassembleError) (placed : List Placed) : Type 0 where
   pub found : Instruction × ℕ
   pub others : List Placed

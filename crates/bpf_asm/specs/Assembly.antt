@@ -38,11 +38,11 @@ place_from pc name (i ∷ items) = if is_label name i then Some pc else place_fr
 abbrev pub place : List ℕ → List Item → Option ℕ
 place name items = place_from 0 name items
 
--- a statement behind some lines, if the code is not too long with it
+-- a statement after some lines, if the code is not too long with it
 abbrev pub length_admission : List Item → Item → Result Item TextCause
 length_admission before i = if nat_lt MOST_UNITS (units before + item_units i) then Err TooLong else Ok i
 
--- a line behind some lines, unless that is a fault
+-- a line after some lines, unless that is a fault
 abbrev pub admission : List Item → Item → Result Item TextCause
 admission before Blank = Ok Blank
 admission before (Labelled name) = if is_none (place name before) then Ok (Labelled name) else Err DoubleLabel
@@ -53,12 +53,12 @@ abbrev pub reading_admission : List Item → Result Item TextCause → Result It
 reading_admission before (Ok i) = admission before i
 reading_admission before (Err cause) = Err cause
 
--- goes on behind a line, or tells its fault
+-- goes on after a line, or tells its fault
 abbrev pub after_line : List Item → Result Item TextCause → (Item → Result (List Item) AssembleError) → Result (List Item) AssembleError
 after_line before (Ok i) go = go i
 after_line before (Err cause) go = Err (record { line = length before + 1; cause = cause })
 
--- what the lines say, behind those before them; or the first line that is faulty
+-- what the lines say, after those before them; or the first line that is faulty
 abbrev pub items_from : List Item → List (List ℕ) → Result (List Item) AssembleError
 items_from before [] = Ok before
 items_from before (line ∷ lines) =

@@ -9,7 +9,7 @@ use Rattle.bpf_asm.specs.declared.writing.placed.Target.TheVariants.{Nowhere, Be
 use Rattle.bpf_asm.specs.Assembly.{assembly}
 use Rattle.bpf_asm.specs.Listing.{disassembly, is_start, target}
 
--- these instructions stand one behind another, from a pc to the end of the code
+-- these instructions stand one after another, from a pc to the end of the code
 abbrev pub StandFrom : List ℕ → ℕ → List Placed → Type 0
 StandFrom code pc [] = length code ≡ 8 * pc
 StandFrom code pc (p ∷ placed) =

@@ -97,7 +97,7 @@ abbrev pub is_prefixed : List ℕ → Bool
 is_prefixed (a ∷ b ∷ text) = (a == 48) && (b == 120)
 is_prefixed _ = false
 
--- a text read as a number: behind `-` in base ten, behind `0x` in base sixteen
+-- a text read as a number: after `-` in base ten, after `0x` in base sixteen
 abbrev pub numeral : List ℕ → Numeral
 numeral text =
     if begins_with 45 text then record { negative = true; base = Ten; digits = drop 1 text }
@@ -128,7 +128,7 @@ with_base None offset = None
 with_base (Some base) None = None
 with_base (Some base) (Some offset) = Some (base, offset)
 
--- a register, and a displacement behind it
+-- a register, and a displacement after it
 abbrev pub place : List ℕ → Option (Register × Numeral)
 place text =
     with_base (register_named (take (position_or_len is_sign text) text)) (displacement (drop (position_or_len is_sign text) text))
@@ -182,6 +182,6 @@ argument_list (a ∷ b ∷ []) = Two a b
 argument_list (a ∷ b ∷ c ∷ []) = Three a b c
 argument_list (a ∷ b ∷ c ∷ d ∷ others) = More
 
--- the arguments behind a word, between commas
+-- the arguments after a word, between commas
 abbrev pub arguments : List ℕ → Option Arguments
 arguments text = if is_empty text then Some Zero else option_map argument_list (all_arguments (parts 44 text))

@@ -1,4 +1,4 @@
--- The text of a program: its instructions in order, each target behind its label.
+-- The text of a program: its instructions in order, each target after its label.
 use Rattle.std.specs.Prelude.{ℕ, zero, suc, ◌+◌, ◌*◌, ◌≡◌, ◌==◌, nat_le, nat_lt, not, Bool, true, false, if◌then◌else◌, List, [], ◌∷◌, ◌++◌, length, codes, Option, Some, None, Result, Ok, Err, ⊤}
 use Rattle.std.specs.List.{flat_map, list_any}
 use Rattle.bpf_isa.specs.declared.limits.TheConstants.{MOST_CODE_BYTES}
@@ -12,7 +12,7 @@ use Rattle.bpf_asm.specs.declared.errors.DisassembleError.{DisassembleError}
 use Rattle.bpf_asm.specs.declared.errors.DisassembleError.TheVariants.{BadCode, JumpOut, TooLong, OutOfMemory}
 use Rattle.bpf_asm.specs.Writing.{target_of, label_text, statement_text}
 
--- ---- the instructions, one behind another
+-- ---- the instructions, one after another
 
 -- the instruction at a pc before those that follow it
 abbrev pub placed_first : ℕ → Result (Instruction × ℕ) DecodeError → Result (List Placed) DisassembleError → Result (List Placed) DisassembleError

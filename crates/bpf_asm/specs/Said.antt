@@ -33,7 +33,7 @@ said_arguments argument_counts.More = More
 abbrev pub said_place : Register × CodeNumeral → Register × Numeral
 said_place (base, offset) = (base, said_numeral offset)
 
--- the parts behind the first separator, if there is one
+-- the parts after the first separator, if there is one
 abbrev pub parts_behind : ℕ → Option (Bor (List ℕ)) → List (List ℕ)
 parts_behind separator None = []
 parts_behind separator (Some rest) = parts separator rest.now
@@ -53,7 +53,7 @@ pub record IsRead (before : List Item) (n : ℕ) (places : List ℕ → Option �
   pub total : n ≡ units before
   pub found : (name : List ℕ) → places name ≡ place name before
 
--- the code of a line at a pc is written behind other code, and ends before this next unit
+-- the code of a line at a pc is written after other code, and ends before this next unit
 pub record IsWritten (all : List Item) (pc : ℕ) (i : Item) (old new : List ℕ) (next : ℕ) : Type 0 where
   pub bytes : List ℕ
   pub spelled : item_bytes all pc i ≡ Ok bytes

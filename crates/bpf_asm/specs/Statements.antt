@@ -186,7 +186,7 @@ abbrev pub with_arguments : Option Word → Option Arguments → Result Item Tex
 with_arguments w None = Err Syntax
 with_arguments w (Some a) = with_word w a
 
--- a word and what stands behind it
+-- a word and what stands after it
 abbrev pub word_line : List ℕ → List ℕ → Result Item TextCause
 word_line text rest = if is_word text then with_arguments (word text) (arguments rest) else Err Syntax
 

@@ -59,7 +59,7 @@ comparison_word LessOrEqual = codes "jle"
 comparison_word LessSigned = codes "jslt"
 comparison_word LessOrEqualSigned = codes "jsle"
 
--- what stands behind a word of 32 bits
+-- what stands after a word of 32 bits
 abbrev pub width_mark : Width → List ℕ
 width_mark Bits32 = codes "32"
 width_mark Bits64 = []
@@ -188,12 +188,12 @@ operand_texts (Store size base offset immediate) target = memory_text base offse
 operand_texts (StoreRegister size base offset source) target = memory_text base offset ∷ register_text source ∷ []
 operand_texts (Wide destination value) target = register_text destination ∷ decimal value ∷ []
 
--- operands behind the first, each after a comma
+-- operands after the first, each after a comma
 abbrev pub others_text : List (List ℕ) → List ℕ
 others_text [] = []
 others_text (operand ∷ operands) = codes ", " ++ (operand ++ others_text operands)
 
--- operands behind a word
+-- operands after a word
 abbrev pub operands_text : List (List ℕ) → List ℕ
 operands_text [] = []
 operands_text (operand ∷ operands) = codes " " ++ (operand ++ others_text operands)

@@ -70,7 +70,7 @@ store_alike l s m a size v same =
       | inr forbidden ↦ rw forbidden refl
     ]
 
--- a byte that may be read behind a call might be before it, or is in the frame that was laid out
+-- a byte that may be read after a call might be before it, or is in the frame that was laid out
 readable_before : (l : Lengths) (s : State) (distance : ℤ) (a : ℕ) → is_readable l (enter s distance) a ≡ true
     → (nat_le (frame_top (live_frames s) - frame_bytes) a && nat_lt a (frame_top (live_frames s) - frame_bytes + frame_bytes)) ≡ false → is_readable l s a ≡ true
 readable_before l s distance a may outside = grind (arith, nat_tests)

@@ -36,7 +36,7 @@ abbrev pub saved_of : Kept → Saved
 saved_of kept =
     record { registers = λ r. if nat_le 6 r && nat_le r 9 then values_of kept.registers (r - 6) else None; return_pc = kept.return_pc }
 
--- what stands behind the last that is kept
+-- what stands after the last that is kept
 abbrev pub no_caller : Kept
 no_caller = record { registers = []; return_pc = pos 0 }
 

@@ -21,7 +21,7 @@ use graph_model::GraphView;
 /// The answer where a vertex has no neighbour at a place. It is no vertex.
 const NO_NEIGHBOUR: u64 = u64::MAX;
 
-/// The registers behind the call of a helper: R1 to R5 are unset.
+/// The registers after the call of a helper: R1 to R5 are unset.
 fn registers_behind(registers: &[Option<u64>; 11], value: u64) -> [Option<u64>; 11]
     ensures { values_of result ≡ with_value (without_values (values_of registers.now) 1 5) 0 value }
 {
@@ -40,7 +40,7 @@ fn registers_behind(registers: &[Option<u64>; 11], value: u64) -> [Option<u64>; 
     ]
 }
 
-/// Goes on behind the call of a helper that has answered.
+/// Goes on after the call of a helper that has answered.
 fn go_on_with(machine: &mut Machine, value: u64) -> Turn
     requires { machine.old.pc ≤ℤ pos MOST_UNITS }
     ensures went { result ≡ Turn.Went }

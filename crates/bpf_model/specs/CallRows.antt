@@ -17,7 +17,7 @@ code_unit opcode registers offset immediate =
 abbrev pub exit : List ℕ
 exit = code_unit 0x95 0 0 0
 
--- a call of the function so many units behind the next instruction
+-- a call of the function so many units after the next instruction
 abbrev pub call_over : ℕ → List ℕ
 call_over distance = code_unit 0x85 0x10 0 distance
 

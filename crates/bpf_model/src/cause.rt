@@ -13,10 +13,10 @@ pub enum Cause {
     /// A jump goes back, or to itself.
     #[error("a jump goes back")]
     JumpBack = 3,
-    /// A call goes to no instruction behind itself.
+    /// A call goes to no instruction after itself.
     #[error("a call goes to no instruction behind it")]
     CallTarget = 4,
-    /// The last instruction of a function goes on behind its end.
+    /// The last instruction of a function goes on after its end.
     #[error("the last instruction is no exit")]
     FallsOff = 5,
     /// Some walk through the code has more live stack frames than a run may have.

@@ -3,7 +3,7 @@ ghost use Rattle.std.specs.Prelude.{◌≡◌};
 ghost use Rattle.bpf_model.specs.Helpers.{helper_of};
 
 /// What a program may ask of the graph that it runs on. A program calls it by its number, with its
-/// arguments in R1 and the registers behind it, and finds the answer in R0.
+/// arguments in R1 and the registers after it, and finds the answer in R0.
 #[derive(Clone, Copy, Debug, PartialEq, Eq)]
 pub enum Helper {
     /// How many neighbours the vertex R1 has.

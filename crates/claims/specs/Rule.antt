@@ -19,7 +19,7 @@ pub record AreClaimed (words : List ℕ) (hands : List Hand) : Type 0 where
   pub many : sum_by (λ h. length h.claimed) hands ≡ slice_index words 0
   pub few : (seat : ℕ) (h : Hand) → get_elem? hands seat ≡ some h → length h.claimed ≤ h.parts * CLAIMS_OF_A_PART
 
--- a number was claimed: the claimant has it behind what it claimed before, which is no more than the number
+-- a number was claimed: the claimant has it after what it claimed before, which is no more than the number
 abbrev pub Claims : Hand → ℕ → Hand → Type 0
 Claims before number after =
     (after ≡ hand before.parts (before.claimed ++ number ∷ [])) × (length before.claimed ≤ number)

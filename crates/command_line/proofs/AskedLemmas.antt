@@ -37,7 +37,7 @@ workers_rule =
 abbrev pub edgebpf : App
 edgebpf = with_rule (with_version (new_app (codes "edgebpf"))) workers_rule
 
--- the kinds of error at these words behind the program's name, and the value of `--workers`
+-- the kinds of error at these words after the program's name, and the value of `--workers`
 abbrev pub fault_at : List Text → Kinds
 fault_at words = built_fault (built edgebpf) nothing_held words
 

@@ -6,7 +6,7 @@ use Rattle.clap.specs.Words.{App}
 use Rattle.clap.specs.Simple.{on_top}
 use Rattle.workers.specs.declared.limits.TheConstants.{MOST_WORKERS}
 
--- the texts of the words behind the program's name
+-- the texts of the words after the program's name
 abbrev pub arguments : List (String Global) → List (List ℕ)
 arguments words = drop 1 (map string_bytes words)
 

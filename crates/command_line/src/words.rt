@@ -46,7 +46,7 @@ pub fn options(alloc: Global, words: &[String]) -> Result<u8, Error>
     ensures alone { arguments words.now ≡ [] → IfOk result (λ workers. workers ≡ 1) }
     ensures asked { (n : ℕ) → AsksFor n words.now → IfOk result (λ workers. workers ≡ n) }
 
-    // What is allowed fails only for want of memory, and a number that is not allowed always fails.
+    // What is allowed fails only for lack of memory, and a number that is not allowed always fails.
     ensures allowed { AsksForAllowed words.now → IfErr result (λ error. kind_of error ≡ ErrorKind.OutOfMemory) }
     ensures refused { (n : ℕ) → AsksFor n words.now → (n ≡ 0) ⊎ (MOST_WORKERS < n) → IsErrAnd result (λ error.
         (kind_of error ≡ ErrorKind.ValueValidation) ⊎ (kind_of error ≡ ErrorKind.OutOfMemory)) }

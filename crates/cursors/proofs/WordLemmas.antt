@@ -1,4 +1,4 @@
--- Words that are written one after another, as long as there are any, and the word of none behind them.
+-- Words that are written one after another, as long as there are any, and the word of none after them.
 use Rattle.std.proofs.Common.{◌≡◌, ℕ, ◌+◌, ◌-◌, ◌*◌, ◌<◌, ◌≤◌, List, [], ◌∷◌, ◌++◌, length, get_or, take, drop, replicate, refl, sym, ap, ◌∙◌, arith}
 use Rattle.std.specs.Int.{w32, to_le_bytes}
 use Rattle.std.proofs.lemmas.List.{length-append, length-drop, length-replicate, length-take, drop_more, take_more, take_at, get_or_append_left, get_or-append_right, get_or-replicate, flat_map_more}
@@ -21,7 +21,7 @@ filled_more xs left n place word is =
     take_more (xs ++ replicate n no_word) place 0 (omega (arith, next.0, length-append xs (replicate n no_word)))
     ∙ ap (λ w. take place (xs ++ replicate n no_word) ++ w ∷ []) (get_or_append_left xs (replicate n no_word) 0 place next.0 ∙ next.1)
 
--- one place more behind the last of them
+-- one place more after the last of them
 pub filled_none : (xs : List ℕ) (n place : ℕ) → drop place xs ≡ [] → place < n → take (place + 1) (xs ++ replicate n no_word) ≡ take place (xs ++ replicate n no_word) ++ no_word ∷ []
 filled_none xs n place is within =
     let past = no_next_word xs place is in

@@ -84,11 +84,11 @@ all_folded r p g argument source first targets place so_far done ended =
       ap (λ l. length (found p g argument source first l)) (sym whole) ∙ done.count ∙ omega arith,
     )
 
--- nothing is left behind the last
+-- nothing is left after the last
 pub none_left : (targets : List ℕ) (place : ℕ) → drop place targets ≡ [] → length targets ≤ place
 none_left targets place ended = omega (arith, ap length ended, length-drop place targets)
 
--- targets that stand in a row behind those that are run
+-- targets that stand in a row after those that are run
 pub row_behind : (targets slice left : List ℕ) (place : ℕ) → drop place targets ≡ slice ++ left → place ≤ length targets
     → (take (place + length slice) targets ≡ take place targets ++ slice) × (drop (place + length slice) targets ≡ left) × (place + length slice ≤ length targets)
 row_behind targets slice left place is within =

@@ -8,7 +8,7 @@ use Rattle.edge_fold.specs.declared.edge.Edge.{Edge}
 use Rattle.edge_map.specs.Listing.{edges_from, edges_of, all_edges}
 use Rattle.edge_map.specs.Ahead.{edges_at, edges_behind, IsAt}
 
--- the edges of a vertex and of all behind it
+-- the edges of a vertex and of all after it
 pub on_is : (g : Graph) (vertex : ℕ) → vertex < g.vertex_count → flat_map (edges_of g) (drop vertex (numbers_below g.vertex_count)) ≡ edges_at g vertex 0
 on_is g vertex inside =
     let n = numbers_below g.vertex_count in
@@ -20,7 +20,7 @@ on_is g vertex inside =
 pub all_at : (g : Graph) → 0 < g.vertex_count → all_edges g ≡ edges_at g 0 0
 all_at g some = on_is g 0 some
 
--- behind the last vertex there is no edge
+-- after the last vertex there is no edge
 pub none_behind : (g : Graph) (vertex : ℕ) → g.vertex_count ≤ vertex → flat_map (edges_of g) (drop vertex (numbers_below g.vertex_count)) ≡ []
 none_behind g vertex past = ap (flat_map (edges_of g)) (drop_all vertex (numbers_below g.vertex_count) (omega (arith, length-numbers_below g.vertex_count)))
 

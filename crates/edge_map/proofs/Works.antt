@@ -52,7 +52,7 @@ one_more t parts c next pieces piece w is least right =
       right = All-append (IsPiece t) pieces (piece ∷ []) w.right (All-cons (IsPiece t) piece [] right (All-nil (IsPiece t)));
     }
 
--- a claim behind all pieces
+-- a claim after all pieces
 pub ended : (t : Task) (parts : ℕ) (c next : Claiming) (pieces : List Piece) (n : ℕ)
     → IsWorking t parts c pieces → next ≡ claiming c.counter c.parts (c.claimed ++ n ∷ []) → piece_count t.frontier ≤ n → IsWork t parts next pieces
 ended t parts c next pieces n w is behind = record {

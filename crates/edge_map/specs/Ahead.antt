@@ -12,11 +12,11 @@ pub record Ahead : Type 0 where
   pub past : Past
   pub edges : List Edge
 
--- the edges of all vertices behind one
+-- the edges of all vertices after one
 abbrev pub edges_behind : Graph → ℕ → List Edge
 edges_behind g source = flat_map (edges_of g) (drop (source + 1) (numbers_below g.vertex_count))
 
--- those of a vertex from a place on, and those of all vertices behind it
+-- those of a vertex from a place on, and those of all vertices after it
 abbrev pub edges_at : Graph → ℕ → ℕ → List Edge
 edges_at g source place = edges_from g source place (drop place (neighbours g source)) ++ edges_behind g source
 
@@ -27,7 +27,7 @@ pub record IsAt (g : Graph) (source place degree_there : ℕ) (targets : List �
   pub count : degree_there ≡ degree g source
   pub few : degree_there ≤ MOST_VERTICES
 
--- the first vertex behind one that has a neighbour, and its degree
+-- the first vertex after one that has a neighbour, and its degree
 abbrev pub IsNextSource : Graph → ℕ → Option (ℕ × ℕ) → Type 0
 IsNextSource g source None = edges_behind g source ≡ []
 IsNextSource g source (Some next) =

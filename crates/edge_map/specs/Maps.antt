@@ -30,7 +30,7 @@ FitsRecord p argument = length argument + EDGE_BYTES ≡ p.record_length
 abbrev pub IsAllowed : Program → Graph → List ℕ → List ℕ → Type 0
 IsAllowed p g argument frontier = FitsRecord p argument × IsFrontier g.vertex_count frontier
 
--- the map, or the first test that fails; for want of memory or of a worker neither fails
+-- the map, or the first test that fails; for lack of memory or of a worker neither fails
 abbrev pub IsMapped : Rows → Program → Graph → Reduction → List ℕ → List ℕ → Result MapOutcome MapError → Type 0
 IsMapped rows p g r argument frontier (Ok out) = IsAllowed p g argument frontier × IsMap rows p g r argument frontier out
 IsMapped rows p g r argument frontier (Err ArgumentLength) = FitsRecord p argument → ⊥

@@ -45,7 +45,7 @@ IsPiece t piece = (piece.number < piece_count t.frontier) × IsPart t piece.numb
 abbrev pub numbers_of : List Piece → List ℕ
 numbers_of pieces = map (λ piece. piece.number) pieces
 
--- what some workers did: each piece that they claimed, and some number behind all pieces was claimed too, so that
+-- what some workers did: each piece that they claimed, and some number after all pieces was claimed too, so that
 -- all pieces were claimed by someone
 pub record IsWork (t : Task) (parts : ℕ) (c : Claiming) (pieces : List Piece) : Type 0 where
   pub of : c.counter ≡ t.counter

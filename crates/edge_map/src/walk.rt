@@ -11,7 +11,7 @@ use edge_fold::Edge;
 use std::marker::Model;
 use version::Version;
 
-/// The first vertex behind one that has a neighbour, and how many it has.
+/// The first vertex after one that has a neighbour, and how many it has.
 fn next_source(version: &Version, source: u32) -> Option<(u32, u32)>
     requires { source < MOST_VERTICES }
     ensures { IsNextSource (graph_of version.now) source result }

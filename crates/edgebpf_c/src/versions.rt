@@ -145,7 +145,7 @@ pub extern "C" fn edgebpf_version_lend(
     }
 }
 
-/// All edges: where each vertex's neighbours begin, with the end of all behind the last, and the neighbours.
+/// All edges: where each vertex's neighbours begin, with the end of all after the last, and the neighbours.
 #[unsafe(no_mangle)]
 pub extern "C" fn edgebpf_version_copy(
     alloc: Global,

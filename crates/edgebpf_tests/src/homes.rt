@@ -155,7 +155,7 @@ fn take_all(alloc: Global, tree: &mut NeighbourTree) -> Result<u32, AllocError> 
     Ok(removed)
 }
 
-// The word behind a slice, if its words ascend by 209 from one on.
+// The word after a slice, if its words ascend by 209 from one on.
 fn behind(slice: &[u32], first: u32) -> Option<u32> {
     let mut next = first;
     for word in slice {
@@ -186,7 +186,7 @@ fn grown_and_shrunk(alloc: Global) -> Result<([u32; 2], [Option<u32>; 2]), Alloc
     Ok(([added, removed], [whole(&tree), whole(&before)]))
 }
 
-// Nodes that are full, too small or shared are made anew, so this tries `with` and `without`, too.
+// Nodes that are full, too small or shared are rebuilt, so this tries `with` and `without`, too.
 #[test]
 fn a_tree_grows_and_shrinks(rt: HostRuntime) {
     let told = grown_and_shrunk(rt.alloc());

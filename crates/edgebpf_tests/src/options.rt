@@ -4,7 +4,7 @@ use command_line::options;
 use std::alloc::{AllocError, Global};
 use std::test::Fail;
 
-// These words, behind the program's name.
+// These words, after the program's name.
 fn words_of(alloc: Global, words: &str) -> Result<Vec<String>, AllocError> {
     let mut all = Vec::new(alloc);
     all.push("edgebpf".to_string(alloc)?)?;

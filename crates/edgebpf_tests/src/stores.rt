@@ -143,7 +143,7 @@ fn number_beside(shop: &mut Shop) -> Option<u64> {
     number_read(&mut reader).ok()
 }
 
-// What another reader pins before an empty batch and behind it.
+// What another reader pins before an empty batch and after it.
 fn numbers_beside<R: Threads + Wait>(rt: &R, shop: &mut Shop) -> Result<[Option<u64>; 2], Fail> {
     let before = number_beside(shop);
     shop.publish(rt, 0, Batch::empty())?;

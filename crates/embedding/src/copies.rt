@@ -3,7 +3,7 @@ use crate::held::Held;
 use crate::statuses::{DONE, LENGTHS, OTHER_KIND};
 use version::Version;
 
-// Copies a slice to a place as far as there is room, and tells the place behind it.
+// Copies a slice to a place as far as there is room, and tells the place after it.
 fn copy_slice(targets: &mut [u32], at: usize, slice: &[u32]) -> usize {
     let from = at.min(targets.len());
     let behind = from + slice.len().min(targets.len() - from);
@@ -11,7 +11,7 @@ fn copy_slice(targets: &mut [u32], at: usize, slice: &[u32]) -> usize {
     behind
 }
 
-// Copies a vertex's neighbours to a place, and tells the place behind them.
+// Copies a vertex's neighbours to a place, and tells the place after them.
 fn copy_vertex(version: &Version, vertex: u32, targets: &mut [u32], at: usize) -> usize {
     let mut next = at;
     let mut cursor = version.cursor(vertex);
@@ -39,7 +39,7 @@ fn copy_all(version: &Version, starts: &mut [u64], targets: &mut [u32]) -> u32 {
     DONE
 }
 
-/// Copies all edges: for each vertex the place where its neighbours begin, and behind the last one their end; and the
+/// Copies all edges: for each vertex the place where its neighbours begin, and after the last one their end; and the
 /// neighbours, vertex after vertex. `LENGTHS`, and nothing is written, where the arrays are not as long as that.
 pub fn copy_held(held: &Held, starts: &mut [u64], targets: &mut [u32]) -> u32 {
     match held {

@@ -36,7 +36,7 @@ fn number_slice(
     }
 }
 
-// Writes the numbers of a vertex's edges from a place on, and tells the place behind them.
+// Writes the numbers of a vertex's edges from a place on, and tells the place after them.
 fn number_vertex(
     version: &Version,
     program: &Verified,

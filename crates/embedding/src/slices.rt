@@ -10,7 +10,7 @@ use crate::held::Held;
 use crate::statuses::{DONE, OTHER_KIND};
 use version::Version;
 
-/// Where some neighbours lie, one behind another, and how many they are.
+/// Where some neighbours lie, one after another, and how many they are.
 #[repr(C)]
 #[derive(Clone, Copy)]
 pub struct Slice {

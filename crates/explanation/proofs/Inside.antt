@@ -22,7 +22,7 @@ first_inside : (f : ℕ → Option Cause) (n : ℕ) (r : Refusal) → first_faul
 first_inside f zero r h = absurd cc
 first_inside f (suc n) r h = after_inside (first_fault f n) (f n) n r h (first_inside f n r)
 
--- a pass refuses, or one behind it
+-- a pass refuses, or one after it
 refused_by : (a : Option Refusal) (next : Verdict) (r : Refusal) → unless_refused a next ≡ Refused r → (a ≡ Some r) ⊎ (next ≡ Refused r)
 refused_by None next r h = inr h
 refused_by (Some x) next r h = inl cc

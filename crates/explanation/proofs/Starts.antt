@@ -1,4 +1,4 @@
--- The starts of instructions, one behind another.
+-- The starts of instructions, one after another.
 use Rattle.std.proofs.Common.{◌≡◌, ◌≢◌, ℕ, ◌+◌, ◌≤◌, true, false, eqb, add-one, refl, sym, ap, ◌∙◌, eq-eqb, arith}
 use Rattle.std.proofs.lemmas.Bool.{ne_eqb}
 use Rattle.bpf_isa.specs.Reading.{decoding, units_in}
@@ -55,7 +55,7 @@ at_first p cursor next ordinal =
       few = omega (arith, ordinal);
     }
 
--- behind a unit at which an instruction starts, and behind one where none does
+-- after a unit at which an instruction starts, and after one where none does
 pub at_behind : (p : Program) (pc : ℕ) (cursor past : Cursor) → IsAt p pc cursor → pc ≡ cursor.next → past.next ≡ pc + units_in (decoding p.code pc) → past.ordinal ≡ cursor.ordinal + 1 → past.next ≤ 8192 → IsAt p (pc + 1) past
 at_behind p pc cursor past at same next ordinal near =
     record {

@@ -1,4 +1,4 @@
--- Pieces that are written one behind another.
+-- Pieces that are written one after another.
 use Rattle.std.proofs.Common.{◌≡◌, ℕ, ◌+◌, List, [], ◌++◌, add-one, append_assoc, refl, sym, ap, ◌∙◌}
 use Rattle.std.proofs.lemmas.List.{append-nil}
 use Rattle.explanation.specs.Pieces.{pieces_to}

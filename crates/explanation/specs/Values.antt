@@ -1,4 +1,4 @@
--- What is known at a place, as text. Each thing that is known stands behind two blanks.
+-- What is known at a place, as text. Each thing that is known stands after two blanks.
 use Rattle.std.specs.Prelude.{ℕ, ◌+◌, ◌-◌, ◌*◌, ◌^◌, ◌==◌, ◌&&◌, not, if◌then◌else◌, Bool, true, false, List, [], ◌++◌, codes, slice_index_or}
 use Rattle.std.specs.Fmt.{decimal}
 use Rattle.bpf_isa.specs.declared.register.Register.{Register}
@@ -50,7 +50,7 @@ is_set s byte = slice_index_or s.bytes_set byte false
 abbrev pub begins_row : AbstractState → ℕ → Bool
 begins_row s byte = if byte == 0 then is_set s byte else is_set s byte && not (is_set s (byte - 1))
 
--- it is set, and the byte behind it is not
+-- it is set, and the byte after it is not
 abbrev pub ends_row : AbstractState → ℕ → Bool
 ends_row s byte = is_set s byte && not (is_set s (byte + 1))
 

@@ -9,7 +9,7 @@ use bpf_image::Image;
 /// How far the way over the units has come.
 #[derive(Clone, Copy)]
 pub(crate) struct Cursor {
-    /// Where the next instruction starts, here or behind.
+    /// Where the next instruction starts, here or after.
     pub(crate) next: usize,
     /// How many instructions start before here.
     pub(crate) ordinal: usize,

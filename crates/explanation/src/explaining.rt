@@ -17,7 +17,7 @@ use bpf_model::Cause;
 use std::alloc::{AllocError, Global};
 use verifier::{Refusal, known_states, verify};
 
-/// A refusal for want of memory is an error here. Any other is none: it says something of the program.
+/// A refusal for lack of memory is an error here. Any other is none: it says something of the program.
 fn rule_or_memory(refusal: Refusal) -> Result<(), AllocError>
     ensures { IfOk result (λ _. refusal ≢ no_memory) }
 {

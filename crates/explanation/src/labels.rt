@@ -9,7 +9,7 @@ pub(crate) enum Label {
     Program,
     /// Before the length of a record.
     Records,
-    /// Behind it.
+    /// After it.
     Bytes,
     /// Before the bound.
     Accepted,

@@ -43,7 +43,7 @@ pub(crate) fn put_number(text: &mut String, number: u64) -> Result<(), AllocErro
     put(text, buffer.format(number))
 }
 
-/// Writes a number behind a label.
+/// Writes a number after a label.
 pub(crate) fn put_field(text: &mut String, label: &str, number: u64) -> Result<(), AllocError>
     ensures { OnOk result (string_bytes text.new ≡ string_bytes text.old ++ (label.now ++ decimal number)) }
 {
@@ -170,7 +170,7 @@ fn begins_row(state: &AbstractState, byte: usize) -> bool
     }
 }
 
-/// Whether a byte is set, and the byte behind it is not.
+/// Whether a byte is set, and the byte after it is not.
 fn ends_row(state: &AbstractState, byte: usize) -> bool
     requires { byte < 512 }
     ensures { result ≡ ends_row_at state.now byte }

@@ -163,7 +163,7 @@ opened xs segments runs now v a shown lt h =
       lists_changed xs xs runs v (Some empty_run) (Some []) refl (λ i s ne e. refl) ∙ ap (λ l. set l v (Some [])) shown,
     )
 
--- a run is put behind all segments
+-- a run is put after all segments
 pub appended : (xs ys zs : List ℕ) (segments more : ℕ) (runs : List (Option Run)) (v : ℕ) (r : Run) (ws : List ℕ) → IsArray xs segments runs → v < length runs → ys ≡ xs ++ (ws ++ zs) → length ws ≡ r.count → r.segment ≡ segments → length ws + length zs ≡ SEGMENT * r.segments → IsSet ws → 0 < r.segments → segments_of (get_or runs v None) ≤ more → segments + r.segments + 2 * more ≤ 2 * (live runs + r.segments) + 256 → IsArray ys (segments + r.segments) (set runs v (Some r)) × (words_in ys r ≡ ws) × (lists_in ys (set runs v (Some r)) ≡ set (lists_in xs runs) v (Some ws))
 appended xs ys zs segments more runs v r ws a lt is count at long set' some old space =
     let in' : v < length runs = omega (arith, a.layout.table) in

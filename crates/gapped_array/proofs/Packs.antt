@@ -47,7 +47,7 @@ sum_moved f g (o ∷ runs) zero new k lt others is =
 sum_moved f g (o ∷ runs) (suc v) new k lt others is =
     omega (arith, sum_by-cons f o (set runs v new), sum_by-cons g o runs, others 0 (omega arith) (λ e. omega arith), sum_moved f g runs v new k (omega arith) (λ i l ne. others (suc i) (omega arith) (λ e. ne (omega arith))) is)
 
--- every other run ends where the moved ones end, or begins behind the next
+-- every other run ends where the moved ones end, or begins after the next
 where_others : (xs : List ℕ) (segments end : ℕ) (runs : List (Option Run)) (v : ℕ) (r : Run) → IsLayout xs segments runs → IsPacked end segments runs → v < length runs → get_or runs v None ≡ Some r → IsBehind end r → ((i : ℕ) (s : Run) → i < length runs → get_or runs i None ≡ Some s → IsBehind end s → r.segment ≤ s.segment) → (i : ℕ) (s : Run) → i ≢ v → get_or runs i None ≡ Some s → (s.segment + s.segments ≤ end) ⊎ ((r.segment + r.segments ≤ s.segment) × (0 < s.segments))
 where_others xs segments end runs v r a p lt e b first i s ne q =
     elim (cases_lt s.segment end) [
@@ -144,7 +144,7 @@ map_same ys xs [] h = refl
 map_same ys xs (o ∷ runs) h =
     ap₂ (λ a b. a ∷ b) (list_same xs ys o (λ s e. h 0 s e)) (map_same ys xs runs (λ i s e. h (suc i) s e))
 
--- where no run is left behind the moved ones, the array ends with them
+-- where no run is left after the moved ones, the array ends with them
 pub packed_all : (xs ys : List ℕ) (segments end : ℕ) (runs : List (Option Run)) → IsLayout xs segments runs → IsPacked end segments runs → ((i : ℕ) (s : Run) → i < length runs → get_or runs i None ≡ Some s → IsBehind end s → ⊥) → ys ≡ take (SEGMENT * end) xs → IsLayout ys end runs × (lists_in ys runs ≡ lists_in xs runs) × (end ≡ live runs)
 packed_all xs ys segments end runs a p none is =
     let all : length xs ≡ SEGMENT * segments = a.cells in

@@ -89,7 +89,7 @@ word_put from count at w k n xs turned le lt is all turn =
     ∙ put_parts from at d w xs
     ∙ ap (λ m. take from xs ++ (insert (piece from m xs) at w ++ drop (from + (m + 1)) xs)) (let e : at + d ≡ count = omega arith in e)
 
--- the first cell of a part, turned behind the others
+-- the first cell of a part, turned after the others
 turned_first : (d : ℕ) (l : List ℕ) → 0 < length l → drop 1 (take (d + 1) l) ++ take 1 (take (d + 1) l) ≡ take d (drop 1 l) ++ get_or l 0 0 ∷ []
 turned_first d [] h = absurd (omega arith)
 turned_first d (x ∷ l) h =

@@ -51,7 +51,7 @@ pub record IsArray (xs : List ℕ) (segments : ℕ) (runs : List (Option Run)) :
   pub layout : IsLayout xs segments runs
   pub space : segments ≤ 2 * live runs + VERTICES
 
--- where a run with a place free is after room was made for it: where it was, or behind all segments
+-- where a run with a place free is after room was made for it: where it was, or after all segments
 pub record HasRoom (segments : ℕ) (run : Run) (xs ys : List ℕ) (r : Run) : Type 0 where
   pub same : r.count ≡ run.count
   pub room : r.count < SEGMENT * r.segments
@@ -59,7 +59,7 @@ pub record HasRoom (segments : ℕ) (run : Run) (xs ys : List ℕ) (r : Run) : T
       ⊎ ((ys ≡ xs ++ (words_in xs run ++ replicate (SEGMENT * r.segments - run.count) 0))
       × (r.segment ≡ segments) × (r.segments ≡ 2 * run.segments + 1))
 
--- a run that begins at or behind a segment, and has some
+-- a run that begins at or after a segment, and has some
 abbrev pub IsBehind : ℕ → Run → Type 0
 IsBehind from r = (from ≤ r.segment) × (0 < r.segments)
 

@@ -125,7 +125,7 @@ impl GappedArray {
         });
     }
 
-    /// Opens a vertex's list with these words. They go behind all others, into segments without a place free but
+    /// Opens a vertex's list with these words. They go after all others, into segments without a place free but
     /// in the last. After an error the array is as it was.
     pub fn open_with(&mut self, vertex: u8, words: &[u32]) -> Result<(), AllocError>
         requires inside { vertex < length self.old }
@@ -149,7 +149,7 @@ impl GappedArray {
         Ok(())
     }
 
-    /// Takes one vertex more, behind the others, and opens its list with these words. After an error the others are
+    /// Takes one vertex more, after the others, and opens its list with these words. After an error the others are
     /// as they were, and the one more may be there without a list.
     pub fn push(&mut self, words: &[u32]) -> Result<(), AllocError>
         requires room { length self.old < VERTICES }
@@ -163,7 +163,7 @@ impl GappedArray {
         Ok(())
     }
 
-    // One vertex more, behind the others, without a list.
+    // One vertex more, after the others, without a list.
     fn push_closed(&mut self) -> Result<(), AllocError>
         requires { length self.old < VERTICES }
         ensures ok { OnOk result (self.new ≡ self.old ++ None ∷ []) }

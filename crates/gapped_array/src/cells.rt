@@ -15,7 +15,7 @@ pub(crate) fn words_of(cells: &[u32], run: Run) -> &[u32]
     &cells[from..from + run.count]
 }
 
-/// Puts a word at a place into the `count` cells from `from` on. The cell behind them is overwritten.
+/// Puts a word at a place into the `count` cells from `from` on. The cell after them is overwritten.
 pub(crate) fn put_word(cells: &mut Vec<u32>, from: usize, count: usize, at: usize, word: u32)
     requires place { at ≤ count }
     requires room { from + count < vec_len cells.old }
@@ -27,7 +27,7 @@ pub(crate) fn put_word(cells: &mut Vec<u32>, from: usize, count: usize, at: usiz
     places[0] = word;
 }
 
-/// Takes the word at a place out of the `count` cells from `from` on. It then lies behind the others.
+/// Takes the word at a place out of the `count` cells from `from` on. It then lies after the others.
 pub(crate) fn take_word(cells: &mut Vec<u32>, from: usize, count: usize, at: usize)
     requires place { at < count }
     requires within { from + count ≤ vec_len cells.old }
@@ -37,7 +37,7 @@ pub(crate) fn take_word(cells: &mut Vec<u32>, from: usize, count: usize, at: usi
     cells[from + at..from + count].rotate_left(1);
 }
 
-/// Puts words behind all cells, and then empty cells, `places` in all.
+/// Puts words after all cells, and then empty cells, `places` in all.
 pub(crate) fn append(cells: &mut Vec<u32>, words: &[u32], places: usize) -> Result<(), AllocError>
     requires { length words.now ≤ places }
     ensures ok { OnOk result (cells.new.items ≡ cells.old.items ++ (words.now
@@ -71,7 +71,7 @@ pub(crate) fn append_piece(
     Ok(())
 }
 
-/// A run with a place free for one word more: this one, or where it is full a copy of it behind all segments, which
+/// A run with a place free for one word more: this one, or where it is full a copy of it after all segments, which
 /// has twice as many of them and one. After an error the cells are as they were.
 pub(crate) fn with_room(cells: &mut Vec<u32>, segments: usize, run: Run) -> Result<Run, AllocError>
     requires cells { vec_len cells.old ≡ SEGMENT * segments }

@@ -19,7 +19,7 @@ pub(crate) fn surplus(segments: usize, runs: &[Option<Run>]) -> usize
     left
 }
 
-/// The first run that begins at or behind a segment and has some, with its vertex.
+/// The first run that begins at or after a segment and has some, with its vertex.
 fn first_from(runs: &[Option<Run>], from: usize) -> Option<(usize, Run)>
     ensures { IsFirstBelow (length runs.now) from runs.now result }
 {

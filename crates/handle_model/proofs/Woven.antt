@@ -74,7 +74,7 @@ steps_alike s t mid u event reply alike own (able, done, is) step =
     subst (λ x. IsAlike x u) (sym is)
     (subst (IsAlike (after s event Done)) (sym (happened t u event reply (still_able s t event alike own able) step)) (happens_alike s t event reply alike own able))
 
--- what is to be shown of the events behind one
+-- what is to be shown of the events after one
 abbrev Onwards : Core → Core → List Event → List Event → Type 0
 Onwards s' t' todo events =
     (mid u : Core) (replies : List Reply) → IsAlike mid u → Ran mid todo (all_done todo) s' → Ran u events replies t' → IsAlike s' t'

@@ -51,7 +51,7 @@ one_edited es p rows homes counts more row home i shard own count inside at merg
   done = λ g below is. row_edited es p g rows row counts more i count inside shard.few own below is (begun.done g below is) merged;
 }
 
--- lists behind others, with one more
+-- lists after others, with one more
 pub behind : {A : Type 0} (before made : List A) (x : A) → before ++ (made ++ x ∷ []) ≡ (before ++ made) ++ x ∷ []
 behind before made x = sym (append_assoc before made (x ∷ []))
 

@@ -20,7 +20,7 @@ abbrev total : List ℕ → ℕ
 total [] = 0
 total (size ∷ sizes) = size + total sizes
 
--- the sizes behind the first
+-- the sizes after the first
 tail_full : (size : ℕ) (sizes : List ℕ) → AreFull (size ∷ sizes) → AreFull sizes
 tail_full size sizes all = record {
   full = λ i h. all.full (suc i) (omega arith);

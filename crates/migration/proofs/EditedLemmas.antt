@@ -40,7 +40,7 @@ one_edited es g p q more count range at inside number size part gained lost = re
   lost = omega (arith, lost, range_lost count es g range inside);
 }
 
--- parts, and parts behind them
+-- parts, and parts after them
 pub more_edited : (es : List Edit) (g : Graph) (first : ℕ) (parts rest : List Part) (counts more : Counts) → AreEdited es g first parts counts → AreEdited es g (first + length parts) rest more → AreEdited es g first (parts ++ rest) (sum_of counts more)
 more_edited es g first parts rest counts more before behind =
     let long = length-append parts rest in
@@ -62,7 +62,7 @@ more_edited es g first parts rest counts more before behind =
       lost = omega (arith, gone, more_gone, ap (λ r. count_in g r (is_gone es g)) end);
     }
 
--- parts that nothing was done to behind others
+-- parts that nothing was done to after others
 pub same_counts : (es : List Edit) (g : Graph) (first : ℕ) (parts : List Part) (counts : Counts) → AreEdited es g first parts (sum_of counts none) → AreEdited es g first parts counts
 same_counts es g first parts counts done = subst (AreEdited es g first parts) (ap₂ (λ a r. record { added = a; removed = r }) (add-zero counts.added) (add-zero counts.removed)) done
 

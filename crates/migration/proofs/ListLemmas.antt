@@ -116,7 +116,7 @@ before_tree old new k row is there = (
   ap (λ l. get_or l k []) is ∙ get_or_append_left old.trees.items (row ∷ []) [] k there,
 )
 
--- the number behind all others is no block's, no tree's and no run's
+-- the number after all others is no block's, no tree's and no run's
 pub past_short : (l : Lists) → IsThere l (InShort (length l.shorts.ends.items)) → ⊥
 past_short l there = omega (arith, there)
 
@@ -141,7 +141,7 @@ pushed_nowhere old new kept places shorts blocks array trees =
     stays (InArray k) = same_run old new k array
     stays (InTree k) = same_tree old new k trees
 
--- one in a block behind the others
+-- one in a block after the others
 pub pushed_block : (old new : Lists) (row : List ℕ) → AreKept old → new.places.items ≡ old.places.items ++ InBlock (length old.blocks.items) ∷ [] → new.shorts ≡ old.shorts → new.blocks.items ≡ old.blocks.items ++ row ∷ [] → new.array ≡ old.array → new.trees.items ≡ old.trees.items → IsPushed old new row Block
 pushed_block old new row kept places shorts blocks array trees =
     let more : length new.blocks.items ≡ length old.blocks.items + 1 = ap length blocks ∙ length_push old.blocks.items row in
@@ -154,7 +154,7 @@ pushed_block old new row kept places shorts blocks array trees =
     stays (InArray k) = same_run old new k array
     stays (InTree k) = same_tree old new k trees
 
--- one in a short block behind the others
+-- one in a short block after the others
 pub pushed_short : (old new : Lists) (row : List ℕ) → AreKept old → IsSet row → length row ≤ 6 → new.places.items ≡ old.places.items ++ InShort (length old.shorts.ends.items) ∷ [] → new.shorts.words.items ≡ old.shorts.words.items ++ row → new.shorts.ends.items ≡ old.shorts.ends.items ++ (length old.shorts.words.items + length row) ∷ [] → new.blocks.items ≡ old.blocks.items → new.array ≡ old.array → new.trees.items ≡ old.trees.items → IsPushed old new row Block
 pushed_short old new row kept set short places words ends blocks array trees =
     let end = length old.shorts.words.items + length row in
@@ -168,7 +168,7 @@ pushed_short old new row kept set short places words ends blocks array trees =
     stays (InArray k) = same_run old new k array
     stays (InTree k) = same_tree old new k trees
 
--- one in a tree behind the others
+-- one in a tree after the others
 pub pushed_tree : (old new : Lists) (row : List ℕ) → AreKept old → new.places.items ≡ old.places.items ++ InTree (length old.trees.items) ∷ [] → new.shorts ≡ old.shorts → new.blocks.items ≡ old.blocks.items → new.array ≡ old.array → new.trees.items ≡ old.trees.items ++ row ∷ [] → IsPushed old new row Tree
 pushed_tree old new row kept places shorts blocks array trees =
     let more : length new.trees.items ≡ length old.trees.items + 1 = ap length trees ∙ length_push old.trees.items row in
@@ -191,7 +191,7 @@ before_run old new k row is there =
     let same : get_or new.array k None ≡ get_or old.array k None = ap (λ l. get_or l k None) is ∙ get_or_append_left old.array (Some row ∷ []) None k inside in
     (subst IsSome (sym same) there, ap (λ o. unwrap_or o []) same)
 
--- one in the array behind the others
+-- one in the array after the others
 pub pushed_run : (old new : Lists) (row : List ℕ) → AreKept old → new.places.items ≡ old.places.items ++ InArray (length old.array) ∷ [] → new.shorts ≡ old.shorts → new.blocks.items ≡ old.blocks.items → new.array ≡ old.array ++ Some row ∷ [] → new.trees.items ≡ old.trees.items → IsPushed old new row Gapped
 pushed_run old new row kept places shorts blocks array trees =
     let here : get_or new.array (length old.array) None ≡ Some row = ap (λ l. get_or l (length old.array) None) array ∙ get_or_push old.array (Some row) None (length old.array) refl in

@@ -17,7 +17,7 @@ least_is_greater Less le = absurd (omega arith)
 least_is_greater Equal le = absurd (omega arith)
 least_is_greater Greater le = refl
 
--- a word that is missing would stand behind lesser ones and before a greater one
+-- a word that is missing would stand after lesser ones and before a greater one
 pub missed_nearby : (xs : List ℕ) (x i : ℕ) → ((k d : ℕ) → k < i → get_or xs k d < x) → i < length xs → x < get_or xs i 0 → IsBinarySearchResult (λ y. nat_cmp y x) xs (Err i)
 missed_nearby xs x i below inside here = λ up. (
   (λ k d low high. below_is_less (get_or xs k d) x (below k d high)),

@@ -31,7 +31,7 @@ abbrev total : List ℕ → ℕ
 total [] = 0
 total (size ∷ sizes) = size + total sizes
 
--- the pages behind the first
+-- the pages after the first
 tail_cut : (count size : ℕ) (sizes : List ℕ) → IsCut count (size ∷ sizes) → IsCut (count - 64) sizes
 tail_cut count size sizes cut = record {
   pages = λ i. (

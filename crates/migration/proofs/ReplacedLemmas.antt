@@ -244,7 +244,7 @@ replaced_short old new v k row kept inside own places shorts blocks array trees 
     stays (InArray j) other = same_run old new j array
     stays (InTree j) other = same_tree old new j trees
 
--- the first words of a list that stood nowhere, in a short block behind the others
+-- the first words of a list that stood nowhere, in a short block after the others
 pub replaced_nowhere : (old new : Lists) (v : ℕ) (row : List ℕ) → AreKept old → v < length old.places.items → length old.shorts.ends.items < length old.places.items → IsSet row → length row ≤ 6 → get_or old.places.items v Nowhere ≡ Nowhere → new.places.items ≡ set old.places.items v (InShort (length old.shorts.ends.items)) → new.shorts.words.items ≡ old.shorts.words.items ++ row → new.shorts.ends.items ≡ old.shorts.ends.items ++ (length old.shorts.words.items + length row) ∷ [] → new.blocks.items ≡ old.blocks.items → new.array ≡ old.array → new.trees.items ≡ old.trees.items → IsReplaced old new v row Block
 replaced_nowhere old new v row kept inside room is short own places words ends blocks array trees =
     let few_blocks = kept.blocks in

@@ -27,7 +27,7 @@ same_middle s ws w rest inside =
     ap (take (length w)) (drop_at (take s ws) (w ++ rest) s (length-take-le s ws inside))
     ∙ take_at w rest (length w) refl
 
--- what is behind them
+-- what comes after them
 same_rest : (s e x : ℕ) (ws w : List ℕ) → s ≤ length ws → drop (s + (length w + x)) (take s ws ++ (w ++ drop e ws)) ≡ drop (e + x) ws
 same_rest s e x ws w inside =
     sym (drop-drop (length w + x) s (take s ws ++ (w ++ drop e ws)))
@@ -122,7 +122,7 @@ front_spliced old new k j w packed h is lt =
           ∙ same_front (b - a) a s old.words.items (w ++ drop (end_of old k) old.words.items) (omega (arith, up, before)) (omega (arith, own, inside)),
     )
 
--- one behind it
+-- one after it
 rest_spliced : (old new : ShortBlocks) (k j : ℕ) (w : List ℕ) → ArePacked old → k < length old.ends.items → IsSpliced old new k w → k < j → j < length old.ends.items → set_at new j ≡ set_at old j
 rest_spliced old new k j w packed h is lt inside =
     let s = start_of old k in

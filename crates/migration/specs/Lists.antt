@@ -54,7 +54,7 @@ pub record AreKept (l : Lists) : Type 0 where
   pub runs : length l.array ≤ length l.places.items
   pub trees : length l.trees.items ≤ length l.places.items
 
--- a list more, behind the others
+-- a list more, after the others
 pub record IsPushed (old new : Lists) (row : List ℕ) (home : Home) : Type 0 where
   pub kept : AreKept new
   pub rows : rows_of new ≡ rows_of old ++ row ∷ []

@@ -1,4 +1,4 @@
--- Short lists, one behind another.
+-- Short lists, one after another.
 use Rattle.std.specs.Prelude.{◌≡◌, ℕ, ◌+◌, ◌-◌, ◌*◌, ◌<◌, ◌≤◌, List, ◌∷◌, length, take, drop, slice_index}
 use Rattle.word_sets.specs.Words.{IsSet}
 use Rattle.migration.specs.declared.short_blocks.ShortBlocks.{ShortBlocks}

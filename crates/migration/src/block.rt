@@ -1,4 +1,4 @@
-//! Shards of neighbouring ranges, behind one owner.
+//! Shards of neighbouring ranges, after one owner.
 ghost use Rattle.std.specs.Prelude.{◌≡◌, ◌+◌, ◌^◌, ◌<◌, ◌≤◌, length, IfOk};
 ghost use Rattle.past_model.specs.declared.limits.TheConstants.{MOST_RANGES};
 ghost use Rattle.graph_model.specs.Graph.{Graph};
@@ -20,7 +20,7 @@ use std::sync::Arc;
 /// How many shards a full block has.
 pub(crate) const BLOCK_SHARDS: usize = 32;
 
-/// The shards of ranges one behind another.
+/// The shards of ranges one after another.
 #[derive(Drop)]
 pub(crate) struct Block {
     shards: Vec<Arc<Shard>>,

@@ -72,7 +72,7 @@ impl Buffer {
         self.count = 0;
     }
 
-    /// Puts a word behind the others.
+    /// Puts a word after the others.
     #[inline(always)]
     pub(crate) fn push(&mut self, word: u32) -> Result<(), AllocError>
         ensures { IfOk result (λ _. self.new ≡ self.old ++ word ∷ []) }
@@ -85,7 +85,7 @@ impl Buffer {
         Ok(())
     }
 
-    /// Puts words behind the others.
+    /// Puts words after the others.
     #[inline(always)]
     pub(crate) fn extend(&mut self, words: &[u32]) -> Result<(), AllocError>
         ensures { IfOk result (λ _. self.new ≡ self.old ++ words.now) }

@@ -66,7 +66,7 @@ fn push_edited_tree(
     Ok(more)
 }
 
-/// Puts a list of a page after the edits in the scratch, which are of its vertex, behind the lists in the scratch, and
+/// Puts a list of a page after the edits in the scratch, which are of its vertex, after the lists in the scratch, and
 /// returns what the edits did.
 // A function of its own: its branches inside the loop over a page cost every page some hundred instructions.
 #[inline(never)]

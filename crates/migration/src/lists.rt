@@ -324,7 +324,7 @@ impl Lists {
         Ok(())
     }
 
-    /// Puts a list behind the others, in this home.
+    /// Puts a list after the others, in this home.
     pub(crate) fn push(
         &mut self,
         alloc: Global,
@@ -353,7 +353,7 @@ impl Lists {
         }
     }
 
-    // Puts the words of a tree behind the others, copied by way of a list into another home.
+    // Puts the words of a tree after the others, copied by way of a list into another home.
     fn push_words_of(
         &mut self,
         alloc: Global,
@@ -374,7 +374,7 @@ impl Lists {
         self.push(alloc, home, words)
     }
 
-    /// Puts the words of a tree behind the others, in this home: as this very tree, or in a home that is made of them.
+    /// Puts the words of a tree after the others, in this home: as this very tree, or in a home that is made of them.
     /// `words` is lent for that.
     pub(crate) fn push_moved(
         &mut self,
@@ -395,7 +395,7 @@ impl Lists {
         }
     }
 
-    /// Puts a list of others behind these, in its home. A block and a run are copied as memory, a tree is
+    /// Puts a list of others after these, in its home. A block and a run are copied as memory, a tree is
     /// shared.
     pub(crate) fn push_kept(&mut self, old: &Lists, vertex: usize) -> Result<(), AllocError>
         requires kept { AreKept self.old }

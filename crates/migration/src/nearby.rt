@@ -29,7 +29,7 @@ pub(crate) fn place_nearby(words: &[u32], word: u32) -> Result<usize, usize>
     words.binary_search(&word)
 }
 
-/// Puts words behind others. A few are put one by one.
+/// Puts words after others. A few are put one by one.
 #[inline(always)]
 pub(crate) fn push_words(list: &mut Vec<u32>, words: &[u32]) -> Result<(), AllocError>
     ensures { IfOk result (λ _. list.new.items ≡ list.old.items ++ words.now) }

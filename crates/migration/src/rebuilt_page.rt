@@ -1,4 +1,4 @@
-//! A page after many edits: each list is put behind the one before it, into new memory.
+//! A page after many edits: each list is put after the one before it, into new memory.
 ghost use Rattle.std.specs.Prelude.{◌≡◌, ◌+◌, ◌<◌, ◌≤◌, ◌++◌, ℕ, List, length, IfOk};
 ghost use Rattle.past_model.specs.declared.home.Home.{Home};
 ghost use Rattle.migration.specs.declared.groups.Grouping.TheVariants.{ByVertex};

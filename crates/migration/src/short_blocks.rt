@@ -13,7 +13,7 @@ use std::mem;
 /// The most words of a short block.
 pub(crate) const SHORT_PLACES: usize = 6;
 
-/// Sets of at most [`SHORT_PLACES`] words, one behind another.
+/// Sets of at most [`SHORT_PLACES`] words, one after another.
 #[derive(Drop)]
 pub(crate) struct ShortBlocks {
     /// The words of all sets.
@@ -126,7 +126,7 @@ impl ShortBlocks {
         &self.words[start..usize::from(self.ends[number])]
     }
 
-    /// Puts a set behind the others.
+    /// Puts a set after the others.
     pub(crate) fn push(&mut self, words: &[u32]) -> Result<(), AllocError>
         requires packed { ArePacked self.old }
         requires room { length self.old.ends.items < PAGE_VERTICES }

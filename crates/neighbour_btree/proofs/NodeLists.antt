@@ -17,7 +17,7 @@ use Rattle.neighbour_btree.specs.Changes.{Packs}
 pub words_under-append : (ns ms : List Node) → words_under (ns ++ ms) ≡ words_under ns ++ words_under ms
 words_under-append ns ms = flat_map-append (λ (n : Node). n.words) ns ms
 
--- the words of the nodes before one, its own, and those of the nodes behind it
+-- the words of the nodes before one, its own, and those of the nodes after it
 pub words_under_at : (ns : List Node) (i : ℕ) → i < length ns → words_under ns ≡ words_under (take i ns) ++ ((get_or ns i nothing).words ++ words_under (drop (i + 1) ns))
 words_under_at ns i lt =
     ap words_under (sym (take-append-drop i ns))
@@ -39,7 +39,7 @@ pub All-replacement : (P : Node → Type 0) (ns : List Node) (i k : ℕ) (a : No
 All-replacement P ns i k a ob h new =
     All-append P (take i ns) ((a ∷ option_to_list ob) ++ drop (i + k) ns) (All-take P i ns h) (All-append P (a ∷ option_to_list ob) (drop (i + k) ns) new (All-drop P (i + k) ns h))
 
--- a word that lies between what is before a part and what is behind it
+-- a word that lies between what is before a part and what comes after it
 pub record Spot (w : ℕ) (before behind : List ℕ) : Type 0 where
   pub from : ℕ
   pub to : ℕ

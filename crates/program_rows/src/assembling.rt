@@ -28,7 +28,7 @@ pub(crate) fn assembled(alloc: Global, text: &str) -> Result<String> {
     }
 }
 
-/// So many lines `exit`, and this text behind them.
+/// So many lines `exit`, and this text after them.
 fn behind_exits(alloc: Global, count: u64, text: &str) -> Result<String, AllocError> {
     let mut longer = String::new(alloc);
     for _ in 0..count {
@@ -38,7 +38,7 @@ fn behind_exits(alloc: Global, count: u64, text: &str) -> Result<String, AllocEr
     Ok(longer)
 }
 
-/// How long the code is of this text behind so many lines `exit`, if its text is the same, or the first fault.
+/// How long the code is of this text after so many lines `exit`, if its text is the same, or the first fault.
 pub(crate) fn assembled_often(alloc: Global, count: u64, text: &str) -> Result<String> {
     let longer = behind_exits(alloc, count, text)?;
     match assemble(alloc, &longer) {

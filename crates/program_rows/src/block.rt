@@ -12,7 +12,7 @@ pub struct Block<'a> {
 }
 
 impl<'a> Block<'a> {
-    /// The block of this text, which begins behind the mark.
+    /// The block of this text, which begins after the mark.
     pub(crate) fn read(part: &'a str) -> Block<'a> {
         let (head, lines) = part.split_once('\n').unwrap_or((part, ""));
         let (kind, name) = head.split_once(": ").unwrap_or((head, ""));

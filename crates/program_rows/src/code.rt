@@ -3,7 +3,7 @@ use anyhow::Result;
 use bpf_asm::assemble;
 use std::alloc::Global;
 
-/// Adds the bytes of one word: hexadecimal digits, and behind a star how often they come.
+/// Adds the bytes of one word: hexadecimal digits, and after a star how often they come.
 fn push_word(alloc: Global, bytes: &mut Vec<u8>, word: &str) -> Result<()> {
     let (digits, count) = word.split_once('*').unwrap_or((word, "1"));
     let part = hex::decode(alloc, digits)?;
@@ -22,7 +22,7 @@ pub(crate) fn bytes_of(alloc: Global, words: &str) -> Result<Vec<u8>> {
     Ok(bytes)
 }
 
-/// The code of a program: that of an assembler text, or behind the word `code` its bytes.
+/// The code of a program: that of an assembler text, or after the word `code` its bytes.
 pub(crate) fn code_of(alloc: Global, input: &str) -> Result<Vec<u8>> {
     match input.strip_prefix("code ") {
         Some(words) => bytes_of(alloc, words),

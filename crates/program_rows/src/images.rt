@@ -33,7 +33,7 @@ fn made_with_table(alloc: Global, record_length: u16, code: &str, table: &str) -
     }
 }
 
-/// What comes of an image of this record length, of code in digits, and of a table behind that word.
+/// What comes of an image of this record length, of code in digits, and of a table after that word.
 pub(crate) fn made(alloc: Global, record_length: u16, input: &str) -> Result<String> {
     if let Some((code, table)) = input.split_once(" table") {
         return made_with_table(alloc, record_length, code, table);
@@ -44,7 +44,7 @@ pub(crate) fn made(alloc: Global, record_length: u16, input: &str) -> Result<Str
     }
 }
 
-/// The image of a program for records of this length, with the table whose bytes stand behind that word; none where
+/// The image of a program for records of this length, with the table whose bytes stand after that word; none where
 /// these make no image.
 pub(crate) fn image_of(alloc: Global, record_length: u16, input: &str) -> Result<Option<Image>>
     ensures { IfOk result (λ found. IfSome found (λ image. image.record_length ≡ record_length)) }

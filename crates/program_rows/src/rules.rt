@@ -1,4 +1,4 @@
-//! Single instructions, and what is known behind them.
+//! Single instructions, and what is known after them.
 use crate::code::code_of;
 use crate::values::{value_of, value_text};
 use abstract_state::{AbstractState, join_into};
@@ -65,7 +65,7 @@ fn onward_text(alloc: Global, onward: Onward, state: &AbstractState) -> Result<S
     }
 }
 
-/// Sets the registers that stand behind a semicolon, and goes over the program before it.
+/// Sets the registers that stand after a semicolon, and goes over the program before it.
 fn go_on(
     alloc: Global,
     lengths: Lengths,
@@ -81,7 +81,7 @@ fn go_on(
     }
 }
 
-/// What comes of instructions where that is known which the entry of a program knows, and what stands behind them.
+/// What comes of instructions where that is known which the entry of a program knows, and what stands after them.
 pub(crate) fn stepped(alloc: Global, lengths: Lengths, input: &str) -> Result<String> {
     let mut state = AbstractState::entry(lengths);
     go_on(alloc, lengths, &mut state, input)

@@ -7,7 +7,7 @@ use Rattle.script.specs.Reading.{first_number, pair_behind}
 use Rattle.script.proofs.NumberLemmas.{first_of}
 use Rattle.script.proofs.WordLemmas.{same_bytes-true}
 
--- a third word behind the sign
+-- a third word after the sign
 pair_third : (source target : List ℕ) (rest : List (List ℕ)) → rest ≢ [] → pair_behind (source ∷ target ∷ rest) ≡ None
 pair_third source target [] some = absurd (some refl)
 pair_third source target (word ∷ rest) some = refl
@@ -18,7 +18,7 @@ pair_long n m line rest others source target some =
     let t = first_of rest m others target in
     rw (s.begins, t.begins) (pair_third s.word t.word others some)
 
--- what stands behind a sign
+-- what stands after a sign
 plus_at : (rest : List (List ℕ)) → batch_line (codes "+" ∷ rest) ≡ option_map insert_line (pair_behind rest)
 plus_at [] = refl
 plus_at (a ∷ []) = refl

@@ -4,7 +4,7 @@ use Rattle.std.proofs.lemmas.List.{take_more_set, drop-drop, get_or-drop}
 use Rattle.std.specs.Prelude.{Option, Some, None, option_map, length}
 use Rattle.script_model.specs.Lexing.{hex_digit, hex_byte, hex_pairs, onto}
 
--- bytes, and those behind them
+-- bytes, and those after them
 abbrev pub after : List ℕ → Option (List ℕ) → Option (List ℕ)
 after bytes rest = option_map (λ others. bytes ++ others) rest
 

@@ -25,7 +25,7 @@ cut_at most n bytes = elim (cases_lt n most) [
 cut_digits : (n : ℕ) (bytes : List ℕ) → cut_number (digits_from (cut_number n) bytes) ≡ cut_number (digits_from n bytes)
 cut_digits n bytes = cut_at (2 ^ 64 - 1) n bytes
 
--- ---- a number and the words behind it
+-- ---- a number and the words after it
 
 -- what the bytes before the first blank spell, after a number that they go on from
 abbrev pub spelled : ℕ → List ℕ → Option (ℕ × List (List ℕ))
@@ -107,6 +107,6 @@ first_of (word ∷ others) n rest first = first_at word others n rest (number wo
 
 -- ---- lines of numbers
 
--- numbers, and those behind them
+-- numbers, and those after them
 abbrev pub after : List ℕ → Option (List ℕ) → Option (List ℕ)
 after ns rest = option_map (λ others. ns ++ map cut_number others) rest

@@ -49,7 +49,7 @@ text_utf8 text all = IsUtf8-from_ascii text (text_ascii text all)
 
 -- ---- the end
 
--- a fault that is not want of memory is the text's
+-- a fault that is not lack of memory is the text's
 pub known_cause : {P : Type 0} (cause : TextCause) → unless_memory cause P → cause ≢ OutOfMemory → P
 known_cause Syntax is other = is
 known_cause UnknownName is other = is

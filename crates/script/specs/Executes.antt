@@ -56,7 +56,7 @@ abbrev pub whole_of : Result (Unit {0}) LineError → Result (Option (List Liste
 whole_of (Ok _) = Ok None
 whole_of (Err e) = Err e
 
--- the next line of a script: it is executed, but for the lines of edges that are left, and the line behind it is next;
+-- the next line of a script: it is executed, but for the lines of edges that are left, and the line after it is next;
 -- or its fault is written
 abbrev pub Steps : Result Step ScriptError → List ℕ → (old new : Script) → (text said : List ℕ) → Type 0
 Steps (Ok steps.Executed) bytes old new text said =

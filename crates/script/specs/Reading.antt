@@ -10,12 +10,12 @@ use Rattle.script.specs.Said.{cut_number}
 abbrev pub cut_before : List (List ℕ) → ℕ → ℕ × List (List ℕ)
 cut_before words n = (cut_number n, words)
 
--- the number that the first word is, with the words behind it
+-- the number that the first word is, with the words after it
 abbrev pub first_number : List (List ℕ) → Option (ℕ × List (List ℕ))
 first_number [] = None
 first_number (word ∷ words) = option_map (cut_before words) (number word)
 
--- the two numbers that stand behind a sign
+-- the two numbers that stand after a sign
 abbrev pub pair_behind : List (List ℕ) → Option (ℕ × ℕ)
 pair_behind (source ∷ target ∷ []) = pair_of (number source) (number target)
 pair_behind _ = None

@@ -129,7 +129,7 @@ impl Script {
     }
 }
 
-/// Says why a program's text means no code. Want of memory is no answer of a script.
+/// Says why a program's text means no code. Lack of memory is no answer of a script.
 fn put_unassembled(text: &mut Vec<u8>, name: &[u8], error: AssembleError) -> Result<(), LineError>
     ensures said { OnOk result (text.new.items ≡ text.old.items ++ assembler_text name.now error) }
     ensures cause { OnOk result (error.cause ≢ OutOfMemory) }

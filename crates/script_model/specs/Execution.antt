@@ -19,7 +19,7 @@ use Rattle.script_model.specs.State.{OpenBatch, OpenProgram, Block, BatchBlock, 
 use Rattle.script_model.specs.Parsing.{Statement, Asks, BeginBatch, BeginProgram, statement, BatchLine, OneEdit, EndBatch, batch_line, is_end}
 use Rattle.script_model.specs.Texts.{newline, answer_text, assembler_text}
 
--- a line is executed, with what is written and the script behind it, or it has a fault
+-- a line is executed, with what is written and the script after it, or it has a fault
 pub data Execution : Type 0 where
   Says : (text : List ℕ) → Script → Execution
   Stops : LineFault → Execution

@@ -11,7 +11,7 @@ is_newline b = b == 10
 abbrev pub is_plain : ℕ → Bool
 is_plain b = (nat_le 32 b && nat_le b 126) || (b == 9)
 
--- what stands behind the last line end is a line too, unless it is empty
+-- what stands after the last line end is a line too, unless it is empty
 abbrev pub without_last_empty : List (List ℕ) → List (List ℕ)
 without_last_empty [] = []
 without_last_empty (line ∷ []) = if is_empty line then [] else line ∷ []

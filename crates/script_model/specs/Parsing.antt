@@ -77,7 +77,7 @@ list_statement (program ∷ pin ∷ digits ∷ []) =
     under_name program (under_name pin (option_then (hex digits) (λ argument. Some (Asks (ListEdges program pin argument)))))
 list_statement _ = None
 
--- the statement that a line's first word names, with the words behind it
+-- the statement that a line's first word names, with the words after it
 abbrev pub statement : List ℕ → List (List ℕ) → Option Statement
 statement word operands =
     if same_bytes word (codes "graph") then graph_statement operands

@@ -31,7 +31,7 @@ abbrev pub meaning_after : Execution → ℕ → (List ℕ → Script → Meanin
 meaning_after (Says text s) line go = go text s
 meaning_after (Stops fault) line go = fault_meaning fault line
 
--- the script with one line more behind it
+-- the script with one line more after it
 abbrev pub next_line : ℕ → Script → Script
 next_line line s = record s { line = line + 1 }
 

@@ -35,7 +35,7 @@ impl<'a> Row<'a> {
         })
     }
 
-    /// This row behind a head, of which the script and the text come first. A head without a script changes nothing.
+    /// This row after a head, of which the script and the text come first. A head without a script changes nothing.
     pub(crate) fn behind(self, head: &Row<'_>) -> Result<Row<'a>, AllocError> {
         let mut row = self;
         if head.script.is_empty() {

@@ -64,7 +64,7 @@ listing_adds old new bytes left text said edges none listing read before h =
 pub adds_at : (old new mid : Script) (bytes left last whole : List ℕ) → Adds old new bytes left whole → mid ≡ new → last ≡ left → Adds old mid bytes last whole
 adds_at old new mid bytes left last whole adds a b = rw (a, b) adds
 
--- lines that are executed, and one behind them that lists edges
+-- lines that are executed, and one after them that lists edges
 pub lists_after : (old mid new : Script) (bytes middle left last text said told : List ℕ) (edges : List ListedEdge) → Serving old mid bytes middle text said → Listing mid new middle left said told edges → last ≡ left → Listing old new bytes last text told edges
 lists_after old mid new bytes middle left last text said told edges serving listing same read before h =
     let a = serving read before h in

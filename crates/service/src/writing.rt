@@ -48,7 +48,7 @@ pub(crate) fn write_text<O: Output>(output: &mut O, text: &mut Vec<u8>) -> Resul
     }
 }
 
-/// Writes a text and behind it the lines of a listing's edges, block by block: no more of them is held at once than
+/// Writes a text and after it the lines of a listing's edges, block by block: no more of them is held at once than
 /// the lines of one block. After an error the output has some of all this, from the front.
 pub(crate) fn write_edges<O: Output>(
     output: &mut O,

@@ -40,7 +40,7 @@ abbrev pub IsUnpublished : (old new : StoreState) → Type 0
 IsUnpublished old new = (new ≡ old) ⊎ ((e : Entry) × (new ≡ record old { held = Some e }))
 
 -- the batch is published; or there is no memory or no worker, and nothing is. Where the store does not answer as it should, it
--- holds no batch: so none is held for want of memory or of a worker
+-- holds no batch: so none is held for lack of memory or of a worker
 abbrev pub Publishes : StoreState → Entry → Result Publication CommandError → StoreState → Type 0
 Publishes old e (Ok p) new = IsOf old e p new
 Publishes old e (Err errors.OutOfMemory) new = IsUnpublished old new

@@ -24,7 +24,7 @@ IsOfStore (Fails fault) = ⊥
 abbrev pub IsAsItWas : (old new : Session) → Type 0
 IsAsItWas old new = (new ≡ old) ⊎ ((e : Entry) × (new ≡ record old { held = Some e }))
 
--- the store gave no such answer as it should: for a batch none is held, so none is for want of memory or of a worker; for a pin
+-- the store gave no such answer as it should: for a batch none is held, so none is for lack of memory or of a worker; for a pin
 -- or a home the session is as it was
 abbrev pub IsUnanswered : Answer → (old new : Session) → Type 0
 IsUnanswered (BatchPublished feed number gained lost) old new = new.held ≡ None

@@ -52,9 +52,9 @@ impl Session {
     /// Performs a command: the answer is what the definition `response` says, or the fault is, whatever the number of
     /// workers, their gate and the order in which threads run. Batches and runs are in pieces: a batch's are the ranges
     /// of 256 vertices that it edits, a run's are 64 places each of its frontier. Besides it answers `OutOfMemory` for
-    /// want of memory, `WorkerRefused` where a thread could not be started, of which one worker needs none, and `Store`
+    /// lack of memory, `WorkerRefused` where a thread could not be started, of which one worker needs none, and `Store`
     /// where its store does not answer as it should, which comes only of a command that is answered by a publication, a pin
-    /// or a home. After a fault the session is as it was, and so it is after want of memory or of a worker, but that the batch may be
+    /// or a home. After a fault the session is as it was, and so it is after lack of memory or of a worker, but that the batch may be
     /// held: the same batch handed in again goes on with it. After `Store` of a batch none is held, and there is no use of the
     /// session but `close`.
     pub fn perform<'a, Ga: Gate, R: Threads + Wait>(

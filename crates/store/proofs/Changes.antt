@@ -25,7 +25,7 @@ of_feed_own p x is = rw (eq-eqb x.feed p is)
 pub of_feed_other : (p : ℕ) (x : Entry) → x.feed ≢ p → of_feed p (x ∷ []) ≡ []
 of_feed_other p x other = rw (ne_eqb x.feed p other)
 
--- an entry behind a list is one more of its own feed, and none of another
+-- an entry after a list is one more of its own feed, and none of another
 pub of_feed_then : (sent : ℕ → List Entry) (xs : List Entry) (x : Entry) (k : ℕ) → x.feed ≡ k → ((p : ℕ) → of_feed p xs ≡ sent p)
     → (p : ℕ) → of_feed p (xs ++ x ∷ []) ≡ changed sent k (sent k ++ x ∷ []) p
 of_feed_then sent xs x k own all p = elim (ℕ_discrete p k) [

@@ -18,7 +18,7 @@ all_set f views port w mine others j u at = ⊎_elim
     (λ (is : (j ≢ port) × (get_elem? views j ≡ some u)). others j u is.0 is.1)
     (at_set views port j w u at)
 
--- a view behind a list is the last, and the others stand in the list
+-- a view after a list is the last, and the others stand in the list
 pub at_end : (views : List QueueView) (w u : QueueView) (j : ℕ) → get_elem? (views ++ w ∷ []) j ≡ some u
     → (get_elem? views j ≡ some u) ⊎ ((j ≡ length views) × (w ≡ u))
 at_end [] w u zero at = inr (refl, some-injective w u at)

@@ -34,7 +34,7 @@ pub struct Stopped {
 }
 
 impl Stopped {
-    /// It is in want of memory.
+    /// It is in lack of memory.
     pub(crate) fn for_memory(held: Held) -> Stopped
         ensures held { result.held ≡ held }
         ensures want { result.want ≡ OutOfMemory }

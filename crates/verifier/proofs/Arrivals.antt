@@ -28,7 +28,7 @@ none_more states h q =
       ]
     ]
 
--- ways one behind another
+-- ways one after another
 pub joined_append : (known : Option AbstractState) (xs ys : Ways) (q : ℕ) → joined_ways known (xs ++ ys) q ≡ joined_ways (joined_ways known xs q) ys q
 joined_append known [] ys q = refl
 joined_append known (x ∷ xs) ys q = joined_append (cond (int_eq x.0 (pos q)) (joined_with known x.1) known) xs ys q

@@ -1,4 +1,4 @@
--- Where the second pass has no fault, every way leads behind its pc, to an instruction inside the code.
+-- Where the second pass has no fault, every way leads after its pc, to an instruction inside the code.
 use Rattle.std.proofs.Common.{◌≡◌, ℕ, zero, suc, ◌+◌, ◌-◌, ◌<◌, ◌≤◌, List, [], ◌∷◌, ◌++◌, true, leb, ltb, Option, Some, None, refl, arith, inl, inr, ◌⊎◌}
 use Rattle.std.specs.Option.{option_or}
 use Rattle.std.specs.Prelude.{ℤ, pos, negsuc, ◌&&◌, is_some}

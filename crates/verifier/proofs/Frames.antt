@@ -1,4 +1,4 @@
--- Calls and returns: what is known where a function begins, of a caller that waits, and behind the call.
+-- Calls and returns: what is known where a function begins, of a caller that waits, and after the call.
 use Rattle.std.proofs.Common.{◌≡◌, ℕ, zero, suc, ◌+◌, ◌-◌, ◌*◌, ◌^◌, ◌<◌, ◌≤◌, true, false, leb, ltb, Bool, List, [], ◌∷◌, replicate, length, Option, Some, get_or, refl, sym, ap, subst, ◌∙◌, arith, inl}
 use Rattle.std.specs.Prelude.{ℤ, pos, ◌+ℤ◌}
 use Rattle.std.proofs.lemmas.Bool.{lt-leb, lt-ltb, le-leb}

@@ -1,4 +1,4 @@
--- A helper that the rules allow does not trap, and what is known behind it describes where the run goes on.
+-- A helper that the rules allow does not trap, and what is known after it describes where the run goes on.
 use Rattle.std.proofs.Common.{◌≡◌, ℕ, zero, suc, ◌+◌, ◌-◌, ◌*◌, ◌/◌, ◌%◌, ◌^◌, ◌<◌, ◌≤◌, eqb, leb, cond, Bool, true, false, Option, Some, None, Result, length, get_or, refl, sym, ap, subst, ◌∙◌, arith, inl, inr}
 use Rattle.std.specs.Prelude.{pos, ◌+ℤ◌, ◌&&◌, unwrap_or}
 use Rattle.std.proofs.lemmas.Bool.{cases_Bool, and_parts, eqb-true, leb-true}
@@ -33,7 +33,7 @@ use Rattle.verifier.proofs.Stored.{bytes_written}
 use Rattle.verifier.proofs.Accesses.{allowed, apart_below}
 use Rattle.verifier.proofs.HelperAnswers.{degree_most, flag_most, neighbour_most, among_most, bytes_below, written_length}
 
--- ---- behind every helper
+-- ---- after every helper
 
 answered_values : (l : Lengths) (t : ℕ) (b : AbstractState) (registers : Partial) (most answer : ℕ) → answer ≤ most → most < 2 ^ 64 → ((r : ℕ) → Describes l t (get_or b.registers r Unset) (registers r)) → (r : ℕ) → Describes l t (get_or (state_behind_helper b (Number 0 most)).registers r Unset) (with_value (without_values registers 1 5) 0 answer r)
 answered_values l t b registers most answer le lt all zero = (answer, refl, omega arith, le, omega (arith, le, lt))
@@ -227,7 +227,7 @@ helper_way l pc Neighbour a ws h = two_way pc a (2 ^ 64 - 1) ws h
 helper_way l pc VertexCount a ws h = answered_way pc a (2 ^ 32 - 1) ws h
 helper_way l pc Gather a ws h = let asked = asks l pc a ws h in gather_way l pc a asked.pointer (known_room asked.room) ws asked.ways
 
--- behind a helper there is one way: to the next instruction
+-- after a helper there is one way: to the next instruction
 pub helper_call_way : (l : Lengths) (pc : ℕ) (helper : Option Helper) (a : AbstractState) (ws : Ways) → helper_call_ways l pc helper a ≡ ok ws → (b : AbstractState) × (onward (pc + 1) b ≡ ws)
 helper_call_way l pc None a ws h = absurd cc
 helper_call_way l pc (Some helper) a ws h = helper_way l pc helper a ws h

@@ -30,7 +30,7 @@ known_more p pc states known copy lt walked before is =
           ]);
     }
 
--- behind a pc that breaks a rule no pc is the first
+-- after a pc that breaks a rule no pc is the first
 pub known_to_fault : (p : Program) (pc : ℕ) (cause : Cause) (states : States) → is_walkable p ≡ true → IsKnownTo p (pc + 1) states → rule_fault p pc ≡ Some cause → IsKnown p states
 known_to_fault p pc cause states walkable before breaks =
     record {

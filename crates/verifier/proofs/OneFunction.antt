@@ -21,7 +21,7 @@ no_calls p n all below q =
       | inr ge ↦ rw (none_past p q (omega (arith, all, ge))) refl
     ]
 
--- ---- no function begins behind the start
+-- ---- no function begins after the start
 
 none_called : (p : Program) (pc : ℕ) (o : Option Instruction) → calls_one o ≡ false → entry_called p pc o ≡ None
 none_called p pc None h = refl

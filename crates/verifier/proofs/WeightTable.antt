@@ -51,7 +51,7 @@ called_most m p weights pc i passed found known = (let same = called_table m p w
 pub next_most : (m : Measure) (p : Program) (weights : List ℕ) (pc : ℕ) (i : Instruction) → Flows p → instruction_at p pc ≡ Some i → WeightsFrom m p weights (pc + 1) → greatest (λ q. get_or weights q 0) (next_pcs i pc) ≤ ceiling m
 next_most m p weights pc i passed found known = (let same = next_table m p weights pc i passed found known in omega (arith, same))
 
--- the weight of an instruction by the weights behind it
+-- the weight of an instruction by the weights after it
 pub weighed_at : (m : Measure) (p : Program) (weights : List ℕ) (pc : ℕ) (i : Instruction) → Flows p → instruction_at p pc ≡ Some i → WeightsFrom m p weights (pc + 1) → min (rule_of m (greatest (λ q. get_or weights q 0) (called_pcs i pc)) (greatest (λ q. get_or weights q 0) (next_pcs i pc))) (ceiling m) ≡ capped_weight m p pc
 weighed_at m p weights pc i passed found known =
     let called = called_table m p weights pc i passed found known in

@@ -50,7 +50,7 @@ pub data Follows (lengths : Lengths) (i : Instruction) (a : AbstractState) (s : 
       → DescribesState lengths w.1 (enter s distance)
       → DescribesCaller lengths (top_above s.callers) a (saved_state s).registers (enter s distance).memory
       → KeepsFrames (suc (length s.callers)) s.memory (enter s distance).memory → Follows lengths i a s ws (Goes (enter s distance))
-  -- it returns to the last caller, of which is then known what is known behind its call
+  -- it returns to the last caller, of which is then known what is known after its call
   returns : (caller : Saved) → (callers : List Saved) → (result : ℕ) → i ≡ Exit → s.callers ≡ caller ∷ callers
       → ((b : AbstractState) → DescribesCaller lengths (top_above callers) b caller.registers s.memory → DescribesState lengths (state_behind_call b) (return_to s caller callers result))
       → Follows lengths i a s ws (Goes (return_to s caller callers result))

@@ -11,7 +11,7 @@ use Rattle.verifier.specs.declared.rules.onward.Onward.{Onward}
 use Rattle.verifier.specs.declared.rules.onward.Onward.TheVariants.{Ends, Next, Jumps, Splits, Calls}
 use Rattle.verifier.specs.Rules.{Ways, onward, target, branch_ways, call_ways}
 
--- the ways onward from a pc behind a write or a store
+-- the ways onward from a pc after a write or a store
 abbrev pub write_answer : ℕ → Result (Unit {0}) Cause → AbstractState → Result Ways Cause
 write_answer pc (Ok done) s = Ok (onward pc s)
 write_answer pc (Err cause) s = Err cause

@@ -74,11 +74,11 @@ abbrev pub write_ways : ℕ → AbstractState → Register → Result AbstractVa
 write_ways pc s r value =
     if number_of r == 10 then Err FrameRegister else bind value (λ v. Ok (onward pc (with_register s r v)))
 
--- the run goes on behind a store
+-- the run goes on after a store
 abbrev pub behind_store : ℕ → Result AbstractState Cause → Result Ways Cause
 behind_store pc stored = bind stored (λ t. Ok (onward pc t))
 
--- the pc at a distance from the instruction behind the one at a pc
+-- the pc at a distance from the instruction after the one at a pc
 abbrev pub target : ℕ → ℤ → ℤ
 target pc distance = pos (pc + 1) +ℤ distance
 
@@ -109,7 +109,7 @@ branch_ways pc distance s left right sides =
 
 -- ---- calls of functions
 
--- the way into a function, and the way on behind its call
+-- the way into a function, and the way on after its call
 abbrev pub call_ways : ℕ → ℤ → AbstractState → Ways
 call_ways pc distance s = (target pc distance, callee_state s) ∷ (pos (pc + 1), state_behind_call s) ∷ []
 
@@ -128,7 +128,7 @@ known_room (Number lo hi) = if lo == hi && is_room lo then Some lo else None
 known_room (Record lo hi) = None
 known_room (Stack offset) = None
 
--- the run goes on behind a helper whose answer is at most this number
+-- the run goes on after a helper whose answer is at most this number
 abbrev pub way_with_answer : ℕ → AbstractState → (most : ℕ) → Ways
 way_with_answer pc s most = onward (pc + 1) (state_behind_helper s (Number 0 most))
 

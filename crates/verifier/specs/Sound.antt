@@ -17,7 +17,7 @@ use Rattle.verifier.specs.Equations.{assignment_of}
 use Rattle.verifier.specs.Walks.{longest, deepest, count_from, frames_from, IsLongest, IsDeepest}
 use Rattle.verifier.specs.Verdict.{Accepted, verdict, most_counted}
 
--- a caller with so many callers of its own waits behind a call: it is described by what is known at the
+-- a caller with so many callers of its own waits after a call: it is described by what is known at the
 -- call, and the frames from there on fit
 pub record Waits (p : Program) (depth : ℕ) (caller : Saved) (memory : Partial) : Type 0 where
   pub place : ℕ

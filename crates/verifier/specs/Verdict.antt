@@ -40,7 +40,7 @@ decoding_fault p pc = if is_start p pc then missing_cause (instruction_at p pc) 
 
 -- ---- second pass: where jumps and calls land, and what stands last in each function
 
--- a jump lands on an instruction of its function, and behind itself
+-- a jump lands on an instruction of its function, and after itself
 abbrev pub landing_cause : Program → ℕ → ℤ → Option Cause
 landing_cause p pc (pos q) =
     if is_some (instruction_at p q) && nat_lt q (function_end p pc) then (if nat_le q pc then Some JumpBack else None) else Some JumpOut
@@ -51,7 +51,7 @@ abbrev pub calling_cause : Option ℕ → Option Cause
 calling_cause None = Some CallTarget
 calling_cause (Some entry) = None
 
--- the last instruction of a function does not go on behind its end
+-- the last instruction of a function does not go on after its end
 abbrev pub falling_cause : Program → ℕ → ℕ → Option Cause
 falling_cause p pc next = if nat_le (function_end p pc) next then Some FallsOff else None
 
@@ -117,7 +117,7 @@ verdict p =
     (unless_refused (length_fault p)
     (unless_refused (first_fault (rule_fault p) (units p)) (Accepted (longest p) (deepest p))))))
 
--- a refusal for want of memory: no rule gives it
+-- a refusal for lack of memory: no rule gives it
 abbrev pub no_memory : Refusal
 no_memory = record { cause = OutOfMemory; pc = 0 }
 

@@ -9,7 +9,7 @@ use Rattle.bpf_image.specs.Program.{Program, units}
 use Rattle.verifier.specs.Rules.{target}
 use Rattle.verifier.specs.Listing.{instruction_at}
 
--- where a function goes on behind an instruction at a pc: nowhere from an exit
+-- where a function goes on after an instruction at a pc: nowhere from an exit
 abbrev pub next_pcs : Instruction → ℕ → List ℤ
 next_pcs Exit pc = []
 next_pcs (Jump distance) pc = target pc (units_over distance) ∷ []
@@ -32,7 +32,7 @@ IsOneOf z (x ∷ xs) = (z ≡ x) ⊎ IsOneOf z xs
 -- ---- walks, and the frames on them
 
 -- a walk from a pc to its function's exit that counts m instructions; a call counts a walk of the function
--- and a walk of what is behind the call
+-- and a walk of what comes after the call
 pub data IsWalk (p : Program) : ℕ → ℕ → Type 0 where
   at_exit : {pc : ℕ} → instruction_at p pc ≡ Some Exit → IsWalk p pc 1
   onward : {pc q m : ℕ} → (i : Instruction) → instruction_at p pc ≡ Some i → is_call i ≡ false → IsOneOf (pos q) (next_pcs i pc) → IsWalk p q m → IsWalk p pc (1 + m)
@@ -66,7 +66,7 @@ abbrev pub greatest : (ℕ → ℕ) → List ℤ → ℕ
 greatest weight [] = 0
 greatest weight (q ∷ qs) = max (weight (unsigned_abs q)) (greatest weight qs)
 
--- the weight of an instruction at a pc, by the greatest of what it calls and of what is behind it
+-- the weight of an instruction at a pc, by the greatest of what it calls and of what comes after it
 abbrev pub weight_by : (ℕ → ℕ → ℕ) → (ℕ → ℕ) → Option Instruction → ℕ → ℕ
 weight_by rule weight None pc = 0
 weight_by rule weight (Some i) pc = rule (greatest weight (called_pcs i pc)) (greatest weight (next_pcs i pc))
@@ -76,11 +76,11 @@ unfoldable pub weight_over : (ℕ → ℕ → ℕ) → Program → ℕ → ℕ �
 weight_over rule p zero pc = 0
 weight_over rule p (suc n) pc = weight_by rule (weight_over rule p n) (instruction_at p pc) pc
 
--- all units behind a pc are enough
+-- all units after a pc are enough
 unfoldable pub weight_from : (ℕ → ℕ → ℕ) → Program → ℕ → ℕ
 weight_from rule p pc = weight_over rule p (units p - pc) pc
 
--- an instruction counts one more than what it calls and what is behind it
+-- an instruction counts one more than what it calls and what comes after it
 abbrev pub count_rule : ℕ → ℕ → ℕ
 count_rule called next = 1 + (called + next)
 

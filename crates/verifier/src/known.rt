@@ -18,7 +18,7 @@ use bpf_isa::Instruction;
 use bpf_model::Cause;
 use std::alloc::{AllocError, Global};
 
-/// A refusal for want of memory is an error here. Any other is none: it says something of the program.
+/// A refusal for lack of memory is an error here. Any other is none: it says something of the program.
 fn rule_or_memory(refusal: Refusal) -> Result<(), AllocError>
     ensures { IfOk result (λ _. refusal ≢ no_memory) }
 {
@@ -95,7 +95,7 @@ fn walk_and_keep(
 
 /// What is known before each unit of a program, of every run that comes there: nothing where no run comes. It is for a
 /// person who asks why a program is refused, so a program may break rules: there is no state at all where its code
-/// does not decode or flow, and behind the first pc that breaks a rule nothing is said of the states.
+/// does not decode or flow, and after the first pc that breaks a rule nothing is said of the states.
 pub fn known_states(
     alloc: Global,
     image: &Image,

@@ -1,4 +1,4 @@
-//! The rules over one instruction: what it asks of what is known before it, and what is known on each way behind it.
+//! The rules over one instruction: what it asks of what is known before it, and what is known on each way after it.
 //! Every step of a run follows one of these ways, enters a function or returns from one. No call takes memory.
 mod access;
 mod arithmetic;

@@ -51,7 +51,7 @@ fn split(
     Ok(())
 }
 
-/// A function is entered, and its caller goes on behind the call.
+/// A function is entered, and its caller goes on after the call.
 fn enter(
     alloc: Global,
     states: &mut Vec<Option<Box<AbstractState>>>,
@@ -73,7 +73,7 @@ fn enter(
     Ok(())
 }
 
-/// A run goes on behind an instruction with what is known there.
+/// A run goes on after an instruction with what is known there.
 fn go_on(
     alloc: Global,
     states: &mut Vec<Option<Box<AbstractState>>>,

@@ -41,7 +41,7 @@ impl Measure {
         }
     }
 
-    /// The weight of an instruction by those of what it calls and of what is behind it.
+    /// The weight of an instruction by those of what it calls and of what comes after it.
     fn weigh(self, called: u32, next: u32) -> u32
         requires called { called ≤ weight_ceiling self }
         requires next { next ≤ weight_ceiling self }
@@ -78,7 +78,7 @@ fn weight_called(weights: &[u32], pc: usize, instruction: Instruction) -> u32
     }
 }
 
-/// The greatest weight of what may come behind an instruction in its function.
+/// The greatest weight of what may come after an instruction in its function.
 fn weight_behind(weights: &[u32], pc: usize, instruction: Instruction) -> u32
     requires { pc ≤ MOST_UNITS }
     ensures { result ≡ greatest (λ q. slice_index_or weights.now q 0) (next_pcs instruction pc) }
@@ -95,7 +95,7 @@ fn weight_behind(weights: &[u32], pc: usize, instruction: Instruction) -> u32
     }
 }
 
-/// The greatest weight of a walk from a pc, by the weights that are known of the pcs behind it.
+/// The greatest weight of a walk from a pc, by the weights that are known of the pcs after it.
 fn weight_of(
     measure: Measure,
     image: &Image,

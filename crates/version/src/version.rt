@@ -162,7 +162,7 @@ impl Version {
     }
 
     /// What `next` answers, by the caller's own thread alone: it needs no right to start a thread or to wait. The only error is
-    /// want of memory.
+    /// lack of memory.
     pub fn next_alone(&self, alloc: Global, entry: &Entry) -> Result<(Version, Counts), AllocError>
         requires room { number_of self.now < MOST_BATCHES }
         requires below { AreEditsBelow self.now.vertex_count entry.now.batch }

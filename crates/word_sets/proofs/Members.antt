@@ -115,7 +115,7 @@ lacks_below low high v xs h lt =
 has_itself : (x : ℕ) (xs : List ℕ) → has_word x (x ∷ xs) ≡ true
 has_itself x xs = ap (λ b. b || has_word x xs) (eq-eqb x x refl)
 
--- no word is first in one list and stands behind a larger first in the other
+-- no word is first in one list and stands after a larger first in the other
 first_least : (low high x y : ℕ) (xs ys : List ℕ) → IsWithin low high (y ∷ ys) → ((v : ℕ) → has_word v (x ∷ xs) ≡ has_word v (y ∷ ys)) → y ≤ x
 first_least low high x y xs ys k same =
     elim (or_cases (eqb y x) (has_word x ys) (sym (same x) ∙ has_itself x xs)) [

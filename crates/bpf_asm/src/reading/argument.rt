@@ -1,4 +1,4 @@
-//! What may stand behind a word.
+//! What may stand after a word.
 ghost use Rattle.std.specs.Prelude.{◌≡◌, ◌∷◌, List, [], ℕ, Option, Some, None, option_map, MatchOption};
 ghost use Rattle.std.specs.List.{position_or_len};
 ghost use Rattle.bpf_asm.specs.Lexing.{
@@ -20,7 +20,7 @@ use crate::reading::lexing::{is_name, position_of, register_named, without_blank
 use crate::reading::numeral::{Numeral, displacement, number};
 use bpf_isa::Register;
 
-/// What stands behind a word, by its form.
+/// What stands after a word, by its form.
 #[derive(Clone, Copy)]
 pub(crate) enum Argument<'a> {
     Register(Register),
@@ -48,7 +48,7 @@ fn position_of_sign(text: &[u8]) -> usize
     text.len()
 }
 
-/// A register, and a displacement behind it.
+/// A register, and a displacement after it.
 fn place(text: &[u8]) -> Option<(Register, Numeral<'_>)>
     ensures { option_map said_place result ≡ place_of text.now }
 {

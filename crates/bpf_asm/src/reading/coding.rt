@@ -33,7 +33,7 @@ fn jump_instruction(
     }
 }
 
-/// Writes an instruction at the end of a code, and gives the unit behind it.
+/// Writes an instruction at the end of a code, and gives the unit after it.
 #[tactic(auto, using(crate::proofs::CodeOfLines::units_few))]
 fn put_instruction(
     code: &mut Vec<u8>,
@@ -52,7 +52,7 @@ fn put_instruction(
     }
 }
 
-/// Writes the code of a line, and gives the unit behind it.
+/// Writes the code of a line, and gives the unit after it.
 fn put_item(
     code: &mut Vec<u8>,
     labels: &HashMap<&[u8], usize>,

@@ -22,7 +22,7 @@ pub(crate) struct Parsed<'a> {
     pub(crate) labels: HashMap<&'a [u8], usize>,
 }
 
-/// What a line says behind some lines, with the units of all code so far.
+/// What a line says after some lines, with the units of all code so far.
 fn admitted<'a>(
     labels: &mut HashMap<&'a [u8], usize>,
     units: usize,

@@ -5,7 +5,7 @@ ghost use Rattle.bpf_asm.specs.Said.{parts_behind};
 
 use crate::reading::lexing::position_of;
 
-/// The part of a text before the first separator, and what stands behind that separator if there
+/// The part of a text before the first separator, and what stands after that separator if there
 /// is one.
 pub(crate) fn first_part(text: &[u8], separator: u8) -> (&[u8], Option<&[u8]>)
     ensures first { parts separator text.now ≡ result.0.now ∷ parts_behind separator result.1 }

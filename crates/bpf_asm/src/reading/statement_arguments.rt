@@ -1,4 +1,4 @@
-//! The arguments behind a word.
+//! The arguments after a word.
 ghost use Rattle.std.specs.Prelude.{◌≡◌, ◌<◌, length, Some, None, option_map, is_some, IfSome, MatchOption};
 ghost use Rattle.bpf_asm.specs.Lexing.{all_arguments, arguments as arguments_of, parts, with_argument};
 ghost use Rattle.bpf_asm.specs.Said.{parts_behind, said_argument, said_arguments};
@@ -7,7 +7,7 @@ use crate::reading::argument::{Argument, argument_in};
 use crate::reading::lexing::without_blanks;
 use crate::reading::part::first_part;
 
-/// The arguments behind a word. No instruction has more than three.
+/// The arguments after a word. No instruction has more than three.
 #[derive(Clone, Copy)]
 pub(crate) enum Arguments<'a> {
     Zero,
@@ -17,7 +17,7 @@ pub(crate) enum Arguments<'a> {
     More,
 }
 
-/// The argument before the first comma, and what stands behind that comma if there is one.
+/// The argument before the first comma, and what stands after that comma if there is one.
 fn next_argument(text: &[u8]) -> Option<(Argument<'_>, Option<&[u8]>)>
     ensures first { MatchOption result (all_arguments (parts 44 text.now) ≡ None)
         (λ found. all_arguments (parts 44 text.now)
@@ -45,7 +45,7 @@ fn are_arguments(text: &[u8]) -> bool
     }
 }
 
-/// The arguments behind a word.
+/// The arguments after a word.
 pub(crate) fn arguments_in(text: &[u8]) -> Option<Arguments<'_>>
     ensures { option_map said_arguments result ≡ arguments_of text.now }
 {

@@ -25,7 +25,7 @@ fn put_lines(text: &mut String, placed: Placed, is_labelled: bool) -> Result<(),
     put(text, "\n")
 }
 
-/// Writes all instructions, each target behind its label.
+/// Writes all instructions, each target after its label.
 fn write_listing(alloc: Global, placed: &[Placed], targets: &[bool]) -> Result<String, AllocError>
     requires { (k : ℕ) → slice_index_or targets.now k false ≡ is_target k placed.now }
     ensures { IfOk result (λ text. string_bytes text ≡ listing placed.now) }

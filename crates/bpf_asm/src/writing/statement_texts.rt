@@ -150,7 +150,7 @@ fn put_first(text: &mut String, register: Register) -> Result<(), AllocError>
     put_both(text, " ", name_of_register(register))
 }
 
-/// Writes a register as an operand behind the first.
+/// Writes a register as an operand after the first.
 fn put_next(text: &mut String, register: Register) -> Result<(), AllocError>
     ensures { OnOk result (string_bytes text.new ≡ string_bytes text.old ++ (codes ", " ++ register_text register)) }
 {

@@ -59,7 +59,7 @@ pub(crate) fn word_of_comparison(comparison: Comparison) -> &'static str
     }
 }
 
-/// What stands behind a word of 32 bits.
+/// What stands after a word of 32 bits.
 pub(crate) fn mark_of_width(width: Width) -> &'static str
     ensures { result.now ≡ width_mark width }
 {

@@ -6,7 +6,7 @@ use crate::levels::child::Child;
 use crate::levels::level::Level;
 use std::alloc::{AllocError, Global};
 
-/// Puts other owners of these children behind a list.
+/// Puts other owners of these children after a list.
 pub(crate) fn share_all<C: Level>(
     list: &mut Vec<Child<C>>,
     children: &[Child<C>],

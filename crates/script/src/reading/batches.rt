@@ -11,7 +11,7 @@ use crate::reading::line::BatchLine;
 use crate::reading::numbers::next_number;
 use crate::reading::words::{has_no_word, is_word, next_word};
 
-/// The two numbers that stand behind a sign.
+/// The two numbers that stand after a sign.
 fn pair(line: &[u8]) -> Option<(u64, u64)>
     ensures { result ≡ option_map cut_pair (pair_behind (words line.now)) }
 {
@@ -23,7 +23,7 @@ fn pair(line: &[u8]) -> Option<(u64, u64)>
     Some((source, target))
 }
 
-/// The insertion that stands behind a `+`.
+/// The insertion that stands after a `+`.
 fn insertion(line: &[u8]) -> Option<BatchLine>
     ensures { option_map said_batch_line result ≡ option_map cut_batch_line
         (option_map insert_line (pair_behind (words line.now))) }
@@ -32,7 +32,7 @@ fn insertion(line: &[u8]) -> Option<BatchLine>
     Some(BatchLine::Insert { source, target })
 }
 
-/// The removal that stands behind a `-`.
+/// The removal that stands after a `-`.
 fn removal(line: &[u8]) -> Option<BatchLine>
     ensures { option_map said_batch_line result ≡ option_map cut_batch_line
         (option_map remove_line (pair_behind (words line.now))) }

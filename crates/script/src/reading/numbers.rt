@@ -26,7 +26,7 @@ fn with_digit(number: u64, digit: u8) -> u64
     number.saturating_mul(10).saturating_add(u64::from(digit))
 }
 
-/// The number that the line's first word is, at most 2^64 - 1, and what stands behind it.
+/// The number that the line's first word is, at most 2^64 - 1, and what stands after it.
 pub(crate) fn next_number(line: &[u8]) -> Option<(u64, &[u8])>
     ensures first { MatchOption result (first_number (words line.now) ≡ None)
         (λ found. first_number (words line.now) ≡ Some (found.0, words found.1.now)) }

@@ -238,7 +238,7 @@ fn list(alloc: Global, operands: &[u8]) -> Result<Option<Statement<'_>>, AllocEr
     }))
 }
 
-/// The statement that a line's first word names, with the words behind it.
+/// The statement that a line's first word names, with the words after it.
 fn statement<'a>(
     alloc: Global,
     word: &[u8],

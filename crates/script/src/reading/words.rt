@@ -56,7 +56,7 @@ fn word_length(line: &[u8]) -> usize
     memchr2(b' ', b'\t', line).unwrap_or(line.len())
 }
 
-/// The line's first word, and what stands behind it.
+/// The line's first word, and what stands after it.
 pub(crate) fn next_word(line: &[u8]) -> Option<(&[u8], &[u8])>
     ensures words { MatchOption result (words line.now ≡ [])
         (λ found. words line.now ≡ found.0.now ∷ words found.1.now) }

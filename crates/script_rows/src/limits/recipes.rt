@@ -11,7 +11,7 @@ struct Steps {
 }
 
 impl Steps {
-    /// The number behind so many steps.
+    /// The number after so many steps.
     fn at(self, steps: u64) -> u64 {
         let far = self.first.wrapping_add(self.step.wrapping_mul(steps));
         far.checked_rem(self.below).unwrap_or(0)

@@ -51,7 +51,7 @@ impl Receiver {
     }
 }
 
-// What the queue holds, put behind `left`, once the feeds have ended.
+// What the queue holds, put after `left`, once the feeds have ended.
 fn all_left<R: Wait>(queue: &Queue, mut pass: Seat, mut left: Vec<Entry>, rt: &R) -> Vec<Entry>
     requires pass { IsPassOf queue.now pass }
     requires ended { queue_view_of pass ≡ taker (queue_view_of pass).vertex_count (queue_view_of pass).taken FEEDS (queue_view_of pass).ended }
