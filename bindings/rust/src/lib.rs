@@ -1,0 +1,27 @@
+#![doc = include_str!("../README.md")]
+#![deny(missing_docs, unsafe_op_in_unsafe_fn)]
+
+mod batch;
+mod calls;
+mod error;
+mod handle;
+mod program;
+mod store;
+mod version;
+
+pub use batch::{Batch, Feed};
+pub use error::{Error, NotAssembled, Refusal, Refused};
+pub use program::{assemble, explain, Program, Verdict};
+pub use store::{Change, Store};
+pub use version::{Csr, Reduction, Totals, Version};
+
+/// The greatest number of vertices of a graph.
+pub const MOST_VERTICES: u32 = 1_048_576;
+/// The greatest number of edits of a batch.
+pub const MOST_EDITS: usize = 65_536;
+/// The bytes of a record that every edge has. A record's other bytes are the argument of a run.
+pub const EDGE_BYTES: usize = 16;
+
+#[cfg(doctest)]
+#[doc = include_str!("../../../docs/EMBEDDING.md")]
+struct EmbeddingPage;

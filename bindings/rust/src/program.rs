@@ -1,0 +1,94 @@
+//! Programs that the verifier has accepted.
+use crate::calls::{
+    edgebpf_assemble, edgebpf_explain, edgebpf_program_new, edgebpf_program_share, RawAssembled, RawVerdict,
+};
+use crate::error::{done, Error, NotAssembled, Refusal, Refused, DONE, LENGTHS, REFUSED, WRONG_TEXT};
+use crate::handle::Handle;
+
+/// A program that the verifier has accepted. For another thread, `share` makes another handle of it.
+pub struct Program {
+    pub(crate) handle: Handle,
+    verdict: Verdict,
+}
+
+/// What the verifier promises of a program's runs.
+#[derive(Clone, Copy, Debug, PartialEq, Eq)]
+pub struct Verdict {
+    /// The most instructions that a run takes.
+    pub bound: u32,
+    /// The most stack frames that a run has at once.
+    pub frames: u32,
+}
+
+impl Program {
+    /// Verifies code for records of 16 to 256 bytes.
+    pub fn verify(record_length: u16, code: &[u8]) -> Result<Program, Refusal> {
+        let mut verdict = RawVerdict::default();
+        let handle = Handle::empty();
+        // SAFETY: the code is as long as said, and `handle` is empty.
+        let status =
+            unsafe { edgebpf_program_new(record_length, code.as_ptr(), code.len(), &mut verdict, handle.at()) };
+        match status {
+            DONE => Ok(Program { handle, verdict: Verdict { bound: verdict.bound, frames: verdict.frames } }),
+            REFUSED => Err(Refusal::Refused(Refused {
+                cause: verdict.cause,
+                pc: verdict.pc,
+                record_length,
+                code: code.to_vec(),
+            })),
+            other => Err(Refusal::Error(Error::of(other))),
+        }
+    }
+
+    /// What the verifier promises of its runs.
+    pub fn verdict(&self) -> Verdict {
+        self.verdict
+    }
+
+    /// Another handle of the same program, for another thread. `NoMemory`.
+    pub fn share(&self) -> Result<Program, Error> {
+        let handle = Handle::empty();
+        // SAFETY: the program's handle was written by the library, and `handle` is empty.
+        done(unsafe { edgebpf_program_share(self.handle.at(), handle.at()) })?;
+        Ok(Program { handle, verdict: self.verdict })
+    }
+}
+
+/// The code that assembler text means.
+pub fn assemble(text: &str) -> Result<Vec<u8>, NotAssembled> {
+    let mut code = vec![0; 8 * (1 + text.lines().count())];
+    loop {
+        let mut told = RawAssembled::default();
+        // SAFETY: the text and the code are as long as said.
+        let status = unsafe { edgebpf_assemble(text.as_ptr(), text.len(), code.as_mut_ptr(), code.len(), &mut told) };
+        match status {
+            DONE => {
+                code.truncate(told.length);
+                return Ok(code);
+            }
+            LENGTHS => code.resize(told.length, 0),
+            WRONG_TEXT => return Err(NotAssembled::WrongText { line: told.line, cause: told.cause }),
+            _ => return Err(NotAssembled::NoMemory),
+        }
+    }
+}
+
+/// What the verifier knows of a program at each instruction, as text, whether it accepts it or not. `RecordLength`, `CodeLength`
+/// and `NoMemory`.
+pub fn explain(record_length: u16, code: &[u8]) -> Result<String, Error> {
+    let mut text = vec![0; 256 + 16 * code.len()];
+    loop {
+        let mut count = 0;
+        // SAFETY: the code and the text are as long as said.
+        let status = unsafe {
+            edgebpf_explain(record_length, code.as_ptr(), code.len(), text.as_mut_ptr(), text.len(), &mut count)
+        };
+        if status == LENGTHS {
+            text.resize(count, 0);
+            continue;
+        }
+        done(status)?;
+        text.truncate(count);
+        return Ok(String::from_utf8_lossy(&text).into_owned());
+    }
+}

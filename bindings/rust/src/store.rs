@@ -1,0 +1,70 @@
+//! A graph that changes.
+use crate::batch::{Batch, Feed};
+use crate::calls::{edgebpf_store_apply, edgebpf_store_new, edgebpf_store_pin, RawChange};
+use crate::error::{done, Error};
+use crate::handle::Handle;
+use crate::version::Version;
+
+/// A graph that is edited by batches and read in versions.
+pub struct Store(Handle);
+
+/// What a batch did.
+#[derive(Clone, Copy, Debug, PartialEq, Eq)]
+pub struct Change {
+    /// The number of edges that are new.
+    pub added: u64,
+    /// The number of edges that are gone.
+    pub removed: u64,
+    /// The number of the version that the batch made: how many batches there are.
+    pub number: u64,
+}
+
+impl Store {
+    /// A graph without an edge. `VertexCount` unless it has 1 to 1,048,576 vertices, and `NoMemory`.
+    pub fn new(vertices: u32) -> Result<Store, Error> {
+        let handle = Handle::empty();
+        // SAFETY: `at` is an empty handle.
+        done(unsafe { edgebpf_store_new(vertices, handle.at()) })?;
+        Ok(Store(handle))
+    }
+
+    /// Applies a batch, and says what it did. `TooManyEdits`, `VertexRange`, `LogFull` and `NoMemory`; then the store is as it was.
+    pub fn apply(&mut self, feed: Feed, batch: &Batch) -> Result<Change, Error> {
+        self.apply_arrays(feed, &batch.sources, &batch.targets, &batch.removes)
+    }
+
+    /// Applies a batch of edits: the edge from each source to the target at its place, which is taken out where `removes` is set.
+    /// Besides the errors of `apply`, `Lengths` where the three have not the same length.
+    pub fn apply_arrays(
+        &mut self,
+        feed: Feed,
+        sources: &[u32],
+        targets: &[u32],
+        removes: &[bool],
+    ) -> Result<Change, Error> {
+        let mut change = RawChange::default();
+        // SAFETY: the slices are as long as said, and a bool is a byte that is 0 or 1.
+        done(unsafe {
+            edgebpf_store_apply(
+                self.0.at(),
+                feed.number(),
+                sources.as_ptr(),
+                sources.len(),
+                targets.as_ptr(),
+                targets.len(),
+                removes.as_ptr().cast(),
+                removes.len(),
+                &mut change,
+            )
+        })?;
+        Ok(Change { added: change.added, removed: change.removed, number: change.number })
+    }
+
+    /// The last version, which stays as it is while batches are applied. `NoMemory`.
+    pub fn pin(&self) -> Result<Version, Error> {
+        let version = Handle::empty();
+        // SAFETY: the store's handle was written by the library, and `version` is empty.
+        done(unsafe { edgebpf_store_pin(self.0.at(), version.at()) })?;
+        Ok(Version(version))
+    }
+}

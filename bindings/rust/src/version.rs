@@ -1,0 +1,192 @@
+//! A version of a store's graph.
+use crate::calls::{
+    edgebpf_numbers, edgebpf_run, edgebpf_version_copy, edgebpf_version_degree, edgebpf_version_has_edge,
+    edgebpf_version_info, edgebpf_version_lend, edgebpf_version_neighbour, edgebpf_version_share, RawInfo, RawSlice,
+    RawTotals,
+};
+use crate::error::{done, Error, NO_NEIGHBOUR};
+use crate::handle::Handle;
+use crate::program::Program;
+use std::ptr::null;
+use std::slice::from_raw_parts;
+
+const SLICES_AT_FIRST: usize = 64;
+
+/// A version of a graph. It stays as it is while its store is edited, and after its store is dropped.
+///
+/// It may be sent to another thread, and is no `Sync`: for a second thread `share` makes another handle of it, in some tens of
+/// nanoseconds.
+pub struct Version(pub(crate) Handle);
+
+/// How the numbers of a vertex's edges become one value.
+#[derive(Clone, Copy, Debug, PartialEq, Eq, Hash)]
+pub enum Reduction {
+    /// Their sum modulo 2^64; 0 where there is none.
+    Sum,
+    /// The least; 2^64 - 1 where there is none.
+    Min,
+    /// The greatest; 0 where there is none.
+    Max,
+}
+
+/// What all edges of a run have together.
+#[derive(Clone, Copy, Debug, PartialEq, Eq)]
+pub struct Totals {
+    /// The number of edges.
+    pub edges: u64,
+    /// The reduction of all their numbers.
+    pub total: u64,
+}
+
+/// All edges: those of vertex `v` lead to `targets[starts[v]..starts[v + 1]]`, ascending.
+#[derive(Clone, Debug, PartialEq, Eq)]
+pub struct Csr {
+    /// One place for each vertex, and one more.
+    pub starts: Vec<u64>,
+    /// One target for each edge.
+    pub targets: Vec<u32>,
+}
+
+impl Version {
+    /// Another handle of the same version, for another thread. `NoMemory`.
+    pub fn share(&self) -> Result<Version, Error> {
+        let other = Handle::empty();
+        // SAFETY: this handle was written by the library, and the other is empty.
+        done(unsafe { edgebpf_version_share(self.0.at(), other.at()) })?;
+        Ok(Version(other))
+    }
+
+    fn info(&self) -> RawInfo {
+        let mut info = RawInfo::default();
+        // SAFETY: the handle holds a version, so the call is done.
+        unsafe { edgebpf_version_info(self.0.at(), &mut info) };
+        info
+    }
+
+    /// How many batches made it.
+    pub fn number(&self) -> u64 {
+        self.info().number
+    }
+
+    /// How many edges it has.
+    pub fn edges(&self) -> u64 {
+        self.info().edges
+    }
+
+    /// How many vertices it has.
+    pub fn vertices(&self) -> u32 {
+        self.info().vertices
+    }
+
+    /// How many neighbours a vertex has. A vertex outside the graph has none.
+    pub fn degree(&self, vertex: u32) -> u32 {
+        let mut count = 0;
+        // SAFETY: the handle holds a version.
+        unsafe { edgebpf_version_degree(self.0.at(), vertex, &mut count) };
+        count
+    }
+
+    /// Whether there is an edge.
+    pub fn has_edge(&self, source: u32, target: u32) -> bool {
+        let mut answer = 0;
+        // SAFETY: the handle holds a version.
+        unsafe { edgebpf_version_has_edge(self.0.at(), source, target, &mut answer) };
+        answer != 0
+    }
+
+    /// The neighbour at a place, from 0, of those in ascending order.
+    pub fn neighbour(&self, vertex: u32, place: u32) -> Option<u32> {
+        let mut neighbour = 0;
+        // SAFETY: the handle holds a version.
+        let status = unsafe { edgebpf_version_neighbour(self.0.at(), vertex, place, &mut neighbour) };
+        (status != NO_NEIGHBOUR).then_some(neighbour)
+    }
+
+    /// The slices in which the targets of a vertex lie, ascending. They are not copied: each lies in the version, which it borrows.
+    pub fn slices(&self, vertex: u32) -> Vec<&[u32]> {
+        let mut room = vec![RawSlice { at: null(), count: 0 }; SLICES_AT_FIRST];
+        loop {
+            let mut lent = 0;
+            // SAFETY: the handle holds a version, and there is room for as many slices as said.
+            unsafe { edgebpf_version_lend(self.0.at(), vertex, room.as_mut_ptr(), room.len(), &mut lent) };
+            if lent < room.len() {
+                // SAFETY: the library wrote these slices. They stay as they are while the handle holds the version, which is at
+                // least as long as `self` is borrowed.
+                return room[..lent].iter().map(|slice| unsafe { from_raw_parts(slice.at, slice.count) }).collect();
+            }
+            room.resize(4 * room.len(), RawSlice { at: null(), count: 0 });
+        }
+    }
+
+    /// The targets of a vertex, ascending.
+    pub fn neighbours(&self, vertex: u32) -> impl Iterator<Item = u32> + '_ {
+        self.slices(vertex).into_iter().flatten().copied()
+    }
+
+    /// All edges, copied. `NoMemory`.
+    pub fn csr(&self) -> Result<Csr, Error> {
+        let info = self.info();
+        let edges = usize::try_from(info.edges).map_err(|_| Error::NoMemory)?;
+        let mut csr = Csr { starts: vec![0; info.vertices as usize + 1], targets: vec![0; edges] };
+        let (starts, targets) = (&mut csr.starts, &mut csr.targets);
+        // SAFETY: the handle holds a version, and the arrays are as long as said.
+        let status = unsafe {
+            edgebpf_version_copy(self.0.at(), starts.as_mut_ptr(), starts.len(), targets.as_mut_ptr(), targets.len())
+        };
+        done(status)?;
+        Ok(csr)
+    }
+
+    /// Runs a program on each edge of the vertices of a frontier, in any order and at most 1,048,576 of them, and writes for each
+    /// vertex the reduction of its edges' numbers. `Lengths` where there are not as many values as vertices, and `ArgumentLength`;
+    /// then nothing is written.
+    pub fn run(
+        &self,
+        program: &Program,
+        argument: &[u8],
+        frontier: &[u32],
+        reduction: Reduction,
+        values: &mut [u64],
+    ) -> Result<Totals, Error> {
+        let mut totals = RawTotals::default();
+        let number = match reduction {
+            Reduction::Sum => 0,
+            Reduction::Min => 1,
+            Reduction::Max => 2,
+        };
+        // SAFETY: the handles hold a version and a program, and the slices are as long as said.
+        done(unsafe {
+            edgebpf_run(
+                self.0.at(),
+                program.handle.at(),
+                argument.as_ptr(),
+                argument.len(),
+                frontier.as_ptr(),
+                frontier.len(),
+                number,
+                values.as_mut_ptr(),
+                values.len(),
+                &mut totals,
+            )
+        })?;
+        Ok(Totals { edges: totals.edges, total: totals.total })
+    }
+
+    /// The number of each edge, in the order of `csr`. `ArgumentLength` and `NoMemory`.
+    pub fn numbers(&self, program: &Program, argument: &[u8]) -> Result<Vec<u64>, Error> {
+        let edges = usize::try_from(self.edges()).map_err(|_| Error::NoMemory)?;
+        let mut numbers = vec![0; edges];
+        // SAFETY: the handles hold a version and a program, and the slices are as long as said.
+        done(unsafe {
+            edgebpf_numbers(
+                self.0.at(),
+                program.handle.at(),
+                argument.as_ptr(),
+                argument.len(),
+                numbers.as_mut_ptr(),
+                numbers.len(),
+            )
+        })?;
+        Ok(numbers)
+    }
+}

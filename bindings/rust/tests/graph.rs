@@ -1,0 +1,180 @@
+//! What the crate answers, on graphs whose answers were found by hand or by sets.
+use edgebpf::{
+    assemble, explain, Batch, Error, Feed, NotAssembled, Program, Reduction, Refusal, Store, Version, MOST_EDITS,
+    MOST_VERTICES,
+};
+use std::collections::BTreeSet;
+
+const TARGET: &str = "ldxw r0, [r1+4]\nexit";
+
+fn program(text: &str, record_length: u16) -> Program {
+    Program::verify(record_length, &assemble(text).unwrap()).unwrap()
+}
+
+fn edges_of(version: &Version) -> BTreeSet<(u32, u32)> {
+    let csr = version.csr().unwrap();
+    let mut found = BTreeSet::new();
+    for vertex in 0..version.vertices() {
+        let (from, to) = (csr.starts[vertex as usize] as usize, csr.starts[vertex as usize + 1] as usize);
+        let targets = &csr.targets[from..to];
+        assert!(targets.windows(2).all(|pair| pair[0] < pair[1]));
+        assert_eq!(version.neighbours(vertex).collect::<Vec<_>>(), targets);
+        assert_eq!(version.degree(vertex) as usize, targets.len());
+        found.extend(targets.iter().map(|target| (vertex, *target)));
+    }
+    found
+}
+
+#[test]
+fn a_version_stays_as_it_is() {
+    let mut store = Store::new(4).unwrap();
+    let made = store.apply(Feed::A, &Batch::from_iter([(0, 1), (0, 2), (1, 2), (2, 0), (3, 3)])).unwrap();
+    assert_eq!((made.added, made.removed, made.number), (5, 0, 1));
+    let first = store.pin().unwrap();
+    let made = store.apply(Feed::B, Batch::new().remove(1, 2).insert(0, 3).remove(3, 1)).unwrap();
+    assert_eq!((made.added, made.removed, made.number), (1, 1, 2));
+    let last = store.pin().unwrap();
+    drop(store);
+    assert_eq!(edges_of(&first), BTreeSet::from([(0, 1), (0, 2), (1, 2), (2, 0), (3, 3)]));
+    assert_eq!(edges_of(&last), BTreeSet::from([(0, 1), (0, 2), (0, 3), (2, 0), (3, 3)]));
+    assert_eq!((first.number(), first.edges(), first.vertices()), (1, 5, 4));
+    assert_eq!((last.number(), last.edges(), last.vertices()), (2, 5, 4));
+    assert!(first.has_edge(1, 2) && !last.has_edge(1, 2) && !last.has_edge(9, 9));
+    assert_eq!((last.neighbour(0, 1), last.neighbour(0, 3), last.neighbour(9, 0)), (Some(2), None, None));
+    assert_eq!((last.degree(u32::MAX), last.slices(u32::MAX).len()), (0, 0));
+}
+
+#[test]
+fn runs_reduce_the_numbers_of_edges() {
+    let mut store = Store::new(4).unwrap();
+    store.apply(Feed::A, &Batch::from_iter([(0, 1), (0, 2), (2, 0)])).unwrap();
+    let version = store.pin().unwrap();
+    let target = program(TARGET, 16);
+    let mut values = [9; 3];
+    let frontier = [2, 1, 0];
+    let totals = version.run(&target, &[], &frontier, Reduction::Sum, &mut values).unwrap();
+    assert_eq!((values, totals.edges, totals.total), ([0, 0, 3], 3, 3));
+    let totals = version.run(&target, &[], &frontier, Reduction::Min, &mut values).unwrap();
+    assert_eq!((values, totals.total), ([0, u64::MAX, 1], 0));
+    let totals = version.run(&target, &[], &frontier, Reduction::Max, &mut values).unwrap();
+    assert_eq!((values, totals.total), ([0, 0, 2], 2));
+    assert_eq!(version.numbers(&target, &[]).unwrap(), [1, 2, 0]);
+    let weighted = program("ldxdw r0, [r1+16]\nldxw r2, [r1+4]\nmul r0, r2\nexit", 24);
+    assert_eq!(version.numbers(&weighted, &7u64.to_le_bytes()).unwrap(), [7, 14, 0]);
+    assert_eq!(weighted.share().unwrap().verdict(), weighted.verdict());
+    assert_eq!((weighted.verdict().bound, weighted.verdict().frames), (4, 1));
+}
+
+#[test]
+fn errors_are_told_and_change_nothing() {
+    assert_eq!(Store::new(0).err(), Some(Error::VertexCount));
+    assert_eq!(Store::new(MOST_VERTICES + 1).err(), Some(Error::VertexCount));
+    let mut store = Store::new(4).unwrap();
+    store.apply(Feed::A, Batch::new().insert(0, 1)).unwrap();
+    assert_eq!(store.apply(Feed::A, Batch::new().insert(0, 2).insert(4, 0)), Err(Error::VertexRange));
+    let many = vec![0; MOST_EDITS + 1];
+    assert_eq!(store.apply_arrays(Feed::A, &many, &many, &vec![false; MOST_EDITS + 1]), Err(Error::TooManyEdits));
+    assert_eq!(store.apply_arrays(Feed::A, &[0], &[2], &[]), Err(Error::Lengths));
+    let version = store.pin().unwrap();
+    assert_eq!((version.number(), version.edges()), (1, 1));
+    let target = program(TARGET, 16);
+    let mut values = [5];
+    assert_eq!(version.run(&target, &[], &[0, 1], Reduction::Sum, &mut values), Err(Error::Lengths));
+    assert_eq!(version.run(&target, &[1], &[0], Reduction::Sum, &mut values), Err(Error::ArgumentLength));
+    assert_eq!(values, [5]);
+    assert_eq!(version.numbers(&target, &[1]), Err(Error::ArgumentLength));
+    assert_eq!(Error::VertexRange.to_string(), "a vertex is not in the graph");
+}
+
+#[test]
+fn programs_are_refused_and_explained() {
+    let outside = assemble("ldxw r0, [r1+13]\nexit ; the byte after the record").unwrap();
+    let Err(Refusal::Refused(refused)) = Program::verify(16, &outside) else { panic!("it is outside the record") };
+    assert_eq!((refused.cause, refused.pc), (11, 0));
+    assert_eq!(refused.to_string(), "the verifier refuses the program: cause 11 at 0");
+    assert_eq!(refused.explain().unwrap(), explain(16, &outside).unwrap());
+    assert!(refused.explain().unwrap().contains("ldxw"));
+    assert!(matches!(Program::verify(15, &outside), Err(Refusal::Error(Error::RecordLength))));
+    assert!(matches!(Program::verify(16, &outside[1..]), Err(Refusal::Error(Error::CodeLength))));
+    assert!(matches!(Program::verify(16, &[]), Err(Refusal::Error(Error::CodeLength))));
+    assert!(matches!(assemble("exit\nldxw r0"), Err(NotAssembled::WrongText { line: 2, .. })));
+    assert_eq!(assemble("mov r0, 1\nexit").unwrap().len(), 16);
+    assert_eq!(assemble(&"lddw r0, 1\n".repeat(100)).unwrap().len(), 1600);
+}
+
+#[test]
+fn a_long_list_lies_in_many_slices() {
+    let mut store = Store::new(MOST_VERTICES).unwrap();
+    for part in 0..4 {
+        store.apply(Feed::A, &(0..60_000).map(|each| (7, 4 * each + part)).collect()).unwrap();
+    }
+    let version = store.pin().unwrap();
+    let slices = version.slices(7);
+    assert!(slices.len() > 64);
+    assert_eq!(slices.concat(), (0..240_000).collect::<Vec<u32>>());
+    store.apply(Feed::A, Batch::new().remove(7, 0)).unwrap();
+    assert_eq!(slices[0][0], 0);
+    assert_eq!(store.pin().unwrap().slices(7)[0][0], 1);
+}
+
+#[test]
+fn readers_run_beside_a_writer() {
+    let mut store = Store::new(64).unwrap();
+    let target = program(TARGET, 16);
+    let mut readers = Vec::new();
+    let mut wanted = 0;
+    for round in 0..40 {
+        store.apply(Feed::B, &(0..64).map(|vertex| (vertex, round)).collect()).unwrap();
+        wanted += 64 * u64::from(round);
+        let (version, target) = (store.pin().unwrap(), target.share().unwrap());
+        readers.push(std::thread::spawn(move || {
+            let frontier: Vec<u32> = (0..64).collect();
+            let mut values = [0; 64];
+            (version.run(&target, &[], &frontier, Reduction::Sum, &mut values).unwrap().total, wanted)
+        }));
+    }
+    for reader in readers {
+        let (total, wanted) = reader.join().unwrap();
+        assert_eq!(total, wanted);
+    }
+}
+
+/// A small generator of random numbers, whose state is the last one.
+struct Chance(u64);
+
+impl Chance {
+    fn below(&mut self, count: u64) -> u64 {
+        self.0 = self.0.wrapping_mul(6364136223846793005).wrapping_add(1442695040888963407);
+        (self.0 >> 33) % count
+    }
+}
+
+#[test]
+fn random_batches_agree_with_sets() {
+    for seed in 0..40 {
+        let mut chance = Chance(seed);
+        let vertices = 1 + chance.below(90) as u32;
+        let (mut store, mut set) = (Store::new(vertices).unwrap(), BTreeSet::new());
+        for number in 1..30 {
+            let (mut batch, before) = (Batch::new(), set.clone());
+            for _ in 0..chance.below(120) {
+                let edge = (chance.below(vertices.into()) as u32, chance.below(vertices.into()) as u32);
+                if chance.below(3) == 0 {
+                    batch.remove(edge.0, edge.1);
+                    set.remove(&edge);
+                } else {
+                    batch.insert(edge.0, edge.1);
+                    set.insert(edge);
+                }
+            }
+            let feed = if chance.below(2) == 0 { Feed::A } else { Feed::B };
+            let made = store.apply(feed, &batch).unwrap();
+            assert_eq!(made.number, number);
+            assert_eq!(
+                (made.added, made.removed),
+                (set.difference(&before).count() as u64, before.difference(&set).count() as u64)
+            );
+        }
+        assert_eq!(edges_of(&store.pin().unwrap()), set);
+    }
+}
