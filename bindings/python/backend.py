@@ -1,11 +1,17 @@
-"""Builds the wheel of this package, so that `pip install` needs neither network nor a compiler."""
+"""Builds the wheel of this package, so that `pip install` needs no network. Where there is a C compiler, the wheel has the library, built of
+dist/; where there is none, the package looks for an installed one."""
 import base64
 import hashlib
+import subprocess
+import sys
+import tempfile
 import zipfile
 from pathlib import Path
 
 NAME, VERSION = "edgebpf", "0.1.0"
 PACKAGE = Path(__file__).resolve().parent / NAME
+LIBRARY = "libedgebpf.so"
+LINK = PACKAGE.parents[2] / "dist" / "link"
 INFO = f"{NAME}-{VERSION}.dist-info"
 METADATA = f"""\
 Metadata-Version: 2.1
@@ -15,7 +21,7 @@ Summary: A versioned in-memory graph that runs BPF programs on its edges
 Requires-Python: >=3.9
 Requires-Dist: numpy
 """
-WHEEL = "Wheel-Version: 1.0\nGenerator: edgebpf\nRoot-Is-Purelib: true\nTag: py3-none-any\n"
+WHEEL = "Wheel-Version: 1.0\nGenerator: edgebpf\nRoot-Is-Purelib: {}\nTag: {}\n"
 # The same bytes each time: no file has the time of its build.
 MOMENT = (2020, 1, 1, 0, 0, 0)
 
@@ -25,14 +31,30 @@ def record_line(name, content):
     return f"{name},sha256={digest},{len(content)}\n"
 
 
+def built_library():
+    """The library's bytes; None where it cannot be built."""
+    with tempfile.TemporaryDirectory() as folder:
+        made = Path(folder) / LIBRARY
+        try:
+            subprocess.run([LINK, "libedgebpf", made], check=True, capture_output=True, text=True)
+            return made.read_bytes()
+        except (OSError, subprocess.CalledProcessError) as error:
+            print(f"edgebpf: without {LIBRARY}: {getattr(error, 'stderr', '') or error}", file=sys.stderr)
+            return None
+
+
 def build_wheel(wheel_directory, config_settings=None, metadata_directory=None):
     """Writes the wheel, and returns its name."""
     files = {f"{NAME}/{path.name}": path.read_bytes() for path in sorted(PACKAGE.iterdir()) if path.suffix in (".py", ".typed")}
+    library = built_library()
+    if library is not None:
+        files[f"{NAME}/{LIBRARY}"] = library
+    tag = "py3-none-any" if library is None else "py3-none-linux_x86_64"
     files[f"{INFO}/METADATA"] = METADATA.encode()
-    files[f"{INFO}/WHEEL"] = WHEEL.encode()
+    files[f"{INFO}/WHEEL"] = WHEEL.format(str(library is None).lower(), tag).encode()
     record = "".join(record_line(name, content) for name, content in files.items()) + f"{INFO}/RECORD,,\n"
     files[f"{INFO}/RECORD"] = record.encode()
-    wheel = f"{NAME}-{VERSION}-py3-none-any.whl"
+    wheel = f"{NAME}-{VERSION}-{tag}.whl"
     with zipfile.ZipFile(Path(wheel_directory) / wheel, "w", zipfile.ZIP_DEFLATED) as out:
         for name, content in files.items():
             out.writestr(zipfile.ZipInfo(name, MOMENT), content)

@@ -147,6 +147,16 @@ class Installed(unittest.TestCase):
             self.assertEqual((run.returncode, run.stderr), (0, ""))
             self.assertIn(said, run.stdout)
 
+    def test_library(self):
+        """The program in C of docs/EMBEDDING.md, over what is installed."""
+        source = (TOP / "docs/EMBEDDING.md").read_text().split("```c\n")[1].split("```")[0]
+        (self.work / "host.c").write_text(source)
+        for more in ([], ["-static"]):
+            made = self.work / f"host{len(more)}"
+            subprocess.run(["cc", f"-I{self.place}/include", f"-L{self.place}/lib", "-o", made, self.work / "host.c", "-ledgebpf", *more], check=True)
+            run = subprocess.run([made], env={"LD_LIBRARY_PATH": f"{self.place}/lib"}, capture_output=True, text=True)
+            self.assertEqual((run.stdout, run.stderr, run.returncode), ("0 has 2 neighbours: 1 and 2\ntotal 5\n", "", 0))
+
     def test_uninstall_leaves_nothing(self):
         place = self.room / "gone"
         make(f"BUILD={self.room / 'build'}", "install", f"PREFIX={place}")

@@ -1,13 +1,16 @@
 """The library `libedgebpf.so` by ctypes. A call lets go of the interpreter's lock, and takes the lock of each handle that it is given."""
 import ctypes
+import ctypes.util
 import functools
 import os
 import pathlib
+import subprocess
 import threading
 
 from edgebpf.errors import ArgumentLength, Closed, Error, LogFull, NoMemory, TooManyEdits, VertexRange
 
 HERE = pathlib.Path(__file__).resolve()
+DIST = HERE.parents[3] / "dist"
 NAME = "libedgebpf.so"
 DONE, NO_MEMORY, EMPTY = 0, 1, 2
 VERTEX_RANGE, TOO_MANY_EDITS, LOG_FULL, LENGTHS, REFUSED, RECORD_LENGTH, CODE_LENGTH, ARGUMENT_LENGTH, WRONG_TEXT = 5, 6, 7, 9, 10, 11, 12, 13, 15
@@ -64,11 +67,29 @@ CALLS = {
 }
 
 
+def in_checkout():
+    """The library of the checkout's `dist/`, which the C compiler builds at the first use; None where there is no checkout or compiler."""
+    text, built = DIST / "libedgebpf.s", DIST / "build" / NAME
+    if not text.is_file():
+        return None
+    if not built.is_file() or built.stat().st_mtime < text.stat().st_mtime:
+        try:
+            built.parent.mkdir(exist_ok=True)
+            subprocess.run([DIST / "link", "libedgebpf", built], check=True, capture_output=True)
+        except (OSError, subprocess.CalledProcessError):
+            return None
+    return str(built)
+
+
+@functools.cache
 def path():
-    """Where the library is: what EDGEBPF_LIBRARY names, else beside this package, else in the checkout; None where it is not there."""
-    named = os.environ.get("EDGEBPF_LIBRARY")
-    places = [pathlib.Path(named)] if named else [HERE.parent / NAME, HERE.parents[2] / "c" / "build" / NAME]
-    return next((str(place) for place in places if place.is_file()), None)
+    """Where the library is: what EDGEBPF_LIBRARY names, else beside this package, else of the checkout, else one that is installed; or None."""
+    if named := os.environ.get("EDGEBPF_LIBRARY"):
+        return named
+    beside = HERE.parent / NAME
+    if beside.is_file():
+        return str(beside)
+    return in_checkout() or ctypes.util.find_library("edgebpf")
 
 
 @functools.cache
@@ -76,7 +97,7 @@ def load():
     """The library's calls, by the names in CALLS."""
     found = path()
     if found is None:
-        raise Error(f"{NAME} is not there: name it by EDGEBPF_LIBRARY, or run make in bindings/c")
+        raise Error(f"{NAME} is not there: install edgebpf, or run make -C dist in a checkout, or name the library by EDGEBPF_LIBRARY")
     library = ctypes.CDLL(found)
     calls = {}
     for name, arguments in CALLS.items():

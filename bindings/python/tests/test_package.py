@@ -41,7 +41,7 @@ class Package(unittest.TestCase):
 
     def test_documents(self):
         """Each example in Python runs as printed, and its `assert`s hold."""
-        blocks = python_blocks(TOP / "README.md") + python_blocks(FOLDER / "README.md")
+        blocks = [block for page in (TOP / "README.md", TOP / "docs/EMBEDDING.md", FOLDER / "README.md") for block in python_blocks(page)]
         self.assertGreaterEqual(len(blocks), 2)
         for block in blocks:
             if "edgebpf.Store(" not in block or edgebpf.library.path():
