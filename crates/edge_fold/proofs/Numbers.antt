@@ -23,7 +23,7 @@ abbrev pub found : Program → Graph → List ℕ → ℕ → ℕ → List ℕ �
 found p g argument source place targets =
     filter_map (λ number. number) (numbers_from p (longest p) g argument source place targets)
 
-numbers_from-append : (p : Program) (steps : ℕ) (g : Graph) (argument : List ℕ) (source place : ℕ) (xs ys : List ℕ)
+pub numbers_from-append : (p : Program) (steps : ℕ) (g : Graph) (argument : List ℕ) (source place : ℕ) (xs ys : List ℕ)
     → numbers_from p steps g argument source place (xs ++ ys)
     ≡ numbers_from p steps g argument source place xs ++ numbers_from p steps g argument source (place + length xs) ys
 numbers_from-append p steps g argument source place [] ys =

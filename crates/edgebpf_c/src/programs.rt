@@ -5,6 +5,7 @@ ghost use Rattle.embedding.specs.declared.statuses.TheConstants.{DONE, REFUSED};
 ghost use Rattle.embedding.specs.Holding.{OnProgram, HoldsProgram};
 ghost use Rattle.embedding.specs.Batches.{IsHandedOut};
 ghost use Rattle.embedding.specs.Programs.{IsAccepted, IsRefused};
+ghost use Rattle.embedding.specs.Texts.{IsAssembled};
 
 use embedding::{
     Assembled, EMPTY, Handle, Verdict, assemble_into, explain_into, new_program, share_program_held,
@@ -56,7 +57,9 @@ pub extern "C" fn edgebpf_assemble(
     text: &[u8],
     code: &mut [u8],
     told: &mut Assembled,
-) -> u32 {
+) -> u32
+    ensures { IsAssembled text.now code.old result told.new code.new }
+{
     assemble_into(alloc, text, code, told)
 }
 

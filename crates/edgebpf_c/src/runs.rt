@@ -1,6 +1,7 @@
 //! Programs over edges.
 ghost use Rattle.std.specs.Prelude.{◌≡◌};
 ghost use Rattle.past_model.specs.Past.{graph_of};
+ghost use Rattle.embedding.specs.Arrays.{AreNumbers};
 ghost use Rattle.embedding.specs.Holding.{OnBoth};
 ghost use Rattle.embedding.specs.Runs.{IsRun};
 
@@ -51,6 +52,8 @@ pub extern "C" fn edgebpf_numbers(
 ) -> u32
     ensures version { version.new.held ≡ version.old.held }
     ensures program { program.new.held ≡ program.old.held }
+    ensures told { OnBoth version.old.held program.old.held result (numbers.new ≡ numbers.old)
+        (λ past p. AreNumbers (graph_of past) p argument.now result numbers.old numbers.new) }
 {
     let Some(graph) = version.take(alloc) else {
         return EMPTY;

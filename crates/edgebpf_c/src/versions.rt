@@ -4,6 +4,7 @@ ghost use Rattle.graph_model.specs.Graph.{degree};
 ghost use Rattle.graph_model.specs.Views.{is_edge};
 ghost use Rattle.past_model.specs.Past.{graph_of};
 ghost use Rattle.embedding.specs.declared.statuses.TheConstants.{DONE};
+ghost use Rattle.embedding.specs.Arrays.{IsCopy};
 ghost use Rattle.embedding.specs.Holding.{OnVersion, HoldsVersion};
 ghost use Rattle.embedding.specs.Batches.{IsHandedOut};
 ghost use Rattle.embedding.specs.Questions.{info_of, answer_of, IsNeighbour};
@@ -154,6 +155,8 @@ pub extern "C" fn edgebpf_version_copy(
     targets: &mut [u32],
 ) -> u32
     ensures kept { version.new.held ≡ version.old.held }
+    ensures told { OnVersion version.old.held result ((starts.new ≡ starts.old) × (targets.new ≡ targets.old))
+        (λ past. IsCopy (graph_of past) result starts.old targets.old starts.new targets.new) }
 {
     match version.take(alloc) {
         None => EMPTY,

@@ -1,3 +1,4 @@
+pub mod CopyLemmas
 pub mod Boxes
 pub mod EditLists
 pub mod SliceCounts

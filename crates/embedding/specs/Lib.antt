@@ -1,3 +1,4 @@
+pub mod Arrays
 pub mod Handle
 pub mod Holding
 pub mod Applying

@@ -1,7 +1,7 @@
 //! Programs as text, and what the verifier knows of them as text.
 ghost use Rattle.std.specs.Prelude.{◌≡◌, ◌≢◌, length};
 ghost use Rattle.embedding.specs.declared.statuses.TheConstants.{DONE};
-ghost use Rattle.embedding.specs.Texts.{IsWritten};
+ghost use Rattle.embedding.specs.Texts.{IsWritten, IsAssembled};
 
 use crate::programs::image_of;
 use crate::statuses::{DONE, LENGTHS, NO_MEMORY, WRONG_TEXT};
@@ -36,7 +36,9 @@ fn write_out(bytes: &[u8], out: &mut [u8], count: &mut usize) -> u32
 
 /// Writes the code that a text means, and how many bytes it has. `WRONG_TEXT` where it means none; `LENGTHS` where there is
 /// too little room, and then no code is written.
-pub fn assemble_into(alloc: Global, text: &[u8], code: &mut [u8], told: &mut Assembled) -> u32 {
+pub fn assemble_into(alloc: Global, text: &[u8], code: &mut [u8], told: &mut Assembled) -> u32
+    ensures { IsAssembled text.now code.old result told.new code.new }
+{
     *told = Assembled {
         length: 0,
         line: 0,

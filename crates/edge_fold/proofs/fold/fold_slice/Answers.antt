@@ -1,8 +1,4 @@
-use Rattle.std.proofs.Common.{◌≡◌, ◌+◌, ◌<◌, ◌≤◌, ◌-◌, ℕ, List, Some, take, drop, length, get_or, refl, ap, sym, ◌∙◌, subst, subst₂, arith, rules}
-use Rattle.std.specs.Int.{w32, to_le_bytes}
-use Rattle.std.specs.Prelude.{◌++◌}
-use Rattle.past_model.specs.declared.limits.TheConstants.{MOST_VERTICES}
-use Rattle.graph_model.specs.Graph.{degree}
+use Rattle.std.proofs.Common.{◌≡◌, ◌+◌, ◌<◌, ◌≤◌, ◌-◌, ℕ, List, Some, length, get_or, refl, ap, sym, ◌∙◌, subst, arith}
 use Rattle.past_model.specs.Past.{graph_of}
 use Rattle.bpf_model.specs.Run.{number_for}
 use Rattle.map_model.specs.EdgeMap.{edge_record, reduction_of_numbers}

@@ -1,0 +1,54 @@
+use Rattle.std.proofs.Common.{◌≡◌, ◌+◌, ◌≤◌, ◌<◌, ◌-◌, length, take, drop, ap, subst, length-drop, ◌∙◌, rules, arith}
+use Rattle.std.proofs.lemmas.List.{length-take-le}
+use borrow.Rule.Slice.PartMut.{put_mid}
+use Rattle.graph_model.specs.Graph.{degree}
+use Rattle.past_model.proofs.Pasts.{vertex_count-graph_of}
+use Rattle.past_model.specs.Past.{graph_of}
+use Rattle.edge_fold.proofs.Written.{AreWritten, none_written, vertex_written, places_left, all_are_written}
+use Rattle.edge_fold.proofs.numbering.number_edges.Goals as goal
+
+pub sources-init : goal.sources-init
+sources-init c = none_written c.args.program.now (graph_of c.args.version.now) c.args.argument.now c.args.numbers.now c.requires.long
+
+pub overflow_add-end : goal.overflow_add-end
+overflow_add-end c =
+    let g = graph_of c.args.version.now in
+    let below : c.sources.source < g.vertex_count = omega (arith, c.sources-test.true, c.vertex_count-source-end.ensures.value, vertex_count-graph_of c.args.version.now) in
+    let many : c.degree.result ≡ degree g c.sources.source = c.degree.ensures.value ∙ ap (degree g) c.from.ensures in
+    let left : c.sources.at + c.degree.result ≤ length c.sources.numbers = omega (arith, places_left g c.sources.source c.sources.at below c.sources.invariant.place, many, c.sources.invariant.long) in
+    search (rules, left)
+
+pub offset_bounds-numbers-at : goal.offset_bounds-numbers-at
+offset_bounds-numbers-at c =
+    let g = graph_of c.args.version.now in
+    let below : c.sources.source < g.vertex_count = omega (arith, c.sources-test.true, c.vertex_count-source-end.ensures.value, vertex_count-graph_of c.args.version.now) in
+    let many : c.degree.result ≡ degree g c.sources.source = c.degree.ensures.value ∙ ap (degree g) c.from.ensures in
+    let left : c.sources.at + c.degree.result ≤ length c.sources.numbers = omega (arith, places_left g c.sources.source c.sources.at below c.sources.invariant.place, many, c.sources.invariant.long) in
+    search (rules, left)
+
+pub slice_bounds-number_vertex-end : goal.slice_bounds-number_vertex-end
+slice_bounds-number_vertex-end c =
+    let g = graph_of c.args.version.now in
+    let below : c.sources.source < g.vertex_count = omega (arith, c.sources-test.true, c.vertex_count-source-end.ensures.value, vertex_count-graph_of c.args.version.now) in
+    let many : c.degree.result ≡ degree g c.sources.source = c.degree.ensures.value ∙ ap (degree g) c.from.ensures in
+    let left : c.sources.at + c.degree.result ≤ length c.sources.numbers = omega (arith, places_left g c.sources.source c.sources.at below c.sources.invariant.place, many, c.sources.invariant.long) in
+    left
+
+pub sources-preserved : goal.sources-preserved
+sources-preserved c =
+    let g = graph_of c.args.version.now in
+    let below : c.sources.source < g.vertex_count = omega (arith, c.sources-test.true, c.vertex_count-source-end.ensures.value, vertex_count-graph_of c.args.version.now) in
+    let many : c.degree.result ≡ degree g c.sources.source = c.degree.ensures.value ∙ ap (degree g) c.from.ensures in
+    let left : c.sources.at + c.degree.result ≤ length c.sources.numbers = omega (arith, places_left g c.sources.source c.sources.at below c.sources.invariant.place, many, c.sources.invariant.long) in
+    let at = c.sources.at in
+    let size = at + c.degree.result - at in
+    let same : size ≡ c.degree.result = omega arith in
+    let old = take size (drop at c.sources.numbers) in
+    let kept : length c.number_vertex.new.numbers ≡ length old = c.number_vertex.auto.numbers in
+    let long : length c.number_vertex.new.numbers ≡ size =
+    (let whole = length-drop at c.sources.numbers in omega (arith, kept, length-take-le size (drop at c.sources.numbers) (omega (arith, whole, left, same)))) in
+    let next = vertex_written c.args.program.now g c.args.argument.now c.sources.numbers c.sources.source at size c.number_vertex.new.numbers c.sources.invariant below (omega (arith, many, same)) long c.number_vertex.ensures in
+    subst (λ n. AreWritten c.args.program.now g c.args.argument.now (put_mid at size c.sources.numbers c.number_vertex.new.numbers) (c.sources.source + 1) (at + n)) same next
+
+pub returns : goal.returns
+returns c = all_are_written c.args.program.now (graph_of c.args.version.now) c.args.argument.now c.sources.numbers c.sources.source c.sources.at c.sources.invariant (omega (arith, c.sources-test.false, c.sources.auto.source-end, c.vertex_count-source-end.ensures.value, vertex_count-graph_of c.args.version.now))

@@ -1,0 +1,6 @@
+use Rattle.past_model.specs.Past.{graph_of}
+use Rattle.edge_fold.proofs.Written.{AreWritten}
+use Rattle.edge_fold.proofs.numbering.number_edges.Given as goal
+
+abbrev pub invariant-sources : goal.invariant-sources
+invariant-sources l = AreWritten l.program (graph_of l.version) l.argument l.numbers l.source l.at

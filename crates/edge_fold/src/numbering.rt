@@ -1,0 +1,193 @@
+//! The numbers of a version's edges, each written to its place.
+ghost use Rattle.std.specs.Prelude.{◌≡◌, ◌+◌, ◌<◌, ◌≤◌, ◌++◌, length, drop};
+ghost use Rattle.past_model.specs.declared.limits.TheConstants.{MOST_VERTICES};
+ghost use Rattle.graph_model.specs.Graph.{degree, edge_count, numbers_below};
+ghost use Rattle.past_model.specs.Past.{graph_of};
+ghost use Rattle.map_model.specs.EdgeMap.{exit_numbers, all_numbers};
+ghost use Rattle.map_model.specs.declared.limits.TheConstants.{EDGE_BYTES};
+ghost use Rattle.verifier.specs.Walks.{longest};
+ghost use Rattle.edge_fold.specs.Numbers.{first_numbers, span_numbers};
+
+use crate::blocks::{Blocks, fill, targets_from};
+use crate::edge::Edge;
+use crate::fold::{LEAST_IN_BLOCK, number_for_edge};
+use crate::memory::Memory;
+use crate::span::Span;
+use bpf_blocks::{LANES, sweep_edges};
+use map_model::EDGE_BYTES;
+use verifier::Verified;
+use version::Version;
+
+/// Writes the numbers of a span's first edges to the first places, if there are edges enough for a block and it can be run at
+/// once. Returns how many; 0 if it cannot.
+fn number_block(
+    version: &Version,
+    program: &Verified,
+    argument: &[u8],
+    blocks: &mut Blocks,
+    span: Span<'_>,
+    numbers: &mut [u64],
+) -> usize
+    requires argument { length argument.now + EDGE_BYTES ≡ program.now.record_length }
+    requires degree { span.degree ≡ degree (graph_of version.now) span.source }
+    requires few { span.place + length span.targets.now ≤ MOST_VERTICES }
+    requires long { length numbers.old ≡ length span.targets.now }
+    ensures count { result ≤ length span.entry.targets.now }
+    ensures numbers { numbers.new
+        ≡ first_numbers program.now (graph_of version.now) argument.now span.entry result ++ drop result numbers.old }
+{
+    let count = LANES.min(span.targets.len());
+    if count < LEAST_IN_BLOCK || !blocks.is_useful {
+        return 0;
+    }
+    fill(&mut blocks.edges, &span, 0, count);
+    if !sweep_edges(
+        program,
+        version,
+        &blocks.edges,
+        argument,
+        &mut blocks.columns,
+        &mut blocks.numbers,
+    ) {
+        blocks.is_useful = false;
+        return 0;
+    }
+    numbers[..count].copy_from_slice(&blocks.numbers[..count]);
+    count
+}
+
+/// Writes the numbers of a span's first edges to the first places: of a block, or of one edge. Returns how many.
+fn number_next(
+    version: &Version,
+    program: &Verified,
+    argument: &[u8],
+    memory: &mut Memory,
+    span: Span<'_>,
+    numbers: &mut [u64],
+) -> usize
+    requires argument { length argument.now + EDGE_BYTES ≡ program.now.record_length }
+    requires degree { span.degree ≡ degree (graph_of version.now) span.source }
+    requires few { span.place + length span.targets.now ≤ MOST_VERTICES }
+    requires some { 0 < length span.targets.now }
+    requires long { length numbers.old ≡ length span.targets.now }
+    ensures count { (0 < result) × (result ≤ length span.entry.targets.now) }
+    ensures numbers { numbers.new
+        ≡ first_numbers program.now (graph_of version.now) argument.now span.entry result ++ drop result numbers.old }
+{
+    let count = number_block(
+        version,
+        program,
+        argument,
+        &mut memory.blocks,
+        span,
+        numbers,
+    );
+    if count > 0 {
+        return count;
+    }
+    let edge = Edge {
+        source: span.source,
+        target: span.targets[0],
+        place: span.place,
+        degree: span.degree,
+    };
+    numbers[0] = number_for_edge(version, program, argument, memory, edge);
+    1
+}
+
+/// Writes the numbers of edges in a row.
+fn number_span(
+    version: &Version,
+    program: &Verified,
+    argument: &[u8],
+    memory: &mut Memory,
+    span: Span<'_>,
+    numbers: &mut [u64],
+)
+    requires argument { length argument.now + EDGE_BYTES ≡ program.now.record_length }
+    requires degree { span.degree ≡ degree (graph_of version.now) span.source }
+    requires few { span.place + length span.targets.now ≤ MOST_VERTICES }
+    requires long { length numbers.old ≡ length span.targets.now }
+    ensures { numbers.new ≡ span_numbers program.now (graph_of version.now) argument.now span.entry }
+{
+    let mut at = 0usize;
+    'rounds: while at < span.targets.len() {
+        let rest = Span {
+            source: span.source,
+            degree: span.degree,
+            place: span.place + at as u32,
+            targets: targets_from(span.targets, at),
+        };
+        at += number_next(version, program, argument, memory, rest, &mut numbers[at..]);
+    }
+}
+
+/// Writes the numbers of a vertex's edges.
+fn number_vertex(
+    version: &Version,
+    program: &Verified,
+    argument: &[u8],
+    memory: &mut Memory,
+    source: u32,
+    numbers: &mut [u64],
+)
+    requires argument { length argument.now + EDGE_BYTES ≡ program.now.record_length }
+    requires long { length numbers.old ≡ degree (graph_of version.now) source }
+    ensures { numbers.new
+        ≡ exit_numbers program.now (longest program.now) (graph_of version.now) argument.now source }
+{
+    let degree = version.degree(u64::from(source));
+    let mut cursor = version.cursor(source);
+    let mut place = 0u32;
+    'slices: while place < degree {
+        let Some(targets) = cursor.next_slice() else {
+            unreachable!()
+        };
+        let span = Span {
+            source,
+            degree,
+            place,
+            targets,
+        };
+        let from = place as usize;
+        place += targets.len() as u32;
+        number_span(
+            version,
+            program,
+            argument,
+            memory,
+            span,
+            &mut numbers[from..place as usize],
+        );
+    }
+}
+
+/// Writes the number of each edge of a version: sources ascending, and targets ascending for each. What the memory held before
+/// does not matter. It takes no memory besides.
+pub fn number_edges(
+    version: &Version,
+    program: &Verified,
+    argument: &[u8],
+    memory: &mut Memory,
+    numbers: &mut [u64],
+)
+    requires argument { length argument.now + EDGE_BYTES ≡ program.now.record_length }
+    requires long { length numbers.old ≡ edge_count (graph_of version.now) }
+    ensures { let g = graph_of version.now in
+        numbers.new
+        ≡ all_numbers program.now (longest program.now) g argument.now (numbers_below g.vertex_count) }
+{
+    let mut at = 0usize;
+    'sources: for source in 0..version.vertex_count() {
+        let end = at + version.degree(u64::from(source)) as usize;
+        number_vertex(
+            version,
+            program,
+            argument,
+            memory,
+            source,
+            &mut numbers[at..end],
+        );
+        at = end;
+    }
+}
