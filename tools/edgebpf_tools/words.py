@@ -32,6 +32,7 @@ HELP = {
     14: "KnownHelpers",
     15: "AnswerNumber",
     16: "MoreMemory",
+    17: "WriteElsewhere",
 }
 TEXT_ERRORS = {
     1: "it is no statement and no label, or these are not the arguments of its word",

@@ -17,6 +17,7 @@ CAUSES = {
     14: "no helper has this number",
     15: "a function may end with a pointer in r0",
     16: "out of memory",
+    17: "a store or gather goes to the table, which is only read",
 }
 
 TEXT_ERRORS = {

@@ -9,20 +9,20 @@ use Rattle.abstract_values.specs.declared.limits.TheConstants.{FRAME_BOTTOM}
 use Rattle.bpf_model.specs.State.{Partial, record_base}
 use Rattle.bpf_model.specs.declared.cause.Cause.TheVariants.{OutOfRange}
 use Rattle.abstract_values.specs.declared.value.AbstractValue.{AbstractValue}
-use Rattle.abstract_values.specs.declared.value.AbstractValue.TheVariants.{Unset, Number, Record, Stack}
+use Rattle.abstract_values.specs.declared.value.AbstractValue.TheVariants.{Unset, Number, Record, Stack, Table}
 use Rattle.abstract_values.specs.Described.{Describes}
 use Rattle.abstract_state.specs.declared.state.AbstractState.{AbstractState}
-use Rattle.abstract_state.specs.Memory.{is_in_record, is_in_frame, frame_index, frame_fill, gather_result}
+use Rattle.abstract_state.specs.Memory.{is_within, is_in_frame, frame_index, frame_fill, gather_result}
 use Rattle.abstract_state.specs.Described.{DescribesParts, IsAllowed, IsWritten}
 use Rattle.abstract_state.proofs.Loads.{at_most, natural, place_in}
 use Rattle.abstract_state.proofs.Stores.{ok, failed, Leaves, filled_described, record_described}
 
 record_gather : (l : Lengths) (top lo hi : ℕ) (s t : AbstractState) (registers before after : Partial) (room x : ℕ) → l.record_length < 2 ^ 16 → record_base + 2 ^ 17 ≤ top → gather_result l s (Record lo hi) room ≡ ok t → DescribesParts l top s registers before → Describes l top (Record lo hi) (Some x) → IsWritten before after x room → Leaves l top t registers after x room
 record_gather l top lo hi s t registers before after room x short high h d q written =
-    elim (cases_Bool (is_in_record l.record_length lo hi (pos 0) room)) [
+    elim (cases_Bool (is_within l.record_length lo hi (pos 0) room)) [
       | inl is ↦
           let same : s ≡ t = (let e : ok s ≡ ok t = (rw is at h) in cc) in
-          let at = place_in l lo hi q.0 room (pos 0) q.2 q.3 is in
+          let at = place_in l.record_length lo hi q.0 room (pos 0) q.2 q.3 is in
           let x-is : x ≡ record_base + at.place = (let e : Some x ≡ Some (record_base + q.0) = q.1 in let f : x ≡ record_base + q.0 = cc in omega (arith, ints, at.is, f)) in
           let here : IsWritten before after (record_base + at.place) room = subst (λ a. IsWritten before after a room) x-is written in
           let allowed : IsAllowed l top (record_base + at.place) room = inl (and_from _ _ (le-leb record_base (record_base + at.place) (omega arith)) (le-leb ((record_base + at.place) + room) (record_base + l.record_length) (omega (arith, at.inside)))) in
@@ -57,3 +57,4 @@ gather_describes l top s t registers before after (Record lo hi) room x short hi
     record_gather l top lo hi s t registers before after room x short high h d q written
 gather_describes l top s t registers before after (Stack offset) room x short high some h d q written =
     frame_gather l top offset s t registers before after room x (omega (arith, high)) some h d q written
+gather_describes l top s t registers before after (Table lo hi) room x short high some h d q written = absurd cc

@@ -36,4 +36,4 @@ both_were (a ∷ xs) (b ∷ ys) (suc k) h = both_were xs ys k h
 
 pub join_describes_states : (l : Lengths) (top : ℕ) (a b : AbstractState) (registers memory : Partial) → (DescribesParts l top a registers memory → DescribesParts l top (join_of_states a b) registers memory) × (DescribesParts l top b registers memory → DescribesParts l top (join_of_states a b) registers memory)
 join_describes_states l top a b registers memory =
-    (λ d. record { values = λ r. left_described l top a.registers b.registers r (registers r) (d.values r); record_set = d.record_set; frame = record { stack_set = λ k lt h. d.frame.stack_set k lt ((both_were a.bytes_set b.bytes_set k h).0); spilled = λ j lt. left_described l top a.slots b.slots j _ (d.frame.spilled j lt) } }, λ d. record { values = λ r. right_described l top a.registers b.registers r (registers r) (d.values r); record_set = d.record_set; frame = record { stack_set = λ k lt h. d.frame.stack_set k lt ((both_were a.bytes_set b.bytes_set k h).1); spilled = λ j lt. right_described l top a.slots b.slots j _ (d.frame.spilled j lt) } })
+    (λ d. record { values = λ r. left_described l top a.registers b.registers r (registers r) (d.values r); record_set = d.record_set; table_set = d.table_set; frame = record { stack_set = λ k lt h. d.frame.stack_set k lt ((both_were a.bytes_set b.bytes_set k h).0); spilled = λ j lt. left_described l top a.slots b.slots j _ (d.frame.spilled j lt) } }, λ d. record { values = λ r. right_described l top a.registers b.registers r (registers r) (d.values r); record_set = d.record_set; table_set = d.table_set; frame = record { stack_set = λ k lt h. d.frame.stack_set k lt ((both_were a.bytes_set b.bytes_set k h).1); spilled = λ j lt. right_described l top a.slots b.slots j _ (d.frame.spilled j lt) } })

@@ -9,17 +9,17 @@ use Rattle.bpf_model.specs.declared.limits.TheConstants.{FRAME_BYTES}
 use Rattle.abstract_values.specs.declared.limits.TheConstants.{FRAME_BOTTOM}
 use Rattle.bpf_isa.specs.declared.instruction.Size.{Size}
 use Rattle.bpf_isa.specs.declared.instruction.Size.TheVariants.{Byte, Half, Word, Double}
-use Rattle.bpf_model.specs.State.{Partial, record_base, joined_bytes, number_at, address_at}
+use Rattle.bpf_model.specs.State.{Partial, record_base, table_base, joined_bytes, number_at, address_at}
 use Rattle.bpf_isa.specs.Sizes.{size_bytes}
 use Rattle.bpf_image.specs.declared.lengths.Lengths.{Lengths}
 use Rattle.bpf_model.specs.declared.cause.Cause.{Cause}
 use Rattle.bpf_model.specs.declared.cause.Cause.TheVariants.{OutOfRange, UnsetStackByte}
 use Rattle.abstract_values.specs.declared.value.AbstractValue.{AbstractValue}
-use Rattle.abstract_values.specs.declared.value.AbstractValue.TheVariants.{Unset, Number, Record, Stack}
-use Rattle.abstract_values.specs.Described.{Describes}
+use Rattle.abstract_values.specs.declared.value.AbstractValue.TheVariants.{Unset, Number, Record, Stack, Table}
+use Rattle.abstract_values.specs.Described.{AreShort, Describes}
 use Rattle.abstract_state.specs.declared.state.AbstractState.{AbstractState}
-use Rattle.abstract_state.specs.Memory.{is_in_record, is_in_frame, frame_index, is_slot, is_spilled, are_set, any_of_size, frame_value, frame_read, load_result}
-use Rattle.abstract_state.specs.Described.{IsByteAt, DescribesParts, IsAllowed}
+use Rattle.abstract_state.specs.Memory.{is_within, is_in_frame, frame_index, is_slot, is_spilled, are_set, any_of_size, frame_value, frame_read, load_result}
+use Rattle.abstract_state.specs.Described.{IsByteAt, DescribesParts, IsReadable}
 
 abbrev ok : AbstractValue → Result AbstractValue Cause
 ok x = Ok x
@@ -60,7 +60,7 @@ any_described l top Double n lt = (n, refl, omega arith, omega (arith, lt), omeg
 -- what a load gives
 record Gives (l : Lengths) (top : ℕ) (memory : Partial) (a size : ℕ) (v : AbstractValue) : Type 0 where
   number : ℕ
-  allowed : IsAllowed l top a size
+  readable : IsReadable l top a size
   there : number_at memory a size ≡ Some number
   described : Describes l top v (Some number)
 
@@ -68,22 +68,29 @@ record Gives (l : Lengths) (top : ℕ) (memory : Partial) (a size : ℕ) (v : Ab
 record_gives : (l : Lengths) (top : ℕ) (memory : Partial) (size : Size) (place : ℕ) → ((k : ℕ) → k < l.record_length → IsByteAt memory (record_base + k)) → place + size_bytes size ≤ l.record_length → Gives l top memory (record_base + place) (size_bytes size) (any_of_size (size_bytes size))
 record_gives l top memory size place set inside =
     let n = number_there memory (record_base + place) (size_bytes size) (λ k lt. let b = set (place + k) (omega (arith, inside, lt)) in let same : (record_base + place) + k ≡ record_base + (place + k) = omega arith in (b.0, rw same b.1, b.2)) in
-    record { number = n.0; allowed = inl (and_from _ _ (le-leb record_base (record_base + place) (omega arith)) (le-leb ((record_base + place) + size_bytes size) (record_base + l.record_length) (omega (arith, inside)))); there = n.1; described = any_described l top size n.0 n.2 }
+    record { number = n.0; readable = inl (inl (and_from _ _ (le-leb record_base (record_base + place) (omega arith)) (le-leb ((record_base + place) + size_bytes size) (record_base + l.record_length) (omega (arith, inside))))); there = n.1; described = any_described l top size n.0 n.2 }
 
-pub record PlaceIn (l : Lengths) (lo hi n size : ℕ) (z : ℤ) : Type 0 where
+-- a load from the table
+table_gives : (l : Lengths) (top : ℕ) (memory : Partial) (size : Size) (place : ℕ) → ((k : ℕ) → k < l.table_length → IsByteAt memory (table_base + k)) → place + size_bytes size ≤ l.table_length → Gives l top memory (table_base + place) (size_bytes size) (any_of_size (size_bytes size))
+table_gives l top memory size place set inside =
+    let n = number_there memory (table_base + place) (size_bytes size) (λ k lt. let b = set (place + k) (omega (arith, inside, lt)) in let same : (table_base + place) + k ≡ table_base + (place + k) = omega arith in (b.0, rw same b.1, b.2)) in
+    record { number = n.0; readable = inr (and_from _ _ (le-leb table_base (table_base + place) (omega arith)) (le-leb ((table_base + place) + size_bytes size) (table_base + l.table_length) (omega (arith, inside)))); there = n.1; described = any_described l top size n.0 n.2 }
+
+-- a place at a distance from another, in a record or a table of this length
+pub record PlaceIn (most lo hi n size : ℕ) (z : ℤ) : Type 0 where
   pub place : ℕ
   pub is : pos place ≡ pos n +ℤ z
-  pub inside : place + size ≤ l.record_length
+  pub inside : place + size ≤ most
 
-pub place_in : (l : Lengths) (lo hi n size : ℕ) (z : ℤ) → lo ≤ n → n ≤ hi → is_in_record l.record_length lo hi z size ≡ true → PlaceIn l lo hi n size z
-place_in l lo hi n size (pos m) low high test =
-    let parts = and_parts (int_le (pos 0) (pos lo +ℤ pos m)) (int_le (pos (hi + size) +ℤ pos m) (pos l.record_length)) test in
-    let ends = at_most (pos (hi + size) +ℤ pos m) (pos l.record_length) parts.1 in
+pub place_in : (most lo hi n size : ℕ) (z : ℤ) → lo ≤ n → n ≤ hi → is_within most lo hi z size ≡ true → PlaceIn most lo hi n size z
+place_in most lo hi n size (pos m) low high test =
+    let parts = and_parts (int_le (pos 0) (pos lo +ℤ pos m)) (int_le (pos (hi + size) +ℤ pos m) (pos most)) test in
+    let ends = at_most (pos (hi + size) +ℤ pos m) (pos most) parts.1 in
     record { place = n + m; is = omega (arith, ints); inside = omega (arith, ints, ends, high) }
-place_in l lo hi n size (negsuc m) low high test =
-    let parts = and_parts (int_le (pos 0) (pos lo +ℤ negsuc m)) (int_le (pos (hi + size) +ℤ negsuc m) (pos l.record_length)) test in
+place_in most lo hi n size (negsuc m) low high test =
+    let parts = and_parts (int_le (pos 0) (pos lo +ℤ negsuc m)) (int_le (pos (hi + size) +ℤ negsuc m) (pos most)) test in
     let begins = at_most (pos 0) (pos lo +ℤ negsuc m) parts.0 in
-    let ends = at_most (pos (hi + size) +ℤ negsuc m) (pos l.record_length) parts.1 in
+    let ends = at_most (pos (hi + size) +ℤ negsuc m) (pos most) parts.1 in
     let enough : suc m ≤ n = omega (arith, ints, begins, low) in
     record { place = n - suc m; is = omega (arith, ints, enough); inside = omega (arith, ints, ends, high, enough) }
 
@@ -103,11 +110,12 @@ spilled_number l top Unset x h d = absurd cc
 spilled_number l top (Number lo hi) x h d = (d.0, d.1)
 spilled_number l top (Record lo hi) x h d = (record_base + d.0, d.1)
 spilled_number l top (Stack offset) x h d = (d.0, d.1)
+spilled_number l top (Table lo hi) x h d = (table_base + d.0, d.1)
 
 -- a load from set bytes of the frame
 frame_gives : (l : Lengths) (top : ℕ) (s : AbstractState) (registers memory : Partial) (size : Size) (k : ℕ) → FRAME_BYTES ≤ top → DescribesParts l top s registers memory → k + size_bytes size ≤ FRAME_BYTES → are_set s.bytes_set k (size_bytes size) ≡ true → Gives l top memory (top - FRAME_BYTES + k) (size_bytes size) (frame_value s k (size_bytes size))
 frame_gives l top s registers memory size k low d inside set =
-    let allowed : IsAllowed l top (top - FRAME_BYTES + k) (size_bytes size) = inr (omega arith, omega (arith, inside, low)) in
+    let readable : IsReadable l top (top - FRAME_BYTES + k) (size_bytes size) = inl (inr (omega arith, omega (arith, inside, low))) in
     elim (cases_Bool (is_slot k (size_bytes size) && is_spilled (get_or s.slots (k / 8) Unset))) [
       | inl is ↦
           let both = and_parts (is_slot k (size_bytes size)) (is_spilled (get_or s.slots (k / 8) Unset)) is in
@@ -118,10 +126,10 @@ frame_gives l top s registers memory size k low d inside set =
           let n = spilled_number l top (get_or s.slots (k / 8) Unset) (number_at memory (top - FRAME_BYTES + 8 * (k / 8)) 8) both.1 kept in
           let described : Describes l top (get_or s.slots (k / 8) Unset) (Some n.0) = subst (λ x. Describes l top (get_or s.slots (k / 8) Unset) x) n.1 kept in
           let here : number_at memory (top - FRAME_BYTES + k) (size_bytes size) ≡ Some n.0 = ap (λ z. number_at memory (top - FRAME_BYTES + k) z) eight ∙ ap (λ a. number_at memory a 8) (sym aligned) ∙ n.1 in
-          rw is (record { number = n.0; allowed = allowed; there = here; described = described })
+          rw is (record { number = n.0; readable = readable; there = here; described = described })
       | inr not_is ↦
           let n = number_there memory (top - FRAME_BYTES + k) (size_bytes size) (λ i lt. let b = d.frame.stack_set (k + i) (omega (arith, inside, lt)) (each_set s.bytes_set k (size_bytes size) i set lt) in let same : (top - FRAME_BYTES + k) + i ≡ top - FRAME_BYTES + (k + i) = omega arith in (b.0, rw same b.1, b.2)) in
-          rw not_is (record { number = n.0; allowed = allowed; there = n.1; described = any_described l top size n.0 n.2 })
+          rw not_is (record { number = n.0; readable = readable; there = n.1; described = any_described l top size n.0 n.2 })
     ]
 
 pub natural : (u : ℤ) → pos 0 ≤ℤ u → pos (unsigned_abs u) ≡ u
@@ -130,14 +138,27 @@ natural (negsuc n) h = absurd (omega (arith, ints, h))
 
 record_load : (l : Lengths) (top lo hi : ℕ) (s : AbstractState) (registers memory : Partial) (v : AbstractValue) (z : ℤ) (size : Size) (x : ℕ) → l.record_length < 2 ^ 16 → FitsSigned w16 z → load_result l s (Record lo hi) z (size_bytes size) ≡ ok v → DescribesParts l top s registers memory → Describes l top (Record lo hi) (Some x) → Gives l top memory (address_at x z) (size_bytes size) v
 record_load l top lo hi s registers memory v z size x short fits h d q =
-    elim (cases_Bool (is_in_record l.record_length lo hi z (size_bytes size))) [
+    elim (cases_Bool (is_within l.record_length lo hi z (size_bytes size))) [
       | inl is ↦
           let value : any_of_size (size_bytes size) ≡ v = (let e : ok (any_of_size (size_bytes size)) ≡ ok v = (rw is at h) in cc) in
           let x-is : x ≡ record_base + q.0 = (let e : Some x ≡ Some (record_base + q.0) = q.1 in cc) in
-          let at = place_in l lo hi q.0 (size_bytes size) z q.2 q.3 is in
+          let at = place_in l.record_length lo hi q.0 (size_bytes size) z q.2 q.3 is in
           let moved : pos (record_base + at.place) ≡ pos x +ℤ z = omega (arith, ints, at.is, x-is) in
           let address = address_is x (record_base + at.place) z (omega (arith, at.inside, short)) fits moved in
           rw address (subst (λ w. Gives l top memory (record_base + at.place) (size_bytes size) w) value (record_gives l top memory size at.place d.record_set at.inside))
+      | inr not_is ↦ absurd (let e : failed OutOfRange ≡ ok v = (rw not_is at h) in cc)
+    ]
+
+table_load : (l : Lengths) (top lo hi : ℕ) (s : AbstractState) (registers memory : Partial) (v : AbstractValue) (z : ℤ) (size : Size) (x : ℕ) → l.table_length < 2 ^ 16 → FitsSigned w16 z → load_result l s (Table lo hi) z (size_bytes size) ≡ ok v → DescribesParts l top s registers memory → Describes l top (Table lo hi) (Some x) → Gives l top memory (address_at x z) (size_bytes size) v
+table_load l top lo hi s registers memory v z size x short fits h d q =
+    elim (cases_Bool (is_within l.table_length lo hi z (size_bytes size))) [
+      | inl is ↦
+          let value : any_of_size (size_bytes size) ≡ v = (let e : ok (any_of_size (size_bytes size)) ≡ ok v = (rw is at h) in cc) in
+          let x-is : x ≡ table_base + q.0 = (let e : Some x ≡ Some (table_base + q.0) = q.1 in cc) in
+          let at = place_in l.table_length lo hi q.0 (size_bytes size) z q.2 q.3 is in
+          let moved : pos (table_base + at.place) ≡ pos x +ℤ z = omega (arith, ints, at.is, x-is) in
+          let address = address_is x (table_base + at.place) z (omega (arith, at.inside, short)) fits moved in
+          rw address (subst (λ w. Gives l top memory (table_base + at.place) (size_bytes size) w) value (table_gives l top memory size at.place d.table_set at.inside))
       | inr not_is ↦ absurd (let e : failed OutOfRange ≡ ok v = (rw not_is at h) in cc)
     ]
 
@@ -164,13 +185,15 @@ frame_load l top offset s registers memory v z size x low high fits h d q =
       | inr not_is ↦ absurd (let e : failed OutOfRange ≡ ok v = (rw not_is at h) in cc)
     ]
 
-gives_parts : (l : Lengths) (top : ℕ) (memory : Partial) (a size : ℕ) (v : AbstractValue) → Gives l top memory a size v → (n : ℕ) × IsAllowed l top a size × (number_at memory a size ≡ Some n) × Describes l top v (Some n)
-gives_parts l top memory a size v g = (g.number, g.allowed, g.there, g.described)
+gives_parts : (l : Lengths) (top : ℕ) (memory : Partial) (a size : ℕ) (v : AbstractValue) → Gives l top memory a size v → (n : ℕ) × IsReadable l top a size × (number_at memory a size ≡ Some n) × Describes l top v (Some n)
+gives_parts l top memory a size v g = (g.number, g.readable, g.there, g.described)
 
-pub load_describes : (l : Lengths) (top : ℕ) (s : AbstractState) (registers memory : Partial) (base v : AbstractValue) (z : ℤ) (size : Size) (x : ℕ) → l.record_length < 2 ^ 16 → FRAME_BYTES ≤ top → top < 2 ^ 64 → FitsSigned w16 z → load_result l s base z (size_bytes size) ≡ ok v → DescribesParts l top s registers memory → Describes l top base (Some x) → (n : ℕ) × IsAllowed l top (address_at x z) (size_bytes size) × (number_at memory (address_at x z) (size_bytes size) ≡ Some n) × Describes l top v (Some n)
+pub load_describes : (l : Lengths) (top : ℕ) (s : AbstractState) (registers memory : Partial) (base v : AbstractValue) (z : ℤ) (size : Size) (x : ℕ) → AreShort l → FRAME_BYTES ≤ top → top < 2 ^ 64 → FitsSigned w16 z → load_result l s base z (size_bytes size) ≡ ok v → DescribesParts l top s registers memory → Describes l top base (Some x) → (n : ℕ) × IsReadable l top (address_at x z) (size_bytes size) × (number_at memory (address_at x z) (size_bytes size) ≡ Some n) × Describes l top v (Some n)
 load_describes l top s registers memory Unset v z size x short low high fits h d q = absurd cc
 load_describes l top s registers memory (Number lo hi) v z size x short low high fits h d q = absurd cc
 load_describes l top s registers memory (Record lo hi) v z size x short low high fits h d q =
-    gives_parts l top memory (address_at x z) (size_bytes size) v (record_load l top lo hi s registers memory v z size x short fits h d q)
+    gives_parts l top memory (address_at x z) (size_bytes size) v (record_load l top lo hi s registers memory v z size x short.0 fits h d q)
 load_describes l top s registers memory (Stack offset) v z size x short low high fits h d q =
     gives_parts l top memory (address_at x z) (size_bytes size) v (frame_load l top offset s registers memory v z size x low high fits h d q)
+load_describes l top s registers memory (Table lo hi) v z size x short low high fits h d q =
+    gives_parts l top memory (address_at x z) (size_bytes size) v (table_load l top lo hi s registers memory v z size x short.1 fits h d q)

@@ -9,16 +9,16 @@ use Rattle.bpf_model.specs.declared.limits.TheConstants.{FRAME_BYTES}
 use Rattle.abstract_values.specs.declared.limits.TheConstants.{FRAME_BOTTOM}
 use Rattle.bpf_isa.specs.declared.instruction.Size.{Size}
 use Rattle.bpf_isa.specs.declared.instruction.Size.TheVariants.{Byte, Half, Word, Double}
-use Rattle.bpf_model.specs.State.{Partial, record_base, number_at, address_at}
+use Rattle.bpf_model.specs.State.{Partial, record_base, table_base, number_at, address_at}
 use Rattle.bpf_isa.specs.Sizes.{size_bytes}
 use Rattle.bpf_image.specs.declared.lengths.Lengths.{Lengths}
 use Rattle.bpf_model.specs.declared.cause.Cause.{Cause}
 use Rattle.bpf_model.specs.declared.cause.Cause.TheVariants.{OutOfRange, PointerUse}
 use Rattle.abstract_values.specs.declared.value.AbstractValue.{AbstractValue}
-use Rattle.abstract_values.specs.declared.value.AbstractValue.TheVariants.{Unset, Number, Record, Stack}
+use Rattle.abstract_values.specs.declared.value.AbstractValue.TheVariants.{Unset, Number, Record, Stack, Table}
 use Rattle.abstract_values.specs.Described.{Describes}
 use Rattle.abstract_state.specs.declared.state.AbstractState.{AbstractState}
-use Rattle.abstract_state.specs.Memory.{is_in_record, is_in_frame, frame_index, is_slot, set_from, unset_from, slots_touched, without_spills, frame_write, frame_fill, is_pointer, may_store, store_result}
+use Rattle.abstract_state.specs.Memory.{is_within, is_in_frame, frame_index, is_slot, set_from, unset_from, slots_touched, without_spills, frame_write, frame_fill, is_pointer, may_store, store_result}
 use Rattle.abstract_state.specs.Described.{IsByteAt, DescribesParts, IsAllowed, IsWritten, IsStored}
 use Rattle.abstract_state.proofs.Loads.{at_most, address_is, natural, place_in}
 
@@ -183,6 +183,7 @@ frame_described : (l : Lengths) (top : ℕ) (s : AbstractState) (registers befor
 frame_described l top s registers before after k size n v low lt some d stored new = record {
   values = d.values;
   record_set = λ i inside. byte_stays before after (top - FRAME_BYTES + k) size (record_base + i) stored.written (d.record_set i inside);
+  table_set = λ i inside. byte_stays before after (top - FRAME_BYTES + k) size (table_base + i) stored.written (d.table_set i inside);
   frame = record {
     stack_set = λ i below h. set_after top s.bytes_set before after k size i stored.written (d.frame.stack_set i below) h;
     spilled = λ j below. spilled_after l top s.slots before after k size n j v low lt some stored new (d.frame.spilled j below);
@@ -194,6 +195,7 @@ pub filled_described : (l : Lengths) (top : ℕ) (s : AbstractState) (registers 
 filled_described l top s registers before after k size low some d written = record {
   values = d.values;
   record_set = λ i inside. byte_stays before after (top - FRAME_BYTES + k) size (record_base + i) written (d.record_set i inside);
+  table_set = λ i inside. byte_stays before after (top - FRAME_BYTES + k) size (table_base + i) written (d.table_set i inside);
   frame = record {
     stack_set = λ i below h. set_after top s.bytes_set before after k size i written (d.frame.stack_set i below) h;
     spilled = λ j below. spilled_part l top s.slots before after k size j low some written (d.frame.spilled j below);
@@ -205,6 +207,7 @@ pub record_described : (l : Lengths) (top : ℕ) (s : AbstractState) (registers 
 record_described l top s registers before after place size short high inside d written = record {
   values = d.values;
   record_set = λ i lt. byte_stays before after (record_base + place) size (record_base + i) written (d.record_set i lt);
+  table_set = λ i lt. byte_stays before after (record_base + place) size (table_base + i) written (d.table_set i lt);
   frame = record {
     stack_set = λ i below h. byte_stays before after (record_base + place) size (top - FRAME_BYTES + i) written (d.frame.stack_set i below h);
     spilled = λ j below. subst (λ x. Describes l top (get_or s.slots j Unset) x) (slot_stays before after (record_base + place) size (top - FRAME_BYTES + 8 * j) written (inr (omega (arith, inside, short, high)))) (d.frame.spilled j below);
@@ -220,12 +223,12 @@ record_store l top lo hi s t registers before after v z size x n short high fits
     elim (cases_Bool (is_pointer v)) [
       | inl is ↦ absurd (let e : failed PointerUse ≡ ok t = (rw is at h) in cc)
       | inr no_pointer ↦
-          let tests : cond (is_in_record l.record_length lo hi z (size_bytes size)) (ok s) (failed OutOfRange) ≡ ok t = (rw no_pointer at h) in
-          elim (cases_Bool (is_in_record l.record_length lo hi z (size_bytes size))) [
+          let tests : cond (is_within l.record_length lo hi z (size_bytes size)) (ok s) (failed OutOfRange) ≡ ok t = (rw no_pointer at h) in
+          elim (cases_Bool (is_within l.record_length lo hi z (size_bytes size))) [
             | inl is ↦
                 let same : s ≡ t = (let e : ok s ≡ ok t = (rw is at tests) in cc) in
                 let x-is : x ≡ record_base + q.0 = (let e : Some x ≡ Some (record_base + q.0) = q.1 in cc) in
-                let at = place_in l lo hi q.0 (size_bytes size) z q.2 q.3 is in
+                let at = place_in l.record_length lo hi q.0 (size_bytes size) z q.2 q.3 is in
                 let moved : pos (record_base + at.place) ≡ pos x +ℤ z = omega (arith, ints, at.is, x-is) in
                 let address = address_is x (record_base + at.place) z (omega (arith, at.inside, short)) fits moved in
                 let here : IsStored before after (record_base + at.place) (size_bytes size) n = subst (λ a. IsStored before after a (size_bytes size) n) address stored in
@@ -270,3 +273,4 @@ store_describes l top s t registers before after (Record lo hi) v z size x n sho
     record_store l top lo hi s t registers before after v z size x n short high fits h d q stored
 store_describes l top s t registers before after (Stack offset) v z size x n short high below fits lt h d q new stored =
     frame_store l top offset s t registers before after v z size x n (omega (arith, high)) below fits lt h d q new stored
+store_describes l top s t registers before after (Table lo hi) v z size x n short high below fits lt h d q new stored = absurd cc

@@ -7,11 +7,11 @@ use Rattle.bpf_model.specs.State.{Partial, record_base, number_at, address_at}
 use Rattle.bpf_isa.specs.Sizes.{size_bytes}
 use Rattle.bpf_image.specs.declared.lengths.Lengths.{Lengths}
 use Rattle.abstract_values.specs.declared.value.AbstractValue.{AbstractValue}
-use Rattle.abstract_values.specs.Described.{Describes}
+use Rattle.abstract_values.specs.Described.{AreShort, Describes}
 use Rattle.abstract_state.specs.declared.state.AbstractState.{AbstractState}
 use Rattle.abstract_state.specs.States.{join_of_states}
 use Rattle.abstract_state.specs.Memory.{load_result, store_result, gather_result}
-use Rattle.abstract_state.specs.Described.{DescribesParts, IsAllowed, IsWritten, IsStored}
+use Rattle.abstract_state.specs.Described.{DescribesParts, IsAllowed, IsReadable, IsWritten, IsStored}
 
 -- what one of two states describes, their join describes too
 abbrev pub JoinDescribesStates : Type 0
@@ -26,14 +26,14 @@ JoinIsOrderless =
     ((a b : AbstractState) → join_of_states a b ≡ join_of_states b a)
     × ((a b c : AbstractState) → join_of_states (join_of_states a b) c ≡ join_of_states a (join_of_states b c))
 
--- what the rules say of a load describes the number that is there, and the load is allowed
+-- what the rules say of a load describes the number that is there, and its bytes may be read
 abbrev pub LoadDescribes : Type 0
 LoadDescribes =
     (lengths : Lengths) (top : ℕ) (a : AbstractState) (registers memory : Partial) (base v : AbstractValue) (offset : ℤ) (size : Size) (x : ℕ)
-    → lengths.record_length < 2 ^ 16 → FRAME_BYTES ≤ top → top < 2 ^ 64 → FitsSigned w16 offset
+    → AreShort lengths → FRAME_BYTES ≤ top → top < 2 ^ 64 → FitsSigned w16 offset
     → load_result lengths a base offset (size_bytes size) ≡ Ok v
     → DescribesParts lengths top a registers memory → Describes lengths top base (Some x)
-    → (n : ℕ) × IsAllowed lengths top (address_at x offset) (size_bytes size)
+    → (n : ℕ) × IsReadable lengths top (address_at x offset) (size_bytes size)
     × (number_at memory (address_at x offset) (size_bytes size) ≡ Some n) × Describes lengths top v (Some n)
 
 -- what the rules say of a store describes the memory after it, and the store is allowed. The frame lies

@@ -5,16 +5,16 @@ use Rattle.bpf_isa.specs.Sizes.{size_bytes, plain_size}
 use Rattle.bpf_image.specs.declared.lengths.Lengths.{Lengths}
 use Rattle.bpf_model.specs.declared.limits.TheConstants.{FRAME_BYTES}
 use Rattle.bpf_model.specs.declared.cause.Cause.{Cause}
-use Rattle.bpf_model.specs.declared.cause.Cause.TheVariants.{UnsetRegister, PointerUse, OutOfRange, UnsetStackByte, HelperArgument}
+use Rattle.bpf_model.specs.declared.cause.Cause.TheVariants.{UnsetRegister, PointerUse, OutOfRange, UnsetStackByte, HelperArgument, ReadOnly}
 use Rattle.abstract_values.specs.declared.limits.TheConstants.{FRAME_BOTTOM}
 use Rattle.abstract_values.specs.declared.value.AbstractValue.{AbstractValue}
-use Rattle.abstract_values.specs.declared.value.AbstractValue.TheVariants.{Unset, Number, Record, Stack}
+use Rattle.abstract_values.specs.declared.value.AbstractValue.TheVariants.{Unset, Number, Record, Stack, Table}
 use Rattle.abstract_state.specs.declared.state.AbstractState.{AbstractState}
 
--- the bytes from lo + offset to hi + offset + size lie in a record of this length
-abbrev pub is_in_record : ℕ → ℕ → ℕ → ℤ → ℕ → Bool
-is_in_record record_length lo hi offset size =
-    int_le (pos 0) (pos lo +ℤ offset) && int_le (pos (hi + size) +ℤ offset) (pos record_length)
+-- the bytes from lo + offset to hi + offset + size lie in a record or a table of this length
+abbrev pub is_within : ℕ → ℕ → ℕ → ℤ → ℕ → Bool
+is_within length lo hi offset size =
+    int_le (pos 0) (pos lo +ℤ offset) && int_le (pos (hi + size) +ℤ offset) (pos length)
 
 -- the bytes at a distance from the top of a frame lie in it
 abbrev pub is_in_frame : ℤ → ℕ → Bool
@@ -33,6 +33,7 @@ is_spilled Unset = false
 is_spilled (Number lo hi) = true
 is_spilled (Record lo hi) = true
 is_spilled (Stack offset) = true
+is_spilled (Table lo hi) = true
 
 -- so many bytes from byte k are all set
 abbrev pub are_set : List Bool → ℕ → ℕ → Bool
@@ -56,9 +57,11 @@ abbrev pub load_result : Lengths → AbstractState → AbstractValue → ℤ →
 load_result lengths s Unset offset size = Err UnsetRegister
 load_result lengths s (Number lo hi) offset size = Err PointerUse
 load_result lengths s (Record lo hi) offset size =
-    if is_in_record lengths.record_length lo hi offset size then Ok (any_of_size size) else Err OutOfRange
+    if is_within lengths.record_length lo hi offset size then Ok (any_of_size size) else Err OutOfRange
 load_result lengths s (Stack top) offset size =
     if is_in_frame (top +ℤ offset) size then frame_read s (frame_index (top +ℤ offset)) size else Err OutOfRange
+load_result lengths s (Table lo hi) offset size =
+    if is_within lengths.table_length lo hi offset size then Ok (any_of_size size) else Err OutOfRange
 
 -- a sign-extending load gives any number, where the load is allowed
 abbrev pub any_number_where : Result AbstractValue Cause → Result AbstractValue Cause
@@ -97,6 +100,7 @@ is_pointer Unset = false
 is_pointer (Number lo hi) = false
 is_pointer (Record lo hi) = true
 is_pointer (Stack offset) = true
+is_pointer (Table lo hi) = true
 
 -- a pointer is stored nowhere but to a whole slot of the frame
 abbrev pub may_store : AbstractValue → Bool → Bool
@@ -107,13 +111,19 @@ abbrev pub frame_store_result : AbstractState → ℤ → ℕ → AbstractValue 
 frame_store_result s place size v =
     if may_store v (is_in_frame place size && is_slot (frame_index place) size) then (if is_in_frame place size then Ok (frame_write s (frame_index place) size v) else Err OutOfRange) else Err PointerUse
 
+-- the broken rule where bytes would be written through a pointer into the table: it is never written
+abbrev pub table_write_cause : Lengths → ℕ → ℕ → ℤ → ℕ → Cause
+table_write_cause lengths lo hi offset size = if is_within lengths.table_length lo hi offset size then ReadOnly else OutOfRange
+
 -- what is known after a store of a value, which is set, through a base
 abbrev pub store_result : Lengths → AbstractState → AbstractValue → ℤ → ℕ → AbstractValue → Result AbstractState Cause
 store_result lengths s Unset offset size v = Err UnsetRegister
 store_result lengths s (Number lo hi) offset size v = Err PointerUse
 store_result lengths s (Record lo hi) offset size v =
-    if is_pointer v then Err PointerUse else (if is_in_record lengths.record_length lo hi offset size then Ok s else Err OutOfRange)
+    if is_pointer v then Err PointerUse else (if is_within lengths.record_length lo hi offset size then Ok s else Err OutOfRange)
 store_result lengths s (Stack top) offset size v = frame_store_result s (top +ℤ offset) size v
+store_result lengths s (Table lo hi) offset size v =
+    Err (if is_pointer v then PointerUse else table_write_cause lengths lo hi offset size)
 
 -- bytes of the frame are filled, and no value is known of a slot that they touch
 abbrev pub frame_fill : AbstractState → ℕ → ℕ → AbstractState
@@ -124,9 +134,10 @@ abbrev pub gather_result : Lengths → AbstractState → AbstractValue → ℕ �
 gather_result lengths s Unset room = Err UnsetRegister
 gather_result lengths s (Number lo hi) room = Err HelperArgument
 gather_result lengths s (Record lo hi) room =
-    if is_in_record lengths.record_length lo hi (pos 0) room then Ok s else Err OutOfRange
+    if is_within lengths.record_length lo hi (pos 0) room then Ok s else Err OutOfRange
 gather_result lengths s (Stack top) room =
     if is_in_frame top room then Ok (frame_fill s (frame_index top) room) else Err OutOfRange
+gather_result lengths s (Table lo hi) room = Err (table_write_cause lengths lo hi (pos 0) room)
 
 -- an answer of the code and the state that it leaves
 abbrev pub store_answer : Result (Unit {0}) Cause → AbstractState → Result AbstractState Cause

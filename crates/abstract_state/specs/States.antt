@@ -5,7 +5,7 @@ use Rattle.bpf_isa.specs.Encoding.{number_of}
 use Rattle.bpf_image.specs.declared.lengths.Lengths.{Lengths}
 use Rattle.bpf_model.specs.State.{frame_bytes}
 use Rattle.abstract_values.specs.declared.value.AbstractValue.{AbstractValue}
-use Rattle.abstract_values.specs.declared.value.AbstractValue.TheVariants.{Unset, Number, Record, Stack}
+use Rattle.abstract_values.specs.declared.value.AbstractValue.TheVariants.{Unset, Number, Record, Stack, Table}
 use Rattle.abstract_values.specs.Values.{join_of}
 use Rattle.abstract_state.specs.declared.state.AbstractState.{AbstractState}
 
@@ -43,6 +43,7 @@ argument_value Unset = Unset
 argument_value (Number lo hi) = Number lo hi
 argument_value (Record lo hi) = Record lo hi
 argument_value (Stack offset) = Unset
+argument_value (Table lo hi) = Table lo hi
 
 -- what is known of the register of a number, and what of it is passed to a function
 abbrev pub known_of : AbstractState → ℕ → AbstractValue

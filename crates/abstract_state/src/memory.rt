@@ -1,8 +1,8 @@
 //! Loads and stores through what is known of their base (RFC 9669, section 5).
-ghost use Rattle.std.specs.Prelude.{◌≡◌, ◌≤◌, ◌<◌, ◌+◌, ◌+ℤ◌, if◌then◌else◌, Some, None, IfErr, IfSome, ◌≤ℤ◌};
+ghost use Rattle.std.specs.Prelude.{◌≡◌, ◌≤◌, ◌<◌, ◌+◌, ◌+ℤ◌, if◌then◌else◌, Some, None, Ok, Err, IfErr, IfSome, ◌≤ℤ◌};
 ghost use Rattle.bpf_isa.specs.Sizes.{size_bytes};
 ghost use Rattle.abstract_values.specs.declared.limits.TheConstants.{FRAME_BOTTOM};
-ghost use Rattle.abstract_state.specs.Memory.{is_in_record, is_in_frame, frame_index, is_pointer, load_result, load_signed_result, frame_store_result, store_result, gather_result, store_answer};
+ghost use Rattle.abstract_state.specs.Memory.{is_within, is_in_frame, frame_index, is_pointer, load_result, load_signed_result, frame_store_result, store_result, gather_result, table_write_cause, store_answer, any_of_size};
 
 use crate::stack::{any_number, fill_frame, is_whole_slot, load_frame, store_frame};
 use crate::state::AbstractState;
@@ -11,16 +11,16 @@ use bpf_image::Lengths;
 use bpf_isa::{SignedSize, Size};
 use bpf_model::{Cause, FRAME_BYTES};
 
-/// Whether bytes at an offset from a range of places lie in a record.
-fn is_inside_record(record_length: u16, lo: u16, hi: u16, offset: i16, bytes: usize) -> bool
+/// Whether bytes at an offset from a range of places lie in a record or a table of a length.
+fn is_inside(length: u16, lo: u16, hi: u16, offset: i16, bytes: usize) -> bool
     requires few { bytes ≤ FRAME_BYTES }
-    ensures { result ≡ is_in_record record_length lo hi offset bytes }
+    ensures { result ≡ is_within length lo hi offset bytes }
 {
     let offset = i64::from(offset);
     let first = i64::from(lo) + offset;
     let end = i64::from(hi) + bytes as i64 + offset;
     let begins_inside = 0 <= first;
-    let ends_inside = end <= i64::from(record_length);
+    let ends_inside = end <= i64::from(length);
     begins_inside && ends_inside
 }
 
@@ -57,7 +57,26 @@ fn find_in_frame(top: i16, offset: i16, bytes: usize) -> Option<usize>
     }
 }
 
-/// What a load through a value gives, in a record of so many bytes.
+/// What a load from a record or a table of this length gives.
+fn load_outside_frame(
+    length: u16,
+    lo: u16,
+    hi: u16,
+    offset: i16,
+    bytes: usize,
+) -> Result<AbstractValue, Cause>
+    requires some { 1 ≤ bytes }
+    requires few { bytes ≤ 8 }
+    ensures { result ≡ (if is_within length lo hi offset bytes then Ok (any_of_size bytes) else Err Cause.OutOfRange) }
+{
+    if is_inside(length, lo, hi, offset, bytes) {
+        Ok(any_number(bytes))
+    } else {
+        Err(Cause::OutOfRange)
+    }
+}
+
+/// What a load through a value gives, with a record and a table of so many bytes.
 pub fn load(
     lengths: Lengths,
     state: &AbstractState,
@@ -72,16 +91,15 @@ pub fn load(
         AbstractValue::Unset => Err(Cause::UnsetRegister),
         AbstractValue::Number { .. } => Err(Cause::PointerUse),
         AbstractValue::Record { lo, hi } => {
-            if is_inside_record(lengths.record_length, lo, hi, offset, bytes) {
-                Ok(any_number(bytes))
-            } else {
-                Err(Cause::OutOfRange)
-            }
+            load_outside_frame(lengths.record_length, lo, hi, offset, bytes)
         }
         AbstractValue::Stack { offset: top } => match find_in_frame(top, offset, bytes) {
             None => Err(Cause::OutOfRange),
             Some(first) => load_frame(state, first, bytes),
         },
+        AbstractValue::Table { lo, hi } => {
+            load_outside_frame(lengths.table_length, lo, hi, offset, bytes)
+        }
     }
 }
 
@@ -107,7 +125,7 @@ fn is_address(value: AbstractValue) -> bool
 {
     matches!(
         value,
-        AbstractValue::Record { .. } | AbstractValue::Stack { .. }
+        AbstractValue::Record { .. } | AbstractValue::Stack { .. } | AbstractValue::Table { .. }
     )
 }
 
@@ -142,6 +160,18 @@ fn store_in_frame(
     }
 }
 
+/// The broken rule where bytes would be written through a pointer into the table.
+fn cause_of_table_write(lengths: Lengths, lo: u16, hi: u16, offset: i16, bytes: usize) -> Cause
+    requires few { bytes ≤ FRAME_BYTES }
+    ensures { result ≡ table_write_cause lengths lo hi offset bytes }
+{
+    if is_inside(lengths.table_length, lo, hi, offset, bytes) {
+        Cause::ReadOnly
+    } else {
+        Cause::OutOfRange
+    }
+}
+
 /// What is known after a store of a value through another; it changes nothing where it is refused. The
 /// stored value must be set.
 pub fn store(
@@ -164,13 +194,19 @@ pub fn store(
             if is_address(value) {
                 return Err(Cause::PointerUse);
             }
-            if is_inside_record(lengths.record_length, lo, hi, offset, bytes) {
+            if is_inside(lengths.record_length, lo, hi, offset, bytes) {
                 Ok(())
             } else {
                 Err(Cause::OutOfRange)
             }
         }
         AbstractValue::Stack { offset: top } => store_in_frame(state, top, offset, bytes, value),
+        AbstractValue::Table { lo, hi } => {
+            if is_address(value) {
+                return Err(Cause::PointerUse);
+            }
+            Err(cause_of_table_write(lengths, lo, hi, offset, bytes))
+        }
     }
 }
 
@@ -191,7 +227,7 @@ pub fn gather(
         AbstractValue::Unset => Err(Cause::UnsetRegister),
         AbstractValue::Number { .. } => Err(Cause::HelperArgument),
         AbstractValue::Record { lo, hi } => {
-            if is_inside_record(lengths.record_length, lo, hi, 0, room) {
+            if is_inside(lengths.record_length, lo, hi, 0, room) {
                 Ok(())
             } else {
                 Err(Cause::OutOfRange)
@@ -204,5 +240,6 @@ pub fn gather(
                 Ok(())
             }
         },
+        AbstractValue::Table { lo, hi } => Err(cause_of_table_write(lengths, lo, hi, 0, room)),
     }
 }

@@ -16,7 +16,7 @@ use Rattle.bpf_model.specs.declared.cause.Cause.{Cause}
 use Rattle.abstract_values.specs.declared.branch.Sides.{Sides}
 use Rattle.abstract_values.specs.declared.range.Range.{Range}
 use Rattle.abstract_values.specs.declared.value.AbstractValue.{AbstractValue}
-use Rattle.abstract_values.specs.declared.value.AbstractValue.TheVariants.{Unset, Number, Record, Stack}
+use Rattle.abstract_values.specs.declared.value.AbstractValue.TheVariants.{Unset, Number, Record, Stack, Table}
 use Rattle.abstract_values.specs.Ranges.{range}
 use Rattle.abstract_values.specs.Narrowing.{opposite, without, without_constant, above, not_below, exchange_of, refinement, order_limit, is_telling, is_inhabited, if_inhabited, side, numbers, both_sides, narrowing}
 use Rattle.abstract_values.specs.Described.{Describes, DescribesSide, side_of}
@@ -178,4 +178,5 @@ narrow_describes w c l top (Number lo hi) (Number lo' hi') sides x y h p q =
     subst (λ t. DescribesSide l top (side_of t (holds w c x y)) x y) same (sides_sound w c l top (range lo hi) (range lo' hi') x y first.0 second.0 first.1 second.1 (holds w c x y) refl)
 narrow_describes w c l top (Record lo hi) Unset sides x y h p q = absurd cc
 narrow_describes w c l top (Stack offset) Unset sides x y h p q = absurd cc
+narrow_describes w c l top (Table lo hi) Unset sides x y h p q = absurd cc
 narrow_describes w c l top _ _ sides x y h p q = absurd cc

@@ -10,7 +10,7 @@ use Rattle.bpf_isa.specs.declared.instruction.Width.TheVariants.{Bits64}
 use Rattle.bpf_isa.specs.declared.instruction.Operation.{Operation}
 use Rattle.bpf_isa.specs.declared.instruction.Operation.TheVariants as operations
 use Rattle.bpf_image.specs.declared.lengths.Lengths.{Lengths}
-use Rattle.bpf_model.specs.State.{record_base}
+use Rattle.bpf_model.specs.State.{record_base, table_base}
 use Rattle.bpf_model.specs.declared.limits.TheConstants.{FRAME_BYTES}
 use Rattle.bpf_model.specs.Arithmetic.{low, alu_number}
 use Rattle.bpf_model.specs.declared.cause.Cause.{Cause}
@@ -18,13 +18,13 @@ use Rattle.bpf_model.specs.declared.cause.Cause.TheVariants.{OutOfRange}
 use Rattle.abstract_values.specs.declared.limits.TheConstants.{FRAME_BOTTOM}
 use Rattle.abstract_values.specs.declared.range.Range.{Range}
 use Rattle.abstract_values.specs.declared.value.AbstractValue.{AbstractValue}
-use Rattle.abstract_values.specs.declared.value.AbstractValue.TheVariants.{Number, Record, Stack}
+use Rattle.abstract_values.specs.declared.value.AbstractValue.TheVariants.{Number, Record, Stack, Table}
 use Rattle.abstract_values.specs.Ranges.{range, is_constant}
-use Rattle.abstract_values.specs.Values.{least_distance, greatest_distance, is_place, record_pointer, stack_pointer, stack_result, sum_result, difference_result, alu_result}
-use Rattle.abstract_values.specs.Described.{Describes}
+use Rattle.abstract_values.specs.Values.{least_distance, greatest_distance, is_place, record_pointer, table_pointer, stack_pointer, stack_result, sum_result, difference_result, alu_result}
+use Rattle.abstract_values.specs.Described.{AreShort, Describes}
 use Rattle.abstract_values.proofs.Below.{low_same}
 use Rattle.abstract_values.proofs.Within.{Within, constant_is}
-use Rattle.abstract_values.proofs.Sound.{ok, number_within, numbers_sound, record_below, stack_below, move_sound}
+use Rattle.abstract_values.proofs.Sound.{ok, number_within, numbers_sound, record_below, table_below, stack_below, move_sound}
 
 abbrev failed : Cause → Result AbstractValue Cause
 failed cause = Err cause
@@ -113,6 +113,32 @@ points l top lo hi z v h above below =
       | inr not_is ↦ absurd (let e : failed OutOfRange ≡ ok v = (rw not_is at h) in cc)
     ]
 
+-- a place in the table that a pointer describes
+record TablePoints (l : Lengths) (top : ℕ) (v : AbstractValue) (z : ℤ) : Type 0 where
+  place : ℕ
+  is : pos place ≡ z
+  inside : place ≤ l.table_length
+  described : Describes l top v (Some (table_base + place))
+
+table_between : (l : Lengths) (top : ℕ) (lo hi z : ℤ) → pos 0 ≤ℤ lo → hi ≤ℤ pos l.table_length → lo ≤ℤ z → z ≤ℤ hi → TablePoints l top (Table (unsigned_abs lo) (unsigned_abs hi)) z
+table_between l top (pos a) (pos b) (pos m) p q above below =
+    record { place = m; is = refl; inside = omega (arith, ints); described = (m, refl, omega (arith, ints), omega (arith, ints), omega (arith, ints)) }
+table_between l top (pos a) (pos b) (negsuc m) p q above below = absurd (omega (arith, ints))
+table_between l top (pos a) (negsuc b) z p q above below = absurd (omega (arith, ints))
+table_between l top (negsuc a) hi z p q above below = absurd (omega (arith, ints))
+
+table_points : (l : Lengths) (top : ℕ) (lo hi z : ℤ) (v : AbstractValue) → table_pointer l lo hi ≡ ok v → lo ≤ℤ z → z ≤ℤ hi → TablePoints l top v z
+table_points l top lo hi z v h above below =
+    elim (cases_Bool (is_place l.table_length lo && is_place l.table_length hi)) [
+      | inl is ↦
+          let same : Table (unsigned_abs lo) (unsigned_abs hi) ≡ v = (let e : ok (Table (unsigned_abs lo) (unsigned_abs hi)) ≡ ok v = (rw is at h) in cc) in
+          let both = and_parts (is_place l.table_length lo) (is_place l.table_length hi) is in
+          let first = and_parts (int_le (pos 0) lo) (int_le lo (pos l.table_length)) both.0 in
+          let last = and_parts (int_le (pos 0) hi) (int_le hi (pos l.table_length)) both.1 in
+          subst (λ w. TablePoints l top w z) same (table_between l top lo hi z (at_most (pos 0) lo first.0) (at_most hi (pos l.table_length) last.1) above below)
+      | inr not_is ↦ absurd (let e : failed OutOfRange ≡ ok v = (rw not_is at h) in cc)
+    ]
+
 -- a stack pointer that stays in its frame
 record StaysInFrame (v : AbstractValue) (offset : ℤ) : Type 0 where
   least : FRAME_BOTTOM ≤ℤ offset
@@ -187,25 +213,50 @@ record_difference l top lo hi r v x y short h p inside lt =
     let same = difference_at x y (record_base + there.place) far.d (record_below l top lo hi x short p) lt (omega (arith, there.inside, short)) far.moves moved in
     rw same there.described
 
-add_sound : (l : Lengths) (top : ℕ) (a b v : AbstractValue) (x y : ℕ) → l.record_length < 2 ^ 16 → FRAME_BYTES ≤ top → top < 2 ^ 64 → sum_result l a b ≡ ok v → Describes l top a (Some x) → Describes l top b (Some y) → Describes l top v (Some (alu_number Bits64 operations.Add x y))
+-- a sum on a table pointer
+table_sum : (l : Lengths) (top lo hi : ℕ) (r : Range) (v : AbstractValue) (x y : ℕ) → l.table_length < 2 ^ 16 → table_pointer l (pos lo +ℤ least_distance r) (pos hi +ℤ greatest_distance r) ≡ ok v → Describes l top (Table lo hi) (Some x) → Within r y → y < 2 ^ 64 → Describes l top v (Some (alu_number Bits64 operations.Add x y))
+table_sum l top lo hi r v x y short h p inside lt =
+    let x-is : x ≡ table_base + p.0 = (let e : Some x ≡ Some (table_base + p.0) = p.1 in cc) in
+    let far = distance_of r y inside lt in
+    let there = table_points l top (pos lo +ℤ least_distance r) (pos hi +ℤ greatest_distance r) (pos p.0 +ℤ far.d) v h (omega (arith, ints, far.above, p.2)) (omega (arith, ints, far.below, p.3)) in
+    let moved : pos (table_base + there.place) ≡ pos x +ℤ far.d = omega (arith, ints, there.is, x-is) in
+    let same = sum_at x y (table_base + there.place) far.d (table_below l top lo hi x short p) lt (omega (arith, there.inside, short)) far.moves moved in
+    rw same there.described
+
+table_difference : (l : Lengths) (top lo hi : ℕ) (r : Range) (v : AbstractValue) (x y : ℕ) → l.table_length < 2 ^ 16 → table_pointer l (pos lo -ℤ greatest_distance r) (pos hi -ℤ least_distance r) ≡ ok v → Describes l top (Table lo hi) (Some x) → Within r y → y < 2 ^ 64 → Describes l top v (Some (alu_number Bits64 operations.Subtract x y))
+table_difference l top lo hi r v x y short h p inside lt =
+    let x-is : x ≡ table_base + p.0 = (let e : Some x ≡ Some (table_base + p.0) = p.1 in cc) in
+    let far = distance_of r y inside lt in
+    let there = table_points l top (pos lo -ℤ greatest_distance r) (pos hi -ℤ least_distance r) (pos p.0 -ℤ far.d) v h (omega (arith, ints, far.below, p.2)) (omega (arith, ints, far.above, p.3)) in
+    let moved : pos (table_base + there.place) ≡ pos x -ℤ far.d = omega (arith, ints, there.is, x-is) in
+    let same = difference_at x y (table_base + there.place) far.d (table_below l top lo hi x short p) lt (omega (arith, there.inside, short)) far.moves moved in
+    rw same there.described
+
+add_sound : (l : Lengths) (top : ℕ) (a b v : AbstractValue) (x y : ℕ) → AreShort l → FRAME_BYTES ≤ top → top < 2 ^ 64 → sum_result l a b ≡ ok v → Describes l top a (Some x) → Describes l top b (Some y) → Describes l top v (Some (alu_number Bits64 operations.Add x y))
 add_sound l top (Record lo hi) (Number c d) v x y short low high h p q =
     let inside = number_within l top c d y q in
-    record_sum l top lo hi (range c d) v x y short h p inside.0 inside.1
+    record_sum l top lo hi (range c d) v x y short.0 h p inside.0 inside.1
 add_sound l top (Stack offset) (Number c d) v x y short low high h p q =
     let inside = number_within l top c d y q in
     stack_sum l top offset (range c d) v x y low high h p inside.0 inside.1
+add_sound l top (Table lo hi) (Number c d) v x y short low high h p q =
+    let inside = number_within l top c d y q in
+    table_sum l top lo hi (range c d) v x y short.1 h p inside.0 inside.1
 add_sound l top a b v x y short low high h p q = numbers_sound Bits64 operations.Add l top a b v x y h p q
 
-subtract_sound : (l : Lengths) (top : ℕ) (a b v : AbstractValue) (x y : ℕ) → l.record_length < 2 ^ 16 → FRAME_BYTES ≤ top → top < 2 ^ 64 → difference_result l a b ≡ ok v → Describes l top a (Some x) → Describes l top b (Some y) → Describes l top v (Some (alu_number Bits64 operations.Subtract x y))
+subtract_sound : (l : Lengths) (top : ℕ) (a b v : AbstractValue) (x y : ℕ) → AreShort l → FRAME_BYTES ≤ top → top < 2 ^ 64 → difference_result l a b ≡ ok v → Describes l top a (Some x) → Describes l top b (Some y) → Describes l top v (Some (alu_number Bits64 operations.Subtract x y))
 subtract_sound l top (Record lo hi) (Number c d) v x y short low high h p q =
     let inside = number_within l top c d y q in
-    record_difference l top lo hi (range c d) v x y short h p inside.0 inside.1
+    record_difference l top lo hi (range c d) v x y short.0 h p inside.0 inside.1
 subtract_sound l top (Stack offset) (Number c d) v x y short low high h p q =
     let inside = number_within l top c d y q in
     stack_difference l top offset (range c d) v x y low high h p inside.0 inside.1
+subtract_sound l top (Table lo hi) (Number c d) v x y short low high h p q =
+    let inside = number_within l top c d y q in
+    table_difference l top lo hi (range c d) v x y short.1 h p inside.0 inside.1
 subtract_sound l top a b v x y short low high h p q = numbers_sound Bits64 operations.Subtract l top a b v x y h p q
 
-pub alu_describes : (w : Width) (operation : Operation) (l : Lengths) (top : ℕ) (a b v : AbstractValue) (x y : ℕ) → l.record_length < 2 ^ 16 → FRAME_BYTES ≤ top → top < 2 ^ 64 → alu_result w operation l a b ≡ ok v → Describes l top a (Some x) → Describes l top b (Some y) → Describes l top v (Some (alu_number w operation x y))
+pub alu_describes : (w : Width) (operation : Operation) (l : Lengths) (top : ℕ) (a b v : AbstractValue) (x y : ℕ) → AreShort l → FRAME_BYTES ≤ top → top < 2 ^ 64 → alu_result w operation l a b ≡ ok v → Describes l top a (Some x) → Describes l top b (Some y) → Describes l top v (Some (alu_number w operation x y))
 alu_describes w operations.Move l top a b v x y short low high h p q = move_sound w l top b v x y short high h q
 alu_describes Bits64 operations.Add l top a b v x y short low high h p q = add_sound l top a b v x y short low high h p q
 alu_describes Bits64 operations.Subtract l top a b v x y short low high h p q = subtract_sound l top a b v x y short low high h p q
@@ -217,3 +268,6 @@ pointer_at l lo hi first last r e p q = e ∙ ap (λ z. record_pointer l z hi) p
 
 pub stack_pointer_at : (b : Bool) (offset place : ℤ) (r : Result AbstractValue Cause) → r ≡ stack_pointer offset → b ≡ true → offset ≡ place → r ≡ stack_result b place
 stack_pointer_at b offset place r e test same = rw test (e ∙ ap stack_pointer same)
+
+pub table_pointer_at : (l : Lengths) (lo hi first last : ℤ) (r : Result AbstractValue Cause) → r ≡ table_pointer l lo hi → lo ≡ first → hi ≡ last → r ≡ table_pointer l first last
+table_pointer_at l lo hi first last r e p q = e ∙ ap (λ z. table_pointer l z hi) p ∙ ap (λ z. table_pointer l first z) q

@@ -19,15 +19,15 @@ use Rattle.bpf_isa.specs.Encoding.{extension_width}
 use Rattle.std.specs.Int.{w8, w16, w32, w64, cast_signed, cast_unsigned, swap_bytes}
 use Rattle.std.proofs.Math.Nat.{le_refl}
 use Rattle.bpf_image.specs.declared.lengths.Lengths.{Lengths}
-use Rattle.bpf_model.specs.State.{record_base}
+use Rattle.bpf_model.specs.State.{record_base, table_base}
 use Rattle.bpf_model.specs.Arithmetic.{modulus, low, alu_number, negate_number, move_signed_number, swap_number}
 use Rattle.bpf_model.specs.declared.cause.Cause.{Cause}
 use Rattle.abstract_values.specs.declared.range.Range.{Range}
 use Rattle.abstract_values.specs.declared.value.AbstractValue.{AbstractValue}
-use Rattle.abstract_values.specs.declared.value.AbstractValue.TheVariants.{Unset, Number, Record, Stack}
+use Rattle.abstract_values.specs.declared.value.AbstractValue.TheVariants.{Unset, Number, Record, Stack, Table}
 use Rattle.abstract_values.specs.Ranges.{range, constant, is_constant, everything, input, computed_range}
 use Rattle.abstract_values.specs.Values.{join_of, number, of_number, of_numbers, number_result, move_result, exact, negate_result, move_signed_result, swap_result}
-use Rattle.abstract_values.specs.Described.{Describes}
+use Rattle.abstract_values.specs.Described.{AreShort, Describes}
 use Rattle.abstract_values.proofs.Below.{either, modulus_most, low_below, low_same, computed_below}
 use Rattle.abstract_values.proofs.Within.{Within, within_everything, constant_is, input_within, computed_within}
 
@@ -49,6 +49,8 @@ join_describes l t (Number a b) (Number c d) x =
 join_describes l t (Record a b) (Record c d) x =
     (λ h. (h.0, h.1, omega (arith, h.2), omega (arith, h.3), h.4), λ h. (h.0, h.1, omega (arith, h.2), omega (arith, h.3), h.4))
 join_describes l t (Stack a) (Stack b) x = stack_joined l t a b x
+join_describes l t (Table a b) (Table c d) x =
+    (λ h. (h.0, h.1, omega (arith, h.2), omega (arith, h.3), h.4), λ h. (h.0, h.1, omega (arith, h.2), omega (arith, h.3), h.4))
 join_describes l t _ _ x = (λ h. tt, λ h. tt)
 
 -- a number is described by a range that it lies in
@@ -68,12 +70,14 @@ of_number_sound l top f (Number lo hi) v x z h p go =
     subst (λ w. Describes l top w (Some z)) same (go (range lo hi) inside.0 inside.1)
 of_number_sound l top f (Record lo hi) v x z h p go = absurd cc
 of_number_sound l top f (Stack offset) v x z h p go = absurd cc
+of_number_sound l top f (Table lo hi) v x z h p go = absurd cc
 
 pub of_numbers_sound : (l : Lengths) (top : ℕ) (f : Range → Range → AbstractValue) (a b v : AbstractValue) (x y z : ℕ) → of_numbers f a b ≡ ok v → Describes l top a (Some x) → Describes l top b (Some y) → ((r s : Range) → Within r x → Within s y → Describes l top (f r s) (Some z)) → Describes l top v (Some z)
 of_numbers_sound l top f (Number lo hi) b v x y z h p q go =
     of_number_sound l top (f (range lo hi)) b v y z h q (λ s inside lt. go (range lo hi) s (number_within l top lo hi x p).0 inside)
 of_numbers_sound l top f (Record lo hi) Unset v x y z h p q go = absurd cc
 of_numbers_sound l top f (Stack offset) Unset v x y z h p q go = absurd cc
+of_numbers_sound l top f (Table lo hi) Unset v x y z h p q go = absurd cc
 of_numbers_sound l top f _ _ v x y z h p q go = absurd cc
 
 -- arithmetic on two numbers
@@ -87,12 +91,17 @@ record_below l top lo hi y short q =
     let same : y ≡ record_base + q.0 = (let e : Some y ≡ Some (record_base + q.0) = q.1 in cc) in
     omega (arith, same, short, q.4)
 
+pub table_below : (l : Lengths) (top lo hi y : ℕ) → l.table_length < 2 ^ 16 → Describes l top (Table lo hi) (Some y) → y < 2 ^ 64
+table_below l top lo hi y short q =
+    let same : y ≡ table_base + q.0 = (let e : Some y ≡ Some (table_base + q.0) = q.1 in cc) in
+    omega (arith, same, short, q.4)
+
 pub stack_below : (l : Lengths) (top y : ℕ) (offset : ℤ) → top < 2 ^ 64 → Describes l top (Stack offset) (Some y) → y < 2 ^ 64
 stack_below l top y offset high q =
     let same : y ≡ q.0 = (let e : Some y ≡ Some q.0 = q.1 in cc) in
     omega (arith, ints, same, high, q.2, q.4)
 
-pub move_sound : (w : Width) (l : Lengths) (top : ℕ) (b v : AbstractValue) (x y : ℕ) → l.record_length < 2 ^ 16 → top < 2 ^ 64 → move_result w b ≡ ok v → Describes l top b (Some y) → Describes l top v (Some (alu_number w operations.Move x y))
+pub move_sound : (w : Width) (l : Lengths) (top : ℕ) (b v : AbstractValue) (x y : ℕ) → AreShort l → top < 2 ^ 64 → move_result w b ≡ ok v → Describes l top b (Some y) → Describes l top v (Some (alu_number w operations.Move x y))
 move_sound w l top Unset v x y short high h q = absurd cc
 move_sound w l top (Number lo hi) v x y short high h q =
     let same : number (input w (range lo hi)) ≡ v = (let e : ok (number (input w (range lo hi))) ≡ ok v = h in cc) in
@@ -100,14 +109,19 @@ move_sound w l top (Number lo hi) v x y short high h q =
     subst (λ z. Describes l top z (Some (low w y))) same (number_described l top (input w (range lo hi)) (low w y) (input_within w (range lo hi) y inside.0) (omega (arith, low_below w y, modulus_most w)))
 move_sound Bits64 l top (Record lo hi) v x y short high h q =
     let same : Record lo hi ≡ v = cc in
-    let number : low Bits64 y ≡ y = low_same Bits64 y (record_below l top lo hi y short q) in
+    let number : low Bits64 y ≡ y = low_same Bits64 y (record_below l top lo hi y short.0 q) in
     subst (λ w. Describes l top w (Some (low Bits64 y))) same (rw number q)
 move_sound Bits64 l top (Stack offset) v x y short high h q =
     let same : Stack offset ≡ v = cc in
     let number : low Bits64 y ≡ y = low_same Bits64 y (stack_below l top y offset high q) in
     subst (λ w. Describes l top w (Some (low Bits64 y))) same (rw number q)
+move_sound Bits64 l top (Table lo hi) v x y short high h q =
+    let same : Table lo hi ≡ v = cc in
+    let number : low Bits64 y ≡ y = low_same Bits64 y (table_below l top lo hi y short.1 q) in
+    subst (λ w. Describes l top w (Some (low Bits64 y))) same (rw number q)
 move_sound Bits32 l top (Record lo hi) v x y short high h q = absurd cc
 move_sound Bits32 l top (Stack offset) v x y short high h q = absurd cc
+move_sound Bits32 l top (Table lo hi) v x y short high h q = absurd cc
 
 -- a function that is exact for a constant, and gives numbers of its width
 exact_sound : (w : Width) (f : ℕ → ℕ) (l : Lengths) (top : ℕ) (r : Range) (n : ℕ) → Within r n → f n < modulus w → Describes l top (exact w f r) (Some (f n))

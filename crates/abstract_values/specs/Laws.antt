@@ -14,7 +14,7 @@ use Rattle.abstract_values.specs.declared.branch.Sides.{Sides}
 use Rattle.abstract_values.specs.declared.value.AbstractValue.{AbstractValue}
 use Rattle.abstract_values.specs.Values.{join_of, alu_result, negate_result, move_signed_result, swap_result}
 use Rattle.abstract_values.specs.Narrowing.{narrowing}
-use Rattle.abstract_values.specs.Described.{Describes, DescribesSide, side_of}
+use Rattle.abstract_values.specs.Described.{AreShort, Describes, DescribesSide, side_of}
 
 -- what one of two values describes, their join describes too
 abbrev pub JoinDescribes : Type 0
@@ -30,12 +30,12 @@ JoinCommutes = (a b : AbstractValue) → join_of a b ≡ join_of b a
 abbrev pub JoinAssociates : Type 0
 JoinAssociates = (a b c : AbstractValue) → join_of (join_of a b) c ≡ join_of a (join_of b c)
 
--- what the rules give describes what the arithmetic makes of two described numbers. A record's length
--- has 16 bits, and a frame lies below 2^64.
+-- what the rules give describes what the arithmetic makes of two described numbers. The lengths of record and
+-- table have 16 bits, and a frame lies below 2^64.
 abbrev pub AluDescribes : Type 0
 AluDescribes =
     (width : Width) (operation : Operation) (lengths : Lengths) (top : ℕ) (a b v : AbstractValue) (x y : ℕ)
-    → lengths.record_length < 2 ^ 16 → FRAME_BYTES ≤ top → top < 2 ^ 64
+    → AreShort lengths → FRAME_BYTES ≤ top → top < 2 ^ 64
     → alu_result width operation lengths a b ≡ Ok v
     → Describes lengths top a (Some x) → Describes lengths top b (Some y)
     → Describes lengths top v (Some (alu_number width operation x y))

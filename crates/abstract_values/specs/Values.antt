@@ -17,7 +17,7 @@ use Rattle.bpf_model.specs.declared.cause.Cause.TheVariants.{UnsetRegister, Poin
 use Rattle.abstract_values.specs.declared.range.Range.{Range}
 use Rattle.abstract_values.specs.declared.limits.TheConstants.{FRAME_BOTTOM}
 use Rattle.abstract_values.specs.declared.value.AbstractValue.{AbstractValue}
-use Rattle.abstract_values.specs.declared.value.AbstractValue.TheVariants.{Unset, Number, Record, Stack}
+use Rattle.abstract_values.specs.declared.value.AbstractValue.TheVariants.{Unset, Number, Record, Stack, Table}
 use Rattle.abstract_values.specs.Ranges.{range, constant, is_constant, everything, input, computed_range}
 
 -- the least value that says no more than either (the hull of two ranges)
@@ -25,6 +25,7 @@ abbrev pub join_of : AbstractValue → AbstractValue → AbstractValue
 join_of (Number a b) (Number c d) = Number (min a c) (max b d)
 join_of (Record a b) (Record c d) = Record (min a c) (max b d)
 join_of (Stack a) (Stack b) = if int_eq a b then Stack a else Unset
+join_of (Table a b) (Table c d) = Table (min a c) (max b d)
 join_of _ _ = Unset
 
 abbrev pub number : Range → AbstractValue
@@ -36,6 +37,7 @@ of_number f Unset = Err UnsetRegister
 of_number f (Number lo hi) = Ok (f (range lo hi))
 of_number f (Record lo hi) = Err PointerUse
 of_number f (Stack offset) = Err PointerUse
+of_number f (Table lo hi) = Err PointerUse
 
 -- what a function makes of two numbers; a value that is not set comes before a pointer
 abbrev pub of_numbers : {A : Type 0} → (Range → Range → A) → AbstractValue → AbstractValue → Result A Cause
@@ -45,6 +47,8 @@ of_numbers f (Record lo hi) Unset = Err UnsetRegister
 of_numbers f (Record lo hi) b = Err PointerUse
 of_numbers f (Stack offset) Unset = Err UnsetRegister
 of_numbers f (Stack offset) b = Err PointerUse
+of_numbers f (Table lo hi) Unset = Err UnsetRegister
+of_numbers f (Table lo hi) b = Err PointerUse
 
 -- a move copies in 64 bits what is set; in 32 bits there is no pointer
 abbrev pub move_result : Width → AbstractValue → Result AbstractValue Cause
@@ -52,8 +56,10 @@ move_result w Unset = Err UnsetRegister
 move_result w (Number lo hi) = Ok (number (input w (range lo hi)))
 move_result Bits64 (Record lo hi) = Ok (Record lo hi)
 move_result Bits64 (Stack offset) = Ok (Stack offset)
+move_result Bits64 (Table lo hi) = Ok (Table lo hi)
 move_result Bits32 (Record lo hi) = Err PointerUse
 move_result Bits32 (Stack offset) = Err PointerUse
+move_result Bits32 (Table lo hi) = Err PointerUse
 
 -- how far a number may move a pointer, at least and at most: a constant counts as a signed number
 abbrev pub least_distance : Range → ℤ
@@ -66,7 +72,7 @@ greatest_distance r = if is_constant r then cast_signed w64 r.hi else pos r.hi
 abbrev pub IsShort : ℤ → Type 0
 IsShort z = (negsuc (2 ^ 64) ≤ℤ z) × (z ≤ℤ pos (2 ^ 64))
 
--- a place in a record, or its end
+-- a place in a record or a table of a length, or its end
 abbrev pub is_place : ℕ → ℤ → Bool
 is_place length z = int_le (pos 0) z && int_le z (pos length)
 
@@ -74,6 +80,11 @@ is_place length z = int_le (pos 0) z && int_le z (pos length)
 abbrev pub record_pointer : Lengths → ℤ → ℤ → Result AbstractValue Cause
 record_pointer lengths lo hi =
     if is_place lengths.record_length lo && is_place lengths.record_length hi then Ok (Record (unsigned_abs lo) (unsigned_abs hi)) else Err OutOfRange
+
+-- a pointer into a table, which does not leave it
+abbrev pub table_pointer : Lengths → ℤ → ℤ → Result AbstractValue Cause
+table_pointer lengths lo hi =
+    if is_place lengths.table_length lo && is_place lengths.table_length hi then Ok (Table (unsigned_abs lo) (unsigned_abs hi)) else Err OutOfRange
 
 -- a pointer into a stack frame, which does not leave it
 abbrev pub stack_pointer : ℤ → Result AbstractValue Cause
@@ -94,6 +105,8 @@ sum_result lengths (Record lo hi) (Number c d) =
     record_pointer lengths (pos lo +ℤ least_distance (range c d)) (pos hi +ℤ greatest_distance (range c d))
 sum_result lengths (Stack offset) (Number c d) =
     stack_result (is_constant (range c d)) (offset +ℤ least_distance (range c d))
+sum_result lengths (Table lo hi) (Number c d) =
+    table_pointer lengths (pos lo +ℤ least_distance (range c d)) (pos hi +ℤ greatest_distance (range c d))
 sum_result lengths a b = of_numbers (number_result Bits64 operations.Add) a b
 
 -- a difference in 64 bits, where the left side may be a pointer
@@ -102,9 +115,11 @@ difference_result lengths (Record lo hi) (Number c d) =
     record_pointer lengths (pos lo -ℤ greatest_distance (range c d)) (pos hi -ℤ least_distance (range c d))
 difference_result lengths (Stack offset) (Number c d) =
     stack_result (is_constant (range c d)) (offset -ℤ least_distance (range c d))
+difference_result lengths (Table lo hi) (Number c d) =
+    table_pointer lengths (pos lo -ℤ greatest_distance (range c d)) (pos hi -ℤ least_distance (range c d))
 difference_result lengths a b = of_numbers (number_result Bits64 operations.Subtract) a b
 
--- what an arithmetic instruction makes of its destination and its operand, in a record of this length
+-- what an arithmetic instruction makes of its destination and its operand, in a record and a table of these lengths
 abbrev pub alu_result : Width → Operation → Lengths → AbstractValue → AbstractValue → Result AbstractValue Cause
 alu_result w operations.Move lengths a b = move_result w b
 alu_result Bits64 operations.Add lengths a b = sum_result lengths a b

@@ -4,7 +4,9 @@ ghost use Rattle.bpf_isa.specs.declared.instruction.Width.TheVariants.{Bits64};
 ghost use Rattle.bpf_isa.specs.declared.instruction.Operation.TheVariants.{Add, Subtract};
 ghost use Rattle.abstract_values.specs.Values.{of_number, of_numbers, number, number_result, move_result, sum_result, difference_result, alu_result, negate_result, move_signed_result, swap_result};
 
-use crate::pointer::{lower_record, lower_stack, raise_record, raise_stack};
+use crate::pointer::{
+    lower_record, lower_stack, lower_table, raise_record, raise_stack, raise_table,
+};
 use crate::range::Range;
 use crate::range_rules::{all_numbers, compute_range, constant_range, input_range, is_one_number};
 use crate::value::AbstractValue;
@@ -19,7 +21,8 @@ pub(crate) fn number_of(value: AbstractValue) -> Result<Range, Cause>
     match value {
         AbstractValue::Unset => Err(Cause::UnsetRegister),
         AbstractValue::Number { lo, hi } => Ok(Range { lo, hi }),
-        AbstractValue::Record { .. } | AbstractValue::Stack { .. } => Err(Cause::PointerUse),
+        AbstractValue::Record { .. } | AbstractValue::Stack { .. } | AbstractValue::Table { .. } =>
+            { Err(Cause::PointerUse) }
     }
 }
 
@@ -64,10 +67,11 @@ fn copy(width: Width, value: AbstractValue) -> Result<AbstractValue, Cause>
     match value {
         AbstractValue::Unset => Err(Cause::UnsetRegister),
         AbstractValue::Number { lo, hi } => Ok(value_of(input_range(width, Range { lo, hi }))),
-        AbstractValue::Record { .. } | AbstractValue::Stack { .. } => match width {
-            Width::Bits32 => Err(Cause::PointerUse),
-            Width::Bits64 => Ok(value),
-        },
+        AbstractValue::Record { .. } | AbstractValue::Stack { .. } | AbstractValue::Table { .. } =>
+            match width {
+                Width::Bits32 => Err(Cause::PointerUse),
+                Width::Bits64 => Ok(value),
+            },
     }
 }
 
@@ -80,6 +84,7 @@ fn add(lengths: Lengths, left: AbstractValue, right: AbstractValue) -> Result<Ab
         match left {
             AbstractValue::Record { lo, hi } => return raise_record(lengths, lo, hi, range),
             AbstractValue::Stack { offset } => return raise_stack(offset, range),
+            AbstractValue::Table { lo, hi } => return raise_table(lengths, lo, hi, range),
             AbstractValue::Unset | AbstractValue::Number { .. } => {}
         }
     }
@@ -99,14 +104,15 @@ fn subtract(
         match left {
             AbstractValue::Record { lo, hi } => return lower_record(lengths, lo, hi, range),
             AbstractValue::Stack { offset } => return lower_stack(offset, range),
+            AbstractValue::Table { lo, hi } => return lower_table(lengths, lo, hi, range),
             AbstractValue::Unset | AbstractValue::Number { .. } => {}
         }
     }
     compute(Width::Bits64, Operation::Subtract, left, right)
 }
 
-/// What an arithmetic instruction makes of its destination and its operand, for a record of so many
-/// bytes. A move does not look at the destination.
+/// What an arithmetic instruction makes of its destination and its operand, for a record and a table of
+/// so many bytes. A move does not look at the destination.
 pub fn alu(
     width: Width,
     operation: Operation,

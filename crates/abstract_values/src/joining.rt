@@ -31,5 +31,15 @@ pub fn join(left: AbstractValue, right: AbstractValue) -> AbstractValue
             AbstractValue::Stack { offset: other } if offset == other => left,
             _ => AbstractValue::Unset,
         },
+        AbstractValue::Table { lo, hi } => match right {
+            AbstractValue::Table {
+                lo: first,
+                hi: last,
+            } => AbstractValue::Table {
+                lo: lo.min(first),
+                hi: hi.max(last),
+            },
+            _ => AbstractValue::Unset,
+        },
     }
 }

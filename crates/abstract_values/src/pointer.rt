@@ -1,7 +1,7 @@
 //! Pointers moved by numbers.
 ghost use Rattle.std.specs.Prelude.{◌≡◌, pos, ◌+ℤ◌, ◌-ℤ◌};
 ghost use Rattle.abstract_values.specs.Ranges.{is_constant};
-ghost use Rattle.abstract_values.specs.Values.{IsShort, least_distance, greatest_distance, is_place, record_pointer, stack_pointer, stack_result};
+ghost use Rattle.abstract_values.specs.Values.{IsShort, least_distance, greatest_distance, is_place, record_pointer, table_pointer, stack_pointer, stack_result};
 
 use crate::limits::FRAME_BOTTOM;
 use crate::range::Range;
@@ -24,19 +24,33 @@ fn distances(range: Range) -> (i128, i128)
     }
 }
 
-/// Whether an offset is a place in a record, or its end.
-fn is_record_place(record_length: u16, offset: i128) -> bool
-    ensures { result ≡ is_place record_length offset }
+/// Whether an offset is a place in a record or a table of a length, or its end.
+fn is_place_within(length: u16, offset: i128) -> bool
+    ensures { result ≡ is_place length offset }
 {
-    0 <= offset && offset <= i128::from(record_length)
+    0 <= offset && offset <= i128::from(length)
 }
 
 /// A pointer into a record, which does not leave it.
 fn point_into_record(lengths: Lengths, lo: i128, hi: i128) -> Result<AbstractValue, Cause>
     ensures { result ≡ record_pointer lengths lo hi }
 {
-    if is_record_place(lengths.record_length, lo) && is_record_place(lengths.record_length, hi) {
+    if is_place_within(lengths.record_length, lo) && is_place_within(lengths.record_length, hi) {
         Ok(AbstractValue::Record {
+            lo: lo as u16,
+            hi: hi as u16,
+        })
+    } else {
+        Err(Cause::OutOfRange)
+    }
+}
+
+/// A pointer into a table, which does not leave it.
+fn point_into_table(lengths: Lengths, lo: i128, hi: i128) -> Result<AbstractValue, Cause>
+    ensures { result ≡ table_pointer lengths lo hi }
+{
+    if is_place_within(lengths.table_length, lo) && is_place_within(lengths.table_length, hi) {
+        Ok(AbstractValue::Table {
             lo: lo as u16,
             hi: hi as u16,
         })
@@ -84,6 +98,34 @@ pub(crate) fn lower_record(
 {
     let (least, greatest) = distances(range);
     point_into_record(lengths, i128::from(lo) - greatest, i128::from(hi) - least)
+}
+
+/// A table pointer moved up by a number.
+pub(crate) fn raise_table(
+    lengths: Lengths,
+    lo: u16,
+    hi: u16,
+    range: Range,
+) -> Result<AbstractValue, Cause>
+    ensures { result ≡ table_pointer lengths (pos lo +ℤ least_distance range)
+        (pos hi +ℤ greatest_distance range) }
+{
+    let (least, greatest) = distances(range);
+    point_into_table(lengths, i128::from(lo) + least, i128::from(hi) + greatest)
+}
+
+/// A table pointer moved down by a number.
+pub(crate) fn lower_table(
+    lengths: Lengths,
+    lo: u16,
+    hi: u16,
+    range: Range,
+) -> Result<AbstractValue, Cause>
+    ensures { result ≡ table_pointer lengths (pos lo -ℤ greatest_distance range)
+        (pos hi -ℤ least_distance range) }
+{
+    let (least, greatest) = distances(range);
+    point_into_table(lengths, i128::from(lo) - greatest, i128::from(hi) - least)
 }
 
 /// A stack pointer moved up by a number, which must be a constant.

@@ -10,4 +10,6 @@ pub enum AbstractValue {
     Record { lo: u16, hi: u16 },
     /// It is the top of the stack frame plus the offset, which is 0 or below.
     Stack { offset: i16 },
+    /// It is the address of the table's byte at an offset from `lo` to `hi`.
+    Table { lo: u16, hi: u16 },
 }

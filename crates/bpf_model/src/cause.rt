@@ -34,7 +34,7 @@ pub enum Cause {
     /// A pointer is used where only a number may be, or a number where only a pointer may be.
     #[error("a pointer is used as a number, or a number as a pointer")]
     PointerUse = 10,
-    /// An access, or a pointer, may lie outside the record or the stack frame.
+    /// An access, or a pointer, may lie outside the record, the table or the stack frame.
     #[error("an access may be out of range")]
     OutOfRange = 11,
     /// A stack byte is read that may not be set.
@@ -52,4 +52,7 @@ pub enum Cause {
     /// There was no memory for what is known of the program.
     #[error("out of memory")]
     OutOfMemory = 16,
+    /// A store, or gather, goes by a pointer into the table.
+    #[error("the table is written")]
+    ReadOnly = 17,
 }

@@ -12,11 +12,11 @@ use Rattle.bpf_image.specs.Program.{record_alone}
 use Rattle.bpf_model.specs.declared.cause.Cause.{Cause}
 use Rattle.bpf_model.specs.declared.cause.Cause.TheVariants as causes
 use Rattle.abstract_values.specs.declared.value.AbstractValue.{AbstractValue}
-use Rattle.abstract_values.specs.declared.value.AbstractValue.TheVariants.{Unset, Number, Record, Stack}
+use Rattle.abstract_values.specs.declared.value.AbstractValue.TheVariants.{Unset, Number, Record, Stack, Table}
 use Rattle.abstract_state.specs.declared.state.AbstractState.{AbstractState}
 use Rattle.abstract_state.specs.States.{register, entry_state}
 use Rattle.explanation.specs.declared.advice.Advice.{Advice}
-use Rattle.explanation.specs.declared.advice.Advice.TheVariants.{KnownInstructions, LandInside, Unroll, ForwardCalls, EndFunctions, FewerFrames, ShorterRuns, SetRegister, SetResult, CopyFrameRegister, SwapOperands, MoveByConstants, MovePointers, CompareNumbers, NoTables, SpillWhole, TestFirst, KnowTheReach, SetBytes, HelperArguments, KnownHelpers, AnswerNumber, MoreMemory}
+use Rattle.explanation.specs.declared.advice.Advice.TheVariants.{KnownInstructions, LandInside, Unroll, ForwardCalls, EndFunctions, FewerFrames, ShorterRuns, SetRegister, SetResult, CopyFrameRegister, SwapOperands, MoveByConstants, MovePointers, CompareNumbers, NoTables, SpillWhole, TestFirst, KnowTheReach, SetBytes, HelperArguments, KnownHelpers, AnswerNumber, MoreMemory, WriteElsewhere}
 
 -- a register is read that is not set
 abbrev pub unset_advice : Instruction → Advice
@@ -28,6 +28,7 @@ abbrev pub sum_advice : (left : AbstractValue) → Advice
 sum_advice (Number lo hi) = SwapOperands
 sum_advice (Stack offset) = MoveByConstants
 sum_advice (Record lo hi) = MovePointers
+sum_advice (Table lo hi) = MovePointers
 sum_advice Unset = MovePointers
 
 -- something is taken from a value in 64 bits
@@ -58,6 +59,7 @@ pointer_advice _ s = MovePointers
 -- a pointer reaches too far: more than one place is possible, or one alone
 abbrev pub reach_advice : AbstractValue → Advice
 reach_advice (Record lo hi) = if lo == hi then KnowTheReach else TestFirst
+reach_advice (Table lo hi) = if lo == hi then KnowTheReach else TestFirst
 reach_advice (Number lo hi) = if lo == hi then KnowTheReach else TestFirst
 reach_advice _ = KnowTheReach
 
@@ -92,6 +94,7 @@ advice_at causes.HelperArgument i s = HelperArguments
 advice_at causes.UnknownHelper i s = KnownHelpers
 advice_at causes.ResultNotNumber i s = AnswerNumber
 advice_at causes.OutOfMemory i s = MoreMemory
+advice_at causes.ReadOnly i s = WriteElsewhere
 
 -- where no instruction stands, or nothing is known before it, an exit and the entry serve: no rule of values asks then
 abbrev pub advice_for : Cause → Option Instruction → Option AbstractState → Advice

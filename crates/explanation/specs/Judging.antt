@@ -23,6 +23,7 @@ judges_values causes.HelperArgument = true
 judges_values causes.UnknownHelper = true
 judges_values causes.ResultNotNumber = true
 judges_values causes.OutOfMemory = false
+judges_values causes.ReadOnly = true
 
 -- what is known is told of all pcs of an accepted program, and of those up to the one that breaks a rule of values
 abbrev pub is_told : Judgement → ℕ → Bool

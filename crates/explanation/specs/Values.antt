@@ -5,7 +5,7 @@ use Rattle.bpf_isa.specs.declared.register.Register.{Register}
 use Rattle.bpf_isa.specs.Encoding.{number_of}
 use Rattle.bpf_asm.specs.Writing.{offset_text}
 use Rattle.abstract_values.specs.declared.value.AbstractValue.{AbstractValue}
-use Rattle.abstract_values.specs.declared.value.AbstractValue.TheVariants.{Unset, Number, Record, Stack}
+use Rattle.abstract_values.specs.declared.value.AbstractValue.TheVariants.{Unset, Number, Record, Stack, Table}
 use Rattle.abstract_state.specs.declared.state.AbstractState.{AbstractState}
 use Rattle.abstract_state.specs.States.{register}
 use Rattle.explanation.specs.Pieces.{newline, pieces_to}
@@ -22,12 +22,14 @@ value_text Unset = codes "nothing"
 value_text (Number lo hi) = number_text lo hi
 value_text (Record lo hi) = codes "record+" ++ range_text lo hi
 value_text (Stack offset) = codes "stack" ++ offset_text offset
+value_text (Table lo hi) = codes "table+" ++ range_text lo hi
 
 abbrev pub is_known : AbstractValue → Bool
 is_known Unset = false
 is_known (Number lo hi) = true
 is_known (Record lo hi) = true
 is_known (Stack offset) = true
+is_known (Table lo hi) = true
 
 -- something of which a value is known; it is left out where nothing is
 abbrev pub known_text : List ℕ → AbstractValue → List ℕ

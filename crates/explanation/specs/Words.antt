@@ -22,6 +22,7 @@ cause_number causes.HelperArgument = 13
 cause_number causes.UnknownHelper = 14
 cause_number causes.ResultNotNumber = 15
 cause_number causes.OutOfMemory = 16
+cause_number causes.ReadOnly = 17
 
 abbrev pub cause_text : Cause → List ℕ
 cause_text causes.BadInstruction = codes "no instruction stands there"
@@ -40,6 +41,7 @@ cause_text causes.HelperArgument = codes "an argument of a helper is not what it
 cause_text causes.UnknownHelper = codes "there is no helper of this number"
 cause_text causes.ResultNotNumber = codes "a function answers a pointer"
 cause_text causes.OutOfMemory = codes "there was no memory to verify it"
+cause_text causes.ReadOnly = codes "a store or gather goes to the table, which is only read"
 
 abbrev pub advice_text : Advice → List ℕ
 advice_text advice.KnownInstructions = codes "use the instructions of RFC 9669, groups base64 and divmul64: there are no atomic ones, and none for the address of a table in .rodata or of other data"
@@ -65,3 +67,4 @@ advice_text advice.HelperArguments = codes "vertices and places are numbers; r3 
 advice_text advice.KnownHelpers = codes "the helpers are 1 degree, 2 has_edge, 3 neighbour, 4 vertex_count and 5 gather"
 advice_text advice.AnswerNumber = codes "answer a number, such as the one to which the pointer points"
 advice_text advice.MoreMemory = codes "try again with more memory"
+advice_text advice.WriteElsewhere = codes "write to the record or the frame; copy there what is to change"

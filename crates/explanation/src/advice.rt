@@ -67,6 +67,8 @@ pub(crate) enum Advice {
     AnswerNumber,
     /// There was no memory.
     MoreMemory,
+    /// The table is written.
+    WriteElsewhere,
 }
 
 fn advice_on_unset(instruction: Instruction) -> Advice
@@ -84,7 +86,9 @@ fn advice_on_sum(left: AbstractValue) -> Advice
     match left {
         AbstractValue::Number { .. } => Advice::SwapOperands,
         AbstractValue::Stack { .. } => Advice::MoveByConstants,
-        AbstractValue::Record { .. } | AbstractValue::Unset => Advice::MovePointers,
+        AbstractValue::Record { .. } | AbstractValue::Table { .. } | AbstractValue::Unset => {
+            Advice::MovePointers
+        }
     }
 }
 
@@ -139,7 +143,7 @@ fn advice_on_reach(value: AbstractValue) -> Advice
     ensures { result ≡ reach_advice value }
 {
     let is_range = match value {
-        AbstractValue::Record { lo, hi } => lo != hi,
+        AbstractValue::Record { lo, hi } | AbstractValue::Table { lo, hi } => lo != hi,
         AbstractValue::Number { lo, hi } => lo != hi,
         AbstractValue::Stack { .. } | AbstractValue::Unset => false,
     };
@@ -197,5 +201,6 @@ pub(crate) fn advice_at(cause: Cause, instruction: Instruction, state: &Abstract
         Cause::UnknownHelper => Advice::KnownHelpers,
         Cause::ResultNotNumber => Advice::AnswerNumber,
         Cause::OutOfMemory => Advice::MoreMemory,
+        Cause::ReadOnly => Advice::WriteElsewhere,
     }
 }

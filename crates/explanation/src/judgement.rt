@@ -34,7 +34,8 @@ pub(crate) fn judges_values(cause: Cause) -> bool
         | Cause::UnsetStackByte
         | Cause::HelperArgument
         | Cause::UnknownHelper
-        | Cause::ResultNotNumber => true,
+        | Cause::ResultNotNumber
+        | Cause::ReadOnly => true,
     }
 }
 

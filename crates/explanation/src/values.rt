@@ -100,6 +100,10 @@ fn put_value(text: &mut String, value: AbstractValue) -> Result<(), AllocError>
             put(text, "stack")?;
             put_offset(text, offset)
         }
+        AbstractValue::Table { lo, hi } => {
+            put(text, "table+")?;
+            put_range(text, u64::from(lo), u64::from(hi))
+        }
     }
 }
 
@@ -109,8 +113,10 @@ fn is_known(value: AbstractValue) -> bool
 {
     match value {
         AbstractValue::Unset => false,
-        AbstractValue::Number { .. } | AbstractValue::Record { .. } | AbstractValue::Stack { .. } =>
-            true,
+        AbstractValue::Number { .. }
+        | AbstractValue::Record { .. }
+        | AbstractValue::Stack { .. }
+        | AbstractValue::Table { .. } => true,
     }
 }
 

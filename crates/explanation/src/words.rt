@@ -30,6 +30,7 @@ pub(crate) fn words_of_cause(cause: Cause) -> &'static str
         Cause::UnknownHelper => "there is no helper of this number",
         Cause::ResultNotNumber => "a function answers a pointer",
         Cause::OutOfMemory => "there was no memory to verify it",
+        Cause::ReadOnly => "a store or gather goes to the table, which is only read",
     }
 }
 
@@ -87,5 +88,6 @@ pub(crate) fn words_of_advice(advice: Advice) -> &'static str
         }
         Advice::AnswerNumber => "answer a number, such as the one to which the pointer points",
         Advice::MoreMemory => "try again with more memory",
+        Advice::WriteElsewhere => "write to the record or the frame; copy there what is to change",
     }
 }

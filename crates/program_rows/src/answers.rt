@@ -8,7 +8,7 @@ use crate::rules::{met, stepped};
 use crate::running::ran;
 use crate::verdicts::{explained, verified};
 use anyhow::{Result, bail};
-use bpf_image::Lengths;
+use bpf_image::{LEAST_RECORD_LENGTH, Lengths};
 use std::alloc::Global;
 
 /// What comes of a row of a block.
@@ -18,6 +18,10 @@ pub(crate) fn answer(alloc: Global, block: &Block<'_>, input: &str) -> Result<St
     let lengths = Lengths {
         record_length,
         table_length: 0,
+    };
+    let with_table = Lengths {
+        record_length: LEAST_RECORD_LENGTH,
+        table_length: record_length,
     };
     match block.kind {
         "decode" => decoded(alloc, number, input),
@@ -31,6 +35,8 @@ pub(crate) fn answer(alloc: Global, block: &Block<'_>, input: &str) -> Result<St
         "explain" => explained(alloc, record_length, input),
         "step" => stepped(alloc, lengths, input),
         "meet" => met(alloc, lengths, input),
+        "step_with_table" => stepped(alloc, with_table, input),
+        "meet_with_table" => met(alloc, with_table, input),
         "numbers" => numbers_of(alloc, input),
         kind => bail!("{kind} is no kind of rows"),
     }

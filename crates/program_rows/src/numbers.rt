@@ -91,6 +91,7 @@ fn causes(alloc: Global) -> Result<String, AllocError> {
         Cause::UnknownHelper,
         Cause::ResultNotNumber,
         Cause::OutOfMemory,
+        Cause::ReadOnly,
     ] {
         write!(text, "{} {cause:?}: {cause}\n", cause as u8)?;
     }

@@ -1,4 +1,5 @@
-//! What may be known of a value, as text: `unset`, `7`, `0 to 9`, `any number`, `record+0 to 4` or `stack-8`.
+//! What may be known of a value, as text: `unset`, `7`, `0 to 9`, `any number`, `record+0 to 4`, `table+8` or
+//! `stack-8`.
 use abstract_values::AbstractValue;
 use std::alloc::{AllocError, Global};
 
@@ -11,7 +12,7 @@ fn ends(text: &str) -> (u64, u64) {
     )
 }
 
-/// An offset in the record.
+/// An offset in the record or the table.
 fn offset(number: u64) -> u16 {
     u16::try_from(number).unwrap_or(0)
 }
@@ -21,6 +22,13 @@ pub(crate) fn value_of(text: &str) -> AbstractValue {
     if let Some(places) = text.strip_prefix("record+") {
         let (lo, hi) = ends(places);
         return AbstractValue::Record {
+            lo: offset(lo),
+            hi: offset(hi),
+        };
+    }
+    if let Some(places) = text.strip_prefix("table+") {
+        let (lo, hi) = ends(places);
+        return AbstractValue::Table {
             lo: offset(lo),
             hi: offset(hi),
         };
@@ -56,6 +64,10 @@ pub(crate) fn value_text(alloc: Global, value: AbstractValue) -> Result<String, 
         AbstractValue::Record { lo, hi } => {
             let range = range_text(alloc, u64::from(lo), u64::from(hi))?;
             format!(in alloc; "record+{range}")
+        }
+        AbstractValue::Table { lo, hi } => {
+            let range = range_text(alloc, u64::from(lo), u64::from(hi))?;
+            format!(in alloc; "table+{range}")
         }
         AbstractValue::Stack { offset: 0 } => String::from_str(alloc, "stack+0"),
         AbstractValue::Stack { offset } => format!(in alloc; "stack{offset}"),

@@ -22,9 +22,10 @@ use Rattle.abstract_values.specs.declared.value.AbstractValue.TheVariants.{Numbe
 use Rattle.abstract_values.specs.Described.{Describes}
 use Rattle.abstract_state.specs.declared.state.AbstractState.{AbstractState}
 use Rattle.abstract_state.specs.Memory.{load_result, load_signed_result, any_number_where, store_result}
-use Rattle.abstract_state.specs.Described.{IsAllowed}
+use Rattle.abstract_state.specs.Described.{IsAllowed, IsReadable}
 use Rattle.abstract_state.proofs.Loads.{load_describes}
 use Rattle.abstract_state.proofs.Stores.{store_describes}
+use Rattle.verifier.specs.RuleLaws.{AreOfImage}
 use Rattle.verifier.specs.Rules.{Ways, onward, write_ways, behind_store}
 use Rattle.verifier.specs.Described.{DescribesState, KeepsFrames, Follows, stays}
 use Rattle.verifier.proofs.RuleParts.{ok, bind_ok, writes_from}
@@ -39,9 +40,10 @@ allowed l s a size (inr inside) =
     let here : in_frame (length s.callers) a size ≡ true = and_from _ _ (le-leb _ _ inside.0) (le-leb _ _ inside.1) in
     or_right _ _ (or_left _ _ here)
 
--- and read
-readable : (l : Lengths) (s : State) (a size : ℕ) → IsAllowed l (top s) a size → may_read l s a size ≡ true
-readable l s a size is = or_left _ _ (allowed l s a size is)
+-- and read, as those in the table
+readable : (l : Lengths) (s : State) (a size : ℕ) → IsReadable l (top s) a size → may_read l s a size ≡ true
+readable l s a size (inl is) = or_left _ _ (allowed l s a size is)
+readable l s a size (inr within) = or_right _ _ within
 
 -- they lie beside the callers' frames
 pub apart_below : (l : Lengths) (n a size k i : ℕ) → l.record_length ≤ MOST_RECORD_LENGTH → IsAllowed l (frame_top n) a size → k < n → i < frame_bytes → (frame_top k - frame_bytes + i < a) ⊎ (a + size ≤ frame_top k - frame_bytes + i)
@@ -52,10 +54,10 @@ apart_below l n a size k i short (inl within) low lt =
 apart_below l n a size k i short (inr inside) low lt = inl (omega (arith, inside.0, low, lt))
 
 -- a plain load
-pub load_follows : (l : Lengths) (pc : ℕ) (i : Instruction) (b : AbstractValue) (z : ℤ) (a : AbstractState) (s : State) (d : Register) (size : Size) (x : ℕ) (ws : Ways) → l.record_length ≤ MOST_RECORD_LENGTH → FitsSigned w16 z → s.pc ≡ pos pc → DescribesState l a s → Describes l (top s) b (Some x) → write_ways (pc + 1) a d (load_result l a b z (size_bytes size)) ≡ ok ws → Follows l i a s ws (load l s (address_at x z) size (next_with_result s 1 d))
+pub load_follows : (l : Lengths) (pc : ℕ) (i : Instruction) (b : AbstractValue) (z : ℤ) (a : AbstractState) (s : State) (d : Register) (size : Size) (x : ℕ) (ws : Ways) → AreOfImage l → FitsSigned w16 z → s.pc ≡ pos pc → DescribesState l a s → Describes l (top s) b (Some x) → write_ways (pc + 1) a d (load_result l a b z (size_bytes size)) ≡ ok ws → Follows l i a s ws (load l s (address_at x z) size (next_with_result s 1 d))
 load_follows l pc i b z a s d size x ws short fits at described base h =
     let w = writes_from (pc + 1) a d (load_result l a b z (size_bytes size)) ws h in
-    let n = load_describes l (top s) a s.registers s.memory b w.value z size x (omega (arith, short)) (omega arith) (top_below l a s described) fits w.from described.parts base in
+    let n = load_describes l (top s) a s.registers s.memory b w.value z size x (omega (arith, short.0), omega (arith, short.1)) (omega arith) (top_below l a s described) fits w.from described.parts base in
     let may = readable l s (address_at x z) (size_bytes size) n.1 in
     rw (may, n.2) (put_follows l pc 1 i a s d (ok w.value) n.0 ws at described (subst (λ r. write_ways (pc + 1) a d r ≡ ok ws) w.from h) (λ v e. let same : w.value ≡ v = cc in subst (λ u. Describes l (top s) u (Some n.0)) same n.3))
 
@@ -73,11 +75,11 @@ any_from : (r : Result AbstractValue Cause) (v : AbstractValue) → any_number_w
 any_from (Ok u) v h = (u, refl, cc)
 any_from (Err cause) v h = absurd cc
 
-pub load_extended_follows : (l : Lengths) (pc : ℕ) (i : Instruction) (b : AbstractValue) (z : ℤ) (a : AbstractState) (s : State) (d : Register) (size : SignedSize) (x : ℕ) (ws : Ways) → l.record_length ≤ MOST_RECORD_LENGTH → FitsSigned w16 z → s.pc ≡ pos pc → DescribesState l a s → Describes l (top s) b (Some x) → write_ways (pc + 1) a d (load_signed_result l a b z size) ≡ ok ws → Follows l i a s ws (load l s (address_at x z) (plain_size size) (λ n. next_with_result s 1 d (move_signed_number (load_extension size) n)))
+pub load_extended_follows : (l : Lengths) (pc : ℕ) (i : Instruction) (b : AbstractValue) (z : ℤ) (a : AbstractState) (s : State) (d : Register) (size : SignedSize) (x : ℕ) (ws : Ways) → AreOfImage l → FitsSigned w16 z → s.pc ≡ pos pc → DescribesState l a s → Describes l (top s) b (Some x) → write_ways (pc + 1) a d (load_signed_result l a b z size) ≡ ok ws → Follows l i a s ws (load l s (address_at x z) (plain_size size) (λ n. next_with_result s 1 d (move_signed_number (load_extension size) n)))
 load_extended_follows l pc i b z a s d size x ws short fits at described base h =
     let w = writes_from (pc + 1) a d (load_signed_result l a b z size) ws h in
     let u = any_from (load_result l a b z (size_bytes (plain_size size))) w.value w.from in
-    let n = load_describes l (top s) a s.registers s.memory b u.0 z (plain_size size) x (omega (arith, short)) (omega arith) (top_below l a s described) fits u.1 described.parts base in
+    let n = load_describes l (top s) a s.registers s.memory b u.0 z (plain_size size) x (omega (arith, short.0), omega (arith, short.1)) (omega arith) (top_below l a s described) fits u.1 described.parts base in
     let may = readable l s (address_at x z) (size_bytes (plain_size size)) n.1 in
     let m = move_signed_number (load_extension size) n.0 in
     rw (may, n.2) (put_follows l pc 1 i a s d (ok w.value) m ws at described (subst (λ r. write_ways (pc + 1) a d r ≡ ok ws) w.from h) (λ v e. let same : Number 0 (2 ^ 64 - 1) ≡ v = (let f : w.value ≡ v = cc in u.2 ∙ f) in subst (λ t. Describes l (top s) t (Some m)) same (any_number l (top s) m (extended_64 size n.0))))

@@ -1,17 +1,17 @@
 -- Calls and returns: what is known where a function begins, of a caller that waits, and after the call.
 use Rattle.std.proofs.Common.{◌≡◌, ℕ, zero, suc, ◌+◌, ◌-◌, ◌*◌, ◌^◌, ◌<◌, ◌≤◌, true, false, leb, ltb, Bool, List, [], ◌∷◌, replicate, length, Option, Some, get_or, refl, sym, ap, subst, ◌∙◌, arith, inl}
 use Rattle.std.specs.Prelude.{ℤ, pos, ◌+ℤ◌}
-use Rattle.std.proofs.lemmas.Bool.{lt-leb, lt-ltb, le-leb}
+use Rattle.std.proofs.lemmas.Bool.{lt-leb, lt-ltb, le-leb, le-ltb}
 use Rattle.std.proofs.lemmas.Int.{ints}
 use Rattle.bpf_isa.specs.declared.instruction.Instruction.TheVariants.{CallLocal, Exit}
 use Rattle.bpf_image.specs.declared.limits.TheConstants.{MOST_RECORD_LENGTH}
 use Rattle.bpf_image.specs.declared.lengths.Lengths.{Lengths}
 use Rattle.bpf_model.specs.declared.trap.TrapKind.TheVariants.{UnsetResult}
-use Rattle.bpf_model.specs.State.{Partial, Saved, State, without_values, record_base, frame_top, frame_bytes, live_frames, most_frames}
+use Rattle.bpf_model.specs.State.{Partial, Saved, State, without_values, record_base, table_base, frame_top, frame_bytes, live_frames, most_frames}
 use Rattle.bpf_model.specs.Calls.{saved_state, enter, return_to}
 use Rattle.bpf_model.specs.Step.{Goes, number_or_trap, call, leave}
 use Rattle.abstract_values.specs.declared.value.AbstractValue.{AbstractValue}
-use Rattle.abstract_values.specs.declared.value.AbstractValue.TheVariants.{Unset, Number, Record, Stack}
+use Rattle.abstract_values.specs.declared.value.AbstractValue.TheVariants.{Unset, Number, Record, Stack, Table}
 use Rattle.abstract_values.specs.Described.{Describes}
 use Rattle.abstract_state.specs.declared.state.AbstractState.{AbstractState}
 use Rattle.abstract_state.specs.States.{frame_slots, argument_value, known_of, callee_state, state_behind_call}
@@ -33,6 +33,13 @@ before_cleared : (m : Partial) (from count a : ℕ) → a < from → without_val
 before_cleared m from count a lt =
     let below : leb from a ≡ false = lt-leb _ _ lt in
     rw below refl
+
+-- and so it does past that
+past_cleared : (m : Partial) (from count a : ℕ) → from + count ≤ a → without_values m from count a ≡ m a
+past_cleared m from count a ge =
+    let above : leb from a ≡ true = le-leb _ _ (omega (arith, ge)) in
+    let past : ltb a (from + count) ≡ false = le-ltb _ _ ge in
+    rw (above, past) refl
 
 -- a frame whose bytes are as before stays described
 pub frame_kept : (l : Lengths) (t : ℕ) (bytes_set : List Bool) (slots : List AbstractValue) (before after : Partial) → ((i : ℕ) → i < frame_bytes → after (t - frame_bytes + i) ≡ before (t - frame_bytes + i)) → DescribesFrame l t bytes_set slots before → DescribesFrame l t bytes_set slots after
@@ -57,6 +64,7 @@ passed_described l t u Unset x d = tt
 passed_described l t u (Number lo hi) x d = d
 passed_described l t u (Record lo hi) x d = d
 passed_described l t u (Stack offset) x d = tt
+passed_described l t u (Table lo hi) x d = d
 
 entered_values : (l : Lengths) (a : AbstractState) (s : State) (z : ℤ) → DescribesState l a s → (r : ℕ) → Describes l (frame_top (live_frames s)) (get_or (callee_state a).registers r Unset) ((enter s z).registers r)
 entered_values l a s z d zero = tt
@@ -77,6 +85,7 @@ entered_described l a s z short few d = record {
   parts = record {
     values = entered_values l a s z d;
     record_set = λ k lt. (let b = d.parts.record_set k lt in (b.0, before_cleared s.memory (frame_top (live_frames s) - frame_bytes) frame_bytes (record_base + k) (omega (arith, lt, short)) ∙ b.1, b.2));
+    table_set = λ k lt. (let b = d.parts.table_set k lt in (b.0, past_cleared s.memory (frame_top (live_frames s) - frame_bytes) frame_bytes (table_base + k) (omega (arith, few)) ∙ b.1, b.2));
     frame = new_frame l (frame_top (live_frames s)) (enter s z).memory;
   };
   frame_register = refl;
@@ -126,7 +135,7 @@ leave_follows l a s ws (caller ∷ callers) v d same lt =
     let deeper : length s.callers ≡ suc (length callers) = ap length same in
     let few : length callers < most_frames = (let all = d.few_callers in omega (arith, deeper, all)) in
     returns caller callers v refl same (λ b waits. record {
-      parts = record { values = returned_values l b s caller callers v lt waits; record_set = d.parts.record_set; frame = waits.frame };
+      parts = record { values = returned_values l b s caller callers v lt waits; record_set = d.parts.record_set; table_set = d.parts.table_set; frame = waits.frame };
       frame_register = refl;
       few_callers = few;
     })
@@ -139,3 +148,4 @@ exit_follows l a s ws Unset x d q h = absurd cc
 exit_follows l a s ws (Number lo hi) x d q h = number_leaves l a s ws (Number lo hi) x q.0 q.1 q.4 d
 exit_follows l a s ws (Record lo hi) x d q h = absurd cc
 exit_follows l a s ws (Stack offset) x d q h = absurd cc
+exit_follows l a s ws (Table lo hi) x d q h = absurd cc

@@ -18,7 +18,7 @@ use Rattle.bpf_model.specs.Next.{Goes}
 use Rattle.bpf_model.specs.Step.{call_helper}
 use Rattle.bpf_model.specs.declared.limits.TheConstants.{MOST_GATHER_BYTES}
 use Rattle.abstract_values.specs.declared.value.AbstractValue.{AbstractValue}
-use Rattle.abstract_values.specs.declared.value.AbstractValue.TheVariants.{Unset, Number, Record, Stack}
+use Rattle.abstract_values.specs.declared.value.AbstractValue.TheVariants.{Unset, Number, Record, Stack, Table}
 use Rattle.abstract_values.specs.Described.{Describes}
 use Rattle.abstract_state.specs.declared.state.AbstractState.{AbstractState}
 use Rattle.abstract_state.specs.States.{state_behind_helper}
@@ -56,7 +56,7 @@ answer_follows l pc i a b s memory most answer ws at described parts keeps le lt
     let moved : s.pc +ℤ pos 1 ≡ pos (pc + 1) = ap (λ z. z +ℤ pos 1) at in
     let after : State = with_answer (record s { memory = memory }) answer in
     let known : DescribesState l (state_behind_helper b (Number 0 most)) after = record {
-      parts = record { values = answered_values l (top s) b s.registers most answer le lt parts.values; record_set = parts.record_set; frame = parts.frame };
+      parts = record { values = answered_values l (top s) b s.registers most answer le lt parts.values; record_set = parts.record_set; table_set = parts.table_set; frame = parts.frame };
       frame_register = described.frame_register;
       few_callers = described.few_callers;
     } in
@@ -107,6 +107,7 @@ room_is l t x room (Number lo hi) h d =
     ]
 room_is l t x room (Record lo hi) h d = absurd cc
 room_is l t x room (Stack offset) h d = absurd cc
+room_is l t x room (Table lo hi) h d = absurd cc
 
 -- an allowed room is whole words
 record Room (room : ℕ) : Type 0 where

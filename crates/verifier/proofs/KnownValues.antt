@@ -10,19 +10,19 @@ use Rattle.bpf_isa.specs.declared.instruction.Operation.TheVariants.{Move}
 use Rattle.bpf_isa.specs.declared.instruction.Operand.{Operand}
 use Rattle.bpf_isa.specs.declared.instruction.Operand.TheVariants.{Immediate, Source}
 use Rattle.bpf_isa.specs.Encoding.{number_of}
-use Rattle.bpf_image.specs.declared.limits.TheConstants.{MOST_RECORD_LENGTH}
 use Rattle.bpf_image.specs.declared.lengths.Lengths.{Lengths}
 use Rattle.bpf_model.specs.Arithmetic.{low, alu_number}
-use Rattle.bpf_model.specs.State.{State, record_base}
+use Rattle.bpf_model.specs.State.{State, record_base, table_base}
 use Rattle.bpf_model.specs.Step.{immediate_value, operand_of, left_of}
 use Rattle.abstract_values.specs.declared.value.AbstractValue.{AbstractValue}
-use Rattle.abstract_values.specs.declared.value.AbstractValue.TheVariants.{Unset, Number, Record, Stack}
+use Rattle.abstract_values.specs.declared.value.AbstractValue.TheVariants.{Unset, Number, Record, Stack, Table}
 use Rattle.abstract_values.specs.Values.{alu_result}
 use Rattle.abstract_values.specs.Described.{Describes}
 use Rattle.abstract_values.proofs.Below.{modulus_most, low_below, low_same}
 use Rattle.abstract_values.proofs.Pointers.{alu_describes}
 use Rattle.abstract_state.specs.declared.state.AbstractState.{AbstractState}
 use Rattle.abstract_state.specs.States.{register}
+use Rattle.verifier.specs.RuleLaws.{AreOfImage}
 use Rattle.verifier.specs.Rules.{known_value, known_register, known_operand, known_left, constant}
 use Rattle.verifier.specs.Described.{top_above, DescribesState}
 use Rattle.verifier.proofs.RuleParts.{ok}
@@ -52,6 +52,10 @@ held l t (Record lo hi) w x h d =
     let same : Record lo hi ≡ w = cc in
     let e : x ≡ Some (record_base + d.0) = d.1 in
     record { number = record_base + d.0; there = e; described = subst (λ v. Describes l t v (Some (record_base + d.0))) same (d.0, refl, d.2, d.3, d.4) }
+held l t (Table lo hi) w x h d =
+    let same : Table lo hi ≡ w = cc in
+    let e : x ≡ Some (table_base + d.0) = d.1 in
+    record { number = table_base + d.0; there = e; described = subst (λ v. Describes l t v (Some (table_base + d.0))) same (d.0, refl, d.2, d.3, d.4) }
 held l t (Stack offset) w x h d =
     let same : Stack offset ≡ w = cc in
     let e : x ≡ Some d.0 = d.1 in
@@ -63,14 +67,17 @@ register_read l a s r v d h =
     held l (top s) (register a r) v (s.registers (number_of r)) h (d.parts.values (number_of r))
 
 -- a described number has 64 bits
-pub described_below : (l : Lengths) (t : ℕ) (v : AbstractValue) (n : ℕ) → l.record_length ≤ MOST_RECORD_LENGTH → t < 2 ^ 64 → known_value v ≡ ok v → Describes l t v (Some n) → n < 2 ^ 64
+pub described_below : (l : Lengths) (t : ℕ) (v : AbstractValue) (n : ℕ) → AreOfImage l → t < 2 ^ 64 → known_value v ≡ ok v → Describes l t v (Some n) → n < 2 ^ 64
 described_below l t Unset n short low h d = absurd cc
 described_below l t (Number lo hi) n short low h d =
     let number : n ≡ d.0 = (let e : Some n ≡ Some d.0 = d.1 in cc) in
     omega (arith, number, d.4)
 described_below l t (Record lo hi) n short low h d =
     let number : n ≡ record_base + d.0 = (let e : Some n ≡ Some (record_base + d.0) = d.1 in cc) in
-    omega (arith, number, d.4, short)
+    omega (arith, number, d.4, short.0)
+described_below l t (Table lo hi) n short low h d =
+    let number : n ≡ table_base + d.0 = (let e : Some n ≡ Some (table_base + d.0) = d.1 in cc) in
+    omega (arith, number, d.4, short.1)
 described_below l t (Stack offset) n short low h d =
     let number : n ≡ d.0 = (let e : Some n ≡ Some d.0 = d.1 in cc) in
     let below : d.0 ≤ t = omega (arith, ints, d.2, d.4) in
@@ -81,6 +88,7 @@ pub known_twice : (v w : AbstractValue) → known_value v ≡ ok w → known_val
 known_twice Unset w h = absurd cc
 known_twice (Number lo hi) w h = let same : Number lo hi ≡ w = cc in subst (λ u. known_value u ≡ ok u) same refl
 known_twice (Record lo hi) w h = let same : Record lo hi ≡ w = cc in subst (λ u. known_value u ≡ ok u) same refl
+known_twice (Table lo hi) w h = let same : Table lo hi ≡ w = cc in subst (λ u. known_value u ≡ ok u) same refl
 known_twice (Stack offset) w h = let same : Stack offset ≡ w = cc in subst (λ u. known_value u ≡ ok u) same refl
 
 -- a number of 64 bits is what its constant describes
@@ -122,15 +130,15 @@ pub record ReadsLeft (l : Lengths) (t : ℕ) (operation : Operation) (x : Option
   pub there : left_of operation x ≡ Some number
   pub gives : (w : Width) (b v : AbstractValue) (y : ℕ) → alu_result w operation l u b ≡ ok v → Describes l t b (Some y) → Describes l t v (Some (alu_number w operation number y))
 
-move_read : (l : Lengths) (t : ℕ) (x : Option ℕ) (u : AbstractValue) → l.record_length ≤ MOST_RECORD_LENGTH → record_base + 2 ^ 17 ≤ t → t < 2 ^ 64 → ReadsLeft l t Move x u
+move_read : (l : Lengths) (t : ℕ) (x : Option ℕ) (u : AbstractValue) → AreOfImage l → record_base + 2 ^ 17 ≤ t → t < 2 ^ 64 → ReadsLeft l t Move x u
 move_read l t x u short high low =
-    record { number = 0; there = refl; gives = λ w b v y h q. alu_describes w Move l t (constant 0) b v 0 y (omega (arith, short)) (omega (arith, high)) low h (constant_described l t 0 (omega arith)) q }
+    record { number = 0; there = refl; gives = λ w b v y h q. alu_describes w Move l t (constant 0) b v 0 y (omega (arith, short.0), omega (arith, short.1)) (omega (arith, high)) low h (constant_described l t 0 (omega arith)) q }
 
-other_read : (l : Lengths) (t : ℕ) (operation : Operation) (x : Option ℕ) (u : AbstractValue) → l.record_length ≤ MOST_RECORD_LENGTH → record_base + 2 ^ 17 ≤ t → t < 2 ^ 64 → left_of operation x ≡ x → Reads l t x u → ReadsLeft l t operation x u
+other_read : (l : Lengths) (t : ℕ) (operation : Operation) (x : Option ℕ) (u : AbstractValue) → AreOfImage l → record_base + 2 ^ 17 ≤ t → t < 2 ^ 64 → left_of operation x ≡ x → Reads l t x u → ReadsLeft l t operation x u
 other_read l t operation x u short high low same r =
-    record { number = r.number; there = rw same r.there; gives = λ w b v y h q. alu_describes w operation l t u b v r.number y (omega (arith, short)) (omega (arith, high)) low h r.described q }
+    record { number = r.number; there = rw same r.there; gives = λ w b v y h q. alu_describes w operation l t u b v r.number y (omega (arith, short.0), omega (arith, short.1)) (omega (arith, high)) low h r.described q }
 
-pub left_read : (l : Lengths) (operation : Operation) (a : AbstractState) (s : State) (d : Register) (u : AbstractValue) → l.record_length ≤ MOST_RECORD_LENGTH → DescribesState l a s → known_left operation a d ≡ ok u → ReadsLeft l (top s) operation (s.registers (number_of d)) u
+pub left_read : (l : Lengths) (operation : Operation) (a : AbstractState) (s : State) (d : Register) (u : AbstractValue) → AreOfImage l → DescribesState l a s → known_left operation a d ≡ ok u → ReadsLeft l (top s) operation (s.registers (number_of d)) u
 left_read l Move a s d u short described h = move_read l (top s) (s.registers (number_of d)) u short (top_above_record l a s described) (top_below l a s described)
 left_read l operation a s d u short described h =
     other_read l (top s) operation (s.registers (number_of d)) u short (top_above_record l a s described) (top_below l a s described) refl (register_read l a s d u described h)

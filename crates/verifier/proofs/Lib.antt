@@ -26,3 +26,4 @@ pub mod Runs
 pub mod Verdicts
 pub mod Forward
 pub mod Keeping
+pub mod Alone

@@ -31,7 +31,7 @@ narrowed_values l t xs registers d v r all new =
 
 pub narrowed_described : (l : Lengths) (t : ℕ) (a : AbstractState) (registers memory : Partial) (r : Register) (v : AbstractValue) → DescribesParts l t a registers memory → Describes l t v (registers (number_of r)) → DescribesParts l t (with_register a r v) registers memory
 narrowed_described l t a registers memory r v d new =
-    record { values = λ k. narrowed_values l t a.registers registers (number_of r) v k d.values new; record_set = d.record_set; frame = d.frame }
+    record { values = λ k. narrowed_values l t a.registers registers (number_of r) v k d.values new; record_set = d.record_set; table_set = d.table_set; frame = d.frame }
 
 -- a register gets a number
 put_values : (l : Lengths) (t : ℕ) (xs : List AbstractValue) (registers : Partial) (d : ℕ) (v : AbstractValue) (n r : ℕ) → ((k : ℕ) → Describes l t (get_or xs k Unset) (registers k)) → Describes l t v (Some n) → Describes l t (get_or (set xs d v) r Unset) (with_value registers d n r)
@@ -47,7 +47,7 @@ put_values l t xs registers d v n r all new =
 
 pub put_described : (l : Lengths) (t : ℕ) (a : AbstractState) (registers memory : Partial) (r : Register) (v : AbstractValue) (n : ℕ) → DescribesParts l t a registers memory → Describes l t v (Some n) → DescribesParts l t (with_register a r v) (with_value registers (number_of r) n) memory
 put_described l t a registers memory r v n d new =
-    record { values = λ k. put_values l t a.registers registers (number_of r) v n k d.values new; record_set = d.record_set; frame = d.frame }
+    record { values = λ k. put_values l t a.registers registers (number_of r) v n k d.values new; record_set = d.record_set; table_set = d.table_set; frame = d.frame }
 
 -- R10 is not the register that is written
 frame_register_stays : (registers : Partial) (d n : ℕ) → eqb d 10 ≡ false → with_value registers d n 10 ≡ registers 10

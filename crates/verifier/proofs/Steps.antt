@@ -10,7 +10,6 @@ use Rattle.bpf_model.specs.Arithmetic.{low, operation_number, alu_number, negate
 use Rattle.bpf_model.specs.State.{State}
 use Rattle.bpf_model.specs.Step.{immediate_value, units_over, jump, effect}
 use Rattle.bpf_isa.specs.Sizes.{size_bytes}
-use Rattle.bpf_image.specs.declared.limits.TheConstants.{MOST_RECORD_LENGTH}
 use Rattle.bpf_image.specs.declared.lengths.Lengths.{Lengths}
 use Rattle.abstract_values.specs.declared.value.AbstractValue.{AbstractValue}
 use Rattle.abstract_values.specs.declared.value.AbstractValue.TheVariants.{Unset}
@@ -22,7 +21,7 @@ use Rattle.abstract_state.specs.States.{register}
 use Rattle.abstract_state.specs.Memory.{load_result, load_signed_result, store_result}
 use Rattle.verifier.specs.Rules.{Ways, bind, known_register, known_operand, known_left, constant, write_ways, behind_store, target, branch_sides, branch_ways, call_ways, transfer}
 use Rattle.verifier.specs.Described.{DescribesState, Follows, stays}
-use Rattle.verifier.specs.RuleLaws.{MayCall}
+use Rattle.verifier.specs.RuleLaws.{MayCall, AreOfImage}
 use Rattle.verifier.proofs.RuleParts.{ok, bind_ok}
 use Rattle.verifier.proofs.KnownValues.{top, top_below, register_read, operand_read, left_read, described_below, known_twice, constant_described, extended_below}
 use Rattle.verifier.proofs.RegisterWrites.{put_follows}
@@ -37,7 +36,7 @@ constant_is l t n v lt e =
     subst (λ u. Describes l t u (Some n)) same (constant_described l t n lt)
 
 -- one clause an instruction
-pub step_describes : (g : Graph) (l : Lengths) (pc : ℕ) (i : Instruction) (a : AbstractState) (s : State) (ws : Ways) → IsView g → l.record_length ≤ MOST_RECORD_LENGTH → InstructionFits i → s.pc ≡ pos pc → DescribesState l a s → MayCall i s → transfer l pc i a ≡ ok ws → Follows l i a s ws (effect l g i s)
+pub step_describes : (g : Graph) (l : Lengths) (pc : ℕ) (i : Instruction) (a : AbstractState) (s : State) (ws : Ways) → IsView g → AreOfImage l → InstructionFits i → s.pc ≡ pos pc → DescribesState l a s → MayCall i s → transfer l pc i a ≡ ok ws → Follows l i a s ws (effect l g i s)
 unfolding transfer
 step_describes g l pc (Alu w operation d o) a s ws few short fits at described may h =
     let u = bind_ok (known_left operation a d) (λ u. bind (known_operand w a o) (λ b. write_ways (pc + 1) a d (alu_result w operation l u b))) ws h in
@@ -71,10 +70,10 @@ step_describes g l pc (Branch w c left right distance) a s ws few short fits at 
     let y = operand_read l w a s right b.0 described b.1 in
     rw (x.there, y.there) (branch_follows l pc (Branch w c left right distance) w c left right distance a s u.0 b.0 sides.0 ws at described x y sides.1 ways)
 step_describes g l pc (CallHelper number) a s ws few short fits at described may h =
-    helper_call_follows l pc (CallHelper number) g (helper_of number) a s ws few short at described h
+    helper_call_follows l pc (CallHelper number) g (helper_of number) a s ws few short.0 at described h
 step_describes g l pc (CallLocal distance) a s ws few short fits at described may h =
     let ways : call_ways pc distance a ≡ ws = (let e : ok (call_ways pc distance a) ≡ ok ws = h in cc) in
-    call_follows l pc distance a s ws short at described may ways
+    call_follows l pc distance a s ws short.0 at described may ways
 step_describes g l pc Exit a s ws few short fits at described may h =
     exit_follows l a s ws (get_or a.registers 0 Unset) (s.registers 0) described (described.parts.values 0) h
 step_describes g l pc (Load size d base offset) a s ws few short fits at described may h =
@@ -90,13 +89,13 @@ step_describes g l pc (Store size base offset immediate) a s ws few short fits a
     let b = bind_ok (known_register a base) (λ b. behind_store (pc + 1) (store_result l a b offset (size_bytes size) (constant n))) ws h in
     let x = register_read l a s base b.0 described b.1 in
     let below = extended_below immediate fits.1 in
-    rw x.there (store_follows l pc (Store size base offset immediate) b.0 (constant n) offset a s size x.number n ws short fits.0 below at described x.described (constant_described l (top s) n below) b.2)
+    rw x.there (store_follows l pc (Store size base offset immediate) b.0 (constant n) offset a s size x.number n ws short.0 fits.0 below at described x.described (constant_described l (top s) n below) b.2)
 step_describes g l pc (StoreRegister size base offset source) a s ws few short fits at described may h =
     let b = bind_ok (known_register a base) (λ b. bind (known_register a source) (λ v. behind_store (pc + 1) (store_result l a b offset (size_bytes size) v))) ws h in
     let v = bind_ok (known_register a source) (λ v. behind_store (pc + 1) (store_result l a b.0 offset (size_bytes size) v)) ws b.2 in
     let x = register_read l a s base b.0 described b.1 in
     let y = register_read l a s source v.0 described v.1 in
     let below = described_below l (top s) v.0 y.number short (top_below l a s described) (known_twice (register a source) v.0 v.1) y.described in
-    rw (x.there, y.there) (store_follows l pc (StoreRegister size base offset source) b.0 v.0 offset a s size x.number y.number ws short fits below at described x.described y.described v.2)
+    rw (x.there, y.there) (store_follows l pc (StoreRegister size base offset source) b.0 v.0 offset a s size x.number y.number ws short.0 fits below at described x.described y.described v.2)
 step_describes g l pc (Wide d value) a s ws few short fits at described may h =
     put_follows l pc 2 (Wide d value) a s d (ok (constant value)) value ws at described h (λ v e. constant_is l (top s) value v fits e)

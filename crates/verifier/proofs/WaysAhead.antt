@@ -12,7 +12,7 @@ use Rattle.bpf_image.specs.declared.lengths.Lengths.{Lengths}
 use Rattle.bpf_model.specs.declared.cause.Cause.{Cause}
 use Rattle.abstract_values.specs.declared.branch.Sides.{Sides}
 use Rattle.abstract_values.specs.declared.value.AbstractValue.{AbstractValue}
-use Rattle.abstract_values.specs.declared.value.AbstractValue.TheVariants.{Unset, Number, Record, Stack}
+use Rattle.abstract_values.specs.declared.value.AbstractValue.TheVariants.{Unset, Number, Record, Stack, Table}
 use Rattle.abstract_values.specs.Values.{alu_result, negate_result, move_signed_result, swap_result}
 use Rattle.abstract_state.specs.declared.state.AbstractState.{AbstractState}
 use Rattle.abstract_state.specs.States.{with_register, callee_state, state_behind_call}
@@ -58,6 +58,7 @@ returned_leads (Number lo hi) ws h w m =
     subst (λ (x : Ways). IsWay w x) (sym same) m
 returned_leads (Record lo hi) ws h w m = absurd cc
 returned_leads (Stack offset) ws h w m = absurd cc
+returned_leads (Table lo hi) ws h w m = absurd cc
 
 side_leads : (s : AbstractState) (left : Register) (right : Operand) (z : ℤ) (values : Option (AbstractValue × AbstractValue)) (w : ℤ × AbstractState) → IsWay w (side_way s left right z values) → w.0 ≡ z
 side_leads s left right z None w m = absurd m

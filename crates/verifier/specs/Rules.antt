@@ -23,7 +23,7 @@ use Rattle.bpf_model.specs.declared.cause.Cause.{Cause}
 use Rattle.bpf_model.specs.declared.cause.Cause.TheVariants.{UnsetRegister, FrameRegister, HelperArgument, UnknownHelper, ResultNotNumber}
 use Rattle.abstract_values.specs.declared.branch.Sides.{Sides}
 use Rattle.abstract_values.specs.declared.value.AbstractValue.{AbstractValue}
-use Rattle.abstract_values.specs.declared.value.AbstractValue.TheVariants.{Unset, Number, Record, Stack}
+use Rattle.abstract_values.specs.declared.value.AbstractValue.TheVariants.{Unset, Number, Record, Stack, Table}
 use Rattle.abstract_values.specs.Values.{alu_result, negate_result, move_signed_result, swap_result}
 use Rattle.abstract_values.specs.Narrowing.{narrowing}
 use Rattle.abstract_state.specs.declared.state.AbstractState.{AbstractState}
@@ -43,6 +43,7 @@ known_value Unset = Err UnsetRegister
 known_value (Number lo hi) = Ok (Number lo hi)
 known_value (Record lo hi) = Ok (Record lo hi)
 known_value (Stack offset) = Ok (Stack offset)
+known_value (Table lo hi) = Ok (Table lo hi)
 
 abbrev pub known_register : AbstractState → Register → Result AbstractValue Cause
 known_register s r = known_value (register s r)
@@ -120,6 +121,7 @@ is_number Unset = false
 is_number (Number lo hi) = true
 is_number (Record lo hi) = false
 is_number (Stack offset) = false
+is_number (Table lo hi) = false
 
 -- the room that gather is lent, where it is known and allowed
 abbrev pub known_room : AbstractValue → Option ℕ
@@ -127,6 +129,7 @@ known_room Unset = None
 known_room (Number lo hi) = if lo == hi && is_room lo then Some lo else None
 known_room (Record lo hi) = None
 known_room (Stack offset) = None
+known_room (Table lo hi) = None
 
 -- the run goes on after a helper whose answer is at most this number
 abbrev pub way_with_answer : ℕ → AbstractState → (most : ℕ) → Ways
@@ -174,6 +177,7 @@ exit_ways Unset = Err UnsetRegister
 exit_ways (Number lo hi) = Ok []
 exit_ways (Record lo hi) = Err ResultNotNumber
 exit_ways (Stack offset) = Err ResultNotNumber
+exit_ways (Table lo hi) = Err ResultNotNumber
 
 -- the instruction at a pc: the broken rule of the lowest cause, or the ways onward.
 unfoldable pub transfer : Lengths → ℕ → Instruction → AbstractState → Result Ways Cause
