@@ -17,6 +17,10 @@ use std::alloc::{AllocError, Global};
 /// A page in which more vertices have edits than these is rebuilt; another one is copied, and changed in the copy.
 const MOST_CHANGED: usize = 8;
 
+/// The pages of a shard that gets more edits than these are rebuilt, too: as a rule some list gets so many that a copy would
+/// be dropped.
+const MOST_EDITS: usize = 512;
+
 /// A page after the edits of its shard, where it begins at this vertex of it, and what the edits did to the lists up to
 /// its end, where these are the counts of those before it. A page of which few vertices have edits is copied as memory.
 pub(crate) fn edited_page(
@@ -38,7 +42,12 @@ pub(crate) fn edited_page(
         → AreBegun groups.now.edits p rows homes counts
         → AreBegun groups.now.edits p (rows ++ rows_of next.0) (homes ++ homes_of next.0) next.1) }
 {
-    if groups.count_filled(first, first + page.count()) <= MOST_CHANGED {
+    // Few edits are of few vertices, which need no count.
+    let edits = groups.edit_count();
+    if edits <= MOST_CHANGED
+        || edits <= MOST_EDITS
+            && !groups.have_more_filled(first, first + page.count(), MOST_CHANGED)
+    {
         if let Some(next) = copied_page(alloc, page, first, groups, counts, scratch)? {
             return Ok(next);
         }
