@@ -92,7 +92,7 @@ enum { EDGEBPF_SUM = 0, EDGEBPF_MIN = 1, EDGEBPF_MAX = 2 };
 /* A store of a graph of 1 to 1,048,576 vertices, without an edge. VERTEX_COUNT. */
 uint32_t edgebpf_store_new(uint32_t vertices, edgebpf_store *out);
 
-/* Applies a batch of edits in their order, of feed 0 or 1: an edge from each source to the target at its place, which is taken
+/* Applies a batch of edits in their order, of feed 0 to 3: an edge from each source to the target at its place, which is taken
    out where `removes` is not 0. LENGTHS, TOO_MANY_EDITS, VERTEX_RANGE, LOG_FULL, FEED, tested in this order. Where the
    answer is not 0 the store is as it was; after NO_MEMORY the same call may be made again. */
 uint32_t edgebpf_store_apply(edgebpf_store *store, uint8_t feed, const uint32_t *sources, size_t source_count,

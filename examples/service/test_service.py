@@ -74,7 +74,7 @@ class Service(unittest.TestCase):
         chance, client, edges = random.Random(8), Client(self.port), set()
         for _ in range(BATCHES):
             inserts, removes = ([[chance.randrange(VERTICES), chance.randrange(20)] for _ in range(chance.randrange(60))] for _ in range(2))
-            _, told = client.told("POST", "/batches", {"feed": chance.choice("AB"), "inserts": inserts, "removes": removes})
+            _, told = client.told("POST", "/batches", {"feed": chance.choice("ABCD"), "inserts": inserts, "removes": removes})
             later = (edges | set(map(tuple, inserts))) - set(map(tuple, removes))
             self.assertEqual((told["added"], told["removed"]), (len(later - edges), len(edges - later)))
             edges = later
@@ -136,7 +136,7 @@ class Service(unittest.TestCase):
     def test_wrong_requests(self):
         """Each is answered with its error, and the store goes on."""
         for path, body, status in (
-            ("/batches", b"{", 400), ("/batches", [1], 400), ("/batches", {"inserts": [[1]]}, 400), ("/batches", {"feed": "C"}, 400),
+            ("/batches", b"{", 400), ("/batches", [1], 400), ("/batches", {"inserts": [[1]]}, 400), ("/batches", {"feed": "E"}, 400),
             ("/batches", {"inserts": [[0, VERTICES]]}, 422), ("/batches", {"inserts": [[0, "x"]]}, 400), ("/batches", b" " * (5 << 20), 413),
             ("/programs", {"name": "p", "text": "jmp x"}, 422), ("/programs", {"name": "p", "code": "zz"}, 400), ("/programs", {"name": 7}, 400),
             ("/runs", {"program": "none"}, 404), ("/runs", {"program": "target", "frontier": [1, 0]}, 400),

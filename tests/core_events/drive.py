@@ -16,6 +16,7 @@ HERE = os.path.dirname(os.path.abspath(__file__))
 TOP = os.path.dirname(os.path.dirname(HERE))
 BELOW = ["graph_model", "past_model", "migration", "cursors", "store_model", "stream_core"]
 EVENTS = 100_000
+FEEDS = 4
 
 
 class Model:
@@ -31,7 +32,7 @@ class Model:
 
     def submit(self, feed, edits):
         inside = all(s < self.vertex_count and t < self.vertex_count for _, s, t in edits)
-        if feed > 1 or len(self.queue) == 64 or not inside:
+        if feed >= FEEDS or len(self.queue) == 64 or not inside:
             return "refused"
         self.queue.append(edits)
         return "done"
@@ -97,7 +98,7 @@ def random_event(numbers, model):
     """An event as words, most of which can happen."""
     kind = numbers.choices(["submit", "take", "part", "publish", "pin", "lend", "graph"], [20, 18, 30, 18, 15, 40, 0.05])[0]
     if kind == "submit":
-        return [kind, numbers.choice([0, 0, 0, 1, 1, 1, 2]), random_edits(numbers, model.vertex_count)]
+        return [kind, numbers.choice([0, 0, 1, 1, 2, 2, 3, 3, FEEDS]), random_edits(numbers, model.vertex_count)]
     if kind == "part":
         if model.todo and numbers.random() < 0.8:
             return [kind, numbers.choice(sorted(model.todo))]
@@ -132,7 +133,7 @@ def script(numbers, count):
         for _ in range(min(5000, count + worlds - len(lines))):
             event = random_event(numbers, model)
             if slow and event[0] == "take" and numbers.random() < 0.9:
-                event = ["submit", numbers.randrange(2), random_edits(numbers, model.vertex_count)]
+                event = ["submit", numbers.randrange(FEEDS), random_edits(numbers, model.vertex_count)]
             lines.append((event, line_of(event), None))
             if event[0] in ("submit", "take", "part", "publish"):
                 getattr(model, event[0])(*event[1:])

@@ -19,7 +19,7 @@ def programs(more, random):
 def batches(more, random):
     lines = ["graph 3"]
     for _ in range(4096 + more):
-        lines += [f"batch {random.choice('AB')}", *random.choice([[], [], ["+ 0 1"], ["- 0 1"]]), "end"]
+        lines += [f"batch {random.choice('ABCD')}", *random.choice([[], [], ["+ 0 1"], ["- 0 1"]]), "end"]
     return [*lines, "home 0"]
 
 

@@ -9,6 +9,7 @@ from bpf import BITS_64, Graph, run
 from verifier import Refused, judged
 
 LONG_LINE, WORDS, ORDER, RANGE, NAME, ARGUMENT, FRONTIER, TOO_MANY, LOG_FULL, OPEN_BLOCK = range(1, 11)
+FEEDS = ("A", "B", "C", "D")
 REDUCTIONS = {
     "min": lambda numbers: min(numbers, default=BITS_64),
     "max": lambda numbers: max(numbers, default=0),
@@ -45,7 +46,7 @@ def is_command(command, words):
     if command == "graph":
         return len(words) == 1 and are_numbers(words)
     if command == "batch":
-        return words in (["A"], ["B"])
+        return len(words) == 1 and words[0] in FEEDS
     if command == "pin":
         return len(words) == 1 and are_names(words)
     if command == "home":

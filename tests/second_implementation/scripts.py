@@ -7,7 +7,7 @@ from programs import Programs
 from script import home_after
 from verifier import Refused, judged
 
-ODD_COMMANDS = ["list t a -", "list t a", "list t a - 0", "list n1 n2 zz", "home", "home x", "home 99", "home 0 1", "batch C", "end", "graph 4", "foo"]
+ODD_COMMANDS = ["list t a -", "list t a", "list t a - 0", "list n1 n2 zz", "home", "home x", "home 99", "home 0 1", "batch E", "end", "graph 4", "foo"]
 ODD_COMMANDS += ["batch", "pin", "pin a b", "code a 16", "run a", "pin a.b", "home 18446744073709551616", "  # a comment", "\t", "#end", "batch  B x"]
 ODD_COMMANDS += ["\x7f", "a\r", "pin " + "x" * 33, "program p 15", "program p 257", "code p 16 0", "code p 16 -", "code p 16 95", "run n1 n2 avg -"]
 ODD_EDITS = ["- 0", "-0 0", "", "# c", "+ 0", "+ 0 0 0", "end x", "+ 0 99999999999999999999", "+ 00 000", "+ -1 0"]
@@ -101,7 +101,7 @@ class Writer:
         lines = [f"{sign} {source} {target}" for sign, source, target in edits]
         if self.often(0.01):
             lines.insert(self.random.randrange(len(lines) + 1), self.choice(ODD_EDITS))
-        return [f"batch {self.choice('AB')}", *lines, "end"]
+        return [f"batch {self.choice('ABCD')}", *lines, "end"]
 
     def burst(self):
         """A batch by which some list has so many targets; some of its edges may come and go within it."""

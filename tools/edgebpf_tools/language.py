@@ -4,11 +4,12 @@ from dataclasses import dataclass, field
 
 MOST_VERTICES, MOST_EDITS, MOST_BATCHES, MOST_NAMES = 1_048_576, 65_536, 4_096, 256
 MOST_BYTES, MOST_PROGRAM_LINES = 70_000, 65_536
+FEEDS = ("A", "B", "C", "D")
 NAME = re.compile(r"[A-Za-z0-9_-]{1,32}")
 HEX = re.compile(r"-|([0-9a-fA-F]{2})+")
 FORMS = {
     "graph": "graph N: makes the graph of N vertices, 1 to 1,048,576",
-    "batch": "batch A, or batch B: begins a batch; + U V and - U V are its edits, end publishes it",
+    "batch": "batch A, or B, C or D: begins a batch of that feed; + U V and - U V are its edits, end publishes it",
     "code": "code NAME LENGTH HEX: verifies a program with records of LENGTH bytes, 16 to 256, and keeps it",
     "program": "program NAME LENGTH: begins a program in assembler text; end verifies it",
     "pin": "pin NAME: names the last version",
@@ -127,8 +128,8 @@ class Language:
         number(words, 1, "the number of vertices", 1, MOST_VERTICES)
 
     def _check_batch(self, words):
-        if words[1] not in ("A", "B"):
-            raise Complaint("a feed is A or B", 1)
+        if words[1] not in FEEDS:
+            raise Complaint("a feed is A, B, C or D", 1)
 
     def _check_program(self, words):
         name(words, 1)

@@ -39,7 +39,7 @@ class EdgebpfShell(unittest.TestCase):
             ("grpah 4", "^^^^^ no command has this name"),
             ("pin a", "    ^ a pin has this name"),
             ("pin a+", "    ^^ a name is 1 to 32"),
-            ("batch C", "      ^ a feed is A or B"),
+            ("batch E", "      ^ a feed is A, B, C or D"),
             ("code p 15 00", "       ^^ the length of a record is 16 to 256"),
             ("code p 16 0", "          ^ bytes are pairs"),
             ("run t a sum 00", "            ^^ this program's argument has 0 bytes"),

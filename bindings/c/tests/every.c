@@ -131,7 +131,7 @@ static void refuses_batches(void) {
     CHECK(edgebpf_store_apply(&store, 0, many, COUNT(many), many, COUNT(many), marks, COUNT(many), &change) == EDGEBPF_TOO_MANY_EDITS);
     CHECK(edgebpf_store_apply(&store, 0, &inside, 1, &outside, 1, &mark, 1, &change) == EDGEBPF_VERTEX_RANGE);
     CHECK(edgebpf_store_apply(&store, 0, &outside, 1, &inside, 1, &mark, 1, &change) == EDGEBPF_VERTEX_RANGE);
-    CHECK(edgebpf_store_apply(&store, 2, &inside, 1, &inside, 1, &mark, 1, &change) == EDGEBPF_FEED);
+    CHECK(edgebpf_store_apply(&store, 4, &inside, 1, &inside, 1, &mark, 1, &change) == EDGEBPF_FEED);
     CHECK(change.added == 9 && change.removed == 9 && change.number == 9);
     CHECK(edgebpf_store_pin(&store, &now) == EDGEBPF_DONE && edgebpf_version_info(&now, &info) == EDGEBPF_DONE);
     CHECK(info.number == 2 && info.edges == 5);

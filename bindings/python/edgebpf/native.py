@@ -7,10 +7,9 @@ import numpy as np
 from edgebpf import library
 from edgebpf.errors import ArgumentLength, Closed, TooManyEdits, VertexRange
 from edgebpf.programs import EDGE_BYTES, Program
-from edgebpf.store import MOST_EDITS, MOST_VERTICES, Counts, Result, vertices_of
+from edgebpf.store import FEEDS, MOST_EDITS, MOST_VERTICES, Counts, Result, vertices_of
 
 NUMBERS = {"sum": 0, "min": 1, "max": 2}
-FEEDS = {"A": 0, "B": 1}
 LEAST_ROOM = 64
 making = threading.Lock()
 
@@ -61,13 +60,13 @@ class Store:
         return self._handle
 
     def batch(self, feed="A", inserts=((), ()), removes=((), ())):
-        """Applies one batch by feed "A" or "B", and returns its `Counts`.
+        """Applies one batch by feed "A", "B", "C" or "D", and returns its `Counts`.
 
         inserts, removes: pairs of arrays (sources, targets), each of whole numbers below `vertices`. Insertions are applied
         before removals. Raises `TooManyEdits`, `VertexRange`, `LogFull` and `NoMemory`; then the store is as it was.
         """
         if feed not in FEEDS:
-            raise ValueError("a feed is A or B")
+            raise ValueError("a feed is A, B, C or D")
         handle, change = self._open(), library.Change()
         new, old = edges_of(inserts, self.vertices), edges_of(removes, self.vertices)
         sources, targets = words_of((new[0], old[0])), words_of((new[1], old[1]))
@@ -76,7 +75,7 @@ class Store:
         marks = np.repeat(np.array([0, 1], np.uint8), [len(new[0]), len(old[0])])
         arrays = *library.array(sources), *library.array(targets), *library.array(marks)
         with handle.lock:
-            library.check(library.load()["store_apply"](handle.at, FEEDS[feed], *arrays, ctypes.addressof(change)))
+            library.check(library.load()["store_apply"](handle.at, FEEDS.index(feed), *arrays, ctypes.addressof(change)))
         return Counts(change.number, change.added, change.removed)
 
     def pin(self):

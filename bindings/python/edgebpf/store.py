@@ -14,6 +14,7 @@ MOST_VERTICES = 1 << 20
 MOST_EDITS = 65_536
 MOST_BATCHES = 4_096
 MOST_NAMES = 256
+FEEDS = ("A", "B", "C", "D")
 # A line of a script has at most 70,000 bytes; the vertices of a run get what its other words leave.
 FRONTIER_BYTES = 68_000
 REDUCTIONS = {"sum": (0, np.add), "min": (2**64 - 1, np.minimum), "max": (0, np.maximum)}
@@ -119,13 +120,13 @@ class Store:
         process.ask(f"graph {vertices}\n".encode())
 
     def batch(self, feed="A", inserts=((), ()), removes=((), ())):
-        """Publishes one batch by feed "A" or "B", and returns its `Counts`.
+        """Publishes one batch by feed "A", "B", "C" or "D", and returns its `Counts`.
 
         inserts, removes: pairs of arrays (sources, targets), each of whole numbers below `vertices`. Insertions are applied
         before removals. Raises `TooManyEdits`, `VertexRange` and `LogFull`; then nothing was published.
         """
-        if feed not in ("A", "B"):
-            raise ValueError("a feed is A or B")
+        if feed not in FEEDS:
+            raise ValueError("a feed is A, B, C or D")
         lines = edit_lines("+", inserts, self.vertices) + edit_lines("-", removes, self.vertices)
         if len(lines) > MOST_EDITS:
             raise TooManyEdits(f"{len(lines)} edits; a batch has at most {MOST_EDITS}")

@@ -73,7 +73,7 @@ class Package(unittest.TestCase):
         target = edgebpf.assemble(TARGET)
         for number in range(1, BATCHES + 1):
             inserts, removes = ([(chance.randrange(count), chance.randrange(30)) for _ in range(chance.randrange(90))] for _ in range(2))
-            counts = store.batch(chance.choice("AB"), zip_ends(inserts), zip_ends(removes))
+            counts = store.batch(chance.choice("ABCD"), zip_ends(inserts), zip_ends(removes))
             later = (edges | set(inserts)) - set(removes)
             self.assertEqual(counts, edgebpf.Counts(number, len(later - edges), len(edges - later)))
             edges = later
@@ -167,7 +167,7 @@ class Package(unittest.TestCase):
         with self.assertRaises(edgebpf.TooManyEdits):
             store.batch("A", (np.zeros(65_537, int), np.zeros(65_537, int)))
         with self.assertRaises(ValueError):
-            store.batch("C", ([0], [1]))
+            store.batch("E", ([0], [1]))
         self.assertEqual(store.batch("B", (np.zeros(65_536, np.uint8), np.zeros(65_536, np.int64))), edgebpf.Counts(1, 1, 0))
         version = store.pin()
         for frontier in ([1, 0], [0, 0]):

@@ -7,6 +7,10 @@ pub enum Feed {
     A,
     /// Feed B.
     B,
+    /// Feed C.
+    C,
+    /// Feed D.
+    D,
 }
 
 impl Feed {
@@ -14,6 +18,8 @@ impl Feed {
         match self {
             Feed::A => 0,
             Feed::B => 1,
+            Feed::C => 2,
+            Feed::D => 3,
         }
     }
 }

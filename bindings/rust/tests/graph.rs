@@ -167,7 +167,7 @@ fn random_batches_agree_with_sets() {
                     set.insert(edge);
                 }
             }
-            let feed = if chance.below(2) == 0 { Feed::A } else { Feed::B };
+            let feed = [Feed::A, Feed::B, Feed::C, Feed::D][chance.below(4) as usize];
             let made = store.apply(feed, &batch).unwrap();
             assert_eq!(made.number, number);
             assert_eq!(

@@ -1,6 +1,6 @@
 //! Rows of events and replies, by hand: a letter for each.
 use crate::edits::batch_of;
-use past_model::{Edit, MOST_EDITS, MOST_VERTICES};
+use past_model::{Edit, FEEDS, MOST_EDITS, MOST_VERTICES};
 use std::alloc::{AllocError, Global};
 use std::test::Fail;
 use stream_core::{Event, Reply, World, run, step};
@@ -31,16 +31,17 @@ const fn pin(reader: u8, vertex: u32) -> Event {
     Event::Pin { reader, vertex }
 }
 
-// The event of a letter: `s`, `w` and `m` submit, `m` the most edits, `f` by a feed that there is not, `v` and `u` edges of a vertex that there is not; `t`
+// The event of a letter: `s`, `w` and `m` submit, `m` the most edits, `l` by the last feed, `f` by a feed that there is not, `v` and `u` edges of a vertex that there is not; `t`
 // takes, a digit is a part, `p` publishes; capital letters pin, and small ones of the same lend.
 fn event_of(alloc: Global, letter: char) -> Result<Event, AllocError> {
     match letter {
         's' => submission(alloc, 0, &[Edit::Insert(0, 1)]),
         'w' => submission(alloc, 1, &TWO_RANGES),
         'm' => submission(alloc, 0, &most_edits(alloc)?),
-        'f' => submission(alloc, 2, &[Edit::Insert(0, 1)]),
+        'f' => submission(alloc, FEEDS, &[Edit::Insert(0, 1)]),
         'v' => submission(alloc, 0, &[Edit::Insert(300, 0)]),
-        'u' => submission(alloc, 1, &[Edit::Remove(0, 300)]),
+        'u' => submission(alloc, 3, &[Edit::Remove(0, 300)]),
+        'l' => submission(alloc, 3, &[Edit::Insert(0, 2)]),
         't' => Ok(Event::Take),
         '0' => Ok(Event::Part { range: 0 }),
         '1' => Ok(Event::Part { range: 1 }),
@@ -99,12 +100,13 @@ fn from_greatest(alloc: Global, letters: &str) -> Result<String, AllocError> {
 }
 
 // A reader pins before a batch is published, and again after it; where nothing has happened only the last of the next
-// events can; what cannot be submitted; parts in either order, each of them tried once more or too early; and 65 batches, of
+// events can; what cannot be submitted; a batch by the last feed; parts in either order, each of them tried once more or too early; and 65 batches, of
 // which the last has no room.
-const ROWS: [(&str, &str); 6] = [
+const ROWS: [(&str, &str); 7] = [
     ("stA0paAaa", "ddddded1e"),
     ("t0pacCDB", "rrrrrrrd"),
     ("fvu", "rrr"),
+    ("lt0pAa", "ddddd2"),
     ("wttp002p1pBbbb", "ddrrdrrrddd5ee"),
     ("wttp112p0pBbbb", "ddrrdrrrddd5ee"),
     (

@@ -16,7 +16,7 @@ use store::{
 /// Whoever opens one has to close it.
 pub struct Shop {
     pub publisher: Publisher,
-    pub feeds: [Feed; 2],
+    pub feeds: Vec<Feed>,
     pub reader: Reader,
 }
 
@@ -29,7 +29,7 @@ impl Model for Shop {
 
     ghost view = { λ s. s.publisher };
 
-    ghost invariant = { λ s. AreFeedsOf s.publisher s.feeds × OneStore s.publisher.moment s.reader };
+    ghost invariant = { λ s. AreFeedsOf s.publisher s.feeds.items × OneStore s.publisher.moment s.reader };
 }
 
 impl Shop {

@@ -16,7 +16,7 @@ pub const VERTEX_RANGE: u32 = 5;
 pub const TOO_MANY_EDITS: u32 = 6;
 /// 4,096 batches were applied, and there is room for no more.
 pub const LOG_FULL: u32 = 7;
-/// There is no such feed: they are 0 and 1.
+/// There is no such feed: they are 0 to 3.
 pub const FEED: u32 = 8;
 /// Arrays whose lengths do not fit together, or one with too little room.
 pub const LENGTHS: u32 = 9;

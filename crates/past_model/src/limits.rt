@@ -10,8 +10,8 @@ pub const RANGE_VERTICES: u32 = 256;
 /// How many ranges a graph may have: its vertices' numbers divided by those of a range.
 pub const MOST_RANGES: u32 = 4_096;
 
-/// How many feeds hand in batches: A is 0, B is 1.
-pub const FEEDS: u8 = 2;
+/// How many feeds hand in batches: A is 0, and D is 3.
+pub const FEEDS: u8 = 4;
 
 /// How many edits a batch may have.
 pub const MOST_EDITS: usize = 65_536;

@@ -87,7 +87,12 @@ fn put_changes(text: &mut Vec<u8>, added: u64, removed: u64) -> Result<(), Alloc
 fn feed_letter(feed: u8) -> &'static [u8]
     ensures { result.now ≡ feed_text feed }
 {
-    if feed == 0 { b"A" } else { b"B" }
+    match feed {
+        0 => b"A",
+        1 => b"B",
+        2 => b"C",
+        _ => b"D",
+    }
 }
 
 /// The line of a batch that was published.

@@ -44,9 +44,16 @@ abbrev pub graph_statement : List (List ℕ) → Option Statement
 graph_statement (n ∷ []) = option_then (number n) (λ vertices. Some (Asks (MakeGraph vertices)))
 graph_statement _ = None
 
+-- the feed of a letter
+abbrev pub feed_of : List ℕ → Option ℕ
+feed_of letter =
+    if same_bytes letter (codes "A") then Some 0
+    else (if same_bytes letter (codes "B") then Some 1
+    else (if same_bytes letter (codes "C") then Some 2
+    else (if same_bytes letter (codes "D") then Some 3 else None)))
+
 abbrev pub batch_statement : List (List ℕ) → Option Statement
-batch_statement (feed ∷ []) =
-    if same_bytes feed (codes "A") then Some (BeginBatch 0) else (if same_bytes feed (codes "B") then Some (BeginBatch 1) else None)
+batch_statement (letter ∷ []) = option_map BeginBatch (feed_of letter)
 batch_statement _ = None
 
 abbrev pub code_statement : List (List ℕ) → Option Statement

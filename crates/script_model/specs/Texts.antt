@@ -70,7 +70,10 @@ graph_text n = codes "graph " ++ decimal n ++ newline
 
 -- the letter of a feed
 abbrev pub feed_text : ℕ → List ℕ
-feed_text feed = if feed == 0 then codes "A" else codes "B"
+feed_text feed =
+    if feed == 0 then codes "A"
+    else (if feed == 1 then codes "B"
+    else (if feed == 2 then codes "C" else codes "D"))
 
 abbrev pub batch_text : ℕ → ℕ → ℕ → ℕ → List ℕ
 batch_text feed number added removed =

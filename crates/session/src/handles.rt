@@ -31,7 +31,7 @@ impl Model for Handles {
 
     ghost view = { λ h. record { past = h.ends.publisher.moment.past; held = h.ends.publisher.held } };
 
-    ghost invariant = { λ h. AreHandles h.vertex_count h.number h.ends.publisher h.ends.feeds h.ends.reader };
+    ghost invariant = { λ h. AreHandles h.vertex_count h.number h.ends.publisher h.ends.feeds.items h.ends.reader };
 }
 
 impl Handles {

@@ -1,5 +1,5 @@
 -- What the passes of the queue know.
-use Rattle.std.specs.Prelude.{ℕ, true, false, List, []}
+use Rattle.std.specs.Prelude.{ℕ, true, false, List, [], ◌∷◌, ◌++◌}
 use Rattle.past_model.specs.declared.entry.Entry.{Entry}
 use Rattle.store.specs.declared.queue.queue_view.QueueView.{QueueView}
 
@@ -23,3 +23,7 @@ taker n taken made ended = record spent_view { vertex_count = n; takes = true; t
 -- a feed's pass: what it put
 abbrev pub feeder : ℕ → ℕ → List Entry → QueueView
 feeder n feed sent = record spent_view { vertex_count = n; feeds = true; feed = feed; sent = sent }
+
+-- the pass that takes, once it has taken in what the next feed put
+abbrev pub after_end : QueueView → List Entry → QueueView
+after_end v sent = taker v.vertex_count v.taken v.made (v.ended ++ sent ∷ [])

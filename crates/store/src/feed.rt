@@ -12,7 +12,7 @@ use past_model::{Batch, MOST_EDITS};
 use std::marker::Model;
 use std::sync::Wait;
 
-/// One of the two sources of batches. Contracts see it as a `Feeding`.
+/// One of the four sources of batches. Contracts see it as a `Feeding`.
 pub struct Feed {
     vertex_count: u32,
     sender: Sender,

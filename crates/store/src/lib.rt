@@ -1,4 +1,4 @@
-//! A store over threads: two feeds submit batches, a publisher makes one version after another of them, and readers
+//! A store over threads: four feeds submit batches, a publisher makes one version after another of them, and readers
 //! pin versions.
 #![tactic(auto)]
 

@@ -122,11 +122,11 @@ impl Publisher {
 
     /// Ends the store, once its feeds are handed in, from A on. It takes no memory. Readers are told from then on
     /// that the store is closed.
-    pub fn finish<R: Wait>(self, feeds: [Feed; 2], rt: &R) -> Finished
-        requires { AreFeedsOf self feeds }
+    pub fn finish<R: Wait>(self, feeds: Vec<Feed>, rt: &R) -> Finished
+        requires { AreFeedsOf self feeds.items }
         ensures last { arc_value result.last ≡ self.moment.past }
         ensures held { result.held ≡ self.held }
-        ensures delivered { AreDelivered (taken_of self ++ result.left.items) feeds }
+        ensures delivered { AreDelivered (taken_of self ++ result.left.items) feeds.items }
         ensures few { length result.left.items ≤ QUEUE_PLACES }
     {
         let Publisher {
@@ -134,11 +134,7 @@ impl Publisher {
             held,
             receiver,
         } = self;
-        let mut each = feeds.into_iter();
-        let (Some(first), Some(second)) = (each.next(), each.next()) else {
-            unreachable!()
-        };
-        let left = receiver.finish(first.into_sender(), second.into_sender(), rt);
+        let left = receiver.finish(feeds, rt);
         Finished {
             last: committer.close(rt),
             held: held.map(Held::into_entry),

@@ -24,8 +24,8 @@ pub struct Store;
 pub struct Ends {
     /// The end at which versions are made.
     pub publisher: Publisher,
-    /// The ends at which batches are submitted, from feed A on, which is feed 0.
-    pub feeds: [Feed; 2],
+    /// The ends at which batches are submitted, one of each feed from A on, which is feed 0.
+    pub feeds: Vec<Feed>,
     /// An end at which versions are pinned, from which the others come.
     pub reader: Reader,
 }
@@ -34,7 +34,7 @@ impl Store {
     /// A store of a graph without an edge, which may have 1 to 1,048,576 vertices: its publisher, its feeds and a reader.
     /// It has all the memory that feeds and readers need.
     pub fn new<R: Wait>(vertex_count: u32, rt: &R, alloc: Global) -> Result<Ends, StoreError>
-        ensures opened { IfOk result (λ ends. IsOpened vertex_count ends.publisher ends.feeds ends.reader) }
+        ensures opened { IfOk result (λ ends. IsOpened vertex_count ends.publisher ends.feeds.items ends.reader) }
         ensures refused { IsErrOf result StoreError.VertexCount
             ↔ ((vertex_count ≡ 0) ⊎ (MOST_VERTICES < vertex_count)) }
     {

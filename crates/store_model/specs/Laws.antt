@@ -19,7 +19,7 @@ EveryRunIsRight =
     (n reader : ℕ) (events : List Event) (replies : List Reply) (s : Core) (run : Run)
     → Ran (opening_core n) events replies s → run_of s reader ≡ Some run → IsRight run
 
--- the log, the held batch and the queue are the accepted batches: of both feeds, and of each
+-- the log, the held batch and the queue are the accepted batches: of all feeds, and of each
 abbrev pub NothingLost : Type 0
 NothingLost =
     (n : ℕ) (events : List Event) (replies : List Reply) (s : Core) → Ran (opening_core n) events replies s

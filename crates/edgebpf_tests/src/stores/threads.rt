@@ -1,11 +1,12 @@
-//! Two feeds, the publisher and a reader, each in a thread of its own.
-ghost use Rattle.std.specs.Prelude.{◌≡◌, IfOk};
+//! All feeds, the publisher and a reader, each in a thread of its own.
+ghost use Rattle.std.specs.Prelude.{◌≡◌, IfOk, map};
 ghost use Rattle.past_model.specs.Edits.{AreEditsBelow};
 ghost use Rattle.history.specs.Moment.{OneStore};
-ghost use Rattle.store.specs.Ends.{IsFeedOf};
+ghost use Rattle.store.specs.Ends.{IsFeedOf, as_new};
 
 use crate::edits::batch_of;
 use crate::shop::Shop;
+use past_model::FEEDS;
 use std::alloc::Global;
 use std::sync::Wait;
 use std::test::Fail;
@@ -14,7 +15,10 @@ use std::thread::{Threads, join_mut};
 use store::{Batch, Edit, Feed, OpenGate, Publisher, Reader, SubmitCause, Workers};
 
 // How many batches each feed submits.
-const EACH: u32 = 200;
+const EACH: u32 = 100;
+
+// How many batches all feeds submit.
+const ALL: u64 = EACH as u64 * FEEDS as u64;
 
 // The batch of a number. Where there is no memory for it, it is empty.
 fn numbered(alloc: Global, number: u32) -> Batch {
@@ -44,17 +48,13 @@ fn submit<R: Wait>(rt: &R, feed: &mut Feed, batch: Batch) -> Option<SubmitCause>
     unreachable!()
 }
 
-// Submits a batch of each number. How many were refused for another cause than want of room.
-fn submit_all<R: Wait>(rt: &R, alloc: Global, feed: &mut Feed) -> u32
+// Submits a batch of each number. One that is refused for another cause than want of room is submitted by nobody.
+fn submit_all<R: Wait>(rt: &R, alloc: Global, feed: &mut Feed)
     ensures { IsFeedOf feed.old.vertex_count feed.old.queue feed.old.feed feed.new }
 {
-    let mut refused = 0u32;
     'numbers: for number in 0..EACH {
-        if submit(rt, feed, numbered(alloc, number)).is_some() {
-            refused = refused.saturating_add(1);
-        }
+        submit(rt, feed, numbered(alloc, number));
     }
-    refused
 }
 
 // The number of a batch.
@@ -84,18 +84,18 @@ fn step_all<R: Threads + Wait>(rt: &R, publisher: &mut Publisher, count: u64) ->
     ensures queue { publisher.new.queue ≡ publisher.old.queue }
     ensures store { OneStore publisher.old.moment publisher.new.moment }
 {
-    let mut next = [0u32, 0];
+    let mut next = [0u32; FEEDS as usize];
     let mut in_order = true;
     'steps: for _ in rt.forever() {
         let Some((version, feed, number)) = step_once(rt, publisher) else {
             thread::yield_now();
             continue;
         };
-        let feed = usize::from(feed.min(1));
+        let feed = usize::from(feed.min(FEEDS - 1));
         in_order = in_order && number == Some(next[feed]);
         next[feed] = next[feed].saturating_add(1);
         if version >= count {
-            return in_order && next == [EACH, EACH];
+            return in_order && next == [EACH; FEEDS as usize];
         }
     }
     unreachable!()
@@ -119,21 +119,16 @@ fn read_all<R: Wait>(rt: &R, reader: &mut Reader, count: u64) -> bool {
     unreachable!()
 }
 
-// How many batches of both feeds were refused.
-fn submit_both<R: Threads + Wait + Sync>(
-    rt: &R,
-    alloc: Global,
-    first: &mut Feed,
-    second: &mut Feed,
-) -> (u32, u32)
-    ensures first { IsFeedOf first.old.vertex_count first.old.queue first.old.feed first.new }
-    ensures second { IsFeedOf second.old.vertex_count second.old.queue second.old.feed second.new }
+// Submits batches by each feed, in a thread of its own.
+fn submit_by_each<R: Threads + Wait + Sync>(rt: &R, alloc: Global, feeds: &mut [Feed])
+    ensures { map as_new feeds.new ≡ map as_new feeds.old }
 {
-    join_mut(
+    thread::for_each_mut(
         rt,
-        &mut || submit_all(rt, alloc, first),
-        &mut || submit_all(rt, alloc, second),
-    )
+        feeds,
+        usize::from(FEEDS),
+        &|_, feed: &mut Feed| { submit_all(rt, alloc, feed) },
+    );
 }
 
 // Whether batches were published in order, and read in order.
@@ -154,24 +149,19 @@ fn step_and_read<R: Threads + Wait + Sync>(
 }
 
 #[test]
-fn four_threads_share_a_store(rt: HostRuntime) -> Result<(), Fail> {
+fn six_threads_share_a_store(rt: HostRuntime) -> Result<(), Fail> {
     let alloc = rt.alloc();
     let Shop {
         mut publisher,
-        feeds,
+        mut feeds,
         mut reader,
     } = Shop::open(&rt, alloc, EACH)?;
-    let mut each = feeds.into_iter();
-    let (Some(mut first), Some(mut second)) = (each.next(), each.next()) else {
-        unreachable!()
-    };
-    let (submitted, published) = join_mut(
+    let ((), published) = join_mut(
         &rt,
-        &mut || submit_both(&rt, alloc, &mut first, &mut second),
-        &mut || step_and_read(&rt, &mut publisher, &mut reader, u64::from(2 * EACH)),
+        &mut || submit_by_each(&rt, alloc, &mut feeds),
+        &mut || step_and_read(&rt, &mut publisher, &mut reader, ALL),
     );
-    let finished = publisher.finish([first, second], &rt);
-    assert_eq!(rt; submitted, (0, 0));
+    let finished = publisher.finish(feeds, &rt);
     assert_eq!(rt; published, (true, true));
     assert!(rt; finished.held.is_none());
     assert!(rt; finished.left.is_empty());

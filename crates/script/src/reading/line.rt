@@ -20,7 +20,7 @@ pub(crate) enum Statement<'a> {
     Graph {
         vertices: u64,
     },
-    /// A batch of edits begins, of a feed (0 for A, 1 for B).
+    /// A batch of edits begins, of a feed (0 for A, 3 for D).
     Batch {
         feed: u8,
     },

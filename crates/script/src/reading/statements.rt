@@ -2,7 +2,7 @@
 
 ghost use Rattle.std.specs.Prelude.{◌≡◌, List, [], ◌∷◌, Option, Some, None, option_map, IfOk, MatchOption};
 ghost use Rattle.script_model.specs.Lexing.{words};
-ghost use Rattle.script_model.specs.Parsing.{BeginBatch, graph_statement, batch_statement, code_statement, program_statement, pin_statement, run_statement, home_statement, list_statement, reduction_of as reduction_word, statement as statement_of};
+ghost use Rattle.script_model.specs.Parsing.{feed_of as feed_of_word, graph_statement, batch_statement, code_statement, program_statement, pin_statement, run_statement, home_statement, list_statement, reduction_of as reduction_word, statement as statement_of};
 ghost use Rattle.script_model.specs.Execution.{is_comment as is_comment_word};
 ghost use Rattle.script.specs.Said.{said_statement, cut_statement, saying_of, said_line, cut_saying};
 ghost use Rattle.script.specs.Reading.{load_of, run_of, list_of};
@@ -51,15 +51,21 @@ fn graph(operands: &[u8]) -> Option<Statement<'_>>
     Some(Statement::Graph { vertices })
 }
 
-/// The number of a feed.
+/// The number of the feed that a word names.
 fn feed_of(word: &[u8]) -> Option<u8>
-    ensures { option_map BeginBatch result ≡ batch_statement (word.now ∷ []) }
+    ensures { result ≡ feed_of_word word.now }
 {
     if is_word(word, "A") {
         return Some(0);
     }
     if is_word(word, "B") {
         return Some(1);
+    }
+    if is_word(word, "C") {
+        return Some(2);
+    }
+    if is_word(word, "D") {
+        return Some(3);
     }
     None
 }

@@ -82,10 +82,9 @@ impl Split<QueueView> for NewFeed {
 pub(crate) struct EndFeed;
 
 impl Join<QueueView> for EndFeed {
-    ghost use Rattle.std.specs.Prelude.{[], ◌∷◌, ◌++◌};
-    ghost use Rattle.store.specs.QueueViews.{taker, spent_view};
+    ghost use Rattle.store.specs.QueueViews.{after_end, spent_view};
 
-    ghost both = { λ v w. taker v.vertex_count v.taken v.made (v.ended ++ w.sent ∷ []) };
+    ghost both = { λ v w. after_end v w.sent };
 
     ghost spent = { spent_view };
 }

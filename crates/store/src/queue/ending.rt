@@ -1,13 +1,14 @@
 //! The end of a queue.
-ghost use Rattle.std.specs.Prelude.{◌≡◌, ℕ, ◌≤◌, ◌++◌, [], length, vec_capacity};
+ghost use Rattle.std.specs.Prelude.{◌≡◌, true, ◌≤◌, ◌++◌, [], length, map, vec_capacity};
 ghost use Rattle.crossbeam_queue.specs.Passes.{view as queue_view_of, IsPassOf};
 ghost use Rattle.past_model.specs.declared.limits.TheConstants.{FEEDS};
 ghost use Rattle.store_model.specs.declared.limits.TheConstants.{QUEUE_PLACES};
-ghost use Rattle.past_model.specs.Past.{of_feed};
-ghost use Rattle.store.specs.Ends.{IsFeedOf};
-ghost use Rattle.store.specs.QueueViews.{taker};
+ghost use Rattle.store.specs.Ends.{as_new, new_feeds};
+ghost use Rattle.store.specs.Feeds.{AreDelivered};
+ghost use Rattle.store.specs.QueueViews.{taker, after_end};
 ghost use Rattle.store.specs.QueueRule.{Left};
 
+use crate::feed::Feed;
 use crate::queue::delivery::{EndFeed, Queue, Seat, Take};
 use crate::queue::receiver::Receiver;
 use crate::queue::sender::Sender;
@@ -15,13 +16,11 @@ use past_model::Entry;
 use std::sync::Wait;
 
 impl Receiver {
-    /// Ends the queue, after which nobody puts or takes: the batches that waited, in order. It takes no memory.
-    pub(crate) fn finish<R: Wait>(self, first: Sender, second: Sender, rt: &R) -> Vec<Entry>
-        requires first { IsFeedOf self.vertex_count self.queue 0 first }
-        requires second { IsFeedOf self.vertex_count self.queue 1 second }
-        ensures first { of_feed 0 (self.taken ++ result.items) ≡ first.sent }
-        ensures second { of_feed 1 (self.taken ++ result.items) ≡ second.sent }
-        ensures no_other { (feed : ℕ) → FEEDS ≤ feed → of_feed feed (self.taken ++ result.items) ≡ [] }
+    /// Ends the queue, once its feeds are handed in, from A on. Nobody puts or takes from then on. The batches that waited, in
+    /// order. It takes no memory.
+    pub(crate) fn finish<R: Wait>(self, feeds: Vec<Feed>, rt: &R) -> Vec<Entry>
+        requires { map as_new feeds.items ≡ new_feeds self.vertex_count self.queue }
+        ensures delivered { AreDelivered (self.taken ++ result.items) feeds.items }
         ensures few { length result.items ≤ QUEUE_PLACES }
     {
         let Receiver {
@@ -31,24 +30,31 @@ impl Receiver {
             queue,
             mut pass,
         } = self;
-        let Sender {
-            vertex_count: _,
-            feed: _,
-            refused: _,
-            queue: _,
-            pass: first,
-        } = first;
-        let Sender {
-            vertex_count: _,
-            feed: _,
-            refused: _,
-            queue: _,
-            pass: second,
-        } = second;
-        queue.absorb::<EndFeed>(&mut pass, first);
-        queue.absorb::<EndFeed>(&mut pass, second);
+        for feed in feeds {
+            take_in(&queue, &mut pass, feed);
+        }
         all_left(&queue, pass, room, rt)
     }
+}
+
+// The next feed has ended.
+fn take_in(queue: &Queue, pass: &mut Seat, feed: Feed)
+    requires pass { IsPassOf queue.now pass.old }
+    requires takes { (queue_view_of pass.old).takes ≡ true }
+    requires queue { feed.queue ≡ pass.old.table_id }
+    requires next { feed.feed ≡ length (queue_view_of pass.old).ended }
+    ensures pass { IsPassOf queue.now pass.new }
+    ensures same { pass.new.table_id ≡ pass.old.table_id }
+    ensures ended { queue_view_of pass.new ≡ after_end (queue_view_of pass.old) feed.sent }
+{
+    let Sender {
+        vertex_count: _,
+        feed: _,
+        refused: _,
+        queue: _,
+        pass: theirs,
+    } = feed.into_sender();
+    queue.absorb::<EndFeed>(pass, theirs);
 }
 
 // What the queue holds, put after `left`, once the feeds have ended.

@@ -1,6 +1,5 @@
 use Rattle.std.proofs.Common.{ap, refl, inl}
 use Rattle.store.proofs.Beginning.{says, all_begins}
-use Rattle.store.proofs.FeedSeats.{forks}
 use Rattle.store.proofs.queue.opening.open_queue.Goals as goal
 
 pub ruled-requires-clause-rule : goal.ruled-requires-clause-rule
@@ -11,9 +10,3 @@ try_push_as-requires-clause-rule c = says _ _ _ _ (ap (λ v. v.opens) c.in_ok-qu
 
 pub try_pop_as-requires-clause-rule : goal.try_pop_as-requires-clause-rule
 try_pop_as-requires-clause-rule c = all_begins _ _ (ap (λ v. v.waits) c.in-Ok.ensures.rule)
-
-pub another-first-requires-clause-rule : goal.another-first-requires-clause-rule
-another-first-requires-clause-rule c = forks _ _ (ap (λ v. v.takes) c.in-Some.ensures.rule)
-
-pub another-second-requires-clause-rule : goal.another-second-requires-clause-rule
-another-second-requires-clause-rule c = forks _ _ (ap (λ v. v.takes) c.another-first.ensures.rule.0)

@@ -1,38 +1,42 @@
-use Rattle.std.proofs.Common.{◌≡◌, ◌++◌, ◌∷◌, [], sym, ap, ◌∙◌, subst, length, List}
+use Rattle.std.proofs.Common.{◌≡◌, ℕ, List, ◌∷◌, [], ◌++◌, length, map, sym, ap, ◌∙◌, subst, append-nil}
+use Rattle.std.proofs.lemmas.List.{length-map}
 use Rattle.crossbeam_queue.specs.Passes.{view}
 use Rattle.past_model.specs.declared.entry.Entry.{Entry}
-use Rattle.past_model.specs.Past.{of_feed}
+use Rattle.past_model.specs.declared.limits.TheConstants.{FEEDS}
 use Rattle.store.specs.declared.queue.queue_view.QueueView.{QueueView}
-use Rattle.store.specs.Ends.{Taking}
-use Rattle.store.specs.QueueViews.{taker}
+use Rattle.store.specs.Ends.{Feeding, Taking, as_new, new_feeds}
+use Rattle.store.specs.Feeds.{AreDelivered}
 use Rattle.store.specs.QueueRule.{Left}
-use Rattle.store.proofs.FeedSeats.{merges}
+use Rattle.store.specs.QueueViews.{taker}
+use Rattle.store.proofs.FeedLists.{count_feeds, next_feed, are_delivered}
 use Rattle.store.proofs.queue.receiver.Receiver.finish.Goals as goal
 
--- the pass once it has taken in what a feed put
-abbrev more : QueueView → List Entry → QueueView
-more v sent = taker v.vertex_count v.taken v.made (v.ended ++ sent ∷ [])
+pub take_in-requires-clause-queue : goal.take_in-requires-clause-queue
+take_in-requires-clause-queue g c =
+    let before = c.loop-feed.invariant in
+    let rest : List Feeding = c.next.new.self.rest.items in
+    let whole : c.loop-feed.yielded ++ c.in-Some.feed ∷ rest ≡ c.args.feeds.items = ap (λ (l : List Feeding). c.loop-feed.yielded ++ l) (sym c.in-Some.ensures.steps) ∙ before.whole in
+    let next = next_feed c.args.self.vertex_count c.args.self.queue c.loop-feed.yielded rest c.in-Some.feed (ap (map as_new) whole ∙ c.requires) in
+    next.0 ∙ sym (before.same ∙ ap (λ (t : Taking). t.queue) c.self.view_is)
 
-pub absorb-requires-clause-rule : goal.absorb-requires-clause-rule
-absorb-requires-clause-rule g c =
-    let hand = c.self.invariant.1 in
-    let theirs = c.first.invariant.2 in
-    let number : c.first.inside.feed ≡ 0 = cc in
-    merges _ _ _ _ (ap (λ v. v.takes) hand) (ap (λ v. v.feeds) theirs)
-    (ap (λ (v : QueueView). v.feed) theirs ∙ number ∙ sym (ap (λ (v : QueueView). length v.ended) hand))
+pub take_in-requires-clause-next : goal.take_in-requires-clause-next
+take_in-requires-clause-next g c =
+    let before = c.loop-feed.invariant in
+    let rest : List Feeding = c.next.new.self.rest.items in
+    let whole : c.loop-feed.yielded ++ c.in-Some.feed ∷ rest ≡ c.args.feeds.items = ap (λ (l : List Feeding). c.loop-feed.yielded ++ l) (sym c.in-Some.ensures.steps) ∙ before.whole in
+    let next = next_feed c.args.self.vertex_count c.args.self.queue c.loop-feed.yielded rest c.in-Some.feed (ap (map as_new) whole ∙ c.requires) in
+    next.1 ∙ sym (ap (λ (v : QueueView). length v.ended) before.hand ∙ length-map c.loop-feed.yielded (λ (f : Feeding). f.sent))
 
-pub absorb-requires-2-clause-rule : goal.absorb-requires-2-clause-rule
-absorb-requires-2-clause-rule g c =
-    let hand = c.absorb.ensures.rule in
-    let theirs = c.second.invariant.2 in
-    let number : c.second.inside.feed ≡ 1 = cc in
-    let one : length (view c.absorb.new.pass).ended ≡ 1 =
-    ap (λ (v : QueueView). length v.ended) hand ∙ ap (λ (v : QueueView). length (v.ended ++ (view c.first.inside.pass).sent ∷ [])) c.self.invariant.1 in
-    merges _ _ _ _ (ap (λ v. v.takes) hand) (ap (λ v. v.feeds) theirs) (ap (λ (v : QueueView). v.feed) theirs ∙ number ∙ sym one)
-
-pub returns-clause-no_other : goal.returns-clause-no_other
-returns-clause-no_other g c feed le =
-    let first = c.absorb.ensures.rule ∙ ap (λ (v : QueueView). more v (view c.first.inside.pass).sent) c.self.invariant.1 in
-    let second = c.absorb-2.ensures.rule ∙ ap (λ (v : QueueView). more v (view c.second.inside.pass).sent) first in
-    let rest = subst (λ (v : QueueView). Left v c.all_left.result.items) second c.all_left.ensures in
-    ap (λ (t : Taking). of_feed feed (t.taken ++ c.all_left.result.items)) (sym c.self.view_is) ∙ rest.unmade feed le
+pub returns-clause-delivered : goal.returns-clause-delivered
+returns-clause-delivered g c =
+    let before = c.loop-feed.invariant in
+    let n : ℕ = (view c.self.inside.pass).vertex_count in
+    let taken : List Entry = (view c.self.inside.pass).taken in
+    let feeds : List Feeding = c.args.feeds.items in
+    let items : List Entry = c.all_left.result.items in
+    let none : c.loop-feed.feed-iterator.rest.items ≡ [] = cc in
+    let all : c.loop-feed.yielded ≡ feeds = sym (append-nil c.loop-feed.yielded) ∙ ap (λ (l : List Feeding). c.loop-feed.yielded ++ l) (sym none) ∙ before.whole in
+    let hand = before.hand ∙ ap (λ (l : List Feeding). taker n taken FEEDS (map (λ (f : Feeding). f.sent) l)) all in
+    let left : Left (taker n taken FEEDS (map (λ (f : Feeding). f.sent) feeds)) items = subst (λ (v : QueueView). Left v items) hand c.all_left.ensures in
+    let count = count_feeds c.args.self.vertex_count c.args.self.queue feeds c.requires in
+    subst (λ (l : List Entry). AreDelivered (l ++ items) feeds) (ap (λ (t : Taking). t.taken) c.self.view_is) (are_delivered n taken items feeds count left)
