@@ -1,8 +1,8 @@
 -- Numbers that are written to their places.
-use Rattle.std.proofs.Common.{◌≡◌, ℕ, zero, suc, ◌+◌, ◌-◌, ◌<◌, ◌≤◌, List, Some, [], ◌∷◌, ◌++◌, length, take, drop, get_or, refl, length-drop, sym, ap, subst, ◌∙◌, append_assoc, append-nil, lt-ltb, Bool, true, arith}
+use Rattle.std.proofs.Common.{slice_set, ◌≡◌, ℕ, zero, suc, ◌+◌, ◌-◌, ◌<◌, ◌≤◌, List, Some, [], ◌∷◌, ◌++◌, length, take, drop, get_or, refl, length-drop, sym, ap, subst, ◌∙◌, append_assoc, append-nil, lt-ltb, Bool, true, arith}
 use Rattle.std.specs.Prelude.{nat_lt}
 use Rattle.std.specs.List.{filter_map}
-use Rattle.std.proofs.lemmas.List.{take_more, take_all, take_at, length-append, length-take-le}
+use Rattle.std.proofs.lemmas.List.{take_more, take_all, take_at, take-set-le, drop_all, get_or-set_same, length-set, length-append, length-take-le}
 use Rattle.std.proofs.lemmas.List.Elements.{filter_map-append}
 use Rattle.std.proofs.lemmas.Grind.{flat_map-append}
 use Rattle.std.proofs.lemmas.Slice.{take-put_mid}
@@ -81,6 +81,59 @@ pub all_written : (p : Program) (g : Graph) (argument : List ℕ) (source first 
     → IsWritten p g argument source first targets numbers at → length targets ≤ at → numbers ≡ found p g argument source first targets
 all_written p g argument source first targets numbers at done ended =
     sym (take_all at numbers (omega (arith, done.long, ended))) ∙ done.written ∙ ap (found p g argument source first) (take_all at targets ended)
+
+-- the same of a part that reaches to the end of the numbers, by what it held
+pub part_written : (p : Program) (g : Graph) (argument : List ℕ) (source first : ℕ) (targets numbers rest part : List ℕ) (at n : ℕ)
+    → IsWritten p g argument source first targets numbers at → rest ≡ drop at targets → n ≤ length rest
+    → length part ≡ length (take (length numbers - at) (drop at numbers))
+    → part ≡ found p g argument source (first + at) (take n rest) ++ drop n (take (length numbers - at) (drop at numbers))
+    → IsWritten p g argument source first targets (put_mid at (length numbers - at) numbers part) (at + n)
+part_written p g argument source first targets numbers rest part at n done same few long is =
+    let left = length numbers - at in
+    let old = take left (drop at numbers) in
+    let whole = length-drop at numbers in
+    let held : length old ≡ left = omega (arith, length-take-le left (drop at numbers) (omega (arith, whole))) in
+    let size : n ≤ left = omega (arith, few, ap length same, length-drop at targets, done.long) in
+    more_written p g argument source first targets numbers at left n part (drop n old) done (omega (arith, done.long, done.within))
+    (omega (arith, long, held)) size (omega (arith, length-drop n old, held, size))
+    (is ∙ ap (λ xs. found p g argument source (first + at) (take n xs) ++ drop n old) same)
+
+-- all of the rest is written
+pub rest_written : (p : Program) (g : Graph) (argument : List ℕ) (source first : ℕ) (targets numbers rest part : List ℕ) (at : ℕ)
+    → IsWritten p g argument source first targets numbers at → rest ≡ drop at targets
+    → length part ≡ length (take (length numbers - at) (drop at numbers)) → part ≡ found p g argument source (first + at) rest
+    → put_mid at (length numbers - at) numbers part ≡ found p g argument source first targets
+rest_written p g argument source first targets numbers rest part at done same long is =
+    let left = length numbers - at in
+    let old = take left (drop at numbers) in
+    let whole = length-drop at numbers in
+    let held : length old ≡ left = omega (arith, length-take-le left (drop at numbers) (omega (arith, whole))) in
+    let count : length rest ≡ left = omega (arith, ap length same, length-drop at targets, done.long) in
+    let none : drop (length rest) old ≡ [] = drop_all (length rest) old (omega (arith, count, held)) in
+    let parts : part ≡ found p g argument source (first + at) (take (length rest) rest) ++ drop (length rest) old =
+    is ∙ ap (found p g argument source (first + at)) (sym (take_all (length rest) rest (omega arith)))
+    ∙ sym (append-nil (found p g argument source (first + at) (take (length rest) rest)))
+    ∙ ap (λ l. found p g argument source (first + at) (take (length rest) rest) ++ l) (sym none) in
+    all_written p g argument source first targets (put_mid at left numbers part) (at + length rest)
+    (part_written p g argument source first targets numbers rest part at (length rest) done same (omega arith) long parts)
+    (omega (arith, ap length same, length-drop at targets, done.within))
+
+-- one more is written
+pub one_written : (p : Program) (g : Graph) (argument : List ℕ) (source first : ℕ) (targets numbers : List ℕ) (at n : ℕ)
+    → IsWritten p g argument source first targets numbers at → at < length targets
+    → number_for p (longest p) g (edge_record g source (get_or targets at 0) (first + at) argument) ≡ Some n
+    → IsWritten p g argument source first targets (slice_set numbers at n) (at + 1)
+one_written p g argument source first targets numbers at n done inside is =
+    let long = length-set numbers at n in
+    let here : at < length numbers = omega (arith, done.long, inside) in
+    record {
+      within = omega (arith, inside);
+      long = long ∙ done.long;
+      written = take_more (slice_set numbers at n) at 0 (omega (arith, here, long))
+          ∙ ap (λ l. l ++ get_or (slice_set numbers at n) at 0 ∷ []) (take-set-le at numbers at n (omega arith) ∙ done.written)
+          ∙ ap (λ k. found p g argument source first (take at targets) ++ k ∷ []) (get_or-set_same numbers at n 0 here)
+          ∙ sym (found_more p g argument source first targets at (get_or targets at 0) n inside refl is);
+    }
 
 -- the numbers of the edges of the first vertices are written
 pub record AreWritten (p : Program) (g : Graph) (argument numbers : List ℕ) (sources at : ℕ) : Type 0 where

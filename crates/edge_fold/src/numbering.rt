@@ -10,7 +10,7 @@ ghost use Rattle.edge_fold.specs.Numbers.{first_numbers, span_numbers};
 
 use crate::blocks::{Blocks, fill, targets_from};
 use crate::edge::Edge;
-use crate::fold::{LEAST_IN_BLOCK, number_for_edge};
+use crate::fold::{LEAST_IN_BLOCK, run_edge};
 use crate::memory::Memory;
 use crate::span::Span;
 use bpf_blocks::{LANES, sweep_edges};
@@ -56,46 +56,37 @@ fn number_block(
     count
 }
 
-/// Writes the numbers of a span's first edges to the first places: of a block, or of one edge. Returns how many.
-fn number_next(
+/// Writes the numbers of edges in a row, edge by edge. The record is written once, and for each further edge what differs, where
+/// the program never writes to memory.
+fn number_singly(
     version: &Version,
     program: &Verified,
     argument: &[u8],
-    memory: &mut Memory,
+    memory: &mut bpf_runs::Memory,
     span: Span<'_>,
     numbers: &mut [u64],
-) -> usize
+)
     requires argument { length argument.now + EDGE_BYTES ≡ program.now.record_length }
     requires degree { span.degree ≡ degree (graph_of version.now) span.source }
     requires few { span.place + length span.targets.now ≤ MOST_VERTICES }
-    requires some { 0 < length span.targets.now }
     requires long { length numbers.old ≡ length span.targets.now }
-    ensures count { (0 < result) × (result ≤ length span.entry.targets.now) }
-    ensures numbers { numbers.new
-        ≡ first_numbers program.now (graph_of version.now) argument.now span.entry result ++ drop result numbers.old }
+    ensures { numbers.new ≡ span_numbers program.now (graph_of version.now) argument.now span.entry }
 {
-    let count = number_block(
-        version,
-        program,
-        argument,
-        &mut memory.blocks,
-        span,
-        numbers,
-    );
-    if count > 0 {
-        return count;
+    let keeps = !program.writes();
+    let mut is_begun = false;
+    'targets: for at in 0..span.targets.len() {
+        let edge = Edge {
+            source: span.source,
+            target: span.targets[at],
+            place: span.place + at as u32,
+            degree: span.degree,
+        };
+        numbers[at] = run_edge(version, program, argument, memory, edge, is_begun);
+        is_begun = keeps;
     }
-    let edge = Edge {
-        source: span.source,
-        target: span.targets[0],
-        place: span.place,
-        degree: span.degree,
-    };
-    numbers[0] = number_for_edge(version, program, argument, memory, edge);
-    1
 }
 
-/// Writes the numbers of edges in a row.
+/// Writes the numbers of edges in a row: by blocks, as far as these can be run at once and are worth it, and the rest edge by edge.
 fn number_span(
     version: &Version,
     program: &Verified,
@@ -118,7 +109,26 @@ fn number_span(
             place: span.place + at as u32,
             targets: targets_from(span.targets, at),
         };
-        at += number_next(version, program, argument, memory, rest, &mut numbers[at..]);
+        let count = number_block(
+            version,
+            program,
+            argument,
+            &mut memory.blocks,
+            rest,
+            &mut numbers[at..],
+        );
+        if count == 0 {
+            number_singly(
+                version,
+                program,
+                argument,
+                &mut memory.run,
+                rest,
+                &mut numbers[at..],
+            );
+            return;
+        }
+        at += count;
     }
 }
 
