@@ -29,12 +29,12 @@ pub extern "C" fn edgebpf_run(
     let Some(graph) = version.take(alloc) else {
         return EMPTY;
     };
-    let Some(code) = program.take(alloc) else {
+    let Some(mut code) = program.take(alloc) else {
         version.put(graph);
         return EMPTY;
     };
     let answer = run_held(
-        alloc, &graph, &code, argument, frontier, reduction, values, totals,
+        alloc, &graph, &mut code, argument, frontier, reduction, values, totals,
     );
     version.put(graph);
     program.put(code);
@@ -58,11 +58,11 @@ pub extern "C" fn edgebpf_numbers(
     let Some(graph) = version.take(alloc) else {
         return EMPTY;
     };
-    let Some(code) = program.take(alloc) else {
+    let Some(mut code) = program.take(alloc) else {
         version.put(graph);
         return EMPTY;
     };
-    let answer = number_held(&graph, &code, argument, numbers);
+    let answer = number_held(&graph, &mut code, argument, numbers);
     version.put(graph);
     program.put(code);
     answer

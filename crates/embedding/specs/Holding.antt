@@ -26,7 +26,7 @@ abbrev pub OnProgram : Option Held → ℕ → Type 0 → (Program → Type 0) �
 OnProgram None status same told = (status ≡ EMPTY) × same
 OnProgram (Some (held.Store s)) status same told = (status ≡ OTHER_KIND) × same
 OnProgram (Some (held.Version v)) status same told = (status ≡ OTHER_KIND) × same
-OnProgram (Some (held.Program c)) status same told = told (arc_value c)
+OnProgram (Some (held.Program c)) status same told = told c
 
 -- of a version and a program; an empty handle is told first
 abbrev pub OnBoth : Option Held → Option Held → ℕ → Type 0 → (Past → Program → Type 0) → Type 0
@@ -51,4 +51,4 @@ abbrev pub HoldsProgram : Option Held → Program → Type 0
 HoldsProgram None p = ⊥
 HoldsProgram (Some (held.Store s)) p = ⊥
 HoldsProgram (Some (held.Version v)) p = ⊥
-HoldsProgram (Some (held.Program c)) p = arc_value c ≡ p
+HoldsProgram (Some (held.Program c)) p = c ≡ p

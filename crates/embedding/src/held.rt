@@ -1,7 +1,7 @@
 //! What a handle can hold.
+use crate::runnable::Runnable;
 use crate::store::Store;
 use std::sync::Arc;
-use verifier::Verified;
 use version::Version;
 
 /// What a handle can hold.
@@ -12,5 +12,5 @@ pub enum Held {
     /// One state of it, which other handles may hold too.
     Version(Arc<Version>),
     /// A program that the verifier accepted, which other handles may hold too.
-    Program(Arc<Verified>),
+    Program(Runnable),
 }

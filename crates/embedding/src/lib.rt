@@ -11,6 +11,7 @@ mod numbers;
 mod programs;
 mod questions;
 mod raw_box;
+mod runnable;
 mod runs;
 mod slices;
 mod statuses;
@@ -27,6 +28,7 @@ pub use programs::{Verdict, new_program, share_program_held};
 pub use questions::{
     Info, degree_held, has_edge_held, info_held, neighbour_held, share_version_held,
 };
+pub use runnable::Runnable;
 pub use runs::{Totals, run_held};
 pub use slices::{Slice, lend_held};
 pub use statuses::{

@@ -10,11 +10,11 @@ ghost use Rattle.embedding.specs.Programs.{IsImageOf, IsAccepted, IsRefused};
 
 use crate::handle::{Handle, hand_out};
 use crate::held::Held;
+use crate::runnable::Runnable;
 use crate::statuses::{CODE_LENGTH, NO_MEMORY, OTHER_KIND, RECORD_LENGTH, REFUSED};
 use bpf_image::{Image, ImageError};
 use bpf_isa::MOST_UNITS;
 use std::alloc::Global;
-use std::sync::Arc;
 use verifier::{Cause, Refusal, Verified, verify};
 
 /// What the verifier says of a program: the bound and the frames of one that it accepts, the cause and the place of one that
@@ -91,8 +91,8 @@ pub fn new_program(
     match verify(alloc, image) {
         Ok(program) => {
             *verdict = accepted(&program);
-            match Arc::new(alloc, program) {
-                Ok(program) => hand_out(alloc, Held::Program(program), out),
+            match Runnable::new(alloc, program) {
+                Ok(runnable) => hand_out(alloc, Held::Program(runnable), out),
                 Err(_) => NO_MEMORY,
             }
         }
@@ -110,8 +110,8 @@ pub fn share_program_held(alloc: Global, held: &Held, out: &mut Handle) -> u32
         (λ p. IsHandedOut result (HoldsProgram out.new.held p) (out.new.held ≡ out.old.held)) }
 {
     match held {
-        Held::Program(program) => match Arc::try_clone(program) {
-            Ok(program) => hand_out(alloc, Held::Program(program), out),
+        Held::Program(program) => match program.share(alloc) {
+            Ok(runnable) => hand_out(alloc, Held::Program(runnable), out),
             Err(_) => NO_MEMORY,
         },
         Held::Store(_) => OTHER_KIND,

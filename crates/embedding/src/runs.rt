@@ -9,12 +9,12 @@ ghost use Rattle.embedding.specs.Holding.{OnBoth, OnVersion};
 ghost use Rattle.embedding.specs.Runs.{reduction_at, values_of, IsRun};
 
 use crate::held::Held;
+use crate::runnable::Runnable;
 use crate::statuses::{ARGUMENT_LENGTH, DONE, LENGTHS, NO_MEMORY, OTHER_KIND, REDUCTION};
-use edge_fold::{EDGE_BYTES, MapOutcome, Memory, Reduction, Rows, map_frontier};
+use edge_fold::{EDGE_BYTES, MapOutcome, Reduction};
 use map_model::Row;
 use past_model::MOST_VERTICES;
 use std::alloc::Global;
-use verifier::Verified;
 use version::Version;
 
 /// What all edges of a run have together.
@@ -67,14 +67,15 @@ fn put_outcome(out: &MapOutcome, values: &mut [u64], totals: &mut Totals)
 fn run(
     alloc: Global,
     version: &Version,
-    program: &Verified,
+    program: &mut Runnable,
     argument: &[u8],
     frontier: &[u32],
     reduction: u32,
     values: &mut [u64],
     totals: &mut Totals,
 ) -> u32
-    ensures { IsRun (graph_of version.now) program.now argument.now frontier.now reduction result values.old totals.old values.new totals.new }
+    ensures program { program.new ≡ program.old }
+    ensures told { IsRun (graph_of version.now) program.old argument.now frontier.now reduction result values.old totals.old values.new totals.new }
 {
     let Some(reduction) = reduction_from(reduction) else {
         return REDUCTION;
@@ -82,20 +83,10 @@ fn run(
     if values.len() != frontier.len() || frontier.len() > MOST_VERTICES as usize {
         return LENGTHS;
     }
-    if argument.len() + EDGE_BYTES != usize::from(program.image().record_length()) {
+    if argument.len() + EDGE_BYTES != usize::from(program.record_length()) {
         return ARGUMENT_LENGTH;
     }
-    let mut memory = Memory::for_program(program);
-    match map_frontier(
-        alloc,
-        &mut memory,
-        version,
-        program,
-        argument,
-        frontier,
-        reduction,
-        Rows::OfEach,
-    ) {
+    match program.map(alloc, version, argument, frontier, reduction) {
         Ok(out) => {
             put_outcome(&out, values, totals);
             DONE
@@ -112,14 +103,15 @@ fn run(
 pub fn run_held(
     alloc: Global,
     graph: &Held,
-    code: &Held,
+    code: &mut Held,
     argument: &[u8],
     frontier: &[u32],
     reduction: u32,
     values: &mut [u64],
     totals: &mut Totals,
 ) -> u32
-    ensures { OnBoth (Some graph.now) (Some code.now) result ((values.new ≡ values.old) × (totals.new ≡ totals.old))
+    ensures program { code.new ≡ code.old }
+    ensures told { OnBoth (Some graph.now) (Some code.old) result ((values.new ≡ values.old) × (totals.new ≡ totals.old))
         (λ past p. IsRun (graph_of past) p argument.now frontier.now reduction result values.old totals.old values.new totals.new) }
 {
     let version = match graph {
