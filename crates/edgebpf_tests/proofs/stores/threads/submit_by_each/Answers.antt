@@ -1,4 +1,4 @@
-use Rattle.std.proofs.Common.{◌≡◌, ℕ, zero, suc, ◌<◌, List, [], ◌∷◌, map, length, get_or, refl, arith}
+use Rattle.std.proofs.Common.{◌≡◌, ℕ, zero, suc, ◌<◌, List, [], ◌∷◌, map, length, get_or, refl, arith, rules}
 use Rattle.store.specs.Ends.{Feeding, IsFeedOf, as_new}
 use Rattle.edgebpf_tests.proofs.stores.threads.submit_by_each.Goals as goal
 
@@ -15,4 +15,4 @@ same_feeds (x ∷ xs) (y ∷ ys) long same =
     λ i. (record { vertex_count = first.0 i; feed = first.2 i; sent = []; refused = 0; queue = first.1 i }) ∷ rest i
 
 pub returns : goal.returns
-returns g c = same_feeds c.args.feeds.now c.for_each_mut.new.s c.for_each_mut.auto.s (λ k d lt. let h = c.for_each_mut.ensures k d lt in ?)
+returns g c = same_feeds c.args.feeds.now c.for_each_mut.new.s c.for_each_mut.auto.s (λ k d lt. let h = c.for_each_mut.ensures k d lt in search rules)
