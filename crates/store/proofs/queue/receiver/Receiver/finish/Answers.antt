@@ -1,5 +1,5 @@
-use Rattle.std.proofs.Common.{◌≡◌, ℕ, List, ◌∷◌, [], ◌++◌, length, map, sym, ap, ◌∙◌, subst, append-nil}
-use Rattle.std.proofs.lemmas.List.{length-map}
+use Rattle.std.proofs.Common.{◌≡◌, ℕ, List, ◌∷◌, [], ◌++◌, length, map, sym, ap, ◌∙◌, subst, append-nil, arith}
+use Rattle.std.proofs.lemmas.List.{length-map, nil_from_length}
 use Rattle.crossbeam_queue.specs.Passes.{view}
 use Rattle.past_model.specs.declared.entry.Entry.{Entry}
 use Rattle.past_model.specs.declared.limits.TheConstants.{FEEDS}
@@ -15,7 +15,7 @@ pub take_in-requires-clause-queue : goal.take_in-requires-clause-queue
 take_in-requires-clause-queue g c =
     let before = c.loop-feed.invariant in
     let rest : List Feeding = c.next.new.self.rest.items in
-    let whole : c.loop-feed.yielded ++ c.in-Some.feed ∷ rest ≡ c.args.feeds.items = ap (λ (l : List Feeding). c.loop-feed.yielded ++ l) (sym c.in-Some.ensures.steps) ∙ before.whole in
+    let whole : c.loop-feed.yielded ++ c.in-Some.feed ∷ rest ≡ c.args.feeds.items = ap (λ (l : List Feeding). c.loop-feed.yielded ++ l) (sym c.in-Some.ensures.steps.0) ∙ before.whole in
     let next = next_feed c.args.self.vertex_count c.args.self.queue c.loop-feed.yielded rest c.in-Some.feed (ap (map as_new) whole ∙ c.requires) in
     next.0 ∙ sym (before.same ∙ ap (λ (t : Taking). t.queue) c.self.view_is)
 
@@ -23,7 +23,7 @@ pub take_in-requires-clause-next : goal.take_in-requires-clause-next
 take_in-requires-clause-next g c =
     let before = c.loop-feed.invariant in
     let rest : List Feeding = c.next.new.self.rest.items in
-    let whole : c.loop-feed.yielded ++ c.in-Some.feed ∷ rest ≡ c.args.feeds.items = ap (λ (l : List Feeding). c.loop-feed.yielded ++ l) (sym c.in-Some.ensures.steps) ∙ before.whole in
+    let whole : c.loop-feed.yielded ++ c.in-Some.feed ∷ rest ≡ c.args.feeds.items = ap (λ (l : List Feeding). c.loop-feed.yielded ++ l) (sym c.in-Some.ensures.steps.0) ∙ before.whole in
     let next = next_feed c.args.self.vertex_count c.args.self.queue c.loop-feed.yielded rest c.in-Some.feed (ap (map as_new) whole ∙ c.requires) in
     next.1 ∙ sym (ap (λ (v : QueueView). length v.ended) before.hand ∙ length-map c.loop-feed.yielded (λ (f : Feeding). f.sent))
 
@@ -34,9 +34,10 @@ returns-clause-delivered g c =
     let taken : List Entry = (view c.self.inside.pass).taken in
     let feeds : List Feeding = c.args.feeds.items in
     let items : List Entry = c.all_left.result.items in
-    let none : c.loop-feed.feed-iterator.rest.items ≡ [] = cc in
+    let none : c.loop-feed.feed-iterator.rest.items ≡ [] =
+    nil_from_length c.loop-feed.feed-iterator.rest.items (omega (arith, c.loop-feed.feed-iterator.rest.ok.0, c.in-None.ensures.steps.0)) in
     let all : c.loop-feed.yielded ≡ feeds = sym (append-nil c.loop-feed.yielded) ∙ ap (λ (l : List Feeding). c.loop-feed.yielded ++ l) (sym none) ∙ before.whole in
-    let hand = before.hand ∙ ap (λ (l : List Feeding). taker n taken FEEDS (map (λ (f : Feeding). f.sent) l)) all in
+    let hand : view c.loop-feed.pass ≡ taker n taken FEEDS (map (λ (f : Feeding). f.sent) feeds) = before.hand ∙ ap (λ (l : List Feeding). taker n taken FEEDS (map (λ (f : Feeding). f.sent) l)) all in
     let left : Left (taker n taken FEEDS (map (λ (f : Feeding). f.sent) feeds)) items = subst (λ (v : QueueView). Left v items) hand c.all_left.ensures in
     let count = count_feeds c.args.self.vertex_count c.args.self.queue feeds c.requires in
     subst (λ (l : List Entry). AreDelivered (l ++ items) feeds) (ap (λ (t : Taking). t.taken) c.self.view_is) (are_delivered n taken items feeds count left)
