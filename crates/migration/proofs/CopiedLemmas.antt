@@ -1,5 +1,5 @@
 -- A page that is copied, and whose lists are changed one after another where they stand.
-use Rattle.std.proofs.Common.{◌≡◌, ℕ, ◌+◌, ◌<◌, ◌≤◌, Bool, List, [], ◌∷◌, ◌++◌, length, get_or, set, filter, take, refl, sym, ap, subst, subst₂, ◌∙◌, append-nil, length-append, arith}
+use Rattle.std.proofs.Common.{◌≡◌, ℕ, zero, suc, ◌+◌, ◌-◌, ◌<◌, ◌≤◌, Bool, List, [], ◌++◌, length, get_or, filter, take, sym, ap, subst, subst₂, ◌∙◌, append-nil, length-append, arith}
 use Rattle.std.proofs.Math.Seq.{take-length}
 use Rattle.std.proofs.lemmas.List.{length-set, length-take-le, get_or-set_other, take_more, take_more_set}
 use Rattle.past_model.specs.declared.edit.Edit.{Edit}
@@ -10,10 +10,12 @@ use Rattle.past_model.specs.Homes.{home_after}
 use Rattle.migration.specs.declared.counts.Counts.{Counts}
 use Rattle.migration.specs.declared.lists.Lists.{Lists}
 use Rattle.migration.specs.Begun.{AreBegun, IsPageOf, IsPageAfter}
+use Rattle.migration.specs.declared.groups.Grouping.TheVariants.{ByVertex}
+use Rattle.migration.specs.Groups.{Grouped, IsNextFilled}
 use Rattle.migration.specs.Lists.{rows_of, homes_of, AreKept, AreSame, IsReplaced}
 use Rattle.migration.specs.Merge.{AreEditsFrom, IsMerged}
 use Rattle.migration.specs.Part.{Part, row_at, home_at}
-use Rattle.migration.proofs.BegunLemmas.{one_kept, one_edited, behind}
+use Rattle.migration.proofs.BegunLemmas.{one_kept, one_edited, behind, edits_in}
 use Rattle.migration.proofs.PageLemmas.{same_count}
 use Rattle.migration.proofs.PartLemmas.{own_edits}
 
@@ -62,6 +64,23 @@ one_left es first page start place lists counts inside none are =
           (one_kept es p (rows ++ done) (homes ++ done_homes) counts row home (first + place) its.shard (made rows lists first place from (omega arith)) (omega arith)
           (are.rows place (omega arith) ∙ its.rows place inside) (are.homes place (omega arith) ∙ its.homes place inside) (none p) (are.begun p rows homes its from begun)));
     }
+
+-- some that no edit is of
+many_left : (k : ℕ) (es : List Edit) (first : ℕ) (page : Lists) (start : Counts) (place : ℕ) (lists : Lists) (counts : Counts) → place + k ≤ length (rows_of page) → ((p : Part) (i : ℕ) → place ≤ i → i < place + k → own_edits p es (first + i) ≡ []) → AreCopied es first page start place lists counts → AreCopied es first page start (place + k) lists counts
+many_left zero es first page start place lists counts inside none are = subst (λ n. AreCopied es first page start n lists counts) (omega arith) are
+many_left (suc k) es first page start place lists counts inside none are =
+    subst (λ n. AreCopied es first page start n lists counts) (omega arith)
+    (many_left k es first page start (place + 1) lists counts (omega arith) (λ p i low high. none p i (omega arith) (omega arith))
+    (one_left es first page start place lists counts (omega arith) (λ p. none p place (omega arith) (omega arith)) are))
+
+-- those up to the next vertex with an edit
+pub left_until : (g : Grouped) (first : ℕ) (page : Lists) (start : Counts) (from end vertex : ℕ) (lists : Lists) (counts : Counts) → g.grouping ≡ ByVertex → first ≤ from → end ≡ first + length (rows_of page) → IsNextFilled g from end vertex
+    → AreCopied g.edits first page start (from - first) lists counts → AreCopied g.edits first page start (vertex - first) lists counts
+left_until g first page start from end vertex lists counts by low end_is next are =
+    let after = next.after in
+    let within = next.within in
+    subst (λ n. AreCopied g.edits first page start n lists counts) (omega arith)
+    (many_left (vertex - from) g.edits first page start (from - first) lists counts (omega arith) (λ p i above below. sym (edits_in g p (first + i) by) ∙ next.none (first + i) (omega arith) (omega arith)) are)
 
 -- one after its edits
 pub one_changed : (es : List Edit) (first : ℕ) (page : Lists) (start : Counts) (place : ℕ) (lists new : Lists) (counts more : Counts) (row : List ℕ) (home : Home) → place < length (rows_of page) → AreCopied es first page start place lists counts

@@ -9,13 +9,13 @@ use Rattle.past_model.specs.declared.home.Home.{Home}
 use Rattle.past_model.specs.declared.home.Home.TheVariants.{Block, Gapped, Tree}
 use Rattle.past_model.specs.declared.edit.Edit.{Edit}
 use Rattle.past_model.specs.Homes.{home_after}
-use Rattle.gapped_array.specs.Table.{IsOpen, list_at as run_at}
+use Rattle.gapped_array.specs.Table.{list_at as run_at}
 use Rattle.word_sets.specs.Words.{IsSet}
 use Rattle.migration.specs.declared.counts.Counts.{Counts}
 use Rattle.migration.specs.declared.lists.Place.{Place}
 use Rattle.migration.specs.declared.lists.Place.TheVariants.{Nowhere, InShort, InBlock, InArray, InTree}
 use Rattle.migration.specs.declared.lists.Lists.{Lists}
-use Rattle.migration.specs.ShortBlocks.{set_at, ArePacked, IsSetPut}
+use Rattle.migration.specs.ShortBlocks.{ArePacked, IsSetPut}
 use Rattle.migration.specs.Lists.{list_at, home_of, rows_of, homes_of, IsThere, AreApart, AreKept, IsReplaced, IsPutInBlock}
 use Rattle.migration.specs.Put.{IsEditedAtHome, IsRunAfter, IsReplacedAfter}
 use Rattle.migration.proofs.ShortLemmas.{set_stays, set_pushed, packed_more}

@@ -1,5 +1,5 @@
 -- One run of an array that is changed again and again, and all others stay.
-use Rattle.std.proofs.Common.{◌≡◌, ℕ, ◌<◌, ◌≤◌, List, Option, Some, None, [], length, get_or, set, unwrap_or, IsSome, is_some, refl, sym, ap, subst, ◌∙◌, inl, inr, arith}
+use Rattle.std.proofs.Common.{◌≡◌, ℕ, ◌<◌, List, Option, Some, None, [], length, get_or, set, unwrap_or, IsSome, is_some, refl, sym, ap, subst, ◌∙◌, inl, inr}
 use Rattle.std.proofs.lemmas.Bool.{cases_lt, true≢false}
 use Rattle.std.proofs.lemmas.List.{get_or-set_same, set-set, set-get_or, get_or_past}
 use Rattle.gapped_array.specs.Table.{IsOpen, list_at}

@@ -32,16 +32,15 @@ pub(crate) fn copied_page(
 {
     let mut counts = counts;
     let mut lists = page.copy(alloc)?;
-    for place in 0..page.count() {
-        let vertex = first + place;
-        if groups.is_empty(vertex) {
-            continue;
-        }
-        groups.read(vertex, &mut scratch.own)?;
-        let Some(more) = edit_in_place(alloc, &mut lists, place, scratch)? else {
+    let end = first + page.count();
+    let mut vertex = groups.next_filled(first, end);
+    while vertex < end {
+        groups.read_vertex(vertex, &mut scratch.own)?;
+        let Some(more) = edit_in_place(alloc, &mut lists, vertex - first, scratch)? else {
             return Ok(None);
         };
         counts = counts.plus(more);
+        vertex = groups.next_filled(vertex + 1, end);
     }
     Ok(Some((lists, counts)))
 }

@@ -42,8 +42,10 @@ pub(crate) fn edited_page(
         → AreBegun groups.now.edits p rows homes counts
         → AreBegun groups.now.edits p (rows ++ rows_of next.0) (homes ++ homes_of next.0) next.1) }
 {
-    if groups.edit_count() <= MOST_EDITS
-        && !groups.have_more_filled(first, first + page.count(), MOST_CHANGED)
+    // Few edits are of few vertices, which need no count.
+    let edits = groups.edit_count();
+    if edits <= MOST_CHANGED
+        || edits <= MOST_EDITS && groups.count_edited(first, first + page.count()) <= MOST_CHANGED
     {
         if let Some(next) = copied_page(alloc, page, first, groups, counts, scratch)? {
             return Ok(next);

@@ -1,4 +1,4 @@
-use Rattle.std.proofs.Common.{◌≡◌, [], length, get_or, sym, ap, ap₂, subst, ◌∙◌}
+use Rattle.std.proofs.Common.{[], length, get_or, sym, ap, subst, ◌∙◌}
 use Rattle.past_model.specs.declared.home.Home.TheVariants.{Block}
 use Rattle.past_model.specs.Homes.{home_after}
 use Rattle.past_model.proofs.HomeLemmas.{homes_stay}

@@ -1,4 +1,4 @@
-use Rattle.std.proofs.Common.{◌≡◌, ◌-◌, ◌++◌, length, get_or, take, drop, ap, ◌∙◌, arith}
+use Rattle.std.proofs.Common.{◌-◌, ◌++◌, length, get_or, take, drop, ap, ◌∙◌, arith}
 use Rattle.migration.proofs.SplicedLemmas.{set_replaced, gone_fits, come_fits}
 use Rattle.migration.proofs.short_blocks.ShortBlocks.replace.Goals as goal
 
