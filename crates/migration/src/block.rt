@@ -83,8 +83,10 @@ impl Block {
     {
         let mut shards = Vec::with_capacity(alloc, self.shards.len())?;
         let mut counts = Counts::NONE;
+        let end = first + self.shards.len();
+        let mut filled = groups.next_filled(first, end);
         for (place, shard) in self.shards.iter().enumerate() {
-            if groups.is_empty(first + place) {
+            if first + place < filled {
                 shards.push(Arc::try_clone(shard)?)?;
                 continue;
             }
@@ -92,6 +94,7 @@ impl Block {
             shards.push(Arc::try_clone(&edited.shard)?)?;
             counts = counts.plus(edited.counts);
             *next += 1;
+            filled = groups.next_filled(filled + 1, end);
         }
         let block = Block { shards };
         Ok((block, counts))

@@ -45,8 +45,7 @@ pub(crate) fn edited_page(
     // Few edits are of few vertices, which need no count.
     let edits = groups.edit_count();
     if edits <= MOST_CHANGED
-        || edits <= MOST_EDITS
-            && !groups.have_more_filled(first, first + page.count(), MOST_CHANGED)
+        || edits <= MOST_EDITS && groups.count_edited(first, first + page.count()) <= MOST_CHANGED
     {
         if let Some(next) = copied_page(alloc, page, first, groups, counts, scratch)? {
             return Ok(next);

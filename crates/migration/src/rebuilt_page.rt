@@ -38,11 +38,11 @@ pub(crate) fn rebuilt_page(
     scratch.lists.clear();
     for place in 0..page.count() {
         let vertex = first + place;
-        if groups.is_empty(vertex) {
+        if groups.is_unedited(vertex) {
             scratch.lists.push_kept(page, place)?;
             continue;
         }
-        groups.read(vertex, &mut scratch.own)?;
+        groups.read_vertex(vertex, &mut scratch.own)?;
         let more = push_edited(alloc, page, place, scratch)?;
         counts = counts.plus(more);
     }

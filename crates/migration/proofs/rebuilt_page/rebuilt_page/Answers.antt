@@ -23,8 +23,8 @@ loop-place-init c = record {
 made : (rows done : List (List ℕ)) (first place : ℕ) → length rows ≡ first → length done ≡ place → length (rows ++ done) ≡ first + place
 made rows done first place start count = length-append rows done ∙ omega (arith, start, count)
 
-pub loop-place-preserved-then-is_empty : goal.loop-place-preserved-then-is_empty
-loop-place-preserved-then-is_empty c =
+pub loop-place-preserved-then-is_unedited : goal.loop-place-preserved-then-is_unedited
+loop-place-preserved-then-is_unedited c =
     let groups = c.args.groups.now in
     let page = c.args.page.now in
     let place = c.loop-place.place in
@@ -38,7 +38,7 @@ loop-place-preserved-then-is_empty c =
       count = ap length pushed.rows ∙ length_push (rows_of lists) row ∙ ap (λ n. n + 1) c.loop-place.invariant.count;
       begun = λ p rows homes its start begun. (
           let within = its.within in
-          let none : own_edits p groups.edits (c.args.first + place) ≡ [] = sym (edits_in groups p (c.args.first + place) c.requires.vertices) ∙ c.is_empty.ensures.0 c.if-is_empty.true in
+          let none : own_edits p groups.edits (c.args.first + place) ≡ [] = sym (edits_in groups p (c.args.first + place) c.requires.vertices) ∙ c.is_unedited.ensures.0 c.if-is_unedited.true in
           subst₂ (λ l h. AreBegun groups.edits p l h c.loop-place.counts)
           (sym (ap (λ l. rows ++ l) pushed.rows ∙ behind rows (rows_of lists) row)) (sym (ap (λ h. homes ++ h) pushed.homes ∙ behind homes (homes_of lists) home))
           (one_kept groups.edits p (rows ++ rows_of lists) (homes ++ homes_of lists) c.loop-place.counts row home (c.args.first + place) its.shard (made rows (rows_of lists) c.args.first place start c.loop-place.invariant.count) (omega arith) (its.rows place inside) (its.homes place inside) none
@@ -48,7 +48,7 @@ loop-place-preserved-then-is_empty c =
 pub push_edited-requires-clause-edits : goal.push_edited-requires-clause-edits
 push_edited-requires-clause-edits c =
     let inside : c.loop-place.place < length (rows_of c.args.page.now) = (let count = c.count-place-end.ensures.rows in let test = c.loop-place-test.true in omega arith) in
-    own_of_page c.args.groups.now c.requires.next.part c.args.page.now c.args.first c.loop-place.place c.read.new.edits.items c.requires.vertices c.requires.next.its inside c.in_ok-read.ensures
+    own_of_page c.args.groups.now c.requires.next.part c.args.page.now c.args.first c.loop-place.place c.read_vertex.new.edits.items c.requires.vertices c.requires.next.its inside c.in_ok-read_vertex.ensures
 
 -- the counts fit
 few : (c : In_ok-more) → (c.loop-place.counts.added + c.in_ok-more.more.added < 2 ^ 64) × (c.loop-place.counts.removed + c.in_ok-more.more.removed < 2 ^ 64)
@@ -63,7 +63,7 @@ few c =
     let inside : place < length (rows_of c.args.page.now) = (let count = c.count-place-end.ensures.rows in let test = c.loop-place-test.true in omega arith) in
     few_more groups.edits next.part (next.rows ++ rows_of lists) edited.after c.loop-place.counts c.in_ok-more.more (c.args.first + place) its.shard its.own (made next.rows (rows_of lists) c.args.first place next.start c.loop-place.invariant.count) (omega arith)
     (c.loop-place.invariant.begun next.part next.rows next.homes its next.start next.begun).done
-    (merged_of_page groups next.part c.args.page.now c.args.first place c.read.new.edits.items edited.after c.in_ok-more.more c.requires.vertices its inside c.in_ok-read.ensures edited.merged)
+    (merged_of_page groups next.part c.args.page.now c.args.first place c.read_vertex.new.edits.items edited.after c.in_ok-more.more c.requires.vertices its inside c.in_ok-read_vertex.ensures edited.merged)
 
 pub plus-counts-requires-clause-added : goal.plus-counts-requires-clause-added
 plus-counts-requires-clause-added c = (few c).0
@@ -93,7 +93,7 @@ loop-place-preserved c =
           (subst₂ (λ l h. AreBegun groups.edits p l h record { added = c.loop-place.counts.added + more.added; removed = c.loop-place.counts.removed + more.removed })
           (sym (ap (λ l. rows ++ l) pushed.rows ∙ behind rows (rows_of lists) row)) (sym (ap (λ h. homes ++ h) pushed.homes ∙ behind homes (homes_of lists) edited.to))
           (one_edited groups.edits p (rows ++ rows_of lists) (homes ++ homes_of lists) c.loop-place.counts more row edited.to (c.args.first + place) its.shard its.own (made rows (rows_of lists) c.args.first place start c.loop-place.invariant.count) (omega arith) home
-          (merged_of_page groups p page c.args.first place c.read.new.edits.items row more c.requires.vertices its inside c.in_ok-read.ensures edited.merged)
+          (merged_of_page groups p page c.args.first place c.read_vertex.new.edits.items row more c.requires.vertices its inside c.in_ok-read_vertex.ensures edited.merged)
           (c.loop-place.invariant.begun p rows homes its start begun))));
     }
 

@@ -3,7 +3,7 @@ use Rattle.std.specs.declared.sync.Arc.{Arc}
 use Rattle.std.specs.declared.alloc.Global.{Global}
 use Rattle.std.specs.Arc.{arc_value}
 use Rattle.std.proofs.lemmas.List.{length-map, length_push, take_all}
-use Rattle.migration.specs.Groups.{edits_of, filled_below}
+use Rattle.migration.specs.Groups.{edits_of, filled_below, IsNextFilled}
 use Rattle.migration.specs.Part.{Part, IsPartAfter, AreCounts, AreHomesAfter}
 use Rattle.migration.specs.Table.{parts_of, part_at}
 use Rattle.migration.specs.Blocks.{AreEdited, IsRehoused, AreRehoused}
@@ -26,6 +26,7 @@ loop-place-init c = record {
   count = ap (λ l. length (parts_of l)) c.in_ok-shards.ensures.items;
   done = λ g below parts. subst (λ l. AreEdited c.args.groups.now.edits g c.args.first (parts_of l) none) (sym c.in_ok-shards.ensures.items) (none_edited c.args.groups.now.edits g c.args.first);
   next = c.requires.next ∙ ap (λ n. length (filled_below c.args.groups.now n)) (let same : c.args.first ≡ c.args.first + 0 = omega arith in same);
+  found = subst (λ n. IsNextFilled c.args.groups.now n (c.args.first + c.len-2.result) c.next_filled-filled.result) (omega arith) c.next_filled-filled.ensures;
   homes = λ housed. subst (λ l. AreRehoused [] (parts_of l)) (sym c.in_ok-shards.ensures.items) tt;
 }
 
@@ -37,13 +38,13 @@ overflow_add-first c =
     let fits = c.requires.fits in
     omega arith
 
-pub loop-place-preserved-then-is_empty : goal.loop-place-preserved-then-is_empty
-loop-place-preserved-then-is_empty c =
+pub loop-place-preserved-then-first-place : goal.loop-place-preserved-then-first-place
+loop-place-preserved-then-first-place c =
     let groups = c.args.groups.now in
     let range = c.args.first + c.loop-place.place in
     let shown = ap parts_of c.deref-shard-items.ensures.value ∙ c.self.view_is in
     let at = inside c.deref-shard-items.result.now c.args.self.now c.loop-place.place shown c.loop-place-test.true in
-    let unedited : range_edits groups.count groups.edits range ≡ [] = sym (edits_in groups c.requires.ranges range) ∙ c.is_empty.ensures.0 c.if-is_empty.true in
+    let unedited : range_edits groups.count groups.edits range ≡ [] = sym (edits_in groups c.requires.ranges range) ∙ c.loop-place.invariant.found.none range (omega arith) c.if-first-place.true in
     let same : part_at c.args.self.now c.loop-place.place ≡ arc_value c.in_ok-try_clone.field-0 =
     sym (c.in_ok-try_clone.ensures ∙ ap arc_value c.shard-item.is ∙ shown_part c.deref-shard-items.result.now c.loop-place.place c.shard-item.result c.loop-place-test.true ∙ ap (λ l. part_at l c.loop-place.place) shown) in
     let pushed = ap parts_of c.in_ok-push.ensures.items ∙ parts_push c.loop-place.shards.items c.in_ok-try_clone.field-0 in
@@ -58,7 +59,16 @@ loop-place-preserved-then-is_empty c =
           (subst₂ (λ r q. AreEdited groups.edits g r (q ∷ []) none) (ap (λ n. c.args.first + n) (sym c.loop-place.invariant.count)) same kept))));
       next = (
           let same : c.args.first + c.loop-place.place + 1 ≡ c.args.first + (c.loop-place.place + 1) = omega arith in
-          c.loop-place.invariant.next ∙ sym (ap length (filled_same groups range (empty_is groups range (c.is_empty.ensures.0 c.if-is_empty.true)))) ∙ ap (λ n. length (filled_below groups n)) same);
+          c.loop-place.invariant.next ∙ sym (ap length (filled_same groups range (empty_is groups range (c.loop-place.invariant.found.none range (omega arith) c.if-first-place.true)))) ∙ ap (λ n. length (filled_below groups n)) same);
+      found = (
+          let found = c.loop-place.invariant.found in
+          let test = c.if-first-place.true in
+          record {
+            after = omega arith;
+            within = found.within;
+            none = λ k low high. found.none k (omega arith) high;
+            some = found.some;
+          });
       homes = λ housed.
           subst (AreRehoused (take (c.loop-place.place + 1) c.args.self.now)) (sym pushed)
           (rehoused_next c.args.self.now before c.loop-place.place (arc_value c.in_ok-try_clone.field-0) at (c.loop-place.invariant.homes housed)
@@ -71,7 +81,12 @@ bounds-made-next c =
     let groups = c.args.groups.now in
     let shown = ap parts_of c.deref-shard-items.ensures.value ∙ c.self.view_is in
     let at = inside c.deref-shard-items.result.now c.args.self.now c.loop-place.place shown c.loop-place-test.true in
-    let some : edits_of groups (c.args.first + c.loop-place.place) ≡ [] → ⊥ = λ none. (let t = c.is_empty.ensures.1 none in let f = c.if-is_empty.false in cc) in
+    let long : c.len-2.result ≡ length c.args.self.now = (let len = c.len-2.ensures in omega (arith, len, length-map c.self.inside.shards.items arc_value, ap length c.self.view_is)) in
+    let found = c.loop-place.invariant.found in
+    let after = found.after in
+    let past = c.if-first-place.false in
+    let here : c.args.first + c.loop-place.place ≡ c.loop-place.filled = omega arith in
+    let some : edits_of groups (c.args.first + c.loop-place.place) ≡ [] → ⊥ = λ none. found.some (omega (arith, at, long)) (subst (λ n. edits_of groups n ≡ []) here none) in
     (next_made groups c.args.self.now c.args.made.now c.args.first c.loop-place.place c.loop-place.next c.requires.made at some c.loop-place.invariant.next).0
 
 pub offset_bounds-made-next : goal.offset_bounds-made-next
@@ -79,7 +94,12 @@ offset_bounds-made-next c =
     let groups = c.args.groups.now in
     let shown = ap parts_of c.deref-shard-items.ensures.value ∙ c.self.view_is in
     let at = inside c.deref-shard-items.result.now c.args.self.now c.loop-place.place shown c.loop-place-test.true in
-    let some : edits_of groups (c.args.first + c.loop-place.place) ≡ [] → ⊥ = λ none. (let t = c.is_empty.ensures.1 none in let f = c.if-is_empty.false in cc) in
+    let long : c.len-2.result ≡ length c.args.self.now = (let len = c.len-2.ensures in omega (arith, len, length-map c.self.inside.shards.items arc_value, ap length c.self.view_is)) in
+    let found = c.loop-place.invariant.found in
+    let after = found.after in
+    let past = c.if-first-place.false in
+    let here : c.args.first + c.loop-place.place ≡ c.loop-place.filled = omega arith in
+    let some : edits_of groups (c.args.first + c.loop-place.place) ≡ [] → ⊥ = λ none. found.some (omega (arith, at, long)) (subst (λ n. edits_of groups n ≡ []) here none) in
     let few = c.requires.few in
     let small = (next_made groups c.args.self.now c.args.made.now c.args.first c.loop-place.place c.loop-place.next c.requires.made at some c.loop-place.invariant.next).0 in
     omega arith
@@ -92,7 +112,12 @@ applied c =
     let range = c.args.first + c.loop-place.place in
     let shown = ap parts_of c.deref-shard-items.ensures.value ∙ c.self.view_is in
     let at = inside c.deref-shard-items.result.now c.args.self.now c.loop-place.place shown c.loop-place-test.true in
-    let some : edits_of groups range ≡ [] → ⊥ = λ none. (let t = c.is_empty.ensures.1 none in let f = c.if-is_empty.false in cc) in
+    let long : c.len-2.result ≡ length c.args.self.now = (let len = c.len-2.ensures in omega (arith, len, length-map c.self.inside.shards.items arc_value, ap length c.self.view_is)) in
+    let found = c.loop-place.invariant.found in
+    let after = found.after in
+    let past = c.if-first-place.false in
+    let here : c.args.first + c.loop-place.place ≡ c.loop-place.filled = omega arith in
+    let some : edits_of groups (c.args.first + c.loop-place.place) ≡ [] → ⊥ = λ none. found.some (omega (arith, at, long)) (subst (λ n. edits_of groups n ≡ []) here none) in
     let all = (next_made groups c.args.self.now c.args.made.now c.args.first c.loop-place.place c.loop-place.next c.requires.made at some c.loop-place.invariant.next).1 in
     done_to groups range (part_at c.args.self.now c.loop-place.place) c.index-made-next.result.now c.requires.ranges
     (subst (λ e. IsMade (part_at c.args.self.now c.loop-place.place) (edits_of groups range) e.now) (sym c.index-made-next.is) (all c.index-made-next.result))
@@ -125,18 +150,28 @@ loop-place-preserved c =
     record {
       count = ap length pushed ∙ length_push before (arc_value c.index-made-next.result.now.shard) ∙ ap (λ n. n + 1) c.loop-place.invariant.count;
       done = λ g below parts. (
-          let one = range_edited groups.edits g (part_at c.args.self.now c.loop-place.place) (arc_value c.index-made-next.result.now.shard) c.index-made-next.result.now.counts groups.count range (parts.each c.loop-place.place at) (parts.inside c.loop-place.place at) below (applied c.before).0 (applied c.before).1 in
+          let one = range_edited groups.edits g (part_at c.args.self.now c.loop-place.place) (arc_value c.index-made-next.result.now.shard) c.index-made-next.result.now.counts groups.count range (parts.each c.loop-place.place at) (parts.inside c.loop-place.place at) below (applied c.before.before).0 (applied c.before.before).1 in
           subst₂ (λ l counts. AreEdited groups.edits g c.args.first l counts) (sym pushed) (sym c.plus-counts.ensures)
           (more_edited groups.edits g c.args.first before ((arc_value c.index-made-next.result.now.shard) ∷ []) c.loop-place.counts c.index-made-next.result.now.counts (c.loop-place.invariant.done g below parts)
           (subst (λ r. AreEdited groups.edits g r ((arc_value c.index-made-next.result.now.shard) ∷ []) c.index-made-next.result.now.counts) (ap (λ n. c.args.first + n) (sym c.loop-place.invariant.count)) one)));
       next = (
           let same : c.args.first + c.loop-place.place + 1 ≡ c.args.first + (c.loop-place.place + 1) = omega arith in
-          let edited = filled_is groups range (λ none. (let t = c.is_empty.ensures.1 none in let f = c.if-is_empty.false in cc)) in
+          let long : c.len-2.result ≡ length c.args.self.now = (let len = c.len-2.ensures in omega (arith, len, length-map c.self.inside.shards.items arc_value, ap length c.self.view_is)) in
+          let found = c.loop-place.invariant.found in
+          let after = found.after in
+          let past = c.if-first-place.false in
+          let here : c.args.first + c.loop-place.place ≡ c.loop-place.filled = omega arith in
+          let edited = filled_is groups range (λ none. found.some (omega (arith, at, long)) (subst (λ n. edits_of groups n ≡ []) here none)) in
           ap (λ n. n + 1) c.loop-place.invariant.next ∙ sym (filled_count groups range edited) ∙ ap (λ n. length (filled_below groups n)) same);
+      found = (
+          let after = c.loop-place.invariant.found.after in
+          let past = c.if-first-place.false in
+          let next : c.loop-place.filled + 1 ≡ c.args.first + (c.loop-place.place + 1) = omega arith in
+          subst (λ n. IsNextFilled groups n (c.args.first + c.len-2.result) c.next_filled-filled-in-loop-place.result) next c.next_filled-filled-in-loop-place.ensures);
       homes = λ housed.
           subst (AreRehoused (take (c.loop-place.place + 1) c.args.self.now)) (sym pushed)
           (rehoused_next c.args.self.now before c.loop-place.place (arc_value c.index-made-next.result.now.shard) at (c.loop-place.invariant.homes housed)
-          (record { count = (applied c.before).0.count; homes = (applied c.before).2 }));
+          (record { count = (applied c.before.before).0.count; homes = (applied c.before.before).2 }));
     }
 
 pub returns-clause-edited : goal.returns-clause-edited
