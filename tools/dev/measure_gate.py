@@ -1,5 +1,7 @@
 #!/usr/bin/python3
-"""Measures the CPU time of the prover by crate, from outside: start it beside an `rt ci` of an idle machine, and end it by Ctrl-C.
+"""Measures the CPU time of the prover by crate, from outside: start it beside an `rt ci`, and end it by Ctrl-C.
+
+    tools/dev/measure_gate.py [PROCESS]   PROCESS is the number of the `rt ci`: no other prover counts
 
 Every second it reads what each prover process has used so far. A process whose folder is one of an edit counts as edits, any other as proofs.
 Seconds that a process uses after its last sample are missed. The table goes to standard output.
@@ -7,17 +9,29 @@ Seconds that a process uses after its last sample are missed. The table goes to 
 import collections
 import os
 import pathlib
+import sys
 import time
 
 TICKS = os.sysconf("SC_CLK_TCK")
 
 
-def provers():
+def is_below(process, top):
+    """Whether a process was started by another, or by one that was."""
+    while process > 1:
+        if process == top:
+            return True
+        process = int(pathlib.Path(f"/proc/{process}/stat").read_text().rpartition(")")[2].split()[1])
+    return False
+
+
+def provers(top):
     """The prover's processes: their number with the time of their start, their crate, whether they try an edit, and the seconds used."""
     for folder in pathlib.Path("/proc").glob("[0-9]*"):
         try:
             words = (folder / "cmdline").read_text().split("\0")
             if "--crate-name" not in words or not words[0].endswith("/rattle"):
+                continue
+            if top is not None and not is_below(int(folder.name), top):
                 continue
             fields = (folder / "stat").read_text().rpartition(")")[2].split()
             place = os.readlink(folder / "cwd")
@@ -29,10 +43,10 @@ def provers():
 
 
 def main():
-    used = {}
+    top, used = int(sys.argv[1]) if len(sys.argv) > 1 else None, {}
     try:
         while True:
-            for process, *what in provers():
+            for process, *what in provers(top):
                 used[process] = what
             time.sleep(1)
     except KeyboardInterrupt:
