@@ -34,10 +34,6 @@ class Info(ctypes.Structure):
     _fields_ = [("number", ctypes.c_uint64), ("edges", ctypes.c_uint64), ("vertices", ctypes.c_uint32)]
 
 
-class Slice(ctypes.Structure):
-    _fields_ = [("at", ctypes.c_void_p), ("count", ctypes.c_size_t)]
-
-
 class Verdict(ctypes.Structure):
     _fields_ = [(name, ctypes.c_uint32) for name in ("bound", "frames", "cause", "pc")]
 

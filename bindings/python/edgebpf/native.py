@@ -39,9 +39,19 @@ def handle_of(program):
 class Lent:
     """A slice of a version's memory. It keeps the version, and numpy reads it where it lies."""
 
+    __slots__ = ("__array_interface__", "handle")
+
     def __init__(self, at, count, handle):
         self.__array_interface__ = {"data": (at, True), "shape": (count,), "typestr": "<u4", "version": 3}
         self.handle = handle
+
+
+class Room:
+    """Where the library writes slices: the address and the length of each."""
+
+    def __init__(self, count):
+        self.count, self.slices, self.lent = count, np.empty((count, 2), np.uint64), ctypes.c_size_t()
+        self.at, self.lent_at = self.slices.ctypes.data, ctypes.addressof(self.lent)
 
 
 class Store:
@@ -103,6 +113,7 @@ class Version:
     def __init__(self, handle):
         info = library.Info()
         self._handle, self._csr = handle, None
+        self._lend, self._room = library.load()["version_lend"], Room(LEAST_ROOM)
         library.check(library.load()["version_info"](handle.at, ctypes.addressof(info)))
         self.number, self.vertices, self.edges = info.number, info.vertices, info.edges
 
@@ -150,14 +161,16 @@ class Version:
         """The read-only arrays in which the targets of a vertex lie, ascending. They are not copied, and keep the version."""
         if not 0 <= vertex < self.vertices:
             raise VertexRange(f"a vertex is not below {self.vertices}")
-        handle, room, lent = self._open(), LEAST_ROOM, ctypes.c_size_t()
-        while True:
-            slices = (library.Slice * room)()
-            with handle.lock:
-                library.check(library.load()["version_lend"](handle.at, vertex, ctypes.addressof(slices), room, ctypes.addressof(lent)))
-            if lent.value < room:
-                return [np.asarray(Lent(slices[i].at, slices[i].count, handle)) for i in range(lent.value)]
-            room *= 4
+        handle = self._open()
+        with handle.lock:
+            while True:
+                room = self._room
+                library.check(self._lend(handle.at, vertex, room.at, room.count, room.lent_at))
+                if room.lent.value < room.count:
+                    lent = room.slices[: room.lent.value].tolist()
+                    break
+                self._room = Room(4 * room.count)
+        return [np.asarray(Lent(at, count, handle)) for at, count in lent]
 
     def neighbours(self, vertex):
         """The targets of a vertex, ascending, as a read-only uint32 array: a view where they lie in one slice, else a copy."""

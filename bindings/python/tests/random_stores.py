@@ -1,0 +1,125 @@
+#!/usr/bin/python3
+"""Random batches and programs through `edgebpf.Store`, beside sets, scipy and the second implementation. By hand:
+
+    random_stores.py [--batches N] [--seed S]
+
+After each batch the counts are those of a set, the arrays those of scipy, and one random program is verified, run and asked for each edge's
+number, all as the second implementation has it. It ends with status 1 at the first difference.
+"""
+import argparse
+import pathlib
+import random
+import sys
+
+import numpy as np
+import scipy.sparse as sparse
+
+TOP = pathlib.Path(__file__).resolve().parents[3]
+sys.path[:0] = [str(TOP / "bindings" / "python"), str(TOP / "tests" / "second_implementation")]
+sys.dont_write_bytecode = True
+
+import bpf
+import edgebpf
+from programs import Programs
+from verifier import judged
+
+EDGE = 16
+# Longer programs are verified and not run: the second implementation is slow.
+MOST_STEPS = 300
+REDUCE = {"sum": lambda numbers: sum(numbers) % 2**64, "min": lambda numbers: min(numbers, default=2**64 - 1), "max": lambda numbers: max(numbers, default=0)}
+
+
+class Difference(Exception):
+    """What differs."""
+
+
+def same(what, here, there):
+    if here != there:
+        raise Difference(f"{what}: {str(here)[:300]} and {str(there)[:300]}")
+
+
+def record_of(edge, place, degree, argument):
+    return b"".join(number.to_bytes(4, "little") for number in (*edge, place, degree)) + argument
+
+
+class Trial:
+    """One store with the set of its edges."""
+
+    def __init__(self, chance):
+        self.chance, self.vertices = chance, chance.choice([1, 2, 5, 20, 60, 300])
+        self.store, self.edges, self.number = edgebpf.Store(self.vertices), set(), 0
+        self.programs = Programs(chance)
+
+    def some_edges(self):
+        most = self.chance.choice([0, 1, 8, 60])
+        return [(self.chance.randrange(self.vertices), self.chance.randrange(self.vertices)) for _ in range(self.chance.randint(0, most))]
+
+    def batch(self):
+        inserts, removes = self.some_edges(), self.some_edges()
+        ends = lambda edges: ([one for one, _ in edges], [other for _, other in edges])
+        counts = self.store.batch(self.chance.choice("ABCD"), ends(inserts), ends(removes))
+        later = (self.edges | set(inserts)) - set(removes)
+        self.number += 1
+        same("counts", counts, edgebpf.Counts(self.number, len(later - self.edges), len(self.edges - later)))
+        self.edges = later
+        version = self.store.pin()
+        self.compare_arrays(version)
+        self.compare_program(version)
+
+    def compare_arrays(self, version):
+        rows = [one for one, _ in self.edges], [other for _, other in self.edges]
+        matrix = sparse.csr_array((np.ones(len(self.edges), np.int8), rows), shape=(self.vertices, self.vertices))
+        matrix.sort_indices()
+        starts, targets = version.csr()
+        same("starts", starts.tolist(), matrix.indptr.tolist())
+        same("targets", targets.tolist(), matrix.indices.tolist())
+        vertex = self.chance.randrange(self.vertices)
+        same("neighbours", version.neighbours(vertex).tolist(), matrix.indices[matrix.indptr[vertex]:matrix.indptr[vertex + 1]].tolist())
+
+    def compare_program(self, version):
+        record = self.chance.choice([EDGE, EDGE, EDGE + 8])
+        code = self.programs.code(record)
+        wanted = judged(code, record)
+        try:
+            program = edgebpf.Program(code, record)
+        except edgebpf.Refused as refused:
+            same("refusal", (refused.cause, refused.unit), getattr(wanted, "args", wanted))
+            return
+        same("verdict", (program.bound, program.frames), wanted[:2] if isinstance(wanted, tuple) else wanted.args)
+        if program.bound <= MOST_STEPS:
+            self.compare_runs(version, program, code, self.chance.randbytes(record - EDGE))
+
+    def compare_runs(self, version, program, code, argument):
+        ordered, targets = sorted(self.edges), {}
+        for one, other in ordered:
+            targets.setdefault(one, []).append(other)
+        graph = bpf.Graph(self.vertices, targets, len(ordered))
+        numbers = {one: [bpf.run(code, record_of((one, other), place, len(all_of), argument), graph, MOST_STEPS) for place, other in enumerate(all_of)] for one, all_of in targets.items()}
+        flat = [number for one in sorted(numbers) for number in numbers[one]]
+        same("numbers", version.numbers(program, argument).tolist(), flat)
+        reduction = self.chance.choice(list(REDUCE))
+        result = version.run(program, reduction, argument=argument)
+        same("values", result.values.tolist(), [REDUCE[reduction](numbers.get(vertex, [])) for vertex in range(self.vertices)])
+        same("total", (result.edges, result.total), (len(flat), REDUCE[reduction](flat)))
+
+
+def main():
+    parser = argparse.ArgumentParser(description=__doc__, formatter_class=argparse.RawDescriptionHelpFormatter)
+    parser.add_argument("--batches", type=int, default=1_000)
+    parser.add_argument("--seed", type=int, default=1)
+    options = parser.parse_args()
+    done, seed = 0, options.seed
+    while done < options.batches:
+        trial = Trial(random.Random(seed))
+        for _ in range(min(trial.chance.randint(1, 60), options.batches - done)):
+            try:
+                trial.batch()
+            except Difference as difference:
+                sys.exit(f"random_stores: seed {seed}, batch {trial.number}: {difference}")
+            done += 1
+        seed += 1
+    print(f"random_stores: {done} batches in {seed - options.seed} stores, none different")
+
+
+if __name__ == "__main__":
+    main()
