@@ -3,6 +3,7 @@ import os
 import pathlib
 import random
 import re
+import shutil
 import subprocess
 import sys
 import tempfile
@@ -256,7 +257,7 @@ class Package(unittest.TestCase):
         self.assertEqual(store.pin().run(mutual).values.tolist(), [1, 1, 0])
 
     def test_installed(self):
-        """`pip install` needs no network and no compiler, and gives the same package."""
+        """`pip install` needs no network, and gives the same package, with the library if there is a C compiler."""
         with tempfile.TemporaryDirectory() as folder:
             words = [sys.executable, "-m", "pip", "install", "-q", "--root-user-action=ignore", "--disable-pip-version-check", "--no-index", "--no-deps", "--target", folder, str(FOLDER)]
             run = subprocess.run(words, capture_output=True, text=True, cwd=folder)
@@ -264,7 +265,13 @@ class Package(unittest.TestCase):
                 self.skipTest("not there: pip")
             self.assertEqual((run.returncode, run.stderr), (0, ""))
             names = {path.name for path in (pathlib.Path(folder) / "edgebpf").iterdir()} - {"__pycache__"}
-            self.assertEqual(names, {path.name for path in (FOLDER / "edgebpf").iterdir()} - {"__pycache__"})
+            wanted = {path.name for path in (FOLDER / "edgebpf").iterdir()} - {"__pycache__"}
+            self.assertEqual(names - {"libedgebpf.so"}, wanted)
+            if shutil.which("cc"):
+                self.assertIn("libedgebpf.so", names)
+                words = [sys.executable, "-c", "import edgebpf; print(edgebpf.library.path()); print(edgebpf.Store(4).batch('D', ([0], [1])).added)"]
+                run = subprocess.run(words, capture_output=True, text=True, cwd=folder, env={"PYTHONPATH": folder})
+                self.assertEqual((run.stdout, run.stderr), (f"{folder}/edgebpf/libedgebpf.so\n1\n", ""))
 
 
 def zip_ends(edges):
