@@ -9,6 +9,7 @@ Seconds that a process uses after its last sample are missed. The table goes to 
 import collections
 import os
 import pathlib
+import signal
 import sys
 import time
 
@@ -43,6 +44,8 @@ def provers(top):
 
 
 def main():
+    # a shell has its jobs in the background ignore Ctrl-C
+    signal.signal(signal.SIGINT, signal.default_int_handler)
     top, used = int(sys.argv[1]) if len(sys.argv) > 1 else None, {}
     try:
         while True:
