@@ -1,4 +1,6 @@
 """The library `libedgebpf.so` by ctypes. A call lets go of the interpreter's lock, and takes the lock of each handle that it is given."""
+from __future__ import annotations
+
 import ctypes
 import ctypes.util
 import functools
@@ -6,6 +8,10 @@ import os
 import pathlib
 import subprocess
 import threading
+from collections.abc import Callable
+from typing import Any
+
+import numpy.typing as npt
 
 from edgebpf.errors import ArgumentLength, Closed, Error, LogFull, NoMemory, TooManyEdits, VertexRange
 
@@ -14,7 +20,7 @@ DIST = HERE.parents[3] / "dist"
 NAME = "libedgebpf.so"
 DONE, NO_MEMORY, EMPTY = 0, 1, 2
 VERTEX_RANGE, TOO_MANY_EDITS, LOG_FULL, LENGTHS, REFUSED, RECORD_LENGTH, CODE_LENGTH, ARGUMENT_LENGTH, WRONG_TEXT = 5, 6, 7, 9, 10, 11, 12, 13, 15
-ERRORS = {
+ERRORS: dict[int, tuple[type[Exception], str]] = {
     NO_MEMORY: (NoMemory, "there is no memory; nothing was changed"),
     EMPTY: (Closed, "it is closed"),
     VERTEX_RANGE: (VertexRange, "a vertex is not in the graph"),
@@ -48,7 +54,7 @@ class Totals(ctypes.Structure):
 
 POINTER, SIZE, WORD = ctypes.c_void_p, ctypes.c_size_t, ctypes.c_uint32
 ARRAY = (POINTER, SIZE)
-CALLS = {
+CALLS: dict[str, tuple[Any, ...]] = {
     "store_new": (WORD, POINTER),
     "store_apply": (POINTER, ctypes.c_uint8, *ARRAY, *ARRAY, *ARRAY, POINTER),
     "store_pin": (POINTER, POINTER),
@@ -63,7 +69,7 @@ CALLS = {
 }
 
 
-def in_checkout():
+def in_checkout() -> str | None:
     """The library of the checkout's `dist/`, which the C compiler builds at the first use; None where there is no checkout or compiler."""
     text, built = DIST / "libedgebpf.s", DIST / "build" / NAME
     if not text.is_file():
@@ -78,7 +84,7 @@ def in_checkout():
 
 
 @functools.cache
-def path():
+def path() -> str | None:
     """Where the library is: what EDGEBPF_LIBRARY names, else beside this package, else of the checkout, else one that is installed; or None."""
     if named := os.environ.get("EDGEBPF_LIBRARY"):
         return named
@@ -89,13 +95,13 @@ def path():
 
 
 @functools.cache
-def load():
+def load() -> dict[str, Callable[..., int]]:
     """The library's calls, by the names in CALLS."""
     found = path()
     if found is None:
         raise Error(f"{NAME} is not there: install edgebpf, or run make -C dist in a checkout, or name the library by EDGEBPF_LIBRARY")
     library = ctypes.CDLL(found)
-    calls = {}
+    calls: dict[str, Any] = {}
     for name, arguments in CALLS.items():
         calls[name] = getattr(library, f"edgebpf_{name}")
         calls[name].argtypes, calls[name].restype = arguments, WORD
@@ -104,7 +110,7 @@ def load():
     return calls
 
 
-def check(status):
+def check(status: int) -> None:
     """Raises the error of a status that is not 0."""
     if status != DONE:
         error, words = ERRORS.get(status, (Error, f"the library answered {status}"))
@@ -114,21 +120,21 @@ def check(status):
 class Handle:
     """What the library hands out. It is let go with the last object that refers to it."""
 
-    def __init__(self):
+    def __init__(self) -> None:
         self.value, self.lock = POINTER(), threading.Lock()
         self.at = ctypes.addressof(self.value)
         self._close = load()["close"]
 
-    def __del__(self):
+    def __del__(self) -> None:
         if getattr(self, "_close", None) and self.value:
             self._close(self.at)
 
 
-def array(values):
+def array(values: npt.NDArray[Any]) -> tuple[int, int]:
     """A numpy array as the library wants it: where it lies, and how many values it has."""
     return values.ctypes.data, len(values)
 
 
-def text(data):
+def text(data: bytes) -> tuple[Any, int]:
     """Bytes as the library wants them. The pointer of none is not followed."""
     return ctypes.cast(ctypes.c_char_p(data), POINTER), len(data)

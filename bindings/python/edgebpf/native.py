@@ -1,39 +1,42 @@
 """A store in this process, over `libedgebpf.so`, and its versions."""
+from __future__ import annotations
+
 import ctypes
 import threading
+from typing import Any
 
 import numpy as np
+import numpy.typing as npt
 
 from edgebpf import library
 from edgebpf.errors import ArgumentLength, Closed, TooManyEdits, VertexRange
 from edgebpf.programs import EDGE_BYTES, Program
-from edgebpf.store import FEEDS, MOST_EDITS, MOST_VERTICES, Counts, Result, vertices_of
+from edgebpf.store import FEEDS, MOST_EDITS, MOST_VERTICES, Counts, Edges, Numbers, Result, Vertices, vertices_of
 
 NUMBERS = {"sum": 0, "min": 1, "max": 2}
 LEAST_ROOM = 64
 making = threading.Lock()
 
 
-def words_of(parts):
+def words_of(parts: tuple[npt.NDArray[np.int64], ...]) -> Vertices:
     """Arrays of vertices one after another, as the library wants them."""
     return np.ascontiguousarray(np.concatenate(parts).astype(np.uint32))
 
 
-def edges_of(edges, count):
+def edges_of(edges: Edges, count: int) -> tuple[npt.NDArray[np.int64], npt.NDArray[np.int64]]:
     sources, targets = (vertices_of(ends, count) for ends in edges)
     if len(sources) != len(targets):
         raise ValueError("there are as many targets as sources")
     return sources, targets
 
 
-def handle_of(program):
+def handle_of(program: Program) -> library.Handle:
     """The library's handle of a program, which is verified there at its first use."""
     if not isinstance(program, Program):
         raise TypeError("a program is made by Program, assemble or compile_c")
     with making:
-        if program._handle is None:
-            program._verify()
-        return program._handle
+        handle = program._handle or program._verify()
+    return handle
 
 
 class Lent:
@@ -41,7 +44,7 @@ class Lent:
 
     __slots__ = ("__array_interface__", "handle")
 
-    def __init__(self, at, count, handle):
+    def __init__(self, at: int, count: int, handle: library.Handle) -> None:
         self.__array_interface__ = {"data": (at, True), "shape": (count,), "typestr": "<u4", "version": 3}
         self.handle = handle
 
@@ -49,7 +52,7 @@ class Lent:
 class Room:
     """Where the library writes slices: the address and the length of each."""
 
-    def __init__(self, count):
+    def __init__(self, count: int) -> None:
         self.count, self.slices, self.lent = count, np.empty((count, 2), np.uint64), ctypes.c_size_t()
         self.at, self.lent_at = self.slices.ctypes.data, ctypes.addressof(self.lent)
 
@@ -58,18 +61,20 @@ class Store:
     """A graph in this process, without an edge at first. Batches and runs have one worker; it may be used by several threads, which take
     turns, and is a context manager. vertices: 1 to 1,048,576."""
 
-    def __init__(self, vertices):
+    def __init__(self, vertices: int) -> None:
         if not 1 <= vertices <= MOST_VERTICES:
             raise ValueError(f"a graph has 1 to {MOST_VERTICES} vertices")
-        self.vertices, self._handle = vertices, library.Handle()
-        library.check(library.load()["store_new"](vertices, self._handle.at))
+        handle = library.Handle()
+        library.check(library.load()["store_new"](vertices, handle.at))
+        self.vertices = vertices
+        self._handle: library.Handle | None = handle
 
-    def _open(self):
+    def _open(self) -> library.Handle:
         if self._handle is None:
             raise Closed("the store is closed")
         return self._handle
 
-    def batch(self, feed="A", inserts=((), ()), removes=((), ())):
+    def batch(self, feed: str = "A", inserts: Edges = ((), ()), removes: Edges = ((), ())) -> Counts:
         """Applies one batch by feed "A", "B", "C" or "D", and returns its `Counts`.
 
         inserts, removes: pairs of arrays (sources, targets), each of whole numbers below `vertices`. Insertions are applied
@@ -88,21 +93,21 @@ class Store:
             library.check(library.load()["store_apply"](handle.at, FEEDS.index(feed), *arrays, ctypes.addressof(change)))
         return Counts(change.number, change.added, change.removed)
 
-    def pin(self):
+    def pin(self) -> Version:
         """The last version. It stays as it is while batches come."""
         handle, pin = self._open(), library.Handle()
         with handle.lock:
             library.check(library.load()["store_pin"](handle.at, pin.at))
         return Version(pin)
 
-    def close(self):
+    def close(self) -> None:
         """Lets the store go; its versions stay. May be called twice."""
         self._handle = None
 
-    def __enter__(self):
+    def __enter__(self) -> Store:
         return self
 
-    def __exit__(self, *_):
+    def __exit__(self, *_: object) -> None:
         self.close()
 
 
@@ -110,19 +115,22 @@ class Version:
     """A version of a store's graph. `number` is how many batches it has, `vertices` and `edges` how large it is. It is let go where it
     is closed, or with the last view of it."""
 
-    def __init__(self, handle):
+    def __init__(self, handle: library.Handle) -> None:
         info = library.Info()
-        self._handle, self._csr = handle, None
+        self._handle: library.Handle | None = handle
+        self._csr: tuple[npt.NDArray[np.int64], Vertices] | None = None
         self._lend, self._room = library.load()["version_lend"], Room(LEAST_ROOM)
         library.check(library.load()["version_info"](handle.at, ctypes.addressof(info)))
         self.number, self.vertices, self.edges = info.number, info.vertices, info.edges
 
-    def _open(self):
+    def _open(self) -> library.Handle:
         if self._handle is None:
             raise Closed("the version is closed")
         return self._handle
 
-    def run(self, program, reduction="sum", frontier=None, argument=b""):
+    def run(
+        self, program: Program, reduction: str = "sum", frontier: npt.ArrayLike | None = None, argument: bytes = b"",
+    ) -> Result:
         """Runs a program for each edge of some vertices, and reduces the numbers.
 
         reduction: "sum" (modulo 2^64), "min" or "max". frontier: an ascending array of vertices, or None for all.
@@ -137,13 +145,13 @@ class Version:
         self._ask("run", program, argument, arrays)
         return Result(values, totals.edges, totals.total)
 
-    def numbers(self, program, argument=b""):
+    def numbers(self, program: Program, argument: bytes = b"") -> Numbers:
         """The number of each edge, a uint64 array in the order of `csr`."""
         numbers = np.empty(self.edges, np.uint64)
         self._ask("numbers", program, argument, library.array(numbers))
         return numbers
 
-    def csr(self):
+    def csr(self) -> tuple[npt.NDArray[np.int64], Vertices]:
         """All edges: `starts`, an int64 array of `vertices` + 1 places, and `targets`, a uint32 array, ascending for each source. Both
         are read-only, for `scipy.sparse.csr_array((ones, targets, starts))`."""
         handle = self._open()
@@ -151,13 +159,11 @@ class Version:
             starts, targets = np.empty(self.vertices + 1, np.uint64), np.empty(self.edges, np.uint32)
             with handle.lock:
                 library.check(library.load()["version_copy"](handle.at, *library.array(starts), *library.array(targets)))
-            arrays = starts.view(np.int64), targets
-            for one in arrays:
-                one.flags.writeable = False
-            self._csr = arrays
+            starts.flags.writeable = targets.flags.writeable = False
+            self._csr = starts.view(np.int64), targets
         return self._csr
 
-    def slices(self, vertex):
+    def slices(self, vertex: int) -> list[Vertices]:
         """The read-only arrays in which the targets of a vertex lie, ascending. They are not copied, and keep the version."""
         if not 0 <= vertex < self.vertices:
             raise VertexRange(f"a vertex is not below {self.vertices}")
@@ -172,7 +178,7 @@ class Version:
                 self._room = Room(4 * room.count)
         return [np.asarray(Lent(at, count, handle)) for at, count in lent]
 
-    def neighbours(self, vertex):
+    def neighbours(self, vertex: int) -> Vertices:
         """The targets of a vertex, ascending, as a read-only uint32 array: a view where they lie in one slice, else a copy."""
         slices = self.slices(vertex)
         if len(slices) == 1:
@@ -181,17 +187,17 @@ class Version:
         whole.flags.writeable = False
         return whole
 
-    def close(self):
+    def close(self) -> None:
         """Gives the version up. Views of it stay. May be called twice."""
         self._handle = None
 
-    def __enter__(self):
+    def __enter__(self) -> Version:
         return self
 
-    def __exit__(self, *_):
+    def __exit__(self, *_: object) -> None:
         self.close()
 
-    def _ask(self, call, program, argument, arrays):
+    def _ask(self, call: str, program: Program, argument: bytes, arrays: tuple[Any, ...]) -> None:
         handle, code = self._open(), handle_of(program)
         if len(argument) != program.record - EDGE_BYTES:
             raise ArgumentLength(f"the argument has {program.record - EDGE_BYTES} bytes, not {len(argument)}")
