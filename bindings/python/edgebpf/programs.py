@@ -1,7 +1,6 @@
 """Programs: BPF code or text that the verifier has accepted."""
 from __future__ import annotations
 
-import ctypes
 import os
 import pathlib
 import shutil
@@ -69,8 +68,9 @@ class Program:
 
     def _verify(self) -> library.Handle:
         """Verifies the program by the library, and returns its handle."""
-        handle, verdict = library.Handle(), library.Verdict()
-        status = library.load()["program_new"](self.record, *library.text(self._bytes()), ctypes.addressof(verdict), handle.at)
+        code, verdict = self._bytes(), library.foreign().new("verdict *")
+        handle = library.Handle()
+        status = library.load().edgebpf_program_new(self.record, code, len(code), verdict, handle.at)
         if status == library.REFUSED:
             raise Refused(verdict.cause, verdict.pc, self)
         library.check(status)
@@ -81,13 +81,13 @@ class Program:
         """The code, by the library's assembler where the program is a text."""
         if self.code is not None:
             return self.code
-        told, text = library.Assembled(), (self.text or "").encode()
-        code = ctypes.create_string_buffer(8 * MOST_UNITS)
-        status = library.load()["assemble"](*library.text(text), ctypes.addressof(code), len(code), ctypes.addressof(told))
+        told, text = library.foreign().new("assembled *"), (self.text or "").encode()
+        code = library.foreign().new("uint8_t[]", 8 * MOST_UNITS)
+        status = library.load().edgebpf_assemble(text, len(text), code, len(code), told)
         if status == library.WRONG_TEXT:
             raise WrongText(told.cause, told.line)
         library.check(status)
-        return code.raw[:told.length]
+        return bytes(library.foreign().buffer(code, told.length))
 
     def _lines(self, name: str) -> bytes:
         """The lines of a script that load the program under a name."""

@@ -51,14 +51,15 @@ class Result:
     total: int
 
 
-def vertices_of(values: npt.ArrayLike, count: int) -> npt.NDArray[np.int64]:
-    """An array of vertices as int64, if all are in the graph."""
+def vertices_of(values: npt.ArrayLike, count: int) -> Vertices:
+    """An array of vertices as uint32, if all are in the graph."""
     array = np.asarray(values)
     if array.ndim != 1 or (array.size and array.dtype.kind not in "iu"):
         raise TypeError("vertices are an array of whole numbers with one dimension")
-    if array.size and (array.min() < 0 or array.max() >= count):
+    # A negative number becomes one of 2^63 and more.
+    if array.size and array.astype(np.uint64, copy=False).max() >= count:
         raise VertexRange(f"a vertex is not below {count}")
-    return array.astype(np.int64)
+    return array.astype(np.uint32)
 
 
 def edit_lines(sign: str, edges: Edges, count: int) -> list[str]:
@@ -209,16 +210,16 @@ class Version:
         digits = self._argument(program, argument)
         if frontier is None:
             values, edges, total = self._part(program, reduction, digits, "")
-            return Result(self._filled(np.arange(self.vertices), values, start), edges, total)
-        frontier = vertices_of(frontier, self.vertices)
-        if np.any(frontier[1:] <= frontier[:-1]):
+            return Result(self._filled(np.arange(self.vertices, dtype=np.uint32), values, start), edges, total)
+        chosen = vertices_of(frontier, self.vertices)
+        if np.any(chosen[1:] <= chosen[:-1]):
             raise ValueError("a frontier ascends, and has no vertex twice")
         found, edges, total = [np.empty((0, 2), np.uint64)], 0, start
-        for words in frontier_parts(frontier):
+        for words in frontier_parts(chosen):
             rows, some, part = self._part(program, reduction, digits, words)
             found.append(rows)
             edges, total = edges + some, int(combine(np.uint64(total), np.uint64(part)))
-        return Result(self._filled(frontier, np.concatenate(found), start), edges, total)
+        return Result(self._filled(chosen, np.concatenate(found), start), edges, total)
 
     def numbers(self, program: Program, argument: bytes = b"") -> Numbers:
         """The number of each edge, a uint64 array in the order of `csr`."""
@@ -273,10 +274,10 @@ class Version:
         _, rows = self._store._process.ask(f"list {name} {self._name} {digits}\n".encode(), has_rows=True)
         return numbers_in(rows, b"edge ", 3)
 
-    def _filled(self, frontier: npt.NDArray[np.int64], rows: Numbers, start: int) -> Numbers:
+    def _filled(self, frontier: Vertices, rows: Numbers, start: int) -> Numbers:
         """One number for each vertex of a frontier, where only some have a row."""
         values = np.full(len(frontier), start, np.uint64)
-        values[np.searchsorted(frontier, rows[:, 0].astype(np.int64))] = rows[:, 1]
+        values[np.searchsorted(frontier, rows[:, 0].astype(np.uint32))] = rows[:, 1]
         return values
 
 
@@ -285,7 +286,7 @@ def numbers_in(rows: bytes, word: bytes, columns: int) -> Numbers:
     return np.fromstring(rows.replace(word, b"").decode(), np.uint64, sep=" ").reshape(-1, columns)
 
 
-def frontier_parts(frontier: npt.NDArray[np.int64]) -> Iterator[str]:
+def frontier_parts(frontier: Vertices) -> Iterator[str]:
     """The vertices of a frontier as words, each part short enough for a line. An empty frontier has no part."""
     part: list[str] = []
     size = 0
