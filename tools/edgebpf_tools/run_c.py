@@ -10,7 +10,7 @@ from edgebpf_tools.words import in_words
 
 PIN = "last"
 FAULTS = {
-    1: "a line of more than 70,000 bytes",
+    1: "a line of more than 80,000 bytes",
     2: "a byte that no line may have, an unknown command, or wrong words",
     3: "a command before `graph`, or a second `graph`",
     4: "a number of vertices, a record length or a vertex that is out of range",

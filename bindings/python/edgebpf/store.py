@@ -21,8 +21,8 @@ MOST_EDITS = 65_536
 MOST_BATCHES = 4_096
 MOST_NAMES = 256
 FEEDS = ("A", "B", "C", "D")
-# A line of a script has at most 70,000 bytes; the vertices of a run get what its other words leave.
-FRONTIER_BYTES = 68_000
+# A line of a script has at most 80,000 bytes; the vertices of a run get what its other words leave.
+FRONTIER_BYTES = 78_000
 REDUCTIONS: dict[str, tuple[int, Any]] = {"sum": (0, np.add), "min": (2**64 - 1, np.minimum), "max": (0, np.maximum)}
 CHUNK = 1 << 20
 
