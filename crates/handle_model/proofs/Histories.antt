@@ -5,13 +5,12 @@ use Rattle.store_model.specs.declared.event.Event.{Event}
 use Rattle.store_model.specs.declared.event.Event.TheVariants.{Submit, Take}
 use Rattle.store_model.specs.declared.reply.Reply.{Reply}
 use Rattle.store_model.specs.declared.reply.Reply.TheVariants.{Done}
-use Rattle.past_model.specs.Past.{of_feed}
-use Rattle.store_model.specs.Core.{Core, entries}
+use Rattle.store_model.specs.Core.{Core}
 use Rattle.store_model.specs.Events.{Ran}
-use Rattle.handle_model.specs.Sights.{FeedSees, PublisherSees}
+use Rattle.handle_model.specs.Sights.{PublisherSees}
 use Rattle.handle_model.specs.Calls.{IsNext, waiting_after, publication, all_done}
 use Rattle.handle_model.specs.Histories.{Standing, IsSubmitted, IsFirst, IsPublished, IsTaken, AllSee, HistoriesAreRuns}
-use Rattle.handle_model.proofs.Submissions.{submissions_are}
+use Rattle.handle_model.proofs.Submissions.{able}
 use Rattle.handle_model.proofs.Publications.{publications_are, ranges_are, takings_are}
 
 -- events and then others
@@ -30,19 +29,18 @@ LeadsTo s y = (t : Core) × (events : List Event) × (replies : List Reply) × R
 submitted : (s : Core) (x y : Standing) → AllSee s x → IsSubmitted x y → LeadsTo s y
 submitted s x y sees call =
     let e : Entry = call.entry in
-    let sees_feed : FeedSees s x.past.vertex_count e.feed (of_feed e.feed (entries s)) =
-    record { count = ap (λ p. p.vertex_count) sees.publisher.published; all_sent = refl } in
-    let (t, step, sent) = submissions_are x.past.vertex_count e.feed e.batch (of_feed e.feed (entries s)) call.feed call.below s sees_feed
-    (subst (λ l. length l < 64) (sym sees.queue) call.room) in (
+    let t : Core = record s { queue = s.queue ++ e ∷ [] } in
+    let can_be = able s x.past.vertex_count e.feed e.batch (ap (λ p. p.vertex_count) sees.publisher.published) call.feed
+    (subst (λ l. length l < 64) (sym sees.queue) call.room) call.below in (
       t,
       Submit e.feed e.batch ∷ [],
       Done ∷ [],
-      (t, step, refl),
-      subst (λ z. AllSee z y) (sym step.2) (subst (AllSee (record s { queue = s.queue ++ e ∷ [] })) (sym call.now)
+      (t, (can_be, refl, refl), refl),
+      subst (AllSee t) (sym call.now)
           (record {
             publisher = record { published = sees.publisher.published; holds = sees.publisher.holds };
             queue = ap (λ l. l ++ e ∷ []) sees.queue;
-          })),
+          }),
     )
 
 next_is : (s : Core) (held : Option Entry) (waiting : List Entry) (e : Entry) → s.queue ≡ waiting → IsFirst held waiting e → IsNext s held e

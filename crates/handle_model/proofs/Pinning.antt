@@ -2,18 +2,20 @@
 use Rattle.std.proofs.Common.{◌≡◌, ◌==◌, ℕ, suc, ◌<◌, ◌⊎◌, inl, inr, nat_lt, false, Option, Some, None, is_some, option_map, MatchOption, List, [], ◌∷◌, ◌++◌, length, slice_set, refl, sym, ap, subst, ◌∙◌, append_assoc, append-nil, length-append, arith}
 use Rattle.std.specs.List.{list_any, insert}
 use Rattle.std.proofs.lemmas.Bool.{and_from, or_parts, lt-ltb, eqb-false}
-use Rattle.std.proofs.lemmas.List.{get_or-set_same, get_or-set_other, set_comm, append_cancel_left}
+use Rattle.std.proofs.lemmas.List.{get_or-set_same, get_or-set_other, set_comm}
 use Rattle.past_model.specs.declared.entry.Entry.{Entry}
-use Rattle.past_model.specs.Past.{Past, longer, past_in}
+use Rattle.past_model.specs.Past.{Past}
+use Rattle.past_model.specs.Epochs.{IsBefore, IsBeforeInEpoch}
+use Rattle.past_model.proofs.Epochs.{before_one}
 use Rattle.store_model.specs.declared.event.Event.{Event}
 use Rattle.store_model.specs.declared.event.Event.TheVariants.{Submit, Take, Part, Publish, Pin, Lend}
 use Rattle.store_model.specs.declared.reply.Reply.{Reply}
 use Rattle.store_model.specs.declared.reply.Reply.TheVariants.{Done, Refused, Slice, End}
 use Rattle.store_model.specs.Core.{Core, Holding, Run, run_of, words_of}
-use Rattle.store_model.specs.Events.{IsBeginning, can, Answers, Lends, after, after_take, after_publish, after_lend, Happens, Steps, Ran}
-use Rattle.store_model.proofs.Steps.{step_keeps, runs_keep}
+use Rattle.store_model.specs.Events.{can, Answers, Lends, after, after_take, after_publish, after_lend, Happens, Steps, Ran}
 use Rattle.handle_model.specs.Calls.{is_of_reader, new_run, with_run}
 use Rattle.handle_model.specs.Laws.{PinsAre}
+use Rattle.handle_model.proofs.Passing.{grown, goes_on, one_first, none_between}
 
 -- one reader's run is nothing to the events of others
 other_run : (s : Core) (reader by : ℕ) (run : Run) → (by == reader) ≡ false → run_of (with_run s reader run) by ≡ run_of s by
@@ -85,107 +87,52 @@ ran_still s t reader run (event ∷ events) (reply ∷ replies) others (mid, ste
 ran_still s t reader run [] (reply ∷ replies) others ran = absurd ran
 ran_still s t reader run (event ∷ events) [] others ran = absurd ran
 
--- an event publishes one batch or none
-abbrev Grown : Core → Core → Type 0
-Grown s t = (t.past ≡ s.past) ⊎ ((e : Entry) × (t.past ≡ longer s.past e))
-
-grown_take : (queue : List Entry) (s : Core) → Grown s (after_take queue s)
-grown_take [] s = inl refl
-grown_take (e ∷ es) s = inl refl
-
-grown_publish : (held : Option Holding) (s : Core) → Grown s (after_publish held s)
-grown_publish None s = inl refl
-grown_publish (Some h) s = inr (h.entry, refl)
-
-grown_after : (s : Core) (event : Event) (reply : Reply) → Grown s (after s event reply)
-grown_after s (Submit feed batch) reply = inl refl
-grown_after s Take reply = grown_take s.queue s
-grown_after s (Part range) reply = inl refl
-grown_after s Publish reply = grown_publish s.held s
-grown_after s (Pin reader vertex) reply = inl refl
-grown_after s (Lend reader) reply = inl refl
-
-grown : (s t : Core) (event : Event) (reply : Reply) → Steps s event reply t → Grown s t
-grown s t event reply step = step_keeps (Grown s) s t event reply (inl refl) (λ h. subst (Grown s) (sym h.2) (grown_after s event reply)) step
-
--- and a log is a beginning of what it becomes
-still_begins : (log : List Entry) (s t : Core) → Grown s t → IsBeginning log s.past.log → IsBeginning log t.past.log
-still_begins log s t (inl same) (more, is) = (more, ap (λ p. p.log) same ∙ is)
-still_begins log s t (inr (e, next)) (more, is) =
-    (more ++ e ∷ [], ap (λ p. p.log) next ∙ ap (λ l. l ++ e ∷ []) is ∙ append_assoc log more (e ∷ []))
-
-begins : (s t : Core) (events : List Event) (replies : List Reply) → Ran s events replies t → IsBeginning s.past.log t.past.log
-begins s t events replies ran =
-    runs_keep (λ x. IsBeginning s.past.log x.past.log)
-    (λ x y event reply now h. still_begins s.past.log x y (subst (Grown x) (sym h.2) (grown_after x event reply)) now) s t events replies
-    ([], sym (append-nil s.past.log)) ran
-
-past_is : (p q : Past) → p.vertex_count ≡ q.vertex_count → p.log ≡ q.log → p ≡ q
-past_is p q counts logs = ap (λ n. past_in n p.log) counts ∙ ap (past_in q.vertex_count) logs
-
-abbrev first_or : Entry → List Entry → Entry
-first_or d [] = d
-first_or d (e ∷ es) = e
-
--- the batch that is published next is the pinned version's next
-next_same : (log rest more most : List Entry) (e next : Entry) → (log ++ next ∷ []) ++ most ≡ (log ++ e ∷ rest) ++ more → next ≡ e
-next_same log rest more most e next is =
-    ap (first_or e) (append_cancel_left log (next ∷ most) (e ∷ (rest ++ more)) (sym (append_assoc log (next ∷ []) most) ∙ is ∙ append_assoc log (e ∷ rest) more))
-
-nothing_more : (log rest more : List Entry) (e : Entry) → log ≡ (log ++ e ∷ rest) ++ more → ⊥
-nothing_more log rest more e is = omega (arith, ap length is, length-append (log ++ e ∷ rest) more, length-append log (e ∷ rest))
-
--- one event more before the pin's place
-further : (pinned : Past) (reader vertex : ℕ) (s mid t : Core) (event : Event) (reply : Reply) (events : List Event) (replies : List Reply) (e : Entry)
-    (rest more : List Entry) → s.past.vertex_count ≡ pinned.vertex_count → pinned.log ≡ s.past.log ++ e ∷ rest → t.past.log ≡ pinned.log ++ more → Grown s mid
-    → Steps s event reply mid → Ran mid events replies t
-    → ((left : List Entry) → mid.past.vertex_count ≡ pinned.vertex_count → pinned.log ≡ mid.past.log ++ left
-    → (place : ℕ) × Ran mid (insert events place (Pin reader vertex)) (insert replies place Done) (with_run t reader (new_run pinned vertex)))
-    → (place : ℕ) × Ran s (insert (event ∷ events) place (Pin reader vertex)) (insert (reply ∷ replies) place Done) (with_run t reader (new_run pinned vertex))
-further pinned reader vertex s mid t event reply events replies e rest more counts log now (inl same) step ran onwards =
-    let (place, found) = onwards (e ∷ rest) (ap (λ p. p.vertex_count) same ∙ counts) (log ∙ ap (λ p. p.log ++ e ∷ rest) (sym same)) in
-    (suc place, (mid, step, found))
-further pinned reader vertex s mid t event reply events replies e rest more counts log now (inr (next, is)) step ran onwards =
-    let (most, goes) = begins mid t events replies ran in
-    let same : next ≡ e = next_same s.past.log rest more most e next
-    (ap (λ p. p.log ++ most) (sym is) ∙ sym goes ∙ now ∙ ap (λ l. l ++ more) log) in
-    let (place, found) = onwards rest (ap (λ p. p.vertex_count) is ∙ counts)
-    (log ∙ sym (append_assoc s.past.log (e ∷ []) rest) ∙ ap (λ x. (s.past.log ++ x ∷ []) ++ rest) (sym same) ∙ ap (λ p. p.log ++ rest) (sym is)) in
-    (suc place, (mid, step, found))
-
--- the pin's place: at once where the version is the last one, and else after as many events as make it
-placed : (pinned : Past) (reader vertex : ℕ) (s t : Core) (events : List Event) (replies : List Reply) (rest more : List Entry)
-    → s.past.vertex_count ≡ pinned.vertex_count → pinned.log ≡ s.past.log ++ rest → t.past.log ≡ pinned.log ++ more → Ran s events replies t
+-- the pin is made at once where the version is the last one
+at_once : (pinned : Past) (reader vertex : ℕ) (s t : Core) (events : List Event) (replies : List Reply) → s.past ≡ pinned → Ran s events replies t
     → list_any (is_of_reader reader) events ≡ false → reader < 16 → vertex < pinned.vertex_count
-    → (place : ℕ) × Ran s (insert events place (Pin reader vertex)) (insert replies place Done) (with_run t reader (new_run pinned vertex))
-placed pinned reader vertex s t events replies [] more counts log now ran others there inside =
-    let same : pinned ≡ s.past = past_is pinned s.past (sym counts) (log ∙ append-nil s.past.log) in (
-      0,
-      (
-        with_run s reader (new_run pinned vertex),
-        (
-          and_from (nat_lt reader 16) (nat_lt vertex s.past.vertex_count) (lt-ltb reader 16 there)
-              (lt-ltb vertex s.past.vertex_count (subst (λ n. vertex < n) (sym counts) inside)),
-          refl,
-          ap (λ p. with_run s reader (new_run p vertex)) same,
-        ),
-        ran_still s t reader (new_run pinned vertex) events replies others ran,
-      ),
-    )
-placed pinned reader vertex s t [] [] (e ∷ rest) more counts log now ran others there inside =
-    absurd (nothing_more s.past.log rest more e (ap (λ x. x.past.log) (sym ran) ∙ now ∙ ap (λ l. l ++ more) log))
-placed pinned reader vertex s t (event ∷ events) (reply ∷ replies) (e ∷ rest) more counts log now (mid, step, ran) others there inside =
-    let (first, last) = or_parts (is_of_reader reader event) (list_any (is_of_reader reader) events) others in
-    further pinned reader vertex s mid t event reply events replies e rest more counts log now (grown s mid event reply step) step ran
-    (λ left counts log. placed pinned reader vertex mid t events replies left more counts log now ran last there inside)
-placed pinned reader vertex s t [] (reply ∷ replies) (e ∷ rest) more counts log now ran others there inside = absurd ran
-placed pinned reader vertex s t (event ∷ events) [] (e ∷ rest) more counts log now ran others there inside = absurd ran
+    → Ran s (Pin reader vertex ∷ events) (Done ∷ replies) (with_run t reader (new_run pinned vertex))
+at_once pinned reader vertex s t events replies same ran others there inside = (
+  with_run s reader (new_run pinned vertex),
+  (
+    and_from (nat_lt reader 16) (nat_lt vertex s.past.vertex_count) (lt-ltb reader 16 there)
+        (lt-ltb vertex s.past.vertex_count (subst (λ p. vertex < p.vertex_count) (sym same) inside)),
+    refl,
+    ap (λ p. with_run s reader (new_run p vertex)) (sym same),
+  ),
+  ran_still s t reader (new_run pinned vertex) events replies others ran,
+)
+
+abbrev HasPlace : Past → ℕ → ℕ → Core → List Event → List Reply → Core → Type 0
+HasPlace pinned reader vertex s events replies t =
+    (place : ℕ) × Ran s (insert events place (Pin reader vertex)) (insert replies place Done) (with_run t reader (new_run pinned vertex))
+
+-- the pin's place: before the first event that leads past the version, or after the last one
+placed : (pinned : Past) (reader vertex : ℕ) (s t : Core) (events : List Event) (replies : List Reply)
+    → IsBefore s.past pinned → IsBeforeInEpoch pinned t.past → Ran s events replies t
+    → list_any (is_of_reader reader) events ≡ false → reader < 16 → vertex < pinned.vertex_count → HasPlace pinned reader vertex s events replies t
+placed pinned reader vertex s t [] [] first last ran others there inside =
+    let now : IsBeforeInEpoch pinned s.past = subst (λ x. IsBeforeInEpoch pinned x.past) ran last in
+    (0, at_once pinned reader vertex s t [] [] (before_one s.past pinned first (sym first.0, inl now)) ran others there inside)
+placed pinned reader vertex s t (event ∷ events) (reply ∷ replies) first last (mid, step, ran) others there inside =
+    let (none, more) = or_parts (is_of_reader reader event) (list_any (is_of_reader reader) events) others in
+    let before : IsBefore s.past t.past = goes_on s t (event ∷ events) (reply ∷ replies) (mid, step, ran) in
+    let rest : IsBefore mid.past t.past = goes_on mid t events replies ran in
+    let counts : pinned.vertex_count ≡ t.past.vertex_count = first.0 ∙ sym before.0 in
+    elim (one_first mid.past pinned t.past rest counts last) [
+      | inl still ↦ (
+          let (place, found) = placed pinned reader vertex mid t events replies still last ran more there inside in (suc place, (mid, step, found)))
+      | inr past ↦ elim (none_between s.past pinned mid.past (grown s mid event reply step) first (counts ∙ rest.0) past) [
+        | inl here ↦ (0, at_once pinned reader vertex s t (event ∷ events) (reply ∷ replies) here (mid, step, ran) others there inside)
+        | inr next ↦ (1, (mid, step, at_once pinned reader vertex mid t events replies next ran more there inside))
+      ]
+    ]
+placed pinned reader vertex s t [] (reply ∷ replies) first last ran others there inside = absurd ran
+placed pinned reader vertex s t (event ∷ events) [] first last ran others there inside = absurd ran
 
 pub pins_are : PinsAre
 pins_are = (
-  λ seen pinned counts begins s t events replies reader vertex was ran others now there inside. placed pinned reader vertex s t events replies
-      begins.0 now.0 (ap (λ p. p.vertex_count) was ∙ counts) (begins.1 ∙ ap (λ p. p.log ++ begins.0) (sym was)) now.1 ran others there
-      (subst (λ n. vertex < n) counts inside),
+  λ seen pinned before s t events replies reader vertex was ran others now there inside. placed pinned reader vertex s t events replies
+      (subst (λ p. IsBefore p pinned) (sym was) before) now ran others there (subst (λ n. vertex < n) (sym before.0) inside),
   λ s reader vertex past there. record {
     run = new_run past vertex;
     has = get_or-set_same s.runs reader (Some (new_run past vertex)) None there;

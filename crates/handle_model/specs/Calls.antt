@@ -6,13 +6,14 @@ use Rattle.std.specs.List.{list_any, insert}
 use Rattle.past_model.specs.declared.edit.Edit.{Edit}
 use Rattle.past_model.specs.declared.entry.Entry.{Entry}
 use Rattle.past_model.specs.Past.{Past}
+use Rattle.past_model.specs.Epochs.{IsBeforeInEpoch}
 use Rattle.store_model.specs.declared.limits.TheConstants.{READERS, QUEUE_PLACES}
 use Rattle.store_model.specs.declared.event.Event.{Event}
 use Rattle.store_model.specs.declared.event.Event.TheVariants.{Submit, Take, Part, Publish, Pin, Lend}
 use Rattle.store_model.specs.declared.reply.Reply.{Reply}
 use Rattle.store_model.specs.declared.reply.Reply.TheVariants.{Done, Slice, End}
 use Rattle.store_model.specs.Core.{Core, Run, is_done, range_of}
-use Rattle.store_model.specs.Events.{IsBeginning, Steps, Ran}
+use Rattle.store_model.specs.Events.{Steps, Ran}
 use Rattle.handle_model.specs.Sights.{FeedSees, PublisherSees, CursorSees}
 
 -- the batch was submitted, where the queue had room for it
@@ -85,12 +86,12 @@ abbrev pub with_run : Core → ℕ → Run → Core
 with_run s reader run = record s { runs = slice_set s.runs reader (Some run) }
 
 -- A reader saw one version last, and then pinned another. Others do whatever they like in a store whose last version
--- was the first of the two, until it has the second. Then the pin has its place among their events, and all
--- but the reader's run is as without it.
+-- was the first of the two, until its log is one of the second's epoch and begins with that of the second. Then the pin has
+-- its place among their events, and all but the reader's run is as without it.
 abbrev pub IsPin : Past → Past → Type 0
 IsPin seen pinned =
     (s t : Core) (events : List Event) (replies : List Reply) (reader vertex : ℕ) → s.past ≡ seen → Ran s events replies t
-    → list_any (is_of_reader reader) events ≡ false → IsBeginning pinned.log t.past.log → reader < READERS → vertex < seen.vertex_count
+    → list_any (is_of_reader reader) events ≡ false → IsBeforeInEpoch pinned t.past → reader < READERS → vertex < seen.vertex_count
     → (place : ℕ) × Ran s (insert events place (Pin reader vertex)) (insert replies place Done) (with_run t reader (new_run pinned vertex))
 
 -- a cursor lent a slice, or told the end

@@ -4,14 +4,15 @@ use Rattle.past_model.specs.declared.edit.Edit.{Edit}
 use Rattle.past_model.specs.declared.entry.Entry.{Entry}
 use Rattle.graph_model.specs.Graph.{neighbours}
 use Rattle.past_model.specs.Edits.{AreEditsBelow}
-use Rattle.past_model.specs.Past.{Past, graph_of, longer, of_feed}
+use Rattle.past_model.specs.Past.{Past, graph_of, longer}
 use Rattle.past_model.specs.declared.limits.TheConstants.{FEEDS}
+use Rattle.past_model.specs.Epochs.{IsBefore}
 use Rattle.store_model.specs.declared.event.Event.{Event}
 use Rattle.store_model.specs.declared.event.Event.TheVariants.{Submit, Take, Part, Publish, Pin, Lend}
 use Rattle.store_model.specs.declared.reply.Reply.{Reply}
-use Rattle.store_model.specs.Core.{Core, run_of, entries}
+use Rattle.store_model.specs.Core.{Core, run_of}
 use Rattle.store_model.specs.Events.{IsBeginning, Steps, Ran}
-use Rattle.handle_model.specs.Sights.{PublisherSees, CursorSees}
+use Rattle.handle_model.specs.Sights.{FeedSees, PublisherSees, CursorSees}
 use Rattle.handle_model.specs.Calls.{IsSubmission, IsPublication, IsTaking, IsPin, IsLend, IsNext, AreRangesOf, publication, is_of_reader, new_run, with_run}
 
 -- a batch of a feed that there is, whose edits name vertices, is the next that the feed has sent
@@ -32,10 +33,10 @@ RangesAre = (batch : List Edit) → (ranges : List ℕ) × AreRangesOf batch ran
 abbrev pub TakingsAre : Type 0
 TakingsAre = (past : Past) (held : Option Entry) (e : Entry) → IsTaking past held e past
 
--- a version that continues the one that was seen can be pinned, and its cursor has all neighbours of its vertex to lend
+-- the version that was seen, and one that it is before, can be pinned, and the cursor has all neighbours of its vertex to lend
 abbrev pub PinsAre : Type 0
 PinsAre =
-    ((seen pinned : Past) → seen.vertex_count ≡ pinned.vertex_count → IsBeginning seen.log pinned.log → IsPin seen pinned)
+    ((seen pinned : Past) → IsBefore seen pinned → IsPin seen pinned)
     × ((s : Core) (reader vertex : ℕ) (past : Past) → reader < length s.runs
     → CursorSees (with_run s reader (new_run past vertex)) reader past vertex (neighbours (graph_of past) vertex))
 
@@ -64,7 +65,8 @@ is_of_publisher (Lend reader) = false
 -- an event of others changes nothing of what a handle sees; and batches that wait are only taken by the publisher
 pub record OthersLeave (s : Core) (event : Event) (t : Core) : Type 0 where
   pub count : t.past.vertex_count ≡ s.past.vertex_count
-  pub of_feeds : (feed : ℕ) → is_submission_of feed event ≡ false → of_feed feed (entries t) ≡ of_feed feed (entries s)
+  pub of_feeds : (n feed : ℕ) (sent : List Entry) → feed < FEEDS → is_submission_of feed event ≡ false → FeedSees s n feed sent
+      → FeedSees t n feed sent
   pub of_publisher : is_of_publisher event ≡ false → (t.past ≡ s.past) × (t.held ≡ s.held) × IsBeginning s.queue t.queue
   pub of_readers : (reader : ℕ) → is_of_reader reader event ≡ false → run_of t reader ≡ run_of s reader
 

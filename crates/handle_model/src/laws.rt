@@ -23,8 +23,8 @@ pub fn takings_are()
     ensures { TakingsAre }
 {}
 
-/// A pin of a version that continues the one which the reader saw last has its place as an event among those of others,
-/// whatever they are. Its cursor has all the vertex's neighbours to lend.
+/// A pin of the version which the reader saw last, or of one which that is before, has its place as an event among those of
+/// others, whatever they are. Its cursor has all the vertex's neighbours to lend.
 pub fn pins_are()
     ensures { PinsAre }
 {}

@@ -5,18 +5,18 @@ use Rattle.std.proofs.lemmas.Bool.Decides.{nat_tests}
 use mathlib.Core.List.{IsPrefix}
 use prog.Atomic.{either}
 use Rattle.logbook.specs.Pages.{Cell, cell, keeps, no_nib, step, Moves, Goes}
-use Rattle.past_model.specs.declared.entry.Entry.{Entry}
+use Rattle.history.specs.declared.published.Published.{Published}
 use Rattle.history.specs.Rule.{IsKept, Adds}
 use Rattle.past_model.proofs.Beginnings.{prefix_whole}
 
-abbrev shown : List Entry → List Entry
+abbrev shown : List Published → List Published
 shown log = []
 
-abbrev moved : List Entry → List Entry → ℕ → Type 0
+abbrev moved : List Published → List Published → ℕ → Type 0
 moved xs ys n = Unit {0}
 
 -- by whether the word found is the one that was expected
-pub adds_goes : (log v : List Entry) (e : Entry) (old : ℕ) → length v ≡ old → IsPrefix v log
+pub adds_goes : (log v : List Published) (e : Published) (old : ℕ) → length v ≡ old → IsPrefix v log
     → (b : Bool) → (length log == old) ≡ b
     → Goes IsKept shown moved 0 (v, (no_nib, None)) (λ n. either (n == old) (old + 1) n) (Adds (step 0 old (old + 1) e) (v, (no_nib, None))) ((length log, true) ∷ (0, true) ∷ []) log
 adds_goes log v e old len pre true is =
@@ -44,7 +44,7 @@ adds_goes log v e old len pre false is =
     )
 
 -- whatever the history is, the exchange adds the batch to all that was known, or finds that the history is longer
-pub adds_moves : (v : List Entry) (e : Entry) (old : ℕ) → length v ≡ old
+pub adds_moves : (v : List Published) (e : Published) (old : ℕ) → length v ≡ old
     → Moves IsKept shown moved 0 (v, (no_nib, None)) (λ n. either (n == old) (old + 1) n) (Adds (step 0 old (old + 1) e) (v, (no_nib, None)))
 adds_moves v e old len cs log kept pre away =
     let P : List Cell → Type 0 = λ c. (0 < length c) × ((cell c 0).1 ≡ true) × Goes IsKept shown moved 0 (v, (no_nib, None)) (λ n. either (n == old) (old + 1) n) (Adds (step 0 old (old + 1) e) (v, (no_nib, None))) c log in

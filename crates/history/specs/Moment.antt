@@ -1,9 +1,11 @@
--- A store's history is the list of the batches that it published. It is kept in a book, and only grows.
+-- A store's history is the list of what it published: batches and rebases. It is kept in a book, and only grows.
 use Rattle.std.specs.Prelude.{◌≡◌, ℕ, List, [], ◌∷◌, ◌++◌, length}
-use mathlib.Core.List.{IsPrefix}
 use Rattle.logbook.specs.Pages.{Book}
 use Rattle.past_model.specs.declared.entry.Entry.{Entry}
-use Rattle.past_model.specs.Past.{Past, past_in, opening, longer}
+use Rattle.past_model.specs.Past.{Past, opening, longer}
+use Rattle.past_model.specs.Epochs.{rebased, IsBefore}
+use Rattle.history.specs.declared.published.Published.{Published}
+use Rattle.history.specs.declared.published.Published.TheVariants.{Batch, Rebase}
 
 -- a version's moment: what it is the replay of, and the book in which its store keeps its history
 pub record Moment : Type 0 where
@@ -18,35 +20,45 @@ opening_moment n b = record { past = opening n; book = b }
 abbrev pub after_entry : Moment → Entry → Moment
 after_entry m e = record { past = longer m.past e; book = m.book }
 
+-- a new epoch
+abbrev pub after_rebase : Moment → Moment
+after_rebase m = record { past = rebased m.past; book = m.book }
+
 -- they are of the same store, and of as many vertices
 abbrev pub OneStore : Moment → Moment → Type 0
 OneStore a b = (b.book ≡ a.book) × (b.past.vertex_count ≡ a.past.vertex_count)
 
--- b is of the same store, and no earlier: its log begins with all of a's
+-- b is of the same store, and no earlier
 abbrev pub Begins : Moment → Moment → Type 0
-Begins a b = OneStore a b × IsPrefix a.past.log b.past.log
+Begins a b = OneStore a b × IsBefore a.past b.past
 
--- some first batches of the history that a book keeps
+-- what comes of a past by a publication
+abbrev pub after_one : Past → Published → Past
+after_one p (Batch e) = longer p e
+after_one p Rebase = rebased p
+
+-- and by some, one after another
+abbrev pub after_all : Past → List Published → Past
+after_all p [] = p
+after_all p (x ∷ xs) = after_all (after_one p x) xs
+
+-- the first publications of the history that a book keeps
 pub record Beginning : Type 0 where
-  pub log : List Entry
+  pub published : List Published
   pub book : Book
 
--- those that a version of this moment has
-abbrev pub beginning_of : Moment → Beginning
-beginning_of m = record { log = m.past.log; book = m.book }
-
--- the moment of a version with so many vertices and these batches
+-- the moment of a version with so many vertices after these
 abbrev pub moment_of : ℕ → Beginning → Moment
-moment_of n k = record { past = past_in n k.log; book = k.book }
+moment_of n k = record { past = after_all (opening n) k.published; book = k.book }
 
--- no batch
-abbrev pub no_batch : Book → Beginning
-no_batch b = record { log = []; book = b }
+-- nothing published
+abbrev pub nothing_published : Book → Beginning
+nothing_published b = record { published = []; book = b }
 
--- one batch more
-abbrev pub and_then : Beginning → Entry → Beginning
-and_then k e = record { log = k.log ++ e ∷ []; book = k.book }
+-- one publication more
+abbrev pub and_then : Beginning → Published → Beginning
+and_then k x = record { published = k.published ++ x ∷ []; book = k.book }
 
--- how many batches they are
+-- how many publications they are
 abbrev pub count_of : Beginning → ℕ
-count_of k = length k.log
+count_of k = length k.published

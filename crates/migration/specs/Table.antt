@@ -7,8 +7,9 @@ use Rattle.std.specs.Arc.{arc_value}
 use Rattle.past_model.specs.declared.limits.TheConstants.{MOST_VERTICES, RANGE_VERTICES}
 use Rattle.past_model.specs.declared.edit.Edit.{Edit}
 use Rattle.past_model.specs.declared.home.Home.{Home}
-use Rattle.graph_model.specs.Graph.{Graph}
+use Rattle.graph_model.specs.Graph.{Graph, numbers_below}
 use Rattle.past_model.specs.Homes.{home_after}
+use Rattle.past_model.specs.Past.{Base, no_base}
 use Rattle.past_model.specs.Edits.{after_batch, added, removed, AreEditsBelow}
 use Rattle.migration.specs.declared.counts.Counts.{Counts}
 use Rattle.migration.specs.Part.{Part, IsPart, row_at, home_at}
@@ -65,3 +66,11 @@ home_in parts v = home_at (part_at parts (v / RANGE_VERTICES)) (v % RANGE_VERTIC
 -- each list is at home where it was before edits, or where it had to move
 abbrev pub AreMoved : List Part → List Part → Type 0
 AreMoved parts next = (v : ℕ) → home_in next v ≡ home_after (home_in parts v) (length (row_in next v))
+
+-- the lists and the homes that parts have of so many vertices, as the base of a past; without parts it has no edge
+abbrev pub base_in : ℕ → List Part → Base
+base_in n parts = record { rows = map (row_in parts) (numbers_below n); homes = map (home_in parts) (numbers_below n) }
+
+abbrev pub base_at : ℕ → Option (List Part) → Base
+base_at n None = no_base
+base_at n (Some parts) = base_in n parts

@@ -3,3 +3,4 @@ pub mod Beginnings
 pub mod Below
 pub mod Pasts
 pub mod HomeLemmas
+pub mod Epochs

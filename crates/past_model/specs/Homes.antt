@@ -4,9 +4,9 @@ use Rattle.past_model.specs.declared.home.Home.{Home}
 use Rattle.past_model.specs.declared.home.Home.TheVariants.{Block, Gapped, Tree}
 use Rattle.past_model.specs.declared.home.TheConstants.{BLOCK_MOST, BLOCK_RETURN, ARRAY_MOST, ARRAY_RETURN}
 use Rattle.past_model.specs.declared.entry.Entry.{Entry}
-use Rattle.graph_model.specs.Graph.{Graph, degree, empty_graph}
+use Rattle.graph_model.specs.Graph.{Graph, degree}
 use Rattle.past_model.specs.Edits.{after_batch}
-use Rattle.past_model.specs.Past.{Past}
+use Rattle.past_model.specs.Past.{Past, base_graph, base_home}
 
 -- the home of so many neighbours, where a block and an array may have at most these
 abbrev pub home_within : ℕ → ℕ → ℕ → Home
@@ -30,6 +30,6 @@ home_along [] g v home = home
 home_along (e ∷ es) g v home =
     home_along es (after_batch e.batch g) v (home_after home (degree (after_batch e.batch g) v))
 
--- the home of a vertex in a version: at first its block
+-- the home of a vertex in a version: at first that of its base
 abbrev pub home_of : Past → ℕ → Home
-home_of p v = home_along p.log (empty_graph p.vertex_count) v Block
+home_of p v = home_along p.log (base_graph p) v (base_home p v)

@@ -3,6 +3,7 @@
 ghost use Rattle.std.specs.Prelude.{◌≡◌, IfOk};
 ghost use Rattle.past_model.specs.Laws.{OneEdit, EditsInTurn, ChangeOfSize, ReplayIsGraph};
 ghost use Rattle.past_model.specs.HomeLaws.{HomesHold, HomesStay, HomeOfLonger, HomesAtLimits};
+ghost use Rattle.past_model.specs.EpochLaws.{RebaseChangesNothing, PastsAreInOrder, PublicationsGoOn};
 
 use crate::batch::Batch;
 use crate::edit::Edit;
@@ -48,6 +49,21 @@ pub fn home_of_longer()
 /// The limits, each at its last degree and one past it.
 pub fn homes_at_limits()
     ensures { HomesAtLimits }
+{}
+
+/// A rebase keeps the graph and every home.
+pub fn rebase_changes_nothing()
+    ensures { RebaseChangesNothing }
+{}
+
+/// `IsBefore` is an order.
+pub fn pasts_are_in_order()
+    ensures { PastsAreInOrder }
+{}
+
+/// A past is before the one with a batch more, and before its rebase.
+pub fn publications_go_on()
+    ensures { PublicationsGoOn }
 {}
 
 /// A list stays at the last degree of its home.

@@ -14,4 +14,6 @@ pub use batch::Batch;
 pub use edit::{Edit, are_below};
 pub use entry::Entry;
 pub use home::{ARRAY_MOST, ARRAY_RETURN, BLOCK_MOST, BLOCK_RETURN, Home};
-pub use limits::{FEEDS, MOST_BATCHES, MOST_EDITS, MOST_RANGES, MOST_VERTICES, RANGE_VERTICES};
+pub use limits::{
+    FEEDS, MOST_BATCHES, MOST_EDITS, MOST_EPOCHS, MOST_RANGES, MOST_VERTICES, RANGE_VERTICES,
+};

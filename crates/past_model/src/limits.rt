@@ -18,3 +18,6 @@ pub const MOST_EDITS: usize = 65_536;
 
 /// How many batches a log may have.
 pub const MOST_BATCHES: u64 = 4_096;
+
+/// How many epochs may end before a version, each by a rebase.
+pub const MOST_EPOCHS: u64 = 1_024;

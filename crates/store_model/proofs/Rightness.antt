@@ -3,6 +3,8 @@ use Rattle.std.proofs.Common.{◌≡◌, ℕ, ◌<◌, Option, Some, None, List,
 use Rattle.std.proofs.lemmas.Bool.{false≢true}
 use Rattle.past_model.specs.declared.entry.Entry.{Entry}
 use Rattle.past_model.specs.Past.{Past}
+use Rattle.past_model.specs.Epochs.{IsBefore}
+use Rattle.past_model.proofs.Epochs.{before_itself, before_onwards, before_longer}
 use Rattle.store_model.specs.declared.event.Event.{Event}
 use Rattle.store_model.specs.declared.event.Event.TheVariants.{Submit, Take, Part, Publish, Pin, Lend}
 use Rattle.store_model.specs.declared.reply.Reply.{Reply}
@@ -35,9 +37,9 @@ pub every_run_is_right : EveryRunIsRight
 every_run_is_right n reader events replies s run ran is =
     runs_keep (EachRun IsRight) right_after (opening_core n) s events replies (none_yet IsRight 16) ran reader run is
 
--- the log of a store begins that of a later one
+-- the last version of a store is before that of a later one
 abbrev IsFurther : Core → Core → Type 0
-IsFurther s t = (t.past.vertex_count ≡ s.past.vertex_count) × IsBeginning s.past.log t.past.log
+IsFurther s t = IsBefore s.past t.past
 
 lend_of : (P : Past → Type 0) (reply : Reply) (run : Run) → P run.past → P (after_lend reply run).past
 lend_of P (Slice words) run of = of
@@ -46,34 +48,31 @@ lend_of P Done run of = of
 lend_of P Refused run of = of
 
 further_publish : (held : Option Holding) (s : Core) → IsFurther s (after_publish held s)
-further_publish None s = (refl, ([], sym (append-nil s.past.log)))
-further_publish (Some h) s = (refl, (h.entry ∷ [], refl))
+further_publish None s = before_itself s.past
+further_publish (Some h) s = before_longer s.past h.entry
 
 further_take : (queue : List Entry) (s : Core) → IsFurther s (after_take queue s)
-further_take [] s = (refl, ([], sym (append-nil s.past.log)))
-further_take (e ∷ es) s = (refl, ([], sym (append-nil s.past.log)))
+further_take [] s = before_itself s.past
+further_take (e ∷ es) s = before_itself s.past
 
 further_after : (s : Core) (event : Event) (reply : Reply) → IsFurther s (after s event reply)
-further_after s (Submit feed batch) reply = (refl, ([], sym (append-nil s.past.log)))
+further_after s (Submit feed batch) reply = before_itself s.past
 further_after s Take reply = further_take s.queue s
-further_after s (Part range) reply = (refl, ([], sym (append-nil s.past.log)))
+further_after s (Part range) reply = before_itself s.past
 further_after s Publish reply = further_publish s.held s
-further_after s (Pin reader vertex) reply = (refl, ([], sym (append-nil s.past.log)))
-further_after s (Lend reader) reply = (refl, ([], sym (append-nil s.past.log)))
+further_after s (Pin reader vertex) reply = before_itself s.past
+further_after s (Lend reader) reply = before_itself s.past
 
 still_of : (s t : Core) (run : Run) → IsFurther s t → IsOfVersion s run → IsOfVersion t run
-still_of s t run (count, more) (same, beginning) = (
-  same ∙ sym count,
-  (beginning.0 ++ more.0, more.1 ∙ ap (λ l. l ++ more.0) beginning.1 ∙ append_assoc run.past.log beginning.0 more.0),
-)
+still_of s t run further of = before_onwards run.past s.past t.past of further
 
 of_after : (s t : Core) (event : Event) (reply : Reply) → EachRun (IsOfVersion s) s → Happens s event reply t → EachRun (IsOfVersion t) t
 of_after s t event reply now (able, answers, is) =
     let next = after s event reply in
     subst (λ x. EachRun (IsOfVersion x) x) (sym is) (each_after (IsOfVersion s) (IsOfVersion next) s event reply
     (λ run of. still_of s next run (further_after s event reply) of)
-    (λ vertex. still_of s next (pinned s vertex) (further_after s event reply) (refl, ([], sym (append-nil s.past.log))))
-    (λ was of lends. still_of s next (after_lend reply was) (further_after s event reply) (lend_of (λ p. (p.vertex_count ≡ s.past.vertex_count) × IsBeginning p.log s.past.log) reply was of))
+    (λ vertex. further_after s event reply)
+    (λ was of lends. still_of s next (after_lend reply was) (further_after s event reply) (lend_of (λ p. IsBefore p s.past) reply was of))
     now answers)
 
 pub runs_are_of_versions : RunsAreOfVersions

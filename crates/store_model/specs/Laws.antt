@@ -1,8 +1,11 @@
 -- Laws of all lists of events. Each is the contract of a public function.
-use Rattle.std.specs.Prelude.{◌≡◌, ℕ, true, List, [], ◌∷◌, ◌++◌, Some, Vec}
+use Rattle.std.specs.Prelude.{◌≡◌, ℕ, ◌<◌, true, List, [], ◌∷◌, ◌++◌, length, Some, Vec}
 use Rattle.std.specs.declared.alloc.Global.{Global}
 use Rattle.past_model.specs.declared.edit.Edit.TheVariants.{Insert}
+use Rattle.past_model.specs.declared.entry.Entry.{Entry}
+use Rattle.past_model.specs.declared.limits.TheConstants.{FEEDS}
 use Rattle.past_model.specs.Past.{IsPast, of_feed}
+use Rattle.past_model.specs.Epochs.{ended_batches, IsBefore, AreSince}
 use Rattle.store_model.specs.declared.event.Event.{Event}
 use Rattle.store_model.specs.declared.event.Event.TheVariants.{Submit, Take, Part, Publish, Pin, Lend}
 use Rattle.store_model.specs.declared.reply.Reply.{Reply}
@@ -19,13 +22,17 @@ EveryRunIsRight =
     (n reader : ℕ) (events : List Event) (replies : List Reply) (s : Core) (run : Run)
     → Ran (opening_core n) events replies s → run_of s reader ≡ Some run → IsRight run
 
--- the log, the held batch and the queue are the accepted batches: of all feeds, and of each
+-- the log, the held batch and the queue are the accepted batches without those of ended epochs, which came before them: of all
+-- feeds, and of each without as many as the marks count
+pub record AreAccepted (s : Core) (accepted : List Entry) : Type 0 where
+  pub all : AreSince s.past.marks accepted (entries s)
+  pub each : (feed : ℕ) → feed < FEEDS → (ended : List Entry) × (length ended ≡ ended_batches s.past.marks feed)
+      × (ended ++ (of_feed feed s.past.log ++ (of_feed feed (held_entries s.held) ++ of_feed feed s.queue)) ≡ of_feed feed accepted)
+
 abbrev pub NothingLost : Type 0
 NothingLost =
     (n : ℕ) (events : List Event) (replies : List Reply) (s : Core) → Ran (opening_core n) events replies s
-    → (entries s ≡ accepted_entries events replies)
-    × ((feed : ℕ) → of_feed feed s.past.log ++ (of_feed feed (held_entries s.held) ++ of_feed feed s.queue)
-    ≡ of_feed feed (accepted_entries events replies))
+    → AreAccepted s (accepted_entries events replies)
 
 abbrev pub LogIsPast : Type 0
 LogIsPast = (n : ℕ) (events : List Event) (replies : List Reply) (s : Core) → Ran (opening_core n) events replies s → IsPast s.past
@@ -35,9 +42,9 @@ RunsGoOn =
     (s t u : Core) (events : List Event) (replies : List Reply) (event : Event) (reply : Reply)
     → Ran s events replies t → Steps t event reply u → Ran s (events ++ event ∷ []) (replies ++ reply ∷ []) u
 
--- a run's version is one that was published: its log begins the log
+-- a run's version is the last one, or was published before it
 abbrev pub IsOfVersion : Core → Run → Type 0
-IsOfVersion s run = (run.past.vertex_count ≡ s.past.vertex_count) × IsBeginning run.past.log s.past.log
+IsOfVersion s run = IsBefore run.past s.past
 
 abbrev pub RunsAreOfVersions : Type 0
 RunsAreOfVersions =

@@ -8,7 +8,7 @@ use Rattle.past_model.specs.declared.entry.Entry.{Entry}
 use Rattle.graph_model.specs.Graph.{empty_graph, neighbours}
 use Rattle.past_model.specs.declared.limits.TheConstants.{FEEDS}
 use Rattle.past_model.specs.Edits.{AreEditsBelow, are_edits_below}
-use Rattle.past_model.specs.Past.{Past, graph_of, opening, longer, past_in}
+use Rattle.past_model.specs.Past.{Past, graph_of, opening, longer}
 use Rattle.past_model.proofs.Below.{below_from_test}
 use Rattle.past_model.proofs.Pasts.{graph_of-longer, vertex_count-graph_of}
 use Rattle.migration.specs.Part.{Part}
@@ -114,8 +114,12 @@ core_edited past queue w next runs range done =
 
 -- ---- a longer log keeps what runs are
 
+-- a past with another log
+abbrev with_log : Past → List Entry → Past
+with_log past log = record past { log = log }
+
 version_kept : (past : Past) (e : Entry) (number : ℕ) → number ≤ length past.log → version_at number (longer past e) ≡ version_at number past
-version_kept past e number low = ap (past_in past.vertex_count) (take-append-le number past.log (e ∷ []) low)
+version_kept past e number low = ap (with_log past) (take-append-le number past.log (e ∷ []) low)
 
 -- a run, by its version
 abbrev run_at : ReaderRun → Past → Run
@@ -185,7 +189,7 @@ abbrev pub new_run : Past → ℕ → List Part → ReaderRun
 new_run past vertex parts = record { number = length past.log; vertex = vertex; place = 0; ended = false; table = parts }
 
 version_now : (past : Past) → version_at (length past.log) past ≡ past
-version_now past = ap (past_in past.vertex_count) (take_all (length past.log) past.log (le_refl (length past.log)))
+version_now past = ap (with_log past) (take_all (length past.log) past.log (le_refl (length past.log)))
 
 pub world_pinned : (past : Past) (queue : List Entry) (held : Option Work) (parts : List Part) (runs : List (Option ReaderRun)) (reader vertex : ℕ)
     → IsWorld past queue held parts runs → IsWorld past queue held parts (set runs reader (Some (new_run past vertex parts)))

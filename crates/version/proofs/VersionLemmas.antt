@@ -1,24 +1,26 @@
 -- A version's graph, the first version, and the next.
-use Rattle.std.proofs.Common.{◌≡◌, ℕ, ◌+◌, ◌-◌, ◌*◌, ◌/◌, ◌%◌, ◌<◌, ◌≤◌, Bool, true, false, List, [], length, Contains, sym, ap, subst, refl, ◌∙◌, inl, inr, le_trans, mul-le-mul, arith}
+use Rattle.std.proofs.Common.{◌≡◌, ℕ, ◌+◌, ◌-◌, ◌*◌, ◌/◌, ◌%◌, ◌<◌, ◌≤◌, Bool, true, false, List, [], length, map, Contains, sym, ap, subst, refl, ◌∙◌, inl, inr, le_trans, mul-le-mul, arith}
 use Rattle.std.proofs.lemmas.Bool.{cases_lt}
-use Rattle.std.proofs.lemmas.List.{get_or_past}
+use Rattle.std.proofs.lemmas.List.{get_or_past, length_push}
 use Rattle.past_model.specs.declared.home.Home.{Home}
 use Rattle.past_model.specs.declared.home.Home.TheVariants.{Block}
 use Rattle.past_model.specs.declared.edit.Edit.{Edit}
 use Rattle.past_model.specs.declared.entry.Entry.{Entry}
-use Rattle.graph_model.specs.Graph.{Graph, neighbours, edge_count, empty_graph}
+use Rattle.graph_model.specs.Graph.{Graph, neighbours, numbers_below, edge_count, empty_graph}
 use Rattle.past_model.specs.Edits.{after_batch, added, removed, AreEditsBelow}
-use Rattle.past_model.specs.Past.{Past, graph_of, number_of, opening, longer}
+use Rattle.past_model.specs.Past.{Past, graph_of, number_of, epoch_of, opening, longer}
+use Rattle.past_model.specs.Epochs.{mark_of, base_of, rebased}
+use Rattle.past_model.proofs.Epochs.{graph_of-rebased, home_of-rebased, IsPast-rebased}
 use Rattle.past_model.specs.Homes.{home_after, home_of}
 use Rattle.graph_model.specs.Views.{is_edge}
 use Rattle.past_model.proofs.HomeLemmas.{home_of_longer}
 use Rattle.graph_model.proofs.Neighbours.{neighbours-outside}
 use Rattle.graph_model.proofs.ViewLemmas.{neighbour-is_edge, is_edge-neighbour}
 use Rattle.past_model.proofs.Batches.{change_of_size, edge_count-empty_graph, edge_count-le, new_edges-le}
-use Rattle.past_model.proofs.Pasts.{graph_of-longer, vertex_count-graph_of, number_of-longer, IsPast-longer}
+use Rattle.past_model.proofs.Pasts.{graph_of-longer, vertex_count-graph_of, number_of-longer, IsPast-longer, IsPast-opening}
 use Rattle.migration.specs.declared.counts.Counts.{Counts}
 use Rattle.migration.specs.Part.{Part, row_at, vertex_at}
-use Rattle.migration.specs.Table.{IsTable, IsEditable, AreAfter, AreMoved, part_at, row_in, home_in}
+use Rattle.migration.specs.Table.{IsTable, IsEditable, AreAfter, AreMoved, part_at, row_in, home_in, base_in}
 use Rattle.version.specs.Version.{IsVersion, IsVertexCount, IsMade}
 
 -- edits below a version's vertices are below its graph's
@@ -44,8 +46,9 @@ first_version n parts h table homes = record {
   edges_are = sym (edge_count-empty_graph n);
   some = h.0;
   most = h.1;
-  past = tt;
+  past = IsPast-opening n;
   short = omega arith;
+  epochs = omega arith;
 }
 
 -- a version's edges are few
@@ -118,6 +121,7 @@ next_version p parts next edges e counts v below short after moved =
       most = v.most;
       past = IsPast-longer p e v.past below;
       short = omega (arith, number_of-longer p e);
+      epochs = v.epochs;
     }
 
 -- what a batch made of a version's parts, as `with_batch` asks for it
@@ -136,6 +140,26 @@ made p parts next edges e counts v below short after moved =
       some = omega (arith, change, edges_are);
       version = subst (λ n. IsVersion (longer p e) next (n + counts.added - counts.removed)) edges_are (next_version p parts next edges e counts v below short after moved);
     }
+
+-- a rebase has the same parts
+pub rebased_version : (p : Past) (parts : List Part) (edges : ℕ) → IsVersion p parts edges → epoch_of p < 1024 → IsVersion (rebased p) parts edges
+rebased_version p parts edges v room = record {
+  table = subst (λ g. IsTable g parts) (sym (graph_of-rebased p v.past)) v.table;
+  homes = λ w. v.homes w ∙ sym (home_of-rebased p w v.past);
+  edges_are = v.edges_are ∙ ap edge_count (sym (graph_of-rebased p v.past));
+  some = v.some;
+  most = v.most;
+  past = IsPast-rebased p v.past;
+  short = omega arith;
+  epochs = omega (arith, length_push p.marks (mark_of p.log));
+}
+
+-- and these are its base
+pub base_is : (p : Past) (parts : List Part) (edges : ℕ) → IsVersion p parts edges → base_in p.vertex_count parts ≡ base_of p
+base_is p parts edges v = λ i. record {
+  rows = map (λ w. list_is (graph_of p) parts v.table w i) (numbers_below p.vertex_count);
+  homes = map (λ w. v.homes w i) (numbers_below p.vertex_count);
+}
 
 same_bool : (a b : Bool) → (a ≡ true → b ≡ true) → (b ≡ true → a ≡ true) → a ≡ b
 same_bool true b to from = sym (to refl)

@@ -1,10 +1,10 @@
 -- What a version is kept to be.
 use Rattle.std.specs.Prelude.{◌≡◌, ◌≤◌, ◌<◌, ◌+◌, ◌-◌, ◌^◌, ℕ, List}
-use Rattle.past_model.specs.declared.limits.TheConstants.{MOST_VERTICES, MOST_BATCHES}
+use Rattle.past_model.specs.declared.limits.TheConstants.{MOST_VERTICES, MOST_BATCHES, MOST_EPOCHS}
 use Rattle.graph_model.specs.Graph.{edge_count}
 use Rattle.past_model.specs.declared.entry.Entry.{Entry}
 use Rattle.past_model.specs.Edits.{added, removed}
-use Rattle.past_model.specs.Past.{Past, IsPast, graph_of, number_of, longer}
+use Rattle.past_model.specs.Past.{Past, IsPast, graph_of, number_of, epoch_of, longer}
 use Rattle.past_model.specs.Homes.{home_of}
 use Rattle.migration.specs.declared.counts.Counts.{Counts}
 use Rattle.migration.specs.Part.{Part}
@@ -14,8 +14,8 @@ use Rattle.migration.specs.Table.{IsTable, home_in}
 abbrev pub IsVertexCount : ℕ → Type 0
 IsVertexCount n = (1 ≤ n) × (n ≤ MOST_VERTICES)
 
--- a version of a past: its parts and its number of edges are those of the graph that the log makes, and its homes those
--- to which the log's batches led
+-- a version of a past: its parts and its number of edges are those of the graph that the log makes of the base, and its homes
+-- those to which the log's batches led
 pub record IsVersion (p : Past) (parts : List Part) (edges : ℕ) : Type 0 where
   pub table : IsTable (graph_of p) parts
   pub homes : (v : ℕ) → home_in parts v ≡ home_of p v
@@ -24,6 +24,7 @@ pub record IsVersion (p : Past) (parts : List Part) (edges : ℕ) : Type 0 where
   pub most : p.vertex_count ≤ MOST_VERTICES
   pub past : IsPast p
   pub short : number_of p ≤ MOST_BATCHES
+  pub epochs : epoch_of p ≤ MOST_EPOCHS
 
 -- parts and counts that a batch made of a version: those of the version with one batch more, and what the batch did
 pub record IsMade (p : Past) (e : Entry) (parts : List Part) (counts : Counts) : Type 0 where

@@ -1,13 +1,15 @@
 //! A version: what it answers, and the next one of it and a batch.
 ghost use Rattle.std.specs.Prelude.{◌≡◌, ◌/◌, ◌%◌, ◌<◌, ◌≤◌, length, slice_get, IfOk, IfErr};
-ghost use Rattle.past_model.specs.declared.limits.TheConstants.{MOST_BATCHES, MOST_VERTICES};
+ghost use Rattle.past_model.specs.declared.limits.TheConstants.{MOST_BATCHES, MOST_EPOCHS, MOST_VERTICES};
 ghost use Rattle.graph_model.specs.Graph.{neighbours, edge_count, degree};
 ghost use Rattle.past_model.specs.Edits.{AreEditsBelow, added, removed};
 ghost use Rattle.past_model.specs.Homes.{home_of};
 ghost use Rattle.graph_model.specs.Views.{is_edge, neighbour_words, neighbours_among, word_bytes};
 ghost use Rattle.workers.specs.declared.work_error.WorkError.TheVariants.{OutOfMemory};
-ghost use Rattle.past_model.specs.Past.{IsPast, graph_of, number_of, opening, longer};
+ghost use Rattle.past_model.specs.Past.{IsPast, graph_of, number_of, epoch_of, opening, longer};
+ghost use Rattle.past_model.specs.Epochs.{rebased};
 
+use crate::epoch::Epoch;
 use crate::log::Log;
 use batch_apply::{edit_table, edit_table_alone};
 use cursors::Cursor;
@@ -15,16 +17,17 @@ use migration::{Counts, Table};
 use past_model::{Entry, Home};
 use std::alloc::{AllocError, Global};
 use std::marker::Model;
-use std::sync::Wait;
+use std::sync::{Arc, Wait};
 use std::thread::Threads;
 use workers::{Gate, WorkError, Workers};
 
-/// One state of a graph: what the log of its batches makes of the graph without an edge. It never
-/// changes after it was made. Contracts see it as the past that it is the replay of.
+/// One state of a graph: what the log of its epoch's batches makes of the epoch's base. It never changes after it was
+/// made. Contracts see it as the past that it is the replay of.
 pub struct Version {
     vertex_count: u32,
+    epoch: Arc<Epoch>,
     log: Log,
-    shards: Table,
+    shards: Arc<Table>,
     edge_count: u64,
 }
 
@@ -33,6 +36,7 @@ impl Drop for Version {
     fn drop(self) {
         let Version {
             vertex_count: _vertex_count,
+            epoch: _epoch,
             log: _log,
             shards: _shards,
             edge_count: _edge_count,
@@ -41,14 +45,16 @@ impl Drop for Version {
 }
 
 impl Model for Version {
-    ghost use Rattle.past_model.specs.Past.{Past, past_in};
+    ghost use Rattle.std.specs.Arc.{arc_value};
+    ghost use Rattle.past_model.specs.Past.{Past};
+    ghost use Rattle.version.specs.Ground.{past_on};
     ghost use Rattle.version.specs.Version.{IsVersion};
 
     ghost Value = { Past };
 
-    ghost view = { λ v. past_in v.vertex_count v.log };
+    ghost view = { λ v. past_on v.vertex_count (arc_value v.epoch) v.log };
 
-    ghost invariant = { λ v. IsVersion (past_in v.vertex_count v.log) v.shards v.edge_count };
+    ghost invariant = { λ v. IsVersion (past_on v.vertex_count (arc_value v.epoch) v.log) (arc_value v.shards) v.edge_count };
 }
 
 impl Version {
@@ -61,19 +67,28 @@ impl Version {
     {
         Ok(Version {
             vertex_count,
+            epoch: Arc::new(alloc, Epoch::first(alloc))?,
             log: Log::empty(alloc),
-            shards: Table::empty(alloc, vertex_count)?,
+            shards: Arc::new(alloc, Table::empty(alloc, vertex_count)?)?,
             edge_count: 0,
         })
     }
 
-    /// How many batches were published before it and with it.
+    /// How many batches of its epoch were published before it and with it.
     pub fn number(&self) -> u64
         ensures value { result ≡ number_of self.now }
         ensures small { result ≤ MOST_BATCHES }
         ensures past { IsPast self.now }
     {
         self.log.len()
+    }
+
+    /// How many epochs ended before it.
+    pub fn epoch(&self) -> u64
+        ensures value { result ≡ epoch_of self.now }
+        ensures small { result ≤ MOST_EPOCHS }
+    {
+        self.epoch.number()
     }
 
     /// How many vertices it has: from 1 to 1,048,576.
@@ -189,21 +204,42 @@ impl Version {
         let (shards, counts) = made;
         let version = Version {
             vertex_count: self.vertex_count,
+            epoch: Arc::try_clone(&self.epoch)?,
             log: self.log.with(alloc, entry.share()?)?,
-            shards,
+            shards: Arc::new(alloc, shards)?,
             edge_count: self.edge_count + counts.added - counts.removed,
         };
         Ok((version, counts))
+    }
+
+    /// The same graph, with the same homes, as the base of a new epoch. No shard is copied, and this version stays.
+    pub fn rebased(&self, alloc: Global) -> Result<Version, AllocError>
+        requires { epoch_of self.now < MOST_EPOCHS }
+        ensures { IfOk result (λ version. version ≡ rebased self.now) }
+    {
+        let base = Arc::try_clone(&self.shards)?;
+        let shards = Arc::try_clone(&self.shards)?;
+        let epoch = Arc::new(alloc, self.epoch.next(alloc, base, self.log.mark())?)?;
+        Ok(Version {
+            vertex_count: self.vertex_count,
+            epoch,
+            log: Log::empty(alloc),
+            shards,
+            edge_count: self.edge_count,
+        })
     }
 
     /// Lets the version go, by workers, each of whom has a part of its shards. What other versions share stays.
     pub fn let_go<R: Threads>(self, rt: &R, alloc: Global, workers: Workers) {
         let Version {
             vertex_count: _,
+            epoch: _epoch,
             log: _log,
             shards,
             edge_count: _,
         } = self;
-        shards.let_go(rt, alloc, usize::from(workers.count()));
+        if let Some(shards) = Arc::into_inner(shards) {
+            shards.let_go(rt, alloc, usize::from(workers.count()));
+        }
     }
 }

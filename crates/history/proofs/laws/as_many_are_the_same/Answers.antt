@@ -5,4 +5,4 @@ use Rattle.history.proofs.laws.as_many_are_the_same.Goals as goal
 pub returns : goal.returns
 returns c =
     let count = c.requires.count in
-    sym (prefix_whole c.args.a.now.log c.args.b.now.log (c.compare.ensures.left (omega (arith, count))) (omega (arith, count)))
+    sym (prefix_whole c.args.a.now.published c.args.b.now.published (c.compare.ensures.left (omega (arith, count))) (omega (arith, count)))

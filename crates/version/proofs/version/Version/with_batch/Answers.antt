@@ -1,21 +1,28 @@
-use Rattle.std.proofs.Common.{◌≡◌, ◌+◌, ◌-◌, ◌++◌, ◌∷◌, [], List, sym, ap, subst, ◌∙◌, arith}
+use Rattle.std.proofs.Common.{◌≡◌, ◌+◌, ◌-◌, ◌++◌, ◌∷◌, [], List, sym, ap, subst, ◌∙◌, arith, rules}
+use Rattle.std.specs.Arc.{arc_value}
 use Rattle.past_model.specs.declared.entry.Entry.{Entry}
-use Rattle.past_model.specs.Past.{Past, past_in, longer}
+use Rattle.past_model.specs.Past.{Past, longer}
+use Rattle.migration.specs.Part.{Part}
+use Rattle.version.specs.Ground.{Ground, past_on}
 use Rattle.version.specs.Version.{IsVersion, IsMade}
 use Rattle.version.proofs.version.Version.with_batch.Goals as goal
-use Rattle.version.proofs.version.Version.with_batch.Goals.{In_ok-with}
+use Rattle.version.proofs.version.Version.with_batch.Goals.{In_ok-new}
 
 -- the past of this version
-abbrev here : In_ok-with → Past
-here c = past_in c.self.inside.vertex_count c.self.inside.log
+abbrev here : In_ok-new → Past
+here c = past_on c.self.inside.vertex_count (arc_value c.self.inside.epoch) c.self.inside.log
 
 -- what the batch made of it
-given : (c : In_ok-with) → IsMade (here c) c.args.entry.now c.args.made.0 c.args.made.1
+given : (c : In_ok-new) → IsMade (here c) c.args.entry.now c.args.made.0 c.args.made.1
 given c = subst (λ (p : Past). IsMade p c.args.entry.now c.args.made.0 c.args.made.1) (sym c.self.view_is) c.requires
 
--- the log is longer by the batch
-more : (c : In_ok-with) → c.in_ok-with.field-0 ≡ c.self.inside.log ++ c.args.entry.now ∷ []
-more c = c.in_ok-with.ensures ∙ ap (λ (e : Entry). c.self.inside.log ++ e ∷ []) c.in_ok-share.ensures
+-- the past of what is made is longer by the batch
+more : (c : In_ok-new) → past_on c.self.inside.vertex_count (arc_value c.in_ok-try_clone.field-0) c.in_ok-with.field-0 ≡ longer (here c) c.args.entry.now
+more c =
+    let n = c.self.inside.vertex_count in
+    let epoch : arc_value c.in_ok-try_clone.field-0 ≡ arc_value c.self.inside.epoch = search rules in
+    ap (λ (g : Ground). past_on n g c.in_ok-with.field-0) epoch
+    ∙ ap (λ (l : List Entry). past_on n (arc_value c.self.inside.epoch) l) (c.in_ok-with.ensures ∙ ap (λ (e : Entry). c.self.inside.log ++ e ∷ []) c.in_ok-share.ensures)
 
 pub overflow_add-version : goal.overflow_add-version
 overflow_add-version c = let few = (given c).few in let edges = c.self.invariant.edges_are in omega (arith, few, edges)
@@ -25,8 +32,11 @@ overflow_sub-version c = let some = (given c).some in let edges = c.self.invaria
 
 pub invariant_of-version : goal.invariant_of-version
 invariant_of-version c =
-    subst (λ (log : List Entry). IsVersion (past_in c.self.inside.vertex_count log) c.args.made.0 (c.self.inside.edge_count + c.args.made.1.added - c.args.made.1.removed)) (sym (more c))
-    (subst (λ n. IsVersion (longer (here c) c.args.entry.now) c.args.made.0 (n + c.args.made.1.added - c.args.made.1.removed)) (sym c.self.invariant.edges_are) (given c).version)
+    let shards : arc_value c.in_ok-new.field-0 ≡ c.args.made.0 = search rules in
+    let edges = c.self.inside.edge_count + c.args.made.1.added - c.args.made.1.removed in
+    subst (λ (p : Past). IsVersion p (arc_value c.in_ok-new.field-0) edges) (sym (more c))
+    (subst (λ (l : List Part). IsVersion (longer (here c) c.args.entry.now) l edges) (sym shards)
+    (subst (λ n. IsVersion (longer (here c) c.args.entry.now) c.args.made.0 (n + c.args.made.1.added - c.args.made.1.removed)) (sym c.self.invariant.edges_are) (given c).version))
 
 pub returns-clause-next : goal.returns-clause-next
-returns-clause-next c = ap (past_in c.self.inside.vertex_count) (more c) ∙ ap (λ (p : Past). longer p c.args.entry.now) c.self.view_is
+returns-clause-next c = more c ∙ ap (λ (p : Past). longer p c.args.entry.now) c.self.view_is
