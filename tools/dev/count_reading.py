@@ -30,7 +30,8 @@ LIST = [
         ("graph_model/specs/Graph.antt", "graphs, neighbours, degree"),
         ("graph_model/specs/Views.antt", "what a graph answers a program"),
         ("past_model/specs/Edits.antt", "what a batch does"),
-        ("past_model/specs/Past.antt", "the replay of a log"),
+        ("past_model/specs/Past.antt", "the replay of a log on its base"),
+        ("past_model/specs/Epochs.antt", "a rebase, and which past is before another"),
     ]),
     ("What may happen, in which order", [
         ("store_model/src/limits.rt", "readers, places of the queue"),

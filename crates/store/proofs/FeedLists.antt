@@ -1,5 +1,7 @@
 -- Feeds in a list.
-use Rattle.std.proofs.Common.{◌≡◌, ℕ, suc, ◌+◌, ◌<◌, List, [], ◌∷◌, ◌++◌, length, map, get_or, set, sym, ap, ◌∙◌, arith, length-append}
+use Rattle.std.proofs.Common.{◌≡◌, ◌==◌, ℕ, suc, ◌+◌, ◌<◌, List, [], ◌∷◌, ◌++◌, length, map, get_or, set, sym, ap, ◌∙◌, arith, append_assoc, length-append}
+use Rattle.std.proofs.Math.Path.{fun_ext}
+use Rattle.std.proofs.lemmas.List.Elements.{filter-append}
 use Rattle.std.proofs.Math.Seq.{map-set_same, get_or-append_seam}
 use Rattle.std.proofs.lemmas.List.{length-map, map-append, get_or-map, ext_get_or}
 use Rattle.atomic_table.specs.Seated.{TableId}
@@ -8,8 +10,9 @@ use Rattle.graph_model.proofs.Numbers.{length-numbers_below, get_or-numbers_belo
 use Rattle.past_model.specs.declared.entry.Entry.{Entry}
 use Rattle.past_model.specs.declared.limits.TheConstants.{FEEDS}
 use Rattle.past_model.specs.Past.{of_feed}
+use Rattle.past_model.specs.Epochs.{AreSince}
 use Rattle.store.specs.Ends.{Feeding, as_new, new_feed, new_feeds, IsFeedOf}
-use Rattle.store.specs.Feeds.{AreFeedsOf, AreDelivered}
+use Rattle.store.specs.Feeds.{AreFeedsOf, AreAllOf, AreDelivered}
 use Rattle.store.specs.QueueRule.{Left}
 use Rattle.store.specs.QueueViews.{taker}
 use Rattle.store.specs.Storing.{Storing}
@@ -43,9 +46,9 @@ next_feed n queue before rest x are =
     (ap (λ (f : Feeding). f.queue) same, ap (λ (f : Feeding). f.feed) same)
 
 -- once all feeds have ended, what each put is its own part of all entries
-pub are_delivered : (n : ℕ) (taken items : List Entry) (feeds : List Feeding) → length feeds ≡ FEEDS
-    → Left (taker n taken FEEDS (map (λ (f : Feeding). f.sent) feeds)) items → AreDelivered (taken ++ items) feeds
-are_delivered n taken items feeds count left =
+pub are_all_of : (n : ℕ) (taken items : List Entry) (feeds : List Feeding) → length feeds ≡ FEEDS
+    → Left (taker n taken FEEDS (map (λ (f : Feeding). f.sent) feeds)) items → AreAllOf (taken ++ items) feeds
+are_all_of n taken items feeds count left =
     let sent : List (List Entry) = map (λ (f : Feeding). f.sent) feeds in
     let own : ℕ → List Entry = λ k. of_feed k (taken ++ items) in
     let many : length sent ≡ FEEDS = length-map feeds (λ (f : Feeding). f.sent) ∙ count in (
@@ -54,6 +57,27 @@ are_delivered n taken items feeds count left =
           sym (get_or-map own (numbers_below FEEDS) k 0 [] (omega (arith, length-numbers_below FEEDS)) ∙ ap own (get_or-numbers_below FEEDS k few) ∙ left.ended k lt)),
       left.unmade,
     )
+
+-- a feed's batches are those of ended epochs and then the others
+split_at : (all since left : List Entry) (marks : List (List ℕ)) (are : AreSince marks all since) (k : ℕ)
+    → of_feed k (all ++ left) ≡ of_feed k are.ended ++ of_feed k (since ++ left)
+split_at all since left marks are k =
+    ap (of_feed k) (ap (λ (l : List Entry). l ++ left) (sym are.whole) ∙ append_assoc are.ended since left)
+    ∙ filter-append (λ (e : Entry). e.feed == k) are.ended (since ++ left)
+
+second_nil : (xs ys : List Entry) → xs ++ ys ≡ [] → ys ≡ []
+second_nil [] ys is = is
+second_nil (x ∷ xs) ys is = absurd (cc is)
+
+-- what was delivered in all, by what ended epochs had
+pub are_delivered : (marks : List (List ℕ)) (all since left : List Entry) (feeds : List Feeding) → AreSince marks all since → AreAllOf (all ++ left) feeds
+    → AreDelivered marks (since ++ left) feeds
+are_delivered marks all since left feeds are (each, none) = record {
+  ended = λ k. of_feed k are.ended;
+  counted = are.counted;
+  each = each ∙ ap (λ (f : ℕ → List Entry). map f (numbers_below FEEDS)) (fun_ext (λ k. split_at all since left marks are k));
+  no_other = λ k le. second_nil (of_feed k are.ended) (of_feed k (since ++ left)) (sym (split_at all since left marks are k) ∙ none k le);
+}
 
 -- with a feed more they are all below the next number
 pub feeds_more : (n number : ℕ) (queue queue' : TableId) (feeds : List Feeding) (x : Feeding) → queue' ≡ queue

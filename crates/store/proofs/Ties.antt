@@ -19,17 +19,18 @@ pub submission_is : (s t : Feeding) (batch : List Edit) → t ≡ after_put s ba
 submission_is s t batch is feed below =
     subst (λ x. IsSubmission s.vertex_count s.feed batch s.sent x.sent) (sym is) (submissions_are s.vertex_count s.feed batch s.sent feed below)
 
-pub publication_is : (s t : Storing) (p : Publication) → IsPublished s p t → PublishesAsEvents s p.entry t
+pub publication_is : (s t : Storing) (p : Publication) → IsPublished s p t → IfSome p.entry (λ e. PublishesAsEvents s e t)
 publication_is s t p published =
     let past = ap (λ (x : Storing). x.moment.past) published.after ∙ ap (λ (x : Publication). x.moment.past) published.receipt in
-    subst (IsPublication s.moment.past s.held p.entry) (sym past) (publications_are s.moment.past s.held p.entry)
+    let here : PublishesAsEvents s published.entry t = subst (IsPublication s.moment.past s.held published.entry) (sym past) (publications_are s.moment.past s.held published.entry) in
+    subst (λ (x : Publication). IfSome x.entry (λ e. PublishesAsEvents s e t)) (sym published.receipt) here
 
 pub taking_is : (s t : Storing) → IsKept s t → TakesAsEvent s t
 taking_is s t kept e held =
     subst (λ past. IsTaking s.moment.past s.held e past) (ap (λ (x : Storing). x.moment.past) (sym kept.after)) (takings_are s.moment.past s.held e)
 
 pub pin_is : (seen pinned : Moment) → Begins seen pinned → PinsAsEvent seen pinned
-pin_is seen pinned ((same, counts), (rest, is)) = pins_are.0 seen.past pinned.past (sym counts) (rest, sym is)
+pin_is seen pinned begins = pins_are.0 seen.past pinned.past begins.1
 
 -- the same of what the calls answer
 pub submitted_is : {E : Type 0} (result : Result (Unit {0}) E) (s t : Feeding) (batch : List Edit) → IfOk result (λ _. t ≡ after_put s batch)
@@ -38,7 +39,7 @@ submitted_is (Ok done) s t batch is feed below = submission_is s t batch is feed
 submitted_is (Err e) s t batch is feed below = tt
 
 pub published_is : {X E : Type 0} (publication_of : X → Publication) (result : Result (Option X) E) (s t : Storing)
-    → IfOk result (λ done. IfSome done (λ r. IsPublished s (publication_of r) t)) → IfOk result (λ done. IfSome done (λ r. PublishesAsEvents s (publication_of r).entry t))
+    → IfOk result (λ done. IfSome done (λ r. IsPublished s (publication_of r) t)) → IfOk result (λ done. IfSome done (λ r. IfSome (publication_of r).entry (λ e. PublishesAsEvents s e t)))
 published_is publication_of (Ok (Some r)) s t published = publication_is s t (publication_of r) published
 published_is publication_of (Ok None) s t published = tt
 published_is publication_of (Err e) s t published = tt

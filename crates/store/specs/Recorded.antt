@@ -1,7 +1,15 @@
--- A version with the history's word for its log.
-use Rattle.past_model.specs.Past.{Past}
+-- A version with the history's word that it was published.
+use Rattle.std.specs.Prelude.{ℕ, ◌+◌, ◌*◌, ◌≤◌}
+use Rattle.past_model.specs.declared.limits.TheConstants.{MOST_BATCHES, MOST_EPOCHS}
+use Rattle.past_model.specs.Past.{Past, number_of, epoch_of}
 use Rattle.history.specs.Moment.{Moment, Beginning}
 
 -- the moment of a version in the history that a token is of
 abbrev pub moment_in : Past → Beginning → Moment
 moment_in past known = record { past = past; book = known.book }
+
+-- no more publications than lead to such a past: of each ended epoch its batches and the rebase, and the log's
+pub record AreFew (past : Past) (count : ℕ) : Type 0 where
+  pub few : count ≤ (MOST_BATCHES + 1) * epoch_of past + number_of past
+  pub short : number_of past ≤ MOST_BATCHES
+  pub epochs : epoch_of past ≤ MOST_EPOCHS

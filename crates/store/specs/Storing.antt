@@ -4,10 +4,11 @@ use Rattle.atomic_table.specs.Seated.{TableId}
 use Rattle.past_model.specs.declared.entry.Entry.{Entry}
 use Rattle.past_model.specs.Edits.{AreEditsBelow}
 use Rattle.past_model.specs.declared.limits.TheConstants.{FEEDS}
-use Rattle.history.specs.Moment.{Moment, opening_moment}
+use Rattle.past_model.specs.Epochs.{AreSince}
+use Rattle.history.specs.Moment.{Moment, opening_moment, after_rebase}
 use Rattle.store.specs.Ends.{Feeding, new_feeds, one_more, taking, WasEmpty}
 use Rattle.store.specs.Held.{entries_held}
-use Rattle.store.specs.Receipts.{Publication, publication}
+use Rattle.store.specs.Receipts.{Publication, publication, rebase_of}
 
 -- the last version's moment, the batch that was taken and is not published, how often nothing was found, and the queue
 -- from which batches are taken
@@ -21,23 +22,32 @@ pub record Storing : Type 0 where
 abbrev pub new_storing : Moment → TableId → Storing
 new_storing m queue = record { moment = m; held = None; empties = 0; queue = queue }
 
--- all that was taken: the log, and the held batch
+-- what was taken, without what ended epochs had: the log, and the held batch
 abbrev pub taken_of : Storing → List Entry
 taken_of s = s.moment.past.log ++ entries_held s.held
 
 -- one batch was published: the held one, if there was one. It is of a feed, and its edits name vertices
 pub record IsPublished (s : Storing) (p : Publication) (t : Storing) : Type 0 where
-  pub receipt : p ≡ publication s.moment p.entry
+  pub entry : Entry
+  pub receipt : p ≡ publication s.moment entry
   pub after : t ≡ record s { moment = p.moment; held = None }
-  pub first : IfSome s.held (λ e. p.entry ≡ e)
-  pub feed : p.entry.feed < FEEDS
-  pub below : AreEditsBelow s.moment.past.vertex_count p.entry.batch
+  pub first : IfSome s.held (λ e. entry ≡ e)
+  pub feed : entry.feed < FEEDS
+  pub below : AreEditsBelow s.moment.past.vertex_count entry.batch
 
--- nothing was held, and nothing waited in the queue
+-- a rebase was published, and a held batch still is
+pub record IsRebased (s : Storing) (p : Publication) (t : Storing) : Type 0 where
+  pub receipt : p ≡ rebase_of s.moment
+  pub after : t ≡ record s { moment = after_rebase s.moment }
+
+-- nothing was held, and nothing waited in the queue: all that the feeds had put was taken, and the log is what ended epochs did
+-- not have of it
 pub record IsIdle (s t : Storing) : Type 0 where
   pub free : s.held ≡ None
   pub after : t ≡ record s { empties = one_more s.empties }
-  pub empty : WasEmpty (taking s.moment.past.vertex_count s.moment.past.log s.empties s.queue)
+  pub taken : List Entry
+  pub since : AreSince s.moment.past.marks taken s.moment.past.log
+  pub empty : WasEmpty (taking s.moment.past.vertex_count taken s.empties s.queue)
 
 -- nothing was published. What was held still is, and what was taken is held
 pub record IsKept (s t : Storing) : Type 0 where

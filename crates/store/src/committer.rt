@@ -1,20 +1,20 @@
 //! How a taken batch becomes the version that readers are shown.
-ghost use Rattle.std.specs.Prelude.{◌≡◌, ◌≤◌, IfOk, IfErr};
+ghost use Rattle.std.specs.Prelude.{◌≡◌, ◌<◌, ◌≤◌, IfOk, IfErr};
 ghost use Rattle.std.specs.Arc.{arc_value};
-ghost use Rattle.past_model.specs.declared.limits.TheConstants.{MOST_BATCHES};
+ghost use Rattle.past_model.specs.declared.limits.TheConstants.{MOST_BATCHES, MOST_EPOCHS};
 ghost use Rattle.past_model.specs.Edits.{added, removed};
-ghost use Rattle.past_model.specs.Past.{number_of, graph_of, longer};
-ghost use Rattle.history.specs.Moment.{after_entry};
+ghost use Rattle.past_model.specs.Past.{number_of, epoch_of, graph_of, longer};
+ghost use Rattle.history.specs.Moment.{after_entry, after_rebase};
 ghost use Rattle.workers.specs.declared.work_error.WorkError.TheVariants.{OutOfMemory};
-ghost use Rattle.store.specs.Held.{at_rest, and_waiting, entry_in, IsNext, IsChange, AreOwnersOf, IsHeld, IsGoneOn};
+ghost use Rattle.store.specs.Held.{at_rest, and_waiting, entry_in, IsNext, IsChange, AreOwnersOf, IsHeld, IsGoneOn, IsTurn, IsTurned};
 
 use crate::board::Board;
-use crate::held::{Change, Held, Stopped};
+use crate::held::{Change, Held, Stopped, Turn};
 use crate::receipt::Receipt;
 use crate::recorded::{Owners, Recorded};
 use history::Head;
 use past_model::Entry;
-use std::alloc::Global;
+use std::alloc::{AllocError, Global};
 use std::marker::Model;
 use std::mem;
 use std::sync::{Arc, Wait};
@@ -45,12 +45,20 @@ impl Model for Committer {
 }
 
 impl Committer {
-    /// How many batches were published.
+    /// How many batches of its epoch the last version has.
     pub(crate) fn number(&self) -> u64
         ensures value { result ≡ number_of self.now.moment.past }
         ensures small { result ≤ MOST_BATCHES }
     {
         self.current.number()
+    }
+
+    /// How many epochs ended.
+    pub(crate) fn epoch(&self) -> u64
+        ensures value { result ≡ epoch_of self.now.moment.past }
+        ensures small { result ≤ MOST_EPOCHS }
+    {
+        self.current.epoch()
     }
 
     /// Goes on with a held batch, from where it stopped.
@@ -175,9 +183,75 @@ impl Committer {
             Ok(()) => {
                 let before = mem::replace(&mut self.current, kept);
                 self.let_go(before, change.entry.batch.edits().len(), rt, workers);
-                Ok(Receipt::of(told, change))
+                Ok(Receipt::of(told, Some(change)))
             }
             Err(_) => Err(Stopped::for_memory(Held::Ready(change, kept, told))),
+        }
+    }
+
+    /// Makes the rebase of the last version with all its owners, and only then adds it to the history. After an error nothing is
+    /// changed.
+    pub(crate) fn begin_turn(&mut self) -> Result<Turn, AllocError>
+        requires room { epoch_of self.old.moment.past < MOST_EPOCHS }
+        requires rest { self.old ≡ at_rest self.old.moment }
+        ensures turn { IfOk result (λ turn. IsTurn self.new turn) }
+        ensures same { self.new ≡ self.old }
+    {
+        let version = self.current.version().rebased(self.alloc)?;
+        let shown = Arc::new(self.alloc, version)?;
+        let kept = Arc::try_clone(&shown)?;
+        let told = Arc::try_clone(&shown)?;
+        // The history is never longer than what its only publisher knows.
+        match self.current.record_rebased(&self.head, shown, kept, told) {
+            Some(owners) => Ok(Turn::Added(owners)),
+            None => Err(AllocError),
+        }
+    }
+
+    /// Goes on with a rebase, from where it stopped.
+    pub(crate) fn turn<R: Wait>(&mut self, turn: Turn, rt: &R) -> Result<Receipt, Turn>
+        requires { IsTurn self.old turn }
+        ensures { IsTurned self.old result self.new }
+    {
+        match turn {
+            Turn::Added(owners) => self.hand_in_turn(owners, rt),
+            Turn::Ready(kept, told) => self.show_turn(kept, told, rt),
+        }
+    }
+
+    // Hands the version of a rebase in to be shown.
+    fn hand_in_turn<R: Wait>(&mut self, owners: Owners, rt: &R) -> Result<Receipt, Turn>
+        requires owners { AreOwnersOf (after_rebase self.old.moment) owners }
+        requires rest { self.old ≡ at_rest self.old.moment }
+        ensures { IsTurned self.old result self.new }
+    {
+        let Owners { shown, kept, told } = owners;
+        match self.board.append(shown) {
+            Ok(()) => self.show_turn(kept, told, rt),
+            Err(shown) => Err(Turn::Added(Owners { shown, kept, told })),
+        }
+    }
+
+    // Shows it, and lets go of the version before: the board's other copy is brought up to the version that is shown, so that
+    // the log that ended has no owner here.
+    fn show_turn<R: Wait>(
+        &mut self,
+        kept: Recorded,
+        told: Recorded,
+        rt: &R,
+    ) -> Result<Receipt, Turn>
+        requires kept { kept ≡ after_rebase self.old.moment }
+        requires told { told ≡ after_rebase self.old.moment }
+        requires waits { self.old ≡ and_waiting self.old.moment (after_rebase self.old.moment) }
+        ensures { IsTurned self.old result self.new }
+    {
+        match self.board.show(rt) {
+            Ok(()) => {
+                self.current = kept;
+                let _ = self.board.show(rt);
+                Ok(Receipt::of(told, None))
+            }
+            Err(_) => Err(Turn::Ready(kept, told)),
         }
     }
 

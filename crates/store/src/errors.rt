@@ -1,6 +1,7 @@
 //! Why a store, a batch or a step is refused.
 ghost use Rattle.std.specs.Prelude.{◌≡◌};
 ghost use Rattle.store.specs.declared.errors.StoreError.TheVariants as opening;
+ghost use Rattle.store.specs.declared.errors.RebaseError.TheVariants as rebasing;
 ghost use Rattle.store.specs.Refused.{refused_as};
 
 use past_model::Batch;
@@ -68,6 +69,25 @@ pub enum PublishError {
     /// A thread could not be started. The batch is held, and the next step begins with it.
     #[error("a worker could not be started")]
     WorkerRefused = 3,
+}
+
+/// Why no rebase was published.
+#[derive(Clone, Copy, Debug, PartialEq, Eq, Error)]
+pub enum RebaseError {
+    /// There is no memory for the next version. Nothing is changed.
+    #[error("out of memory")]
+    OutOfMemory = 1,
+    /// 1,024 rebases were published, and there is room for no more.
+    #[error("1024 rebases were published, and there is room for no more")]
+    EpochsFull = 2,
+}
+
+impl From<AllocError> for RebaseError {
+    ghost from_gives = { λ _ e. e ≡ rebasing.OutOfMemory };
+
+    fn from(_e: AllocError) -> RebaseError {
+        RebaseError::OutOfMemory
+    }
 }
 
 impl From<WorkError> for PublishError {

@@ -26,6 +26,15 @@ pub enum Held {
     Ready(Change, Recorded, Recorded),
 }
 
+/// A rebase that the history has, and that is not shown yet.
+#[derive(Drop)]
+pub enum Turn {
+    /// Its version is to be handed in.
+    Added(Owners),
+    /// Its version was handed in to be shown. The other owners are for the publisher and for the receipt.
+    Ready(Recorded, Recorded),
+}
+
 /// A held batch that could not be gone on with, and what it is in want of.
 #[derive(Drop)]
 pub struct Stopped {

@@ -17,7 +17,7 @@ mod recorded;
 mod store;
 
 pub use board::{NoPlace, PinError};
-pub use errors::{PublishError, StoreError, SubmitCause, SubmitError};
+pub use errors::{PublishError, RebaseError, StoreError, SubmitCause, SubmitError};
 pub use feed::Feed;
 pub use finished::Finished;
 pub use graph_model::GraphView;

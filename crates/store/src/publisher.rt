@@ -1,23 +1,24 @@
 //! The end at which versions are made.
-ghost use Rattle.std.specs.Prelude.{◌≡◌, ◌≤◌, ◌↔◌, ◌++◌, length, option_map, IfOk, IfErr, IfSome, IfNone, IsErrOf};
+ghost use Rattle.std.specs.Prelude.{◌≡◌, ◌<◌, ◌≤◌, ◌↔◌, ◌++◌, None, length, option_map, IfOk, IfErr, IfSome, IfNone, IsErrOf};
 ghost use Rattle.std.specs.Arc.{arc_value};
-ghost use Rattle.past_model.specs.declared.limits.TheConstants.{MOST_BATCHES};
-ghost use Rattle.past_model.specs.Past.{number_of};
+ghost use Rattle.past_model.specs.declared.limits.TheConstants.{MOST_BATCHES, MOST_EPOCHS};
+ghost use Rattle.past_model.specs.Past.{number_of, epoch_of};
 ghost use Rattle.store_model.specs.declared.limits.TheConstants.{QUEUE_PLACES};
 ghost use Rattle.history.specs.Moment.{OneStore};
-ghost use Rattle.store.specs.Held.{entry_in, entry_held, IsNoted};
+ghost use Rattle.store.specs.Held.{entry_in, entry_held, IsTurn, IsAside, IsHolding, IsNoted};
 ghost use Rattle.store.specs.Feeds.{AreFeedsOf, AreDelivered};
 ghost use Rattle.store.specs.Ties.{PublishesAsEvents, TakesAsEvent};
-ghost use Rattle.store.specs.Storing.{taken_of, IsPublished, IsIdle, IsKept};
+ghost use Rattle.store.specs.Storing.{taken_of, IsPublished, IsRebased, IsIdle, IsKept};
 
 use crate::committer::Committer;
-use crate::errors::PublishError;
+use crate::errors::{PublishError, RebaseError};
 use crate::feed::Feed;
 use crate::finished::Finished;
-use crate::held::{Held, Stopped};
+use crate::held::{Held, Stopped, Turn};
 use crate::queue::Receiver;
 use crate::receipt::Receipt;
-use past_model::MOST_BATCHES;
+use past_model::{MOST_BATCHES, MOST_EPOCHS};
+use std::alloc::AllocError;
 use std::marker::Model;
 use std::sync::Wait;
 use std::thread::Threads;
@@ -28,11 +29,14 @@ use workers::{Gate, Workers};
 pub struct Publisher {
     pub(crate) committer: Committer,
     pub(crate) held: Option<Held>,
+    // A rebase that the history has, and that is not shown yet.
+    pub(crate) turn: Option<Turn>,
     pub(crate) receiver: Receiver,
 }
 
 impl Model for Publisher {
     ghost use Rattle.std.specs.Prelude.{◌≡◌, ◌++◌};
+    ghost use Rattle.past_model.specs.Epochs.{AreSince};
     ghost use Rattle.store.specs.Held.{entry_held, entries_held, IsHolding};
     ghost use Rattle.store.specs.Storing.{Storing};
 
@@ -45,15 +49,16 @@ impl Model for Publisher {
       queue = p.receiver.queue;
     } };
 
-    ghost invariant = { λ p. (p.receiver.taken ≡ p.committer.moment.past.log ++ entries_held (entry_held p.held))
-        × (p.receiver.vertex_count ≡ p.committer.moment.past.vertex_count) × IsHolding p.committer p.held };
+    ghost invariant = { λ p. AreSince p.committer.moment.past.marks p.receiver.taken
+        (p.committer.moment.past.log ++ entries_held (entry_held p.held))
+        × (p.receiver.vertex_count ≡ p.committer.moment.past.vertex_count) × IsHolding p.committer p.held p.turn };
 }
 
 impl Publisher {
     /// Publishes one batch: the held one, and else the one that waits longest in the queue. `None`, and nothing is
     /// published, where neither is there. The batch is applied by workers, and what is published is the same for each
     /// number of them, gate and order in which threads run; each edited range's number is a piece of the gate's.
-    /// `LogFull` comes exactly after 4,096 batches, and takes nothing. After `OutOfMemory`, and after `WorkerRefused`,
+    /// `LogFull` comes exactly after 4,096 batches of one epoch, and takes nothing. After `OutOfMemory`, and after `WorkerRefused`,
     /// which one worker cannot meet, nothing is published, and the batch is held.
     pub fn step<Ga: Gate, R: Threads + Wait>(
         &mut self,
@@ -65,7 +70,7 @@ impl Publisher {
         ensures same_store { OneStore self.old.moment self.new.moment }
         ensures published { IfOk result (λ done. IfSome done (λ receipt. IsPublished self.old receipt self.new)) }
         ensures events { IfOk result (λ done.
-            IfSome done (λ receipt. PublishesAsEvents self.old receipt.entry self.new)) }
+            IfSome done (λ receipt. IfSome receipt.entry (λ entry. PublishesAsEvents self.old entry self.new))) }
         ensures idle { IfOk result (λ done. IfNone done (IsIdle self.old self.new)) }
         ensures kept { IfErr result (λ _. IsKept self.old self.new) }
         ensures taking { IfErr result (λ _. TakesAsEvent self.old self.new) }
@@ -95,6 +100,10 @@ impl Publisher {
         if self.committer.number() >= MOST_BATCHES {
             return Err(PublishError::LogFull);
         }
+        // A rebase that is not shown yet comes first.
+        if self.turn.is_some() {
+            return Err(PublishError::OutOfMemory);
+        }
         match self.held.take() {
             Some(held) => note(
                 self.committer.go_on(held, rt, workers, gate),
@@ -107,6 +116,29 @@ impl Publisher {
                 ),
                 None => Ok(None),
             },
+        }
+    }
+
+    /// Publishes the graph of the last version as the base of a new epoch, whose log is empty. Numbers begin again at 0, and
+    /// homes stay as they are. A held batch stays held. It may wait for readers. `EpochsFull` comes exactly after 1,024
+    /// rebases. After an error nothing is changed.
+    pub fn rebase<R: Wait>(&mut self, rt: &R) -> Result<Receipt, RebaseError>
+        ensures same_queue { self.new.queue ≡ self.old.queue }
+        ensures same_store { OneStore self.old.moment self.new.moment }
+        ensures rebased { IfOk result (λ receipt. IsRebased self.old receipt self.new) }
+        ensures same { IfErr result (λ _. self.new ≡ self.old) }
+        ensures full { IsErrOf result RebaseError.EpochsFull ↔ (epoch_of self.old.moment.past ≡ MOST_EPOCHS) }
+    {
+        if self.committer.epoch() >= MOST_EPOCHS {
+            return Err(RebaseError::EpochsFull);
+        }
+        let turn = begun(&mut self.committer, &self.held, self.turn.take())?;
+        match self.committer.turn(turn, rt) {
+            Ok(receipt) => Ok(receipt),
+            Err(turn) => {
+                self.turn = Some(turn);
+                Err(RebaseError::OutOfMemory)
+            }
         }
     }
 
@@ -126,12 +158,13 @@ impl Publisher {
         requires { AreFeedsOf self feeds.items }
         ensures last { arc_value result.last ≡ self.moment.past }
         ensures held { result.held ≡ self.held }
-        ensures delivered { AreDelivered (taken_of self ++ result.left.items) feeds.items }
+        ensures delivered { AreDelivered self.moment.past.marks (taken_of self ++ result.left.items) feeds.items }
         ensures few { length result.left.items ≤ QUEUE_PLACES }
     {
         let Publisher {
             committer,
             held,
+            turn: _turn,
             receiver,
         } = self;
         let left = receiver.finish(feeds, rt);
@@ -140,6 +173,30 @@ impl Publisher {
             held: held.map(Held::into_entry),
             left,
         }
+    }
+}
+
+// The rebase that is not shown yet, or else a new one.
+fn begun(
+    committer: &mut Committer,
+    held: &Option<Held>,
+    turn: Option<Turn>,
+) -> Result<Turn, AllocError>
+    requires holding { IsHolding committer.old held.now turn }
+    requires room { epoch_of committer.old.moment.past < MOST_EPOCHS }
+    ensures turn { IfOk result (λ turn. IsTurn committer.new turn × IsAside committer.new.moment held.now) }
+    ensures same { committer.new ≡ committer.old }
+    ensures none { IfErr result (λ _. turn ≡ None) }
+{
+    match turn {
+        Some(turn) => Ok(turn),
+        None => match held {
+            None => committer.begin_turn(),
+            Some(Held::Taken(_)) => committer.begin_turn(),
+            // A batch that the history has comes first. No refused allocation leads there.
+            Some(Held::Added(_, _)) => Err(AllocError),
+            Some(Held::Ready(_, _, _)) => Err(AllocError),
+        },
     }
 }
 

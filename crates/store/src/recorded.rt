@@ -1,10 +1,11 @@
-//! A version with the history's word that its batches were published.
+//! A version with the history's word that it was published.
 ghost use Rattle.std.specs.Prelude.{◌≡◌, ◌<◌, ◌≤◌, IfOk, IfSome};
 ghost use Rattle.std.specs.Arc.{arc_value};
-ghost use Rattle.past_model.specs.declared.limits.TheConstants.{MOST_BATCHES};
-ghost use Rattle.past_model.specs.Past.{number_of, longer};
-ghost use Rattle.history.specs.Moment.{beginning_of, after_entry};
-ghost use Rattle.store.specs.Recorded.{moment_in};
+ghost use Rattle.past_model.specs.declared.limits.TheConstants.{MOST_BATCHES, MOST_EPOCHS};
+ghost use Rattle.past_model.specs.Past.{number_of, epoch_of, longer};
+ghost use Rattle.past_model.specs.Epochs.{rebased};
+ghost use Rattle.history.specs.Moment.{moment_of, count_of, after_entry, after_rebase};
+ghost use Rattle.store.specs.Recorded.{moment_in, AreFew};
 ghost use Rattle.store.specs.Held.{AreOwnersOf};
 
 use history::{Head, Known};
@@ -14,24 +15,27 @@ use std::marker::Model;
 use std::sync::Arc;
 use version::Version;
 
-/// A version, and the history's word that it begins with its batches. Contracts see it as its moment.
+/// A version, and the history's word that it was published. Contracts see it as its moment.
 #[derive(Drop)]
 pub struct Recorded {
     version: Arc<Version>,
     known: Known,
+    // How many publications led to it.
+    count: u64,
 }
 
 impl Model for Recorded {
     ghost use Rattle.std.specs.Prelude.{◌≡◌};
     ghost use Rattle.std.specs.Arc.{arc_value};
-    ghost use Rattle.history.specs.Moment.{Moment};
-    ghost use Rattle.store.specs.Recorded.{moment_in};
+    ghost use Rattle.history.specs.Moment.{Moment, moment_of, count_of};
+    ghost use Rattle.store.specs.Recorded.{moment_in, AreFew};
 
     ghost Value = { Moment };
 
     ghost view = { λ r. moment_in (arc_value r.version) r.known };
 
-    ghost invariant = { λ r. r.known.log ≡ (arc_value r.version).log };
+    ghost invariant = { λ r. (moment_of (arc_value r.version).vertex_count r.known ≡ moment_in (arc_value r.version) r.known)
+        × (r.count ≡ count_of r.known) × AreFew (arc_value r.version) r.count };
 }
 
 /// The owners of one version: for the board, for the publisher and for the receipt.
@@ -43,12 +47,18 @@ pub struct Owners {
 }
 
 impl Recorded {
-    /// This version, with the history's word for its log.
-    pub(crate) fn of(version: Arc<Version>, known: Known) -> Recorded
-        requires { known.log ≡ (arc_value version).log }
+    /// This version, with the history's word for it, to which so many publications led.
+    pub(crate) fn of(version: Arc<Version>, known: Known, count: u64) -> Recorded
+        requires known { moment_of (arc_value version).vertex_count known ≡ moment_in (arc_value version) known }
+        requires count { count ≡ count_of known }
+        requires few { AreFew (arc_value version) count }
         ensures { result ≡ moment_in (arc_value version) known }
     {
-        Recorded { version, known }
+        Recorded {
+            version,
+            known,
+            count,
+        }
     }
 
     /// The version.
@@ -62,7 +72,11 @@ impl Recorded {
     pub(crate) fn into_version(self) -> Arc<Version>
         ensures { arc_value result ≡ self.past }
     {
-        let Recorded { version, known: _ } = self;
+        let Recorded {
+            version,
+            known: _,
+            count: _,
+        } = self;
         version
     }
 
@@ -73,7 +87,7 @@ impl Recorded {
         self.version.vertex_count()
     }
 
-    /// How many batches were published before it and with it.
+    /// How many batches of its epoch were published before it and with it.
     pub(crate) fn number(&self) -> u64
         ensures value { result ≡ number_of self.now.past }
         ensures small { result ≤ MOST_BATCHES }
@@ -81,11 +95,20 @@ impl Recorded {
         self.version.number()
     }
 
-    /// The history's word.
-    pub(crate) fn known(&self) -> Known
-        ensures { result ≡ beginning_of self.now }
+    /// How many epochs ended before it.
+    pub(crate) fn epoch(&self) -> u64
+        ensures value { result ≡ epoch_of self.now.past }
+        ensures small { result ≤ MOST_EPOCHS }
     {
-        self.known.again()
+        self.version.epoch()
+    }
+
+    /// The history's word, and how many publications it is of.
+    pub(crate) fn known(&self) -> (Known, u64)
+        ensures known { moment_of self.now.past.vertex_count result.0 ≡ self.now }
+        ensures count { result.1 ≡ count_of result.0 }
+    {
+        (self.known.again(), self.count)
     }
 
     /// Another owner of the same version.
@@ -95,11 +118,12 @@ impl Recorded {
         Ok(Recorded {
             version: Arc::try_clone(&self.version)?,
             known: self.known.again(),
+            count: self.count,
         })
     }
 
     /// Adds a batch to the history, whose next version these three own. `None`, and the history is as it was, where it
-    /// is longer than this version's log.
+    /// is longer than what led to this version.
     pub(crate) fn record_next(
         &self,
         head: &Head,
@@ -115,11 +139,37 @@ impl Recorded {
         requires told { arc_value told ≡ longer self.now.past entry.now }
         ensures { IfSome result (AreOwnersOf (after_entry self.now entry.now)) }
     {
-        let known = head.add(&self.known, self.number(), entry)?;
+        let known = head.add(&self.known, self.count, entry)?;
+        let count = self.count + 1;
         Some(Owners {
-            shown: Recorded::of(shown, known.again()),
-            kept: Recorded::of(kept, known.again()),
-            told: Recorded::of(told, known),
+            shown: Recorded::of(shown, known.again(), count),
+            kept: Recorded::of(kept, known.again(), count),
+            told: Recorded::of(told, known, count),
+        })
+    }
+
+    /// Adds a rebase to the history, whose version these three own. `None`, and the history is as it was, where it is
+    /// longer than what led to this version.
+    pub(crate) fn record_rebased(
+        &self,
+        head: &Head,
+        shown: Arc<Version>,
+        kept: Arc<Version>,
+        told: Arc<Version>,
+    ) -> Option<Owners>
+        requires book { head.now ≡ self.now.book }
+        requires room { epoch_of self.now.past < MOST_EPOCHS }
+        requires shown { arc_value shown ≡ rebased self.now.past }
+        requires kept { arc_value kept ≡ rebased self.now.past }
+        requires told { arc_value told ≡ rebased self.now.past }
+        ensures { IfSome result (AreOwnersOf (after_rebase self.now)) }
+    {
+        let known = head.rebase(&self.known, self.count)?;
+        let count = self.count + 1;
+        Some(Owners {
+            shown: Recorded::of(shown, known.again(), count),
+            kept: Recorded::of(kept, known.again(), count),
+            told: Recorded::of(told, known, count),
         })
     }
 }

@@ -44,7 +44,7 @@ impl Store {
         let Opened { receiver, feeds } = open_queue(alloc, vertex_count)?;
         let (head, known) = Head::new();
         let version = Version::opening(alloc, vertex_count)?;
-        let current = Recorded::of(Arc::new(alloc, version)?, known);
+        let current = Recorded::of(Arc::new(alloc, version)?, known, 0);
         let (board, side) = open_board(alloc, &current, rt)?;
         let committer = Committer {
             alloc,
@@ -55,6 +55,7 @@ impl Store {
         let publisher = Publisher {
             committer,
             held: None,
+            turn: None,
             receiver,
         };
         Ok(Ends {

@@ -38,6 +38,7 @@ pub(crate) fn open_board<R: Wait>(
         Ok(()) => seat_all(&mut writer, &pool, &mut membership),
         Err(full) => Err(full),
     };
+    let (known, count) = version.known();
     match seated {
         Ok(inner) => Ok((
             Board {
@@ -45,8 +46,8 @@ pub(crate) fn open_board<R: Wait>(
             },
             Viewer {
                 vertex_count: version.vertex_count(),
-                number: version.number(),
-                known: version.known(),
+                count,
+                known,
                 inner: Some(inner),
                 pool,
                 membership,

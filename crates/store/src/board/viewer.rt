@@ -13,7 +13,8 @@ use std::sync::Arc;
 /// A reader's side of the board. Contracts see it as the moment that it saw last.
 pub(crate) struct Viewer {
     pub(super) vertex_count: u32,
-    pub(super) number: u64,
+    // How many publications it knows of.
+    pub(super) count: u64,
     pub(super) known: Known,
     // It is there, but while a version is pinned.
     pub(super) inner: Option<Inner>,
@@ -34,7 +35,7 @@ impl Model for Viewer {
 
     ghost view = { λ r. moment_of r.vertex_count r.known };
 
-    ghost invariant = { λ r. (r.number ≡ count_of r.known)
+    ghost invariant = { λ r. (r.count ≡ count_of r.known)
         × IfSome r.inner (λ inner. Knows (moment_of r.vertex_count r.known) (board_view_of inner.place))
         × IsPassOf (arc_value r.pool) r.membership
         × IsMember (moment_of r.vertex_count r.known) (member_of r.membership) };
@@ -48,11 +49,14 @@ impl Viewer {
         ensures failed { IfErr result (λ _. self.new ≡ self.old) }
     {
         let version = self.look()?;
-        // The history's tokens decide which of the two is longer: the version never is the shorter one.
-        if version.number() < self.number {
+        let (known, count) = version.known();
+        compare(&self.known, &known);
+        // The history's tokens decide which of the two is later: the version never is the earlier one.
+        if count < self.count {
             return Err(PinError::NoShare);
         }
-        self.learn(&version);
+        self.count = count;
+        self.known = known;
         Ok(version)
     }
 
@@ -84,10 +88,10 @@ impl Viewer {
         ensures this { Begins self.old self.new }
         ensures that { Begins version.now self.new }
     {
-        let known = version.known();
-        compare(&self.known, &known);
-        if version.number() > self.number {
-            self.number = version.number();
+        let (known, count) = version.known();
+        compare(&known, &self.known);
+        if count > self.count {
+            self.count = count;
             self.known = known;
         }
     }
@@ -104,7 +108,7 @@ impl Viewer {
         let membership = pool.another::<Twin>(&mut self.membership);
         Ok(Viewer {
             vertex_count: self.vertex_count,
-            number: self.number,
+            count: self.count,
             known: self.known.again(),
             inner: Some(inner),
             pool,
@@ -118,7 +122,7 @@ impl Drop for Viewer {
     fn drop(self) {
         let Viewer {
             vertex_count: _,
-            number: _,
+            count: _,
             known: _,
             inner,
             pool,

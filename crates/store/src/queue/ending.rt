@@ -4,7 +4,7 @@ ghost use Rattle.crossbeam_queue.specs.Passes.{view as queue_view_of, IsPassOf};
 ghost use Rattle.past_model.specs.declared.limits.TheConstants.{FEEDS};
 ghost use Rattle.store_model.specs.declared.limits.TheConstants.{QUEUE_PLACES};
 ghost use Rattle.store.specs.Ends.{as_new, new_feeds};
-ghost use Rattle.store.specs.Feeds.{AreDelivered};
+ghost use Rattle.store.specs.Feeds.{AreAllOf};
 ghost use Rattle.store.specs.QueueViews.{taker, after_end};
 ghost use Rattle.store.specs.QueueRule.{Left};
 
@@ -20,7 +20,7 @@ impl Receiver {
     /// order. It takes no memory.
     pub(crate) fn finish<R: Wait>(self, feeds: Vec<Feed>, rt: &R) -> Vec<Entry>
         requires { map as_new feeds.items ≡ new_feeds self.vertex_count self.queue }
-        ensures delivered { AreDelivered (self.taken ++ result.items) feeds.items }
+        ensures delivered { AreAllOf (self.taken ++ result.items) feeds.items }
         ensures few { length result.items ≤ QUEUE_PLACES }
     {
         let Receiver {

@@ -5,10 +5,10 @@ use Rattle.past_model.specs.declared.entry.Entry.{Entry}
 use Rattle.past_model.specs.declared.limits.TheConstants.{FEEDS}
 use Rattle.store.specs.declared.queue.queue_view.QueueView.{QueueView}
 use Rattle.store.specs.Ends.{Feeding, Taking, as_new, new_feeds}
-use Rattle.store.specs.Feeds.{AreDelivered}
+use Rattle.store.specs.Feeds.{AreAllOf}
 use Rattle.store.specs.QueueRule.{Left}
 use Rattle.store.specs.QueueViews.{taker}
-use Rattle.store.proofs.FeedLists.{count_feeds, next_feed, are_delivered}
+use Rattle.store.proofs.FeedLists.{count_feeds, next_feed, are_all_of}
 use Rattle.store.proofs.queue.receiver.Receiver.finish.Goals as goal
 
 pub take_in-requires-clause-queue : goal.take_in-requires-clause-queue
@@ -40,4 +40,4 @@ returns-clause-delivered g c =
     let hand : view c.loop-feed.pass ≡ taker n taken FEEDS (map (λ (f : Feeding). f.sent) feeds) = before.hand ∙ ap (λ (l : List Feeding). taker n taken FEEDS (map (λ (f : Feeding). f.sent) l)) all in
     let left : Left (taker n taken FEEDS (map (λ (f : Feeding). f.sent) feeds)) items = subst (λ (v : QueueView). Left v items) hand c.all_left.ensures in
     let count = count_feeds c.args.self.vertex_count c.args.self.queue feeds c.requires in
-    subst (λ (l : List Entry). AreDelivered (l ++ items) feeds) (ap (λ (t : Taking). t.taken) c.self.view_is) (are_delivered n taken items feeds count left)
+    subst (λ (l : List Entry). AreAllOf (l ++ items) feeds) (ap (λ (t : Taking). t.taken) c.self.view_is) (are_all_of n taken items feeds count left)
