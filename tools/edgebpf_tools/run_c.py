@@ -71,7 +71,7 @@ def _fault(graph_file, graph, run, said):
     behind = line - len(graph.splitlines()) - 1
     if not 0 <= behind < len(run.lines):
         return Refusal(f"{graph_file}:{line}: {FAULTS.get(number, f'fault {number}')}")
-    word = run.lines[behind].split()[0]
+    word = run.lines[behind].split()[0].replace("image", "code")
     known = OWN_FAULTS.get((word, number), FAULTS.get(number, f"fault {number}"))
     return Refusal(f"{graph_file}: {known.format(name=run.name)}")
 
