@@ -26,6 +26,17 @@ struct edge {
     u8 argument[];
 };
 
+/* A const object marked TABLE, of 1 to 4,096 bytes, is the table of a program: all its runs read it, and none writes it. The
+   function gets its address as its third parameter, and reads it by that alone:
+
+       TABLE static const u32 weights[256] = {3, 1, 4, 1, 5};
+       u64 weight(struct edge *edge, u64 length, const u32 *table) { return table[edge->target & 255]; } */
+#ifdef __bpf__
+#define TABLE __attribute__((used, section(".edgebpf_table")))
+#else
+#define TABLE __attribute__((unused))
+#endif
+
 /* A graph does not change during a run, so equal questions have equal answers: clang asks once and may ask early. */
 #define EDGEBPF_CONST __attribute__((const))
 #ifdef __bpf__

@@ -20,6 +20,7 @@ Version: {VERSION}
 Summary: A versioned in-memory graph that runs BPF programs on its edges
 Requires-Python: >=3.9
 Requires-Dist: numpy
+Requires-Dist: cffi
 """
 WHEEL = "Wheel-Version: 1.0\nGenerator: edgebpf\nRoot-Is-Purelib: {}\nTag: {}\n"
 # The same bytes each time: no file has the time of its build.

@@ -34,11 +34,11 @@ def block_lines(more):
 
 
 def long_line(more):
-    return ["graph 3", "#" + "x" * (69999 + more), "pin a"]
+    return ["graph 3", "#" + "x" * (79999 + more), "pin a"]
 
 
 def long_block_line(more):
-    return ["graph 3", "program p 16", ";" + "x" * (69999 + more), "exit", "end"]
+    return ["graph 3", "program p 16", ";" + "x" * (79999 + more), "exit", "end"]
 
 
 def units(more):

@@ -17,6 +17,30 @@ REDUCTIONS = {
 }
 
 
+class NoImage(Exception):
+    """What is wrong with the bytes of an image."""
+
+
+def image_of(data):
+    """The record length, the code and the table that an image's bytes spell."""
+
+    def stop(is_wrong, error):
+        if is_wrong:
+            raise NoImage(error)
+
+    stop(data[:4] not in (b"BPE1", b"BPE2"), 1)
+    has_table = data[:4] == b"BPE2"
+    front = 10 if has_table else 8
+    stop(len(data) < front, 2)
+    length, units, table = (int.from_bytes(data[place : place + 2], "little") for place in (4, 6, 8))
+    stop(not 16 <= length <= 256, 3)
+    stop(not 1 <= units <= 4096, 4)
+    stop(has_table and not 1 <= table <= 4096, 6)
+    code, rest = data[front : front + 8 * units], data[front + 8 * units :]
+    stop(len(code) != 8 * units or len(rest) != (table if has_table else 0), 2)
+    return length, code, rest
+
+
 class Fault(Exception):
     """What is wrong with a line."""
 
@@ -55,6 +79,8 @@ def is_command(command, words):
         return len(words) == 3 and are_names(words[:2]) and hexadecimal(words[2]) is not None
     if command == "program":
         return len(words) == 2 and are_names(words[:1]) and are_numbers(words[1:])
+    if command == "image":
+        return len(words) == 2 and are_names(words[:1]) and hexadecimal(words[1]) is not None
     if command == "code":
         return len(words) == 3 and are_names(words[:1]) and are_numbers(words[1:2]) and hexadecimal(words[2]) is not None
     if command != "run" or len(words) < 4:
@@ -117,19 +143,19 @@ class Session:
         if before != after:
             self.seen[f"lists that move from {before} to {after}"] += 1
 
-    def offer(self, name, length, code):
+    def offer(self, name, length, code, table=b""):
         """Has code judged as a program."""
         if not code or len(code) % 8 or len(code) > 32768:
             self.said.append(f"image {name} error 4")
             return
-        verdict = judged(code, length)
+        verdict = judged(code, length, table)
         if isinstance(verdict, Refused):
             self.said.append(f"refused {name} cause {verdict.cause} pc {verdict.pc}")
             return
         bound, frames, notes = verdict
         self.seen["programs accepted"] += 1
         self.seen.update(f"programs accepted that {note}" for note in notes)
-        self.programs[name] = (length, code, bound)
+        self.programs[name] = (length, code, bound, table)
         self.said.append(f"program {name} bound {bound} frames {frames}")
 
     def program_line(self, line, words):
@@ -152,13 +178,13 @@ class Session:
 
     def numbers(self, program, pin, argument, source):
         """The targets of a vertex, each with the number of its edge."""
-        _, code, bound = self.programs[program]
+        _, code, bound, table = self.programs[program]
         graph, rest = self.pins[pin], hexadecimal(argument)
         targets = graph.neighbours(source)
         self.seen["runs of a program on an edge that exited"] += len(targets)
         for place, target in enumerate(targets):
             record = struct.pack("<IIII", source, target, place, len(targets)) + rest
-            yield target, run(code, record, graph, bound)
+            yield target, run(code, record, graph, bound, table)
 
     def list_edges(self, program, pin, argument):
         test(program not in self.programs or pin not in self.pins, NAME)
@@ -194,6 +220,14 @@ class Session:
         elif command == "code":
             self.new_program(words[0], int(words[1]))
             self.offer(words[0], int(words[1]), hexadecimal(words[2]))
+        elif command == "image":
+            self.new_program(words[0], 16)
+            try:
+                length, code, table = image_of(hexadecimal(words[1]))
+            except NoImage as error:
+                self.said.append(f"image {words[0]} error {error}")
+            else:
+                self.offer(words[0], length, code, table)
         elif command == "program":
             self.new_program(words[0], int(words[1]))
             self.block = {"line": line_number, "name": words[0], "length": int(words[1]), "lines": []}
@@ -212,7 +246,7 @@ class Session:
             self.run(*words)
 
     def line(self, line, line_number):
-        test(len(line) > 70000, LONG_LINE)
+        test(len(line) > 80000, LONG_LINE)
         test(any(not 32 <= byte <= 126 and byte != 9 for byte in line), WORDS)
         line = line.decode()
         words = line.replace("\t", " ").split()

@@ -1,5 +1,6 @@
 """Random scripts. The same number always gives the same script."""
 import random
+import struct
 
 from assembler import Fault, assemble
 from limits import at_a_limit
@@ -9,7 +10,7 @@ from verifier import Refused, judged
 
 ODD_COMMANDS = ["list t a -", "list t a", "list t a - 0", "list n1 n2 zz", "home", "home x", "home 99", "home 0 1", "batch E", "end", "graph 4", "foo"]
 ODD_COMMANDS += ["batch", "pin", "pin a b", "code a 16", "run a", "pin a.b", "home 18446744073709551616", "  # a comment", "\t", "#end", "batch  B x"]
-ODD_COMMANDS += ["\x7f", "a\r", "pin " + "x" * 33, "program p 15", "program p 257", "code p 16 0", "code p 16 -", "code p 16 95", "run n1 n2 avg -"]
+ODD_COMMANDS += ["\x7f", "a\r", "pin " + "x" * 33, "program p 15", "program p 257", "code p 16 0", "code p 16 -", "code p 16 95", "run n1 n2 avg -", "image p", "image p 4250453", "image p -", "image p 42504531100000"]
 ODD_EDITS = ["- 0", "-0 0", "", "# c", "+ 0", "+ 0 0 0", "end x", "+ 0 99999999999999999999", "+ 00 000", "+ -1 0"]
 MUTATIONS = b" \n\t#+-09afxzAZ[];:,.\r\x00\xff"
 
@@ -37,10 +38,10 @@ class Writer:
     def choice(self, values):
         return self.random.choice(values)
 
-    def learn(self, name, length, code):
+    def learn(self, name, length, code, table=b""):
         """Programs that are kept, by their record lengths and bounds."""
         if code and len(code) % 8 == 0 and len(code) <= 32768:
-            verdict = judged(code, length)
+            verdict = judged(code, length, table)
             if not isinstance(verdict, Refused) and name not in self.programs and verdict[0] <= LONG_RUN:
                 self.programs[name] = (length, verdict[0])
 
@@ -51,6 +52,17 @@ class Writer:
     def vertex(self):
         return self.choice(self.pool)
 
+    def image(self, name, length, code):
+        """The bytes of an image, one in ten with a wrong byte in its front."""
+        table = self.random.randbytes(self.choice([0, 0, 1, 4, 16, 300]))
+        counts = [length, len(code) // 8, *([len(table)] if table else [])]
+        data = bytearray((b"BPE2" if table else b"BPE1") + struct.pack(f"<{len(counts)}H", *counts) + code + table)
+        if self.often(0.1):
+            data[self.random.randrange(10)] = self.random.randrange(256)
+        else:
+            self.learn(name, length, code, table)
+        return bytes(data)
+
     def command(self):
         kind = self.choice(self.kinds)
         if self.often(0.005):
@@ -60,6 +72,8 @@ class Writer:
             return self.text(name, length)
         if kind == "c":
             code = self.writing.code(length)
+            if self.often(0.3):
+                return [f"image {name} {self.image(name, length, code).hex()}"]
             self.learn(name, length, code)
             return [f"code {name} {length} {code.hex()}"]
         if kind == "p":

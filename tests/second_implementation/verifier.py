@@ -9,6 +9,7 @@ BAD_INSTRUCTION, JUMP_OUT, JUMP_BACK, CALL_TARGET, FALLS_OFF, TOO_DEEP, TOO_LONG
 MOST_COUNTED = 1_000_000
 UNSET_REGISTER, FRAME_REGISTER, POINTER_USE, OUT_OF_RANGE, UNSET_BYTE, NOT_A_NUMBER = 8, 9, 10, 11, 12, 15
 HELPER_ARGUMENT, UNKNOWN_HELPER = 13, 14
+READ_ONLY = 17
 OPPOSITES = {"eq": "ne", "gt": "le", "ge": "lt", "sgt": "sle", "sge": "slt"}
 OPPOSITES |= {second: first for first, second in OPPOSITES.items()}
 
@@ -24,13 +25,13 @@ def number(lo, hi):
 
 
 def is_pointer(value):
-    return value[0] in ("record", "stack")
+    return value[0] in ("record", "stack", "table")
 
 
 def joined(left, right):
     if left == right:
         return left
-    if left[0] == right[0] and left[0] in ("number", "record"):
+    if left[0] == right[0] and left[0] in ("number", "record", "table"):
         return (left[0], min(left[1], right[1]), max(left[2], right[2]))
     return UNSET
 
@@ -111,9 +112,11 @@ class State:
         self.registers, self.is_set, self.spilled = registers, is_set, spilled
 
     @staticmethod
-    def entry(record_length):
+    def entry(record_length, table=b""):
         registers = [UNSET] * 11
         registers[1], registers[2], registers[10] = ("record", 0, 0), number(record_length, record_length), ("stack", 0)
+        if table:
+            registers[3] = ("table", 0, 0)
         return State(registers, frozenset(), {})
 
     def copy(self):
@@ -142,7 +145,7 @@ class Broken(Exception):
     """The causes of the rules that an instruction breaks."""
 
 
-def moved(record_length, operation, pointer, known):
+def moved(limits, operation, pointer, known):
     """A pointer after an addition or a subtraction of a number."""
     lo, hi = (signed(known[0], 64),) * 2 if is_constant(known) else known
     if pointer[0] == "stack":
@@ -153,16 +156,16 @@ def moved(record_length, operation, pointer, known):
             raise Broken(OUT_OF_RANGE)
         return ("stack", offset)
     lo, hi = (pointer[1] + lo, pointer[2] + hi) if operation == "add" else (pointer[1] - hi, pointer[2] - lo)
-    if lo < 0 or hi > record_length:
+    if lo < 0 or hi > limits[pointer[0]]:
         raise Broken(OUT_OF_RANGE)
-    return ("record", lo, hi)
+    return (pointer[0], lo, hi)
 
 
-def arithmetic(record_length, bits, operation, left, right):
+def arithmetic(limits, bits, operation, left, right):
     if operation == "mov" and is_pointer(right) and bits == 64:
         return right
     if operation in ("add", "sub") and bits == 64 and is_pointer(left) and right[0] == "number":
-        return moved(record_length, operation, left, right[1:])
+        return moved(limits, operation, left, right[1:])
     if is_pointer(right) or is_pointer(left) and operation != "mov":
         raise Broken(POINTER_USE)
     return number(*computed(bits, operation, left[1:] if operation != "mov" else (0, 0), right[1:]))
@@ -186,16 +189,17 @@ def place_in_frame(base, offset, size):
     return place if 0 <= place and place + size <= FRAME_BYTES else None
 
 
-def is_in_record(record_length, base, offset, size):
-    return base[1] + offset >= 0 and base[2] + offset + size <= record_length
+def is_inside(limits, base, offset, size):
+    """Whether an access through a pointer into the record or the table lies wholly in it."""
+    return base[1] + offset >= 0 and base[2] + offset + size <= limits[base[0]]
 
 
-def loaded(state, record_length, size, extends, base, offset):
+def loaded(state, limits, size, extends, base, offset):
     if base[0] == "number":
         raise Broken(POINTER_USE)
     value = number(0, BITS_64 if extends else 2 ** (8 * size) - 1)
-    if base[0] == "record":
-        if not is_in_record(record_length, base, offset, size):
+    if base[0] in limits:
+        if not is_inside(limits, base, offset, size):
             raise Broken(OUT_OF_RANGE)
         return value
     place = place_in_frame(base, offset, size)
@@ -208,14 +212,21 @@ def loaded(state, record_length, size, extends, base, offset):
     return value
 
 
-def store(state, record_length, size, base, offset, value):
+def write_record(limits, base, offset, size):
+    """A write through a pointer into the record, or into the table, which is never written."""
+    if not is_inside(limits, base, offset, size):
+        raise Broken(OUT_OF_RANGE)
+    if base[0] == "table":
+        raise Broken(READ_ONLY)
+
+
+def store(state, limits, size, base, offset, value):
     place = place_in_frame(base, offset, size) if base[0] == "stack" else None
     is_slot = place is not None and size == 8 and place % 8 == 0
     if base[0] == "number" or is_pointer(value) and not is_slot:
         raise Broken(POINTER_USE)
-    if base[0] == "record":
-        if not is_in_record(record_length, base, offset, size):
-            raise Broken(OUT_OF_RANGE)
+    if base[0] in limits:
+        write_record(limits, base, offset, size)
         return
     if place is None:
         raise Broken(OUT_OF_RANGE)
@@ -226,7 +237,7 @@ def store(state, record_length, size, base, offset, value):
         state.spilled[place // 8] = value
 
 
-def ask(state, record_length, helper):
+def ask(state, limits, helper):
     """What is known behind the call of a helper."""
     if helper not in ARGUMENTS:
         raise Broken(UNKNOWN_HELPER)
@@ -235,19 +246,18 @@ def ask(state, record_length, helper):
     if any(value[0] != "number" for value in arguments[:2]):
         raise Broken(HELPER_ARGUMENT)
     if helper == 5:
-        return gather(state, record_length, *arguments[2:])
+        return gather(state, limits, *arguments[2:])
     most = {1: BITS_32, 2: 1, 3: BITS_64, 4: BITS_32}[helper]
     return state.returned(number(0, most))
 
 
-def gather(state, record_length, base, room):
+def gather(state, limits, base, room):
     if not is_pointer(base) or room[0] != "number" or not is_constant(room[1:]) or room[1] not in ROOMS:
         raise Broken(HELPER_ARGUMENT)
     size = room[1]
     behind = state.returned(number(0, size // 4))
-    if base[0] == "record":
-        if not is_in_record(record_length, base, 0, size):
-            raise Broken(OUT_OF_RANGE)
+    if base[0] in limits:
+        write_record(limits, base, 0, size)
         return behind
     place = place_in_frame(base, 0, size)
     if place is None:
@@ -279,9 +289,10 @@ def branch_ways(state, pc, bits, comparison, left, operand, distance):
     return ways
 
 
-def ways_from(state, record_length, pc, instruction, units):
+def ways_from(state, record_length, pc, instruction, units, table=b""):
     """Where a run may go on, and what is known there."""
     kind, *parts = instruction
+    limits = {"record": record_length, "table": len(table)}
     registers = state.registers
     if kind == "exit":
         read(registers[0])
@@ -295,12 +306,12 @@ def ways_from(state, record_length, pc, instruction, units):
     if kind == "local":
         return [(pc + 1 + parts[0], state.entered()), (pc + 1, state.returned())]
     if kind == "helper":
-        return [(pc + 1, ask(state, record_length, parts[0]))]
+        return [(pc + 1, ask(state, limits, parts[0]))]
     if kind == "alu":
         bits, operation, destination, operand = parts
         left, right = registers[destination], state.operand(operand, bits)
         read(right, *([] if operation == "mov" else [left]))
-        write(state, destination, lambda: arithmetic(record_length, bits, operation, left, right))
+        write(state, destination, lambda: arithmetic(limits, bits, operation, left, right))
     elif kind in ("neg", "swap", "extend"):
         bits = 64 if kind == "swap" else parts[0]
         functions = {
@@ -324,12 +335,12 @@ def ways_from(state, record_length, pc, instruction, units):
         size, extends, destination, base, offset = parts
         base = registers[base]
         read(base)
-        write(state, destination, lambda: loaded(state, record_length, size, extends, base, offset))
+        write(state, destination, lambda: loaded(state, limits, size, extends, base, offset))
     else:
         size, base, offset, operand = parts
         base, value = registers[base], state.operand(operand, 64)
         read(base, value)
-        store(state, record_length, size, base, offset, value)
+        store(state, limits, size, base, offset, value)
     return [(pc + units, state)]
 
 
@@ -393,7 +404,9 @@ def noted(state, instruction, ways):
     elif kind in ("load", "store"):
         size, (base, offset) = parts[0], parts[3:] if kind == "load" else parts[1:3]
         base = state.registers[base]
-        if base[0] == "record":
+        if base[0] == "table":
+            yield "load from the table"
+        elif base[0] == "record":
             yield "store to the record" if kind == "store" else "load from the record"
             if base[1] < base[2]:
                 yield "access the record at a range of places"
@@ -403,7 +416,7 @@ def noted(state, instruction, ways):
                 yield "take back a spilled pointer" if is_pointer(spilled) else "take back a spilled number"
 
 
-def verify(code, record_length):
+def verify(code, record_length, table=b""):
     """The bound, the frames and what is noted of an accepted program, or the refusal as an exception."""
     instructions = listed(code)
     test_flow(instructions, len(code) // 8)
@@ -416,14 +429,14 @@ def verify(code, record_length):
         raise Refused(TOO_DEEP, 0)
     if counts[0] > MOST_COUNTED:
         raise Refused(TOO_LONG, 0)
-    states, exits = {0: State.entry(record_length)}, 0
+    states, exits = {0: State.entry(record_length, table)}, 0
     for pc, (instruction, units) in instructions.items():
         if pc not in states:
             continue
         state = states.pop(pc)
         before = state.copy()
         try:
-            ways = ways_from(state, record_length, pc, instruction, units)
+            ways = ways_from(state, record_length, pc, instruction, units, table)
         except Broken as broken:
             raise Refused(broken.args[0], pc) from None
         notes.update(noted(before, instruction, ways))
@@ -438,9 +451,9 @@ def verify(code, record_length):
 
 
 @lru_cache(1000)
-def judged(code, record_length):
+def judged(code, record_length, table=b""):
     """What `verify` says, with a refusal as a value."""
     try:
-        return verify(code, record_length)
+        return verify(code, record_length, table)
     except Refused as refused:
         return refused

@@ -5,7 +5,7 @@ import re
 import sys
 import tempfile
 
-from edgebpf_tools import clang, ends, explain
+from edgebpf_tools import clang, ends, explain, tables
 from edgebpf_tools.c_words import CWords
 from edgebpf_tools.link import ObjectFile, link
 from edgebpf_tools.refusal import Refusal
@@ -21,13 +21,17 @@ def arguments(words):
         prog="edgebpf-c",
         description="Compiles a function in C, with the static functions that it calls, and prints the line "
         "`code NAME LENGTH HEX` of a script. With --on it runs it, too.",
-        epilog="The function is u64 NAME(struct edge *edge, u64 length), as tools/edgebpf.h says. Needs clang, "
+        epilog="The function is u64 NAME(struct edge *edge, u64 length), with a table as its third parameter if there is one, as "
+        "tools/edgebpf.h says. Needs clang, "
         "llvm-objdump and pyelftools: apt-get install clang-19 llvm-19 python3-pyelftools",
     )
     parser.add_argument("file", metavar="FILE.c", help="the source, or an object file made with -target bpf")
     parser.add_argument("function", nargs="?", metavar="FUNCTION", help="may be left out where one is not static")
     parser.add_argument("length", type=int, metavar="LENGTH", help="bytes of a record, 16 to 256: 16 and the argument's")
     parser.add_argument("--name", help="the program's name in the script; else the function's")
+    parser.add_argument("--table", metavar="FILE", help="the bytes of a table, which the function reads by its third parameter; else "
+                        "those of the object marked TABLE. The line is `image NAME HEX` then")
+    parser.add_argument("--table-type", choices=list(tables.TYPES), help="the file of --table has numbers of this type, one a line")
     parser.add_argument("--on", metavar="GRAPH", help="a script that makes a graph: run the program on its last version")
     parser.add_argument("--script", action="store_true", help="with --on: print the script in place of running it")
     parser.add_argument("--reduce", default="sum", choices=["min", "max", "sum"], help="with --on; else sum")
@@ -74,7 +78,7 @@ def linked(options, folder):
     compiled = f"{folder}/program.o"
     sys.stderr.write(clang.compile_to_bpf(options.file, compiled, [HEADERS], options.optimize))
     found = of_object(options, compiled)
-    if explain.is_ready() and loses_an_index(options.length, found[2].code):
+    if not tables.of_program(options, found[0]) and explain.is_ready() and loses_an_index(options.length, found[2].code):
         again = f"{folder}/again.o"
         clang.compile_to_bpf(options.file, again, [HEADERS], options.optimize, has_opaque_indices=True)
         other = of_object(options, again)
@@ -98,11 +102,11 @@ def loses_an_index(length, code):
         return False
 
 
-def explained(words, name, length, code):
+def explained(words, name, length, code, table):
     """Why a program is refused, at its line of C: `edgebpf_explain` knows the values, if it is there."""
 
     def explain_refusal(verdict, meaning):
-        if explain.is_ready():
+        if explain.is_ready() and not table:
             told, _ = explain.explain(length, code.hex())
             if told:
                 lines = words.refusal(told)
@@ -154,9 +158,12 @@ def finish(options, objects, function, program):
     if not NAME.fullmatch(name):
         raise Refusal(f"{name} is no name of a script (1 to 32 of A-Z a-z 0-9 _ -); give one by --name")
     words = CWords(objects, program, options.length)
+    table = tables.of_program(options, objects)
     if options.explain or options.html:
+        if table:
+            raise Refusal("--explain and --html know no table")
         return show(options, words, program.code)
-    line = f"code {name} {options.length} {program.code.hex()}"
+    line = tables.line_of(name, options.length, program.code, table)
     if options.on is None:
         print(line)
         return 0
@@ -165,7 +172,7 @@ def finish(options, objects, function, program):
     if options.script:
         print("\n".join([graph, *run.lines]))
         return 0
-    return run_on(options.on, graph, run, options.workers, explained(words, name, options.length, program.code))
+    return run_on(options.on, graph, run, options.workers, explained(words, name, options.length, program.code, table))
 
 
 def main():

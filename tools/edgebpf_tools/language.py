@@ -3,7 +3,7 @@ import re
 from dataclasses import dataclass, field
 
 MOST_VERTICES, MOST_EDITS, MOST_BATCHES, MOST_NAMES = 1_048_576, 65_536, 4_096, 256
-MOST_BYTES, MOST_PROGRAM_LINES = 70_000, 65_536
+MOST_BYTES, MOST_PROGRAM_LINES = 80_000, 65_536
 FEEDS = ("A", "B", "C", "D")
 NAME = re.compile(r"[A-Za-z0-9_-]{1,32}")
 HEX = re.compile(r"-|([0-9a-fA-F]{2})+")
@@ -11,6 +11,7 @@ FORMS = {
     "graph": "graph N: makes the graph of N vertices, 1 to 1,048,576",
     "batch": "batch A, or B, C or D: begins a batch of that feed; + U V and - U V are its edits, end publishes it",
     "code": "code NAME LENGTH HEX: verifies a program with records of LENGTH bytes, 16 to 256, and keeps it",
+    "image": "image NAME HEX: verifies the program of an image's bytes, which may have a table, and keeps it",
     "program": "program NAME LENGTH: begins a program in assembler text; end verifies it",
     "pin": "pin NAME: names the last version",
     "run": "run PROGRAM PIN min|max|sum HEX [U ..]: runs a program over the edges of all vertices, or of some, ascending",
@@ -117,7 +118,7 @@ class Language:
         command = words[0]
         if command not in FORMS:
             raise Complaint("no command has this name; .help lists them", 0)
-        counts = {"graph": 2, "batch": 2, "code": 4, "program": 3, "pin": 2, "home": 2, "list": 4}
+        counts = {"graph": 2, "batch": 2, "code": 4, "image": 3, "program": 3, "pin": 2, "home": 2, "list": 4}
         if len(words) != counts.get(command, len(words)) or (command == "run" and len(words) < 5):
             raise Complaint(FORMS[command], 0)
         if (command == "graph") != (self.vertices is None):
@@ -131,17 +132,25 @@ class Language:
         if words[1] not in FEEDS:
             raise Complaint("a feed is A, B, C or D", 1)
 
-    def _check_program(self, words):
-        name(words, 1)
-        if len(words) == 4:
-            digits(words, 3)
-        number(words, 2, "the length of a record", 16, 256)
+    def _check_new_program(self, words):
         if words[1] in self.programs:
             raise Complaint("a program has this name", 1)
         if len(self.programs) >= MOST_NAMES:
             raise Complaint(f"{MOST_NAMES} programs are kept", 1)
 
+    def _check_program(self, words):
+        name(words, 1)
+        if len(words) == 4:
+            digits(words, 3)
+        number(words, 2, "the length of a record", 16, 256)
+        self._check_new_program(words)
+
     _check_code = _check_program
+
+    def _check_image(self, words):
+        name(words, 1)
+        digits(words, 2)
+        self._check_new_program(words)
 
     def _check_pin(self, words):
         name(words, 1)
@@ -218,3 +227,6 @@ class Language:
             self.pins.add(words[1])
         elif words[0] in ("code", "program") and said[0] == "program":
             self.programs[words[1]] = int(words[2])
+        elif words[0] == "image" and said[0] == "program":
+            # The length of a record stands in the image, in two bytes from the fourth on.
+            self.programs[words[1]] = int.from_bytes(bytes.fromhex(words[2][8:12]), "little")

@@ -7,10 +7,13 @@ from edgebpf_tools.clang import lines_of
 from edgebpf_tools.flow import Flow, called_state, entry_state
 from edgebpf_tools.refusal import Refusal, needs_package
 from edgebpf_tools.rewriting import Rewriting
+from edgebpf_tools.tables import SECTION as TABLE_SECTION
 from edgebpf_tools.values import STACK
 
 MOST_UNITS = 4096
 EM_BPF = 247
+# The flag of a section that may be written.
+WRITABLE = 1
 DEBUG_SECTIONS = (".debug", ".BTF", ".eh_frame")
 # Opcodes of instructions outside RFC 9669's groups base64 and divmul64, with what a person calls them.
 OUTSIDE = {
@@ -67,13 +70,19 @@ class ObjectFile:
         table = elf.get_section_by_name(".symtab")
         self.code = {}
         self.names = {}
+        self.tables = []
+        self.is_written = False
         self.functions = []
         self.relocations = {}
         for index, section in enumerate(elf.iter_sections()):
             self.names[index] = section.name
             if section["sh_type"] == "SHT_PROGBITS":
                 self.code[index] = section.data()
+            if section.name == TABLE_SECTION:
+                self.is_written = bool(section["sh_flags"] & WRITABLE)
         for symbol in table.iter_symbols():
+            if symbol["st_info"]["type"] == "STT_OBJECT" and self.names.get(symbol["st_shndx"]) == TABLE_SECTION:
+                self.tables.append(symbol)
             if symbol["st_info"]["type"] == "STT_FUNC" and isinstance(symbol["st_shndx"], int):
                 is_static = symbol["st_info"]["bind"] == "STB_LOCAL"
                 self.functions.append(
@@ -89,6 +98,20 @@ class ObjectFile:
                 is_section = symbol["st_info"]["type"] == "STT_SECTION"
                 name = self.names.get(home, "") if is_section else symbol.name
                 places[relocation["r_offset"]] = Symbol(name, home, symbol["st_value"], is_section)
+
+    def table(self):
+        """The bytes of the object that is marked TABLE; none without one."""
+        found = [index for index, name in self.names.items() if name == TABLE_SECTION]
+        if not found:
+            return b""
+        names = [symbol.name for symbol in self.tables]
+        if len(names) > 1:
+            raise Refusal(f"the file has several objects marked TABLE: {', '.join(names)}; a program has one table")
+        if self.is_written:
+            raise Refusal(f"{names[0] if names else 'the table'} is marked TABLE, and no const; no run writes to its table")
+        if self.relocations.get(found[0]):
+            raise Refusal(f"{names[0] if names else 'the table'} is marked TABLE, and has an address in it; a table has numbers alone")
+        return self.code.get(found[0], b"")
 
     def function_named(self, name):
         """The function of a name, or the refusal that says which there are."""
@@ -144,10 +167,13 @@ def _refuse_relocation(objects, function, offset, unit, symbol):
     if symbol.section == "SHN_UNDEF":
         raise Refusal(f"{where}uses {symbol.name}, which the file does not have")
     home = objects.names.get(symbol.section, "")
+    if home == TABLE_SECTION:
+        raise Refusal(f"{where}uses the table by its name; a program reads it by the third parameter of its function")
     what = "constant data (a table, a string, or a `switch` that became a table)" if home.startswith(".rodata") else "data"
     raise Refusal(
-        f"{where}uses {what} in section {home or '?'} by {symbol.name or home}. A program has no data of its own: write "
-        "the values as numbers in the code, or hand them in as the argument at the end of the record"
+        f"{where}uses {what} in section {home or '?'} by {symbol.name or home}. A program has no data of its own: mark "
+        "one const object TABLE, and read it by the third parameter of the function; or write the values as numbers in the code, or "
+        "hand them in as the argument at the end of the record"
     )
 
 

@@ -10,7 +10,7 @@ from edgebpf_tools.words import in_words
 
 PIN = "last"
 FAULTS = {
-    1: "a line of more than 70,000 bytes",
+    1: "a line of more than 80,000 bytes",
     2: "a byte that no line may have, an unknown command, or wrong words",
     3: "a command before `graph`, or a second `graph`",
     4: "a number of vertices, a record length or a vertex that is out of range",
@@ -71,7 +71,7 @@ def _fault(graph_file, graph, run, said):
     behind = line - len(graph.splitlines()) - 1
     if not 0 <= behind < len(run.lines):
         return Refusal(f"{graph_file}:{line}: {FAULTS.get(number, f'fault {number}')}")
-    word = run.lines[behind].split()[0]
+    word = run.lines[behind].split()[0].replace("image", "code")
     known = OWN_FAULTS.get((word, number), FAULTS.get(number, f"fault {number}"))
     return Refusal(f"{graph_file}: {known.format(name=run.name)}")
 

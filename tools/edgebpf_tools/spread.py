@@ -15,7 +15,7 @@ from edgebpf_tools.words import in_words
 MOST_PROCESSES = 64
 # So many threads may one edgebpf have.
 MOST_THREADS = 16
-# A line has at most 70,000 bytes, and a vertex at most 7 digits.
+# A line has at most 80,000 bytes, and a vertex at most 7 digits.
 VERTICES_OF_A_LINE = 8_000
 
 

@@ -43,6 +43,13 @@ TEXT_ERRORS = {
     6: "with this line the code has more than 4,096 units",
     7: "there was no memory to assemble it",
 }
+IMAGE_ERRORS = {
+    1: "the bytes do not begin with BPE1 or BPE2, so they are no image",
+    2: "the image has more or fewer bytes than its numbers say",
+    3: "the image's record length is not 16 to 256",
+    4: "the code is not 1 to 4,096 whole units of 8 bytes",
+    6: "the table is not 1 to 4,096 bytes",
+}
 
 
 def in_words(reply):
@@ -54,5 +61,5 @@ def in_words(reply):
     if words[0] == "assembler":
         return f"line {words[5]} of the program: {TEXT_ERRORS[int(words[3])]}"
     if words[0] == "image":
-        return "the code is not 1 to 4,096 whole units of 8 bytes"
+        return IMAGE_ERRORS[int(words[3])]
     return None

@@ -42,6 +42,8 @@ class EdgebpfShell(unittest.TestCase):
             ("batch E", "      ^ a feed is A, B, C or D"),
             ("code p 15 00", "       ^^ the length of a record is 16 to 256"),
             ("code p 16 0", "          ^ bytes are pairs"),
+            ("image p 0", "        ^ bytes are pairs"),
+            ("image t -", "      ^ a program has this name"),
             ("run t a sum 00", "            ^^ this program's argument has 0 bytes"),
             ("run t a sum - 1 0", "                ^ vertices ascend"),
             ("run t a sum - 4", "              ^ a vertex is 0 to 3"),

@@ -1,4 +1,10 @@
 """The errors of this package. All are below `Error`."""
+from __future__ import annotations
+
+import typing
+
+if typing.TYPE_CHECKING:
+    from edgebpf.programs import Program
 
 CAUSES = {
     1: "no instruction stands there",
@@ -37,11 +43,11 @@ class Error(Exception):
 class Refused(Error):
     """The verifier refused a program. `cause` is its rule, and `unit` the place in the code, in units of 8 bytes."""
 
-    def __init__(self, cause, unit, program):
+    def __init__(self, cause: int, unit: int, program: Program) -> None:
         super().__init__(f"refused, cause {cause} at unit {unit}: {CAUSES[cause]}")
         self.cause, self.unit, self.words, self._program = cause, unit, CAUSES[cause], program
 
-    def explain(self):
+    def explain(self) -> str:
         """The verifier's state before each instruction, the rule that failed, and the usual fix, as text."""
         return self._program._explain()
 
@@ -49,7 +55,7 @@ class Refused(Error):
 class WrongText(Error):
     """A text is no program. `line` is counted from 1."""
 
-    def __init__(self, cause, line):
+    def __init__(self, cause: int, line: int) -> None:
         super().__init__(f"line {line}: {TEXT_ERRORS[cause]}")
         self.cause, self.line = cause, line
 

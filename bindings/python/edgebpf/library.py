@@ -1,20 +1,27 @@
-"""The library `libedgebpf.so` by ctypes. A call lets go of the interpreter's lock, and takes the lock of each handle that it is given."""
-import ctypes
+"""The library `libedgebpf.so` by cffi. A call lets go of the interpreter's lock, and takes the lock of each handle that it is given."""
+from __future__ import annotations
+
 import ctypes.util
 import functools
+import importlib.util
 import os
 import pathlib
 import subprocess
 import threading
+from typing import Any
+
+import numpy.typing as npt
 
 from edgebpf.errors import ArgumentLength, Closed, Error, LogFull, NoMemory, TooManyEdits, VertexRange
+
+cffi: Any = importlib.import_module("cffi") if importlib.util.find_spec("cffi") else None
 
 HERE = pathlib.Path(__file__).resolve()
 DIST = HERE.parents[3] / "dist"
 NAME = "libedgebpf.so"
 DONE, NO_MEMORY, EMPTY = 0, 1, 2
-VERTEX_RANGE, TOO_MANY_EDITS, LOG_FULL, LENGTHS, REFUSED, RECORD_LENGTH, CODE_LENGTH, ARGUMENT_LENGTH, WRONG_TEXT = 5, 6, 7, 9, 10, 11, 12, 13, 15
-ERRORS = {
+VERTEX_RANGE, TOO_MANY_EDITS, LOG_FULL, REFUSED, RECORD_LENGTH, CODE_LENGTH, ARGUMENT_LENGTH, WRONG_TEXT = 5, 6, 7, 10, 11, 12, 13, 15
+ERRORS: dict[int, tuple[type[Exception], str]] = {
     NO_MEMORY: (NoMemory, "there is no memory; nothing was changed"),
     EMPTY: (Closed, "it is closed"),
     VERTEX_RANGE: (VertexRange, "a vertex is not in the graph"),
@@ -24,46 +31,30 @@ ERRORS = {
     CODE_LENGTH: (ValueError, "code has 1 to 4,096 whole units of 8 bytes"),
     ARGUMENT_LENGTH: (ArgumentLength, "the argument does not have the record's length less 16 bytes"),
 }
+# What bindings/c/edgebpf.h declares, as far as this package calls it. A slice's address is a number here.
+DECLARATIONS = """
+typedef struct { void *at; } handle;
+typedef struct { uint64_t added, removed, number; } change;
+typedef struct { uint64_t number, edges; uint32_t vertices; } info;
+typedef struct { uintptr_t at; size_t count; } slice;
+typedef struct { uint32_t bound, frames, cause, pc; } verdict;
+typedef struct { size_t length, line; uint32_t cause; } assembled;
+typedef struct { uint64_t edges, total; } totals;
+uint32_t edgebpf_store_new(uint32_t, handle *);
+uint32_t edgebpf_store_apply(handle *, uint8_t, const uint32_t *, size_t, const uint32_t *, size_t, const uint8_t *, size_t, change *);
+uint32_t edgebpf_store_pin(handle *, handle *);
+uint32_t edgebpf_version_info(handle *, info *);
+uint32_t edgebpf_version_lend(handle *, uint32_t, slice *, size_t, size_t *);
+uint32_t edgebpf_version_copy(handle *, uint64_t *, size_t, uint32_t *, size_t);
+uint32_t edgebpf_program_new(uint16_t, const uint8_t *, size_t, verdict *, handle *);
+uint32_t edgebpf_assemble(const uint8_t *, size_t, uint8_t *, size_t, assembled *);
+uint32_t edgebpf_run(handle *, handle *, const uint8_t *, size_t, const uint32_t *, size_t, uint32_t, uint64_t *, size_t, totals *);
+uint32_t edgebpf_numbers(handle *, handle *, const uint8_t *, size_t, uint64_t *, size_t);
+void edgebpf_close(handle *);
+"""
 
 
-class Change(ctypes.Structure):
-    _fields_ = [("added", ctypes.c_uint64), ("removed", ctypes.c_uint64), ("number", ctypes.c_uint64)]
-
-
-class Info(ctypes.Structure):
-    _fields_ = [("number", ctypes.c_uint64), ("edges", ctypes.c_uint64), ("vertices", ctypes.c_uint32)]
-
-
-class Verdict(ctypes.Structure):
-    _fields_ = [(name, ctypes.c_uint32) for name in ("bound", "frames", "cause", "pc")]
-
-
-class Assembled(ctypes.Structure):
-    _fields_ = [("length", ctypes.c_size_t), ("line", ctypes.c_size_t), ("cause", ctypes.c_uint32)]
-
-
-class Totals(ctypes.Structure):
-    _fields_ = [("edges", ctypes.c_uint64), ("total", ctypes.c_uint64)]
-
-
-POINTER, SIZE, WORD = ctypes.c_void_p, ctypes.c_size_t, ctypes.c_uint32
-ARRAY = (POINTER, SIZE)
-CALLS = {
-    "store_new": (WORD, POINTER),
-    "store_apply": (POINTER, ctypes.c_uint8, *ARRAY, *ARRAY, *ARRAY, POINTER),
-    "store_pin": (POINTER, POINTER),
-    "version_info": (POINTER, POINTER),
-    "version_lend": (POINTER, WORD, *ARRAY, POINTER),
-    "version_copy": (POINTER, *ARRAY, *ARRAY),
-    "program_new": (ctypes.c_uint16, *ARRAY, POINTER, POINTER),
-    "assemble": (*ARRAY, *ARRAY, POINTER),
-    "explain": (ctypes.c_uint16, *ARRAY, *ARRAY, POINTER),
-    "run": (POINTER, POINTER, *ARRAY, *ARRAY, WORD, *ARRAY, POINTER),
-    "numbers": (POINTER, POINTER, *ARRAY, *ARRAY),
-}
-
-
-def in_checkout():
+def in_checkout() -> str | None:
     """The library of the checkout's `dist/`, which the C compiler builds at the first use; None where there is no checkout or compiler."""
     text, built = DIST / "libedgebpf.s", DIST / "build" / NAME
     if not text.is_file():
@@ -78,8 +69,11 @@ def in_checkout():
 
 
 @functools.cache
-def path():
-    """Where the library is: what EDGEBPF_LIBRARY names, else beside this package, else of the checkout, else one that is installed; or None."""
+def path() -> str | None:
+    """Where the library is: what EDGEBPF_LIBRARY names, else beside this package, else of the checkout, else one that is installed. None
+    where there is none, or no cffi."""
+    if cffi is None:
+        return None
     if named := os.environ.get("EDGEBPF_LIBRARY"):
         return named
     beside = HERE.parent / NAME
@@ -89,22 +83,25 @@ def path():
 
 
 @functools.cache
-def load():
-    """The library's calls, by the names in CALLS."""
+def foreign() -> Any:
+    """The types of the library's calls."""
+    types = cffi.FFI()
+    types.cdef(DECLARATIONS)
+    return types
+
+
+@functools.cache
+def load() -> Any:
+    """The library, whose calls are its attributes."""
+    if cffi is None:
+        raise Error("the Python package cffi is not there: install it, or use edgebpf.connect")
     found = path()
     if found is None:
         raise Error(f"{NAME} is not there: install edgebpf, or run make -C dist in a checkout, or name the library by EDGEBPF_LIBRARY")
-    library = ctypes.CDLL(found)
-    calls = {}
-    for name, arguments in CALLS.items():
-        calls[name] = getattr(library, f"edgebpf_{name}")
-        calls[name].argtypes, calls[name].restype = arguments, WORD
-    library.edgebpf_close.argtypes, library.edgebpf_close.restype = (POINTER,), None
-    calls["close"] = library.edgebpf_close
-    return calls
+    return foreign().dlopen(found)
 
 
-def check(status):
+def check(status: int) -> None:
     """Raises the error of a status that is not 0."""
     if status != DONE:
         error, words = ERRORS.get(status, (Error, f"the library answered {status}"))
@@ -114,21 +111,13 @@ def check(status):
 class Handle:
     """What the library hands out. It is let go with the last object that refers to it."""
 
-    def __init__(self):
-        self.value, self.lock = POINTER(), threading.Lock()
-        self.at = ctypes.addressof(self.value)
-        self._close = load()["close"]
+    __slots__ = ("at", "lock")
 
-    def __del__(self):
-        if getattr(self, "_close", None) and self.value:
-            self._close(self.at)
+    def __init__(self) -> None:
+        library = load()
+        self.at, self.lock = foreign().gc(foreign().new("handle *"), library.edgebpf_close), threading.Lock()
 
 
-def array(values):
-    """A numpy array as the library wants it: where it lies, and how many values it has."""
-    return values.ctypes.data, len(values)
-
-
-def text(data):
-    """Bytes as the library wants them. The pointer of none is not followed."""
-    return ctypes.cast(ctypes.c_char_p(data), POINTER), len(data)
+def numbers(kind: str, values: npt.NDArray[Any]) -> tuple[Any, int]:
+    """A numpy array as the library wants it: where it lies, and how many values it has. `kind` is the C type of one."""
+    return foreign().from_buffer(f"{kind}[]", values), len(values)

@@ -1,5 +1,6 @@
 """Programs: BPF code or text that the verifier has accepted."""
-import ctypes
+from __future__ import annotations
+
 import os
 import pathlib
 import shutil
@@ -14,7 +15,7 @@ MOST_UNITS = 4_096
 CHECKOUT = pathlib.Path(__file__).resolve().parents[3]
 
 
-def command(name):
+def command(name: str) -> str:
     """The path of a program of edgebpf: for `edgebpf` what EDGEBPF names, else what stands in a checkout, or what is installed."""
     if name == "edgebpf" and os.environ.get("EDGEBPF"):
         return os.environ["EDGEBPF"]
@@ -35,19 +36,20 @@ class Program:
     `frames` the greatest number of functions that are live at once. Raises `Refused`.
     """
 
-    def __init__(self, code, record=EDGE_BYTES):
+    def __init__(self, code: bytes, record: int = EDGE_BYTES) -> None:
         self._take(bytes(code), None, record)
 
     @classmethod
-    def _of_text(cls, text, record):
+    def _of_text(cls, text: str, record: int) -> Program:
         program = cls.__new__(cls)
         program._take(None, text, record)
         return program
 
-    def _take(self, code, text, record):
+    def _take(self, code: bytes | None, text: str | None, record: int) -> None:
         if not EDGE_BYTES <= record <= MOST_RECORD:
             raise ValueError(f"a record has {EDGE_BYTES} to {MOST_RECORD} bytes, not {record}")
-        self.code, self.text, self.record, self._handle = code, text, record, None
+        self.code, self.text, self.record = code, text, record
+        self._handle: library.Handle | None = None
         if library.path():
             self._verify()
             return
@@ -64,41 +66,43 @@ class Program:
         else:
             raise Error(f"edgebpf could not verify the program: {run.stderr.decode().strip() or ' '.join(words)}")
 
-    def _verify(self):
-        """Verifies the program by the library."""
-        handle, verdict = library.Handle(), library.Verdict()
-        status = library.load()["program_new"](self.record, *library.text(self._bytes()), ctypes.addressof(verdict), handle.at)
+    def _verify(self) -> library.Handle:
+        """Verifies the program by the library, and returns its handle."""
+        code, verdict = self._bytes(), library.foreign().new("verdict *")
+        handle = library.Handle()
+        status = library.load().edgebpf_program_new(self.record, code, len(code), verdict, handle.at)
         if status == library.REFUSED:
             raise Refused(verdict.cause, verdict.pc, self)
         library.check(status)
         self._handle, self.bound, self.frames = handle, verdict.bound, verdict.frames
+        return handle
 
-    def _bytes(self):
+    def _bytes(self) -> bytes:
         """The code, by the library's assembler where the program is a text."""
         if self.code is not None:
             return self.code
-        told, text = library.Assembled(), self.text.encode()
-        code = ctypes.create_string_buffer(8 * MOST_UNITS)
-        status = library.load()["assemble"](*library.text(text), ctypes.addressof(code), len(code), ctypes.addressof(told))
+        told, text = library.foreign().new("assembled *"), (self.text or "").encode()
+        code = library.foreign().new("uint8_t[]", 8 * MOST_UNITS)
+        status = library.load().edgebpf_assemble(text, len(text), code, len(code), told)
         if status == library.WRONG_TEXT:
             raise WrongText(told.cause, told.line)
         library.check(status)
-        return code.raw[:told.length]
+        return bytes(library.foreign().buffer(code, told.length))
 
-    def _lines(self, name):
+    def _lines(self, name: str) -> bytes:
         """The lines of a script that load the program under a name."""
-        if self.text is None:
+        if self.code is not None:
             return f"code {name} {self.record} {self.code.hex() or '-'}\n".encode()
         return f"program {name} {self.record}\n{self.text}\nend\n".encode()
 
-    def _explain(self):
+    def _explain(self) -> str:
         words = [command("edgebpf-explain"), str(self.record)]
         given = None if self.text is None else self.text + "\n"
-        run = subprocess.run(words + ([self.code.hex()] if self.text is None else []), input=given, capture_output=True, text=True)
+        run = subprocess.run(words + ([self.code.hex()] if self.code is not None else []), input=given, capture_output=True, text=True)
         return run.stdout or run.stderr
 
 
-def assemble(text, record=EDGE_BYTES):
+def assemble(text: str, record: int = EDGE_BYTES) -> Program:
     """The program of an assembler text, whose statements stand one on a line or between semicolons.
 
     Raises `WrongText`, whose line counts statements so, and `Refused`.
@@ -111,7 +115,7 @@ def assemble(text, record=EDGE_BYTES):
     return Program._of_text("\n".join(lines), record)
 
 
-def compile_c(path, function, record=EDGE_BYTES):
+def compile_c(path: str | os.PathLike[str], function: str, record: int = EDGE_BYTES) -> Program:
     """The program of a function in C, `u64 FUNCTION(struct edge *edge, u64 length)`, by `edgebpf-c` and clang.
 
     Raises `Error` with the compiler's or the linker's words, and `Refused`.

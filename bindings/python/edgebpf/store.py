@@ -1,11 +1,17 @@
 """A store in a process of its own, its versions, and what runs give."""
+from __future__ import annotations
+
 import dataclasses
 import functools
+import io
 import itertools
 import subprocess
 import threading
+from collections.abc import Iterator, Sequence
+from typing import IO, Any, cast
 
 import numpy as np
+import numpy.typing as npt
 
 from edgebpf.errors import ArgumentLength, Closed, Error, LogFull, NoMemory, TooManyEdits, TooManyNames, VertexRange
 from edgebpf.programs import EDGE_BYTES, Program, command
@@ -15,10 +21,15 @@ MOST_EDITS = 65_536
 MOST_BATCHES = 4_096
 MOST_NAMES = 256
 FEEDS = ("A", "B", "C", "D")
-# A line of a script has at most 70,000 bytes; the vertices of a run get what its other words leave.
-FRONTIER_BYTES = 68_000
-REDUCTIONS = {"sum": (0, np.add), "min": (2**64 - 1, np.minimum), "max": (0, np.maximum)}
+# A line of a script has at most 80,000 bytes; the vertices of a run get what its other words leave.
+FRONTIER_BYTES = 78_000
+REDUCTIONS: dict[str, tuple[int, Any]] = {"sum": (0, np.add), "min": (2**64 - 1, np.minimum), "max": (0, np.maximum)}
 CHUNK = 1 << 20
+
+# The sources and the targets of some edges, numbers of 64 bits, and vertices as the library has them.
+Edges = tuple[npt.ArrayLike, npt.ArrayLike]
+Numbers = npt.NDArray[np.uint64]
+Vertices = npt.NDArray[np.uint32]
 
 
 @dataclasses.dataclass(frozen=True)
@@ -35,22 +46,23 @@ class Result:
     """What a run gave. `values` is a uint64 array with one number for each vertex of the frontier, `edges` the number of runs, and
     `total` the reduction of all numbers. A vertex without neighbours has 0, and 2^64 - 1 for `min`."""
 
-    values: np.ndarray
+    values: Numbers
     edges: int
     total: int
 
 
-def vertices_of(values, count):
-    """An array of vertices as int64, if all are in the graph."""
+def vertices_of(values: npt.ArrayLike, count: int) -> Vertices:
+    """An array of vertices as uint32, if all are in the graph."""
     array = np.asarray(values)
     if array.ndim != 1 or (array.size and array.dtype.kind not in "iu"):
         raise TypeError("vertices are an array of whole numbers with one dimension")
-    if array.size and (array.min() < 0 or array.max() >= count):
+    # A negative number becomes one of 2^63 and more.
+    if array.size and array.astype(np.uint64, copy=False).max() >= count:
         raise VertexRange(f"a vertex is not below {count}")
-    return array.astype(np.int64)
+    return array.astype(np.uint32)
 
 
-def edit_lines(sign, edges, count):
+def edit_lines(sign: str, edges: Edges, count: int) -> list[str]:
     sources, targets = (vertices_of(ends, count) for ends in edges)
     if len(sources) != len(targets):
         raise ValueError("there are as many targets as sources")
@@ -60,30 +72,32 @@ def edit_lines(sign, edges, count):
 class Process:
     """The `edgebpf` process of a store. One command at a time is under way."""
 
-    def __init__(self, words):
+    def __init__(self, words: Sequence[str]) -> None:
         self.lock = threading.Lock()
         self.child = subprocess.Popen(words, stdin=subprocess.PIPE, stdout=subprocess.PIPE, stderr=subprocess.PIPE)
+        self.input, self.output = cast(IO[bytes], self.child.stdin), cast(io.BufferedReader, self.child.stdout)
+        self.errors = cast(IO[bytes], self.child.stderr)
 
-    def ask(self, text, has_rows=False):
+    def ask(self, text: bytes, has_rows: bool = False) -> tuple[list[str], bytes]:
         """The first line of the answer as words, and the rest as bytes if it has rows."""
         with self.lock:
-            if self.child.stdin.closed:
+            if self.input.closed:
                 raise Closed("the store is closed")
             try:
                 # The answer to one question more says that the rows have ended.
-                self.child.stdin.write(text + (b"home 0\n" if has_rows else b""))
-                self.child.stdin.flush()
+                self.input.write(text + (b"home 0\n" if has_rows else b""))
+                self.input.flush()
             except BrokenPipeError:
                 raise self.ended() from None
-            head = self.child.stdout.readline()
+            head = self.output.readline()
             if not head or head.startswith(b"fault "):
                 raise self.ended(head)
             return head.decode().split(), self.rows() if has_rows else b""
 
-    def rows(self):
+    def rows(self) -> bytes:
         parts, tail = [], b""
         while not (tail.startswith(b"home 0 ") or b"\nhome 0 " in tail) or not tail.endswith(b"\n"):
-            part = self.child.stdout.read1(CHUNK)
+            part = self.output.read1(CHUNK)
             if not part:
                 raise self.ended()
             parts.append(part)
@@ -92,34 +106,35 @@ class Process:
         text = b"".join(parts)
         return text[:text.rfind(b"home 0 ")]
 
-    def ended(self, said=b""):
+    def ended(self, said: bytes = b"") -> Error:
         """The error of a process that has ended."""
-        words = (said or self.child.stderr.read()).decode().strip()
+        words = (said or self.errors.read()).decode().strip()
         self.close()
         return (NoMemory if words in ("edgebpf: memory", "edgebpf: worker") else Closed)(f"edgebpf has ended: {words}")
 
-    def close(self):
-        if not self.child.stdin.closed:
+    def close(self) -> None:
+        if not self.input.closed:
             try:
-                self.child.stdin.close()
+                self.input.close()
             except BrokenPipeError:
                 pass
         self.child.wait()
-        self.child.stdout.close()
-        self.child.stderr.close()
+        self.output.close()
+        self.errors.close()
 
 
 class Store:
     """A graph that is edited by batches. Made by `connect`; may be used by several threads, and is a context manager."""
 
-    def __init__(self, process, vertices):
+    def __init__(self, process: Process, vertices: int) -> None:
         self._process, self.vertices = process, vertices
         self._batches, self._pins, self._names = 0, 0, itertools.count()
         # The last pin, and how many batches were published before it.
-        self._last, self._programs = None, {}
+        self._last: tuple[int, str, int, int] | None = None
+        self._programs: dict[Program, str] = {}
         process.ask(f"graph {vertices}\n".encode())
 
-    def batch(self, feed="A", inserts=((), ()), removes=((), ())):
+    def batch(self, feed: str = "A", inserts: Edges = ((), ()), removes: Edges = ((), ())) -> Counts:
         """Publishes one batch by feed "A", "B", "C" or "D", and returns its `Counts`.
 
         inserts, removes: pairs of arrays (sources, targets), each of whole numbers below `vertices`. Insertions are applied
@@ -136,7 +151,7 @@ class Store:
         self._batches += 1
         return Counts(int(words[3]), int(words[5]), int(words[7]))
 
-    def pin(self):
+    def pin(self) -> Version:
         """The last version. It stays as it is while batches come. A process keeps at most 256 versions (`TooManyNames`)."""
         # Another thread may pin meanwhile: what this call found or made is what it returns.
         batches, last = self._batches, self._last
@@ -149,7 +164,7 @@ class Store:
             self._last = last = batches, name, int(words[3]), int(words[5])
         return Version(self, *last[1:])
 
-    def _name_of(self, program):
+    def _name_of(self, program: Program) -> str:
         """The name under which the process has a program; it is loaded at its first use."""
         if not isinstance(program, Program):
             raise TypeError("a program is made by Program, assemble or compile_c")
@@ -163,80 +178,83 @@ class Store:
             self._programs[program] = name
         return self._programs[program]
 
-    def close(self):
+    def close(self) -> None:
         """Ends the process, and with it the graph and its versions. May be called twice."""
         self._process.close()
 
-    def __enter__(self):
+    def __enter__(self) -> Store:
         return self
 
-    def __exit__(self, *_):
+    def __exit__(self, *_: object) -> None:
         self.close()
 
 
 class Version:
     """A version of a store's graph. `number` is how many batches it has, `vertices` and `edges` how large it is."""
 
-    def __init__(self, store, name, number, edges):
+    def __init__(self, store: Store, name: str, number: int, edges: int) -> None:
         self._store, self._name, self.number, self.edges = store, name, number, edges
         self.vertices = store.vertices
-        self._csr, self._is_closed = None, False
+        self._csr: tuple[npt.NDArray[np.int64], Vertices] | None = None
+        self._is_closed = False
 
-    def run(self, program, reduction="sum", frontier=None, argument=b""):
+    def run(
+        self, program: Program, reduction: str = "sum", frontier: npt.ArrayLike | None = None, argument: bytes = b"",
+    ) -> Result:
         """Runs a program for each edge of some vertices, and reduces the numbers.
 
         reduction: "sum" (modulo 2^64), "min" or "max". frontier: an ascending array of vertices, or None for all.
         argument: as many bytes as the program's record has beyond 16.
         """
         start, combine = REDUCTIONS[reduction]
-        argument = self._argument(program, argument)
+        digits = self._argument(program, argument)
         if frontier is None:
-            values, edges, total = self._part(program, reduction, argument, "")
-            return Result(self._filled(np.arange(self.vertices), values, start), edges, total)
-        frontier = vertices_of(frontier, self.vertices)
-        if np.any(frontier[1:] <= frontier[:-1]):
+            values, edges, total = self._part(program, reduction, digits, "")
+            return Result(self._filled(np.arange(self.vertices, dtype=np.uint32), values, start), edges, total)
+        chosen = vertices_of(frontier, self.vertices)
+        if np.any(chosen[1:] <= chosen[:-1]):
             raise ValueError("a frontier ascends, and has no vertex twice")
         found, edges, total = [np.empty((0, 2), np.uint64)], 0, start
-        for words in frontier_parts(frontier):
-            rows, some, part = self._part(program, reduction, argument, words)
+        for words in frontier_parts(chosen):
+            rows, some, part = self._part(program, reduction, digits, words)
             found.append(rows)
             edges, total = edges + some, int(combine(np.uint64(total), np.uint64(part)))
-        return Result(self._filled(frontier, np.concatenate(found), start), edges, total)
+        return Result(self._filled(chosen, np.concatenate(found), start), edges, total)
 
-    def numbers(self, program, argument=b""):
+    def numbers(self, program: Program, argument: bytes = b"") -> Numbers:
         """The number of each edge, a uint64 array in the order of `csr`."""
         return self._list(program, argument)[:, 2]
 
-    def csr(self):
+    def csr(self) -> tuple[npt.NDArray[np.int64], Vertices]:
         """All edges: `starts`, an int64 array of `vertices` + 1 places, and `targets`, a uint32 array, ascending for each source. Both
         are read-only, for `scipy.sparse.csr_array((ones, targets, starts))`."""
         if self._csr is None:
             edges = self._list(zero_program(), b"")
             degrees = np.bincount(edges[:, 0].astype(np.int64), minlength=self.vertices)
-            starts, targets = np.concatenate(([0], np.cumsum(degrees))), edges[:, 1].astype(np.uint32)
-            for array in (starts, targets):
-                array.flags.writeable = False
+            starts = np.concatenate((np.zeros(1, np.int64), np.cumsum(degrees)))
+            targets = edges[:, 1].astype(np.uint32)
+            starts.flags.writeable = targets.flags.writeable = False
             self._csr = starts, targets
         return self._csr
 
-    def neighbours(self, vertex):
+    def neighbours(self, vertex: int) -> Vertices:
         """The targets of a vertex, ascending: a read-only uint32 view of `csr`, which the first call makes."""
         if not 0 <= vertex < self.vertices:
             raise VertexRange(f"a vertex is not below {self.vertices}")
         starts, targets = self.csr()
         return targets[starts[vertex]:starts[vertex + 1]]
 
-    def close(self):
+    def close(self) -> None:
         """Gives the version up: no run is made on it from now on. The process keeps it until the store is closed."""
         self._is_closed = True
 
-    def __enter__(self):
+    def __enter__(self) -> Version:
         return self
 
-    def __exit__(self, *_):
+    def __exit__(self, *_: object) -> None:
         self.close()
 
-    def _argument(self, program, argument):
+    def _argument(self, program: Program, argument: bytes) -> str:
         if self._is_closed:
             raise Closed("the version is closed")
         if not isinstance(program, Program):
@@ -245,32 +263,33 @@ class Version:
             raise ArgumentLength(f"the argument has {program.record - EDGE_BYTES} bytes, not {len(argument)}")
         return bytes(argument).hex() or "-"
 
-    def _part(self, program, reduction, argument, vertices):
+    def _part(self, program: Program, reduction: str, argument: str, vertices: str) -> tuple[Numbers, int, int]:
         name = self._store._name_of(program)
         words, rows = self._store._process.ask(f"run {name} {self._name} {reduction} {argument}{vertices}\n".encode(), has_rows=True)
         return numbers_in(rows, b"row ", 2), int(words[4]), int(words[6])
 
-    def _list(self, program, argument):
-        argument = self._argument(program, argument)
+    def _list(self, program: Program, argument: bytes) -> Numbers:
+        digits = self._argument(program, argument)
         name = self._store._name_of(program)
-        _, rows = self._store._process.ask(f"list {name} {self._name} {argument}\n".encode(), has_rows=True)
+        _, rows = self._store._process.ask(f"list {name} {self._name} {digits}\n".encode(), has_rows=True)
         return numbers_in(rows, b"edge ", 3)
 
-    def _filled(self, frontier, rows, start):
+    def _filled(self, frontier: Vertices, rows: Numbers, start: int) -> Numbers:
         """One number for each vertex of a frontier, where only some have a row."""
         values = np.full(len(frontier), start, np.uint64)
-        values[np.searchsorted(frontier, rows[:, 0].astype(np.int64))] = rows[:, 1]
+        values[np.searchsorted(frontier, rows[:, 0].astype(np.uint32))] = rows[:, 1]
         return values
 
 
-def numbers_in(rows, word, columns):
+def numbers_in(rows: bytes, word: bytes, columns: int) -> Numbers:
     """The numbers of lines that begin with a word."""
     return np.fromstring(rows.replace(word, b"").decode(), np.uint64, sep=" ").reshape(-1, columns)
 
 
-def frontier_parts(frontier):
+def frontier_parts(frontier: Vertices) -> Iterator[str]:
     """The vertices of a frontier as words, each part short enough for a line. An empty frontier has no part."""
-    part, size = [], 0
+    part: list[str] = []
+    size = 0
     for vertex in map(str, frontier.tolist()):
         if size + len(vertex) + 1 > FRONTIER_BYTES:
             yield " " + " ".join(part)
@@ -282,12 +301,12 @@ def frontier_parts(frontier):
 
 
 @functools.cache
-def zero_program():
+def zero_program() -> Program:
     """The program that returns 0 for each edge: by it edges are listed."""
     return Program(bytes.fromhex("b7000000000000009500000000000000"))
 
 
-def connect(vertices, workers=1, program=None):
+def connect(vertices: int, workers: int = 1, program: str | None = None) -> Store:
     """Starts an `edgebpf` process with a graph of `vertices` vertices and no edge, and returns its `Store`.
 
     vertices: 1 to 1,048,576. workers: 1 to 16 threads that apply batches and make runs. program: the path of `edgebpf`; by default the

@@ -1,5 +1,5 @@
 -- What is known of all registers and of the stack of one frame.
-use Rattle.std.specs.Prelude.{ℕ, ◌-◌, ◌/◌, ◌^◌, ◌&&◌, false, List, [], ◌∷◌, pos, slice_index_or, slice_set, replicate}
+use Rattle.std.specs.Prelude.{ℕ, ◌-◌, ◌/◌, ◌^◌, ◌==◌, ◌&&◌, if◌then◌else◌, false, List, [], ◌∷◌, pos, slice_index_or, slice_set, replicate}
 use Rattle.bpf_isa.specs.declared.register.Register.{Register}
 use Rattle.bpf_isa.specs.Encoding.{number_of}
 use Rattle.bpf_image.specs.declared.lengths.Lengths.{Lengths}
@@ -19,10 +19,15 @@ with_register s r v = record s { registers = slice_set s.registers (number_of r)
 abbrev pub frame_slots : ℕ
 frame_slots = frame_bytes / 8
 
--- at entry R1 is the record's address, R2 its length, and R10 the top of the frame; no stack byte is set
+-- what is known of R3 where a program begins: it is the table's address, if there is a table
+abbrev pub entry_table : Lengths → AbstractValue
+entry_table lengths = if lengths.table_length == 0 then Unset else Table 0 0
+
+-- at entry R1 is the record's address, R2 its length, R3 the table's address, and R10 the top of the frame; no stack
+-- byte is set
 abbrev pub entry_state : Lengths → AbstractState
 entry_state lengths =
-    record { registers = Unset ∷ Record 0 0 ∷ Number lengths.record_length lengths.record_length ∷ Unset ∷ Unset ∷ Unset ∷ Unset ∷ Unset ∷ Unset ∷ Unset ∷ Stack (pos 0) ∷ []; bytes_set = replicate frame_bytes false; slots = replicate frame_slots Unset }
+    record { registers = Unset ∷ Record 0 0 ∷ Number lengths.record_length lengths.record_length ∷ entry_table lengths ∷ Unset ∷ Unset ∷ Unset ∷ Unset ∷ Unset ∷ Unset ∷ Stack (pos 0) ∷ []; bytes_set = replicate frame_bytes false; slots = replicate frame_slots Unset }
 
 -- element by element
 abbrev pub elementwise : {A : Type 0} → (A → A → A) → List A → List A → List A

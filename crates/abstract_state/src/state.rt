@@ -1,5 +1,6 @@
 //! What is known of all registers and of a frame's stack.
 ghost use Rattle.std.specs.Prelude.{◌≡◌};
+ghost use Rattle.abstract_state.specs.States.{entry_table};
 
 use abstract_values::AbstractValue;
 use bpf_image::Lengths;
@@ -21,10 +22,21 @@ pub struct AbstractState {
     pub bytes_set: [bool; FRAME_BYTES],
 }
 
+/// What is known of R3 where a program begins: it points to the table, if there is one.
+fn entry_table(lengths: Lengths) -> AbstractValue
+    ensures { result ≡ entry_table lengths }
+{
+    if lengths.table_length == 0 {
+        AbstractValue::Unset
+    } else {
+        AbstractValue::Table { lo: 0, hi: 0 }
+    }
+}
+
 impl AbstractState {
     ghost use Rattle.abstract_state.specs.States.{register, with_register, entry_state};
 
-    /// What is known where a program begins, of a record of so many bytes.
+    /// What is known where a program begins, of a record and a table of so many bytes.
     pub fn entry(lengths: Lengths) -> AbstractState
         ensures { result ≡ entry_state lengths }
     {
@@ -34,10 +46,11 @@ impl AbstractState {
             lo: u64::from(lengths.record_length),
             hi: u64::from(lengths.record_length),
         };
+        let table = entry_table(lengths);
         let stack = AbstractValue::Stack { offset: 0 };
         AbstractState {
             registers: [
-                unset, record, length, unset, unset, unset, unset, unset, unset, unset, stack,
+                unset, record, length, table, unset, unset, unset, unset, unset, unset, stack,
             ],
             bytes_set: [false; FRAME_BYTES],
             slots: [AbstractValue::Unset; FRAME_SLOTS],

@@ -1,8 +1,7 @@
 -- A machine with the bytes that it is lent, as a state of a run.
-use Rattle.std.specs.Prelude.{◌≡◌, ℕ, zero, suc, ◌+◌, ◌-◌, ◌*◌, ◌/◌, ◌%◌, nat_le, ◌&&◌, if◌then◌else◌, ℤ, pos, List, [], ◌∷◌, length, Option, None, Result, Ok, Err, slice_index_or}
-use Rattle.bpf_image.specs.declared.lengths.Lengths.{Lengths}
+use Rattle.std.specs.Prelude.{◌≡◌, ℕ, zero, suc, ◌+◌, ◌-◌, ◌*◌, ◌/◌, ◌%◌, nat_le, ◌&&◌, if◌then◌else◌, ℤ, pos, List, [], ◌∷◌, Option, None, Result, Ok, Err, slice_index_or}
 use Rattle.bpf_model.specs.declared.trap.TrapKind.{TrapKind}
-use Rattle.bpf_model.specs.State.{Saved, State, Partial, record_memory, frame_bytes}
+use Rattle.bpf_model.specs.State.{Saved, State, Partial, record_memory, with_table, frame_bytes}
 use Rattle.bpf_model.specs.Step.{Next, Goes, Exits, Traps}
 use Rattle.bpf_model.specs.declared.limits.TheConstants.{STACK_BASE, FRAME_SPACE}
 use Rattle.bpf_machine.specs.declared.callers.Kept.{Kept}
@@ -11,10 +10,6 @@ use Rattle.bpf_machine.specs.declared.stack.TheConstants.{FRAME_START}
 use Rattle.bpf_machine.specs.Cells.{cells_of}
 use Rattle.bpf_machine.specs.declared.turn.Turn.{Turn}
 use Rattle.bpf_machine.specs.declared.turn.Turn.TheVariants.{Went, Exited, Trapped}
-
--- how much a run is lent: the bytes of a record, and those of a table
-abbrev pub lent : List ℕ → List ℕ → Lengths
-lent bytes table = record { record_length = length bytes; table_length = length table }
 
 -- where a list of values has one
 abbrev pub values_of : List (Option ℕ) → Partial
@@ -45,10 +40,10 @@ abbrev pub callers_of : List Kept → ℕ → List Saved
 callers_of kept zero = []
 callers_of kept (suc n) = saved_of (slice_index_or kept n no_caller) ∷ callers_of kept n
 
--- the machine's state when these are the bytes of its record
-abbrev pub state_of : Machine → List ℕ → State
-state_of machine bytes =
-    record { pc = machine.pc; registers = values_of machine.registers; memory = memory_of bytes (values_of (cells_of machine.stack)); callers = callers_of machine.callers.kept machine.callers.count }
+-- the machine's state when these are the bytes of its record and of its table
+abbrev pub state_of : Machine → List ℕ → List ℕ → State
+state_of machine bytes table =
+    record { pc = machine.pc; registers = values_of machine.registers; memory = with_table table (memory_of bytes (values_of (cells_of machine.stack))); callers = callers_of machine.callers.kept machine.callers.count }
 
 -- goes on with a number that was found, or traps as it says
 abbrev pub going_on : Result ℕ TrapKind → ℤ → (ℕ → Next) → Next

@@ -33,11 +33,11 @@ pub(crate) fn operate(
     operand: Operand,
 ) -> Turn
     requires { machine.old.pc ≤ℤ pos MOST_UNITS }
-    ensures { (lengths : Lengths) (g : Graph) (bytes : List ℕ)
+    ensures { (lengths : Lengths) (g : Graph) (bytes table : List ℕ)
         → effect lengths g
         (Alu width operation destination operand)
-        (state_of machine.old bytes)
-        ≡ answer result (state_of machine.new bytes) }
+        (state_of machine.old bytes table)
+        ≡ answer result (state_of machine.new bytes table) }
 {
     let Some(left) = first_number(machine, operation, destination) else {
         return Turn::Trapped(TrapKind::UnsetRegister);
@@ -57,11 +57,11 @@ pub(crate) fn move_signed(
     source: Register,
 ) -> Turn
     requires { machine.old.pc ≤ℤ pos MOST_UNITS }
-    ensures { (lengths : Lengths) (g : Graph) (bytes : List ℕ)
+    ensures { (lengths : Lengths) (g : Graph) (bytes table : List ℕ)
         → effect lengths g
         (MoveSigned extension destination source)
-        (state_of machine.old bytes)
-        ≡ answer result (state_of machine.new bytes) }
+        (state_of machine.old bytes table)
+        ≡ answer result (state_of machine.new bytes table) }
 {
     match machine.register(source) {
         None => Turn::Trapped(TrapKind::UnsetRegister),
@@ -72,9 +72,9 @@ pub(crate) fn move_signed(
 /// A negation (RFC 9669, section 4.1).
 pub(crate) fn negate_register(machine: &mut Machine, width: Width, destination: Register) -> Turn
     requires { machine.old.pc ≤ℤ pos MOST_UNITS }
-    ensures { (lengths : Lengths) (g : Graph) (bytes : List ℕ)
-        → effect lengths g (Negate width destination) (state_of machine.old bytes)
-        ≡ answer result (state_of machine.new bytes) }
+    ensures { (lengths : Lengths) (g : Graph) (bytes table : List ℕ)
+        → effect lengths g (Negate width destination) (state_of machine.old bytes table)
+        ≡ answer result (state_of machine.new bytes table) }
 {
     match machine.register(destination) {
         None => Turn::Trapped(TrapKind::UnsetRegister),
@@ -90,9 +90,9 @@ pub(crate) fn swap_register(
     destination: Register,
 ) -> Turn
     requires { machine.old.pc ≤ℤ pos MOST_UNITS }
-    ensures { (lengths : Lengths) (g : Graph) (bytes : List ℕ)
-        → effect lengths g (Swap order bits destination) (state_of machine.old bytes)
-        ≡ answer result (state_of machine.new bytes) }
+    ensures { (lengths : Lengths) (g : Graph) (bytes table : List ℕ)
+        → effect lengths g (Swap order bits destination) (state_of machine.old bytes table)
+        ≡ answer result (state_of machine.new bytes table) }
 {
     match machine.register(destination) {
         None => Turn::Trapped(TrapKind::UnsetRegister),

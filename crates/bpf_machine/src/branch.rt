@@ -17,9 +17,9 @@ use bpf_model::TrapKind;
 pub(crate) fn jump_over(machine: &mut Machine, distance: Distance) -> Turn
     requires from { pos 0 ≤ℤ machine.old.pc }
     requires limit { machine.old.pc ≤ℤ pos MOST_UNITS }
-    ensures { (lengths : Lengths) (g : Graph) (bytes : List ℕ)
-        → effect lengths g (Jump distance) (state_of machine.old bytes)
-        ≡ answer result (state_of machine.new bytes) }
+    ensures { (lengths : Lengths) (g : Graph) (bytes table : List ℕ)
+        → effect lengths g (Jump distance) (state_of machine.old bytes table)
+        ≡ answer result (state_of machine.new bytes table) }
 {
     match distance {
         Distance::Near(units) => machine.jump(i32::from(units)),
@@ -38,11 +38,11 @@ pub(crate) fn branch(
 ) -> Turn
     requires from { pos 0 ≤ℤ machine.old.pc }
     requires limit { machine.old.pc ≤ℤ pos MOST_UNITS }
-    ensures { (lengths : Lengths) (g : Graph) (bytes : List ℕ)
+    ensures { (lengths : Lengths) (g : Graph) (bytes table : List ℕ)
         → effect lengths g
         (Branch width comparison left right distance)
-        (state_of machine.old bytes)
-        ≡ answer result (state_of machine.new bytes) }
+        (state_of machine.old bytes table)
+        ≡ answer result (state_of machine.new bytes table) }
 {
     let Some(first) = machine.register(left) else {
         return Turn::Trapped(TrapKind::UnsetRegister);

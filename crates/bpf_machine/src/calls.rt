@@ -59,7 +59,7 @@ fn returned_registers(caller: &Kept, value: u64, top: u64) -> [Option<u64>; 11]
 fn kept_of(machine: &Machine) -> Kept
     requires from { pos 0 ≤ℤ machine.now.pc }
     requires limit { machine.now.pc ≤ℤ pos MOST_UNITS }
-    ensures { (bytes : List ℕ) → saved_of result ≡ saved_state (state_of machine.now bytes) }
+    ensures { (bytes table : List ℕ) → saved_of result ≡ saved_state (state_of machine.now bytes table) }
 {
     let registers = &machine.registers;
     Kept {
@@ -72,9 +72,9 @@ fn kept_of(machine: &Machine) -> Kept
 pub(crate) fn call(machine: &mut Machine, distance: i32) -> Turn
     requires from { pos 0 ≤ℤ machine.old.pc }
     requires limit { machine.old.pc ≤ℤ pos MOST_UNITS }
-    ensures { (lengths : Lengths) (g : Graph) (bytes : List ℕ)
-        → effect lengths g (CallLocal distance) (state_of machine.old bytes)
-        ≡ answer result (state_of machine.new bytes) }
+    ensures { (lengths : Lengths) (g : Graph) (bytes table : List ℕ)
+        → effect lengths g (CallLocal distance) (state_of machine.old bytes table)
+        ≡ answer result (state_of machine.new bytes table) }
 {
     if machine.callers.count >= MOST_CALLERS {
         return Turn::Trapped(TrapKind::NinthFrame);
@@ -89,9 +89,9 @@ pub(crate) fn call(machine: &mut Machine, distance: i32) -> Turn
 
 /// The exit of a function, which ends the run where no caller waits.
 pub(crate) fn exit(machine: &mut Machine) -> Turn
-    ensures { (lengths : Lengths) (g : Graph) (bytes : List ℕ)
-        → effect lengths g Exit (state_of machine.old bytes)
-        ≡ answer result (state_of machine.new bytes) }
+    ensures { (lengths : Lengths) (g : Graph) (bytes table : List ℕ)
+        → effect lengths g Exit (state_of machine.old bytes table)
+        ≡ answer result (state_of machine.new bytes table) }
 {
     let Some(value) = machine.register(Register::R0) else {
         return Turn::Trapped(TrapKind::UnsetResult);

@@ -2,8 +2,9 @@
 ghost use Rattle.std.specs.Prelude.{◌≡◌, ◌≤◌, ◌≤ℤ◌, pos, length};
 ghost use Rattle.bpf_isa.specs.declared.limits.TheConstants.{MOST_UNITS};
 ghost use Rattle.bpf_image.specs.declared.limits.TheConstants.{MOST_RECORD_LENGTH, MOST_TABLE_LENGTH};
+ghost use Rattle.bpf_model.specs.State.{lent};
 ghost use Rattle.bpf_model.specs.Step.{effect};
-ghost use Rattle.bpf_machine.specs.Seen.{lent, state_of, answer, Keeps};
+ghost use Rattle.bpf_machine.specs.Seen.{state_of, answer, Keeps};
 
 use crate::access::{load_plain, load_signed, store_immediate, store_register};
 use crate::alu::{move_signed, negate_register, operate, swap_register};
@@ -29,8 +30,8 @@ pub(crate) fn perform<G: GraphView>(
     requires record { length bytes.old ≤ MOST_RECORD_LENGTH }
     requires table { length table.now ≤ MOST_TABLE_LENGTH }
     ensures step { effect (lent bytes.old table.now) (G.graph graph.now) instruction
-        (state_of machine.old bytes.old)
-        ≡ answer result (state_of machine.new bytes.new) }
+        (state_of machine.old bytes.old table.now)
+        ≡ answer result (state_of machine.new bytes.new table.now) }
     ensures kept { Keeps result bytes.old bytes.new }
 {
     match instruction {

@@ -5,10 +5,10 @@ ghost use Rattle.bpf_isa.specs.declared.limits.TheConstants.{MOST_UNITS};
 ghost use Rattle.bpf_image.specs.declared.limits.TheConstants.{MOST_RECORD_LENGTH};
 ghost use Rattle.graph_model.specs.Views.{neighbour_words, neighbours_among, word_bytes};
 ghost use Rattle.bpf_image.specs.declared.lengths.Lengths.{Lengths};
-ghost use Rattle.bpf_model.specs.State.{with_value, without_values};
+ghost use Rattle.bpf_model.specs.State.{with_value, without_values, lent};
 ghost use Rattle.bpf_model.specs.Helpers.{is_room, with_answer, helper_effect, write_neighbours};
 ghost use Rattle.bpf_model.specs.Step.{Goes, effect};
-ghost use Rattle.bpf_machine.specs.Seen.{values_of, lent, state_of, answer, Keeps};
+ghost use Rattle.bpf_machine.specs.Seen.{values_of, state_of, answer, Keeps};
 
 use crate::machine::Machine;
 use crate::memory::write_refusal;
@@ -44,8 +44,8 @@ fn registers_behind(registers: &[Option<u64>; 11], value: u64) -> [Option<u64>; 
 fn go_on_with(machine: &mut Machine, value: u64) -> Turn
     requires { machine.old.pc ≤ℤ pos MOST_UNITS }
     ensures went { result ≡ Turn.Went }
-    ensures step { (bytes : List ℕ)
-        → Goes (with_answer (state_of machine.old bytes) value) ≡ answer result (state_of machine.new bytes) }
+    ensures step { (bytes table : List ℕ)
+        → Goes (with_answer (state_of machine.old bytes table) value) ≡ answer result (state_of machine.new bytes table) }
 {
     machine.registers = registers_behind(&machine.registers, value);
     machine.pc += 1;
@@ -55,9 +55,9 @@ fn go_on_with(machine: &mut Machine, value: u64) -> Turn
 /// How many neighbours a vertex has.
 fn degree<G: GraphView>(machine: &mut Machine, graph: &G) -> Turn
     requires { machine.old.pc ≤ℤ pos MOST_UNITS }
-    ensures { (lengths : Lengths) (bytes : List ℕ)
-        → helper_effect lengths (G.graph graph.now) Helper.Degree (state_of machine.old bytes)
-        ≡ answer result (state_of machine.new bytes) }
+    ensures { (lengths : Lengths) (bytes table : List ℕ)
+        → helper_effect lengths (G.graph graph.now) Helper.Degree (state_of machine.old bytes table)
+        ≡ answer result (state_of machine.new bytes table) }
 {
     let Some(vertex) = machine.register(Register::R1) else {
         return Turn::Trapped(TrapKind::UnsetRegister);
@@ -68,9 +68,9 @@ fn degree<G: GraphView>(machine: &mut Machine, graph: &G) -> Turn
 /// Whether there is an edge between two vertices.
 fn has_edge<G: GraphView>(machine: &mut Machine, graph: &G) -> Turn
     requires { machine.old.pc ≤ℤ pos MOST_UNITS }
-    ensures { (lengths : Lengths) (bytes : List ℕ)
-        → helper_effect lengths (G.graph graph.now) Helper.HasEdge (state_of machine.old bytes)
-        ≡ answer result (state_of machine.new bytes) }
+    ensures { (lengths : Lengths) (bytes table : List ℕ)
+        → helper_effect lengths (G.graph graph.now) Helper.HasEdge (state_of machine.old bytes table)
+        ≡ answer result (state_of machine.new bytes table) }
 {
     let Some(source) = machine.register(Register::R1) else {
         return Turn::Trapped(TrapKind::UnsetRegister);
@@ -84,9 +84,9 @@ fn has_edge<G: GraphView>(machine: &mut Machine, graph: &G) -> Turn
 /// The neighbour of a vertex at a place.
 fn neighbour<G: GraphView>(machine: &mut Machine, graph: &G) -> Turn
     requires { machine.old.pc ≤ℤ pos MOST_UNITS }
-    ensures { (lengths : Lengths) (bytes : List ℕ)
-        → helper_effect lengths (G.graph graph.now) Helper.Neighbour (state_of machine.old bytes)
-        ≡ answer result (state_of machine.new bytes) }
+    ensures { (lengths : Lengths) (bytes table : List ℕ)
+        → helper_effect lengths (G.graph graph.now) Helper.Neighbour (state_of machine.old bytes table)
+        ≡ answer result (state_of machine.new bytes table) }
 {
     let Some(vertex) = machine.register(Register::R1) else {
         return Turn::Trapped(TrapKind::UnsetRegister);
@@ -141,9 +141,9 @@ fn write<G: GraphView>(
     requires record { length bytes.old ≤ MOST_RECORD_LENGTH }
     requires room { IsTrue (is_room request.now.room) }
     ensures step { write_neighbours (lent bytes.old table.now) (G.graph graph.now)
-        (state_of machine.old bytes.old)
+        (state_of machine.old bytes.old table.now)
         request.now.vertex request.now.first request.now.address request.now.room
-        ≡ answer result (state_of machine.new bytes.new) }
+        ≡ answer result (state_of machine.new bytes.new table.now) }
     ensures kept { Keeps result bytes.old bytes.new }
 {
     let mut buffer = [0; MOST_GATHER_BYTES];
@@ -161,8 +161,8 @@ fn gather<G: GraphView>(machine: &mut Machine, bytes: &mut [u8], table: &[u8], g
     requires pc { machine.old.pc ≤ℤ pos MOST_UNITS }
     requires record { length bytes.old ≤ MOST_RECORD_LENGTH }
     ensures step { helper_effect (lent bytes.old table.now) (G.graph graph.now) Helper.Gather
-        (state_of machine.old bytes.old)
-        ≡ answer result (state_of machine.new bytes.new) }
+        (state_of machine.old bytes.old table.now)
+        ≡ answer result (state_of machine.new bytes.new table.now) }
     ensures kept { Keeps result bytes.old bytes.new }
 {
     let Some(vertex) = machine.register(Register::R1) else {
@@ -200,8 +200,8 @@ pub(crate) fn call_helper<G: GraphView>(
     requires pc { machine.old.pc ≤ℤ pos MOST_UNITS }
     requires record { length bytes.old ≤ MOST_RECORD_LENGTH }
     ensures step { effect (lent bytes.old table.now) (G.graph graph.now) (CallHelper number)
-        (state_of machine.old bytes.old)
-        ≡ answer result (state_of machine.new bytes.new) }
+        (state_of machine.old bytes.old table.now)
+        ≡ answer result (state_of machine.new bytes.new table.now) }
     ensures kept { Keeps result bytes.old bytes.new }
 {
     match Helper::of(number) {

@@ -35,8 +35,8 @@ fn take_turn<G: GraphView>(
     graph: &G,
 ) -> Turn
     requires { length bytes.old ≡ image.now.record_length }
-    ensures step { step image.now (G.graph graph.now) (state_of machine.old bytes.old)
-        ≡ answer result (state_of machine.new bytes.new) }
+    ensures step { step image.now (G.graph graph.now) (state_of machine.old bytes.old image.now.table)
+        ≡ answer result (state_of machine.new bytes.new image.now.table) }
     ensures kept { Keeps result bytes.old bytes.new }
 {
     let code = image.code();

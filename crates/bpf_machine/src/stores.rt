@@ -2,10 +2,10 @@
 ghost use Rattle.std.specs.Prelude.{◌≡◌, ◌+◌, ◌≤◌, ◌<◌, ◌≤ℤ◌, ◌||◌, true, false, pos, length};
 ghost use Rattle.bpf_isa.specs.declared.limits.TheConstants.{MOST_UNITS};
 ghost use Rattle.bpf_image.specs.declared.limits.TheConstants.{MOST_RECORD_LENGTH};
-ghost use Rattle.bpf_model.specs.State.{Partial, with_value, with_values, record_base, in_record, in_frames, most_frames};
+ghost use Rattle.bpf_model.specs.State.{Partial, with_value, with_values, record_base, in_record, in_frames, most_frames, lent};
 ghost use Rattle.bpf_model.specs.Step.{store};
 ghost use Rattle.bpf_machine.specs.Cells.{cells_of};
-ghost use Rattle.bpf_machine.specs.Seen.{values_of, memory_of, lent, state_of, answer, Keeps};
+ghost use Rattle.bpf_machine.specs.Seen.{values_of, memory_of, state_of, answer, Keeps};
 
 use crate::machine::Machine;
 use crate::memory::{lies_within, write_refusal};
@@ -80,8 +80,8 @@ pub(crate) fn store_to(
 ) -> Turn
     requires pc { machine.old.pc ≤ℤ pos MOST_UNITS }
     requires record { length bytes.old ≤ MOST_RECORD_LENGTH }
-    ensures step { store (lent bytes.old table.now) (state_of machine.old bytes.old) address size value
-        ≡ answer result (state_of machine.new bytes.new) }
+    ensures step { store (lent bytes.old table.now) (state_of machine.old bytes.old table.now) address size value
+        ≡ answer result (state_of machine.new bytes.new table.now) }
     ensures kept { Keeps result bytes.old bytes.new }
 {
     let spelled = value.to_le_bytes();

@@ -64,7 +64,7 @@ abbrev pub result_unset : List ℕ
 result_unset = set_r0 1 ++ call_over 1 ++ exit ++ exit
 
 abbrev pub Leads : Graph → List ℕ → List ℕ → ℕ → Next → Type 0
-Leads g bytes code steps next = after (without_table code 16) g steps (start bytes) ≡ next
+Leads g bytes code steps next = after (without_table code 16) g steps (start (without_table code 16) bytes) ≡ next
 
 abbrev pub WorkedCalls : Type 0
 WorkedCalls =

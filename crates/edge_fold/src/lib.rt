@@ -2,6 +2,7 @@
 //! does it, in one pass over these edges.
 #![tactic(auto)]
 
+mod ahead;
 mod blocks;
 mod edge;
 mod fold;
@@ -13,6 +14,7 @@ mod rows;
 mod span;
 mod worth;
 
+pub use ahead::{Ahead, number_ahead};
 pub use edge::Edge;
 pub use fold::{combine, map_frontier, nothing, number_for_edge};
 pub use map_model::{EDGE_BYTES, Reduction, Row};

@@ -9,7 +9,7 @@ ghost use Rattle.edge_map.specs.Maps.{FitsRecord};
 use crate::errors::MapError;
 use crate::limits::BLOCK_EDGES;
 use crate::walk::Walk;
-use edge_fold::{Memory, number_for_edge};
+use edge_fold::{Ahead, Memory, number_ahead};
 use map_model::{EDGE_BYTES, ListedEdge};
 use std::alloc::AllocError;
 use std::marker::Model;
@@ -36,11 +36,20 @@ fn fill(
         ≡ drop BLOCK_EDGES (listing program.now g argument.now walk.old.edges) }
 {
     let mut memory = Memory::new();
+    let mut ahead = Ahead::for_program(program);
     'edges: while block.len() < BLOCK_EDGES {
         let Some(edge) = walk.next() else {
             return;
         };
-        let number = number_for_edge(version, program, argument, &mut memory, edge);
+        let number = number_ahead(
+            version,
+            program,
+            argument,
+            &mut memory,
+            &mut ahead,
+            edge,
+            walk.later(),
+        );
         let listed = ListedEdge {
             source: edge.source,
             target: edge.target,

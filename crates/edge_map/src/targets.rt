@@ -40,4 +40,9 @@ impl<'a> Targets<'a> {
         self.slice = later;
         Some(*target)
     }
+
+    /// Some of what is left, in one row: what the cursor lent last.
+    pub(crate) fn later(&self) -> &'a [u32] {
+        self.slice
+    }
 }

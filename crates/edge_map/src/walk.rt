@@ -97,4 +97,9 @@ impl<'a> Walk<'a> {
             degree,
         })
     }
+
+    /// Some targets that follow in one row. What they are is only for saving time.
+    pub(crate) fn later(&self) -> &'a [u32] {
+        self.targets.later()
+    }
 }

@@ -1,11 +1,11 @@
 //! Programs.
-ghost use Rattle.std.specs.Prelude.{◌≡◌, ◌≢◌};
-ghost use Rattle.bpf_image.specs.Program.{without_table};
-ghost use Rattle.embedding.specs.declared.statuses.TheConstants.{DONE, REFUSED};
+ghost use Rattle.std.specs.Prelude.{◌≡◌, ◌≢◌, ◌⊎◌, length};
+ghost use Rattle.bpf_image.specs.Program.{without_table, IsRecordLength, IsCodeLength};
+ghost use Rattle.embedding.specs.declared.statuses.TheConstants.{DONE, NO_MEMORY, LENGTHS, REFUSED, RECORD_LENGTH, CODE_LENGTH};
 ghost use Rattle.embedding.specs.Holding.{OnProgram, HoldsProgram};
 ghost use Rattle.embedding.specs.Batches.{IsHandedOut};
 ghost use Rattle.embedding.specs.Programs.{IsAccepted, IsRefused};
-ghost use Rattle.embedding.specs.Texts.{IsAssembled};
+ghost use Rattle.embedding.specs.Texts.{IsAssembled, IsExplained};
 
 use embedding::{
     Assembled, EMPTY, Handle, Verdict, assemble_into, explain_into, new_program, share_program_held,
@@ -63,7 +63,7 @@ pub extern "C" fn edgebpf_assemble(
     assemble_into(alloc, text, code, told)
 }
 
-/// What the verifier knows of a program, as text for a person.
+/// A text that explains a program to a person: what the verifier knows of it, and why it is refused.
 #[unsafe(no_mangle)]
 pub extern "C" fn edgebpf_explain(
     alloc: Global,
@@ -71,6 +71,13 @@ pub extern "C" fn edgebpf_explain(
     code: &[u8],
     text: &mut [u8],
     count: &mut usize,
-) -> u32 {
+) -> u32
+    ensures explained { (result ≡ DONE) ⊎ (result ≡ LENGTHS)
+        → IsExplained (without_table code.now record_length) text.old result text.new count.new }
+    ensures record { result ≡ RECORD_LENGTH → IsRecordLength record_length → ⊥ }
+    ensures code { result ≡ CODE_LENGTH → IsRecordLength record_length × (IsCodeLength (length code.now) → ⊥) }
+    ensures others { result ≢ DONE → result ≢ LENGTHS → result ≢ RECORD_LENGTH → result ≢ CODE_LENGTH → result ≡ NO_MEMORY }
+    ensures left { result ≢ DONE → text.new ≡ text.old }
+{
     explain_into(alloc, record_length, code, text, count)
 }

@@ -9,7 +9,7 @@ use Rattle.embedding.specs.declared.programs.Verdict.{Verdict as Told}
 
 -- the image of a code, or why there is none
 abbrev pub IsImageOf : List ℕ → ℕ → Result Program ℕ → Type 0
-IsImageOf code n (Ok image) = image ≡ without_table code n
+IsImageOf code n (Ok image) = (image ≡ without_table code n) × IsRecordLength n × IsCodeLength (length code)
 IsImageOf code n (Err status) =
     (status ≢ DONE)
     × (status ≡ RECORD_LENGTH → IsRecordLength n → ⊥)

@@ -1,6 +1,9 @@
--- Bytes that are written where a host wants them, and the code of a text.
-use Rattle.std.specs.Prelude.{◌≡◌, ◌≢◌, ℕ, ◌<◌, List, ◌++◌, length, drop, nat_lt, if◌then◌else◌, Result, Ok, Err}
+-- Bytes that are written where a host wants them: the code of a text, and the explanation of a program.
+use Rattle.std.specs.Prelude.{◌≡◌, ◌≢◌, ℕ, ◌<◌, List, [], ◌++◌, length, drop, nat_lt, if◌then◌else◌, Result, Ok, Err}
 use Rattle.std.specs.Str.{IsUtf8}
+use Rattle.bpf_image.specs.Program.{Program, IsRecordLength, IsCodeLength}
+use Rattle.explanation.specs.Explanation.{Explains}
+use Rattle.explanation.specs.declared.judgement.Judgement.{Judgement}
 use Rattle.bpf_asm.specs.Assembly.{assembly}
 use Rattle.bpf_asm.specs.declared.errors.AssembleError.{AssembleError}
 use Rattle.bpf_asm.specs.declared.errors.TextCause.{TextCause}
@@ -45,3 +48,12 @@ pub record IsAssembled (text room : List ℕ) (status : ℕ) (told : Assembled) 
       → (status ≡ assembled_status (assembly text) (length room)) × (told ≡ told_of (assembly text)) × (new_room ≡ written_over (assembly text) room)
   pub bytes : ¬ (IsUtf8 text) → (status ≡ WRONG_TEXT) × (told ≡ record { length = 0; line = 0; cause = 0 }) × (new_room ≡ room)
   pub memory : status ≡ NO_MEMORY → new_room ≡ room
+
+-- its lengths are allowed, and what is written, or would be with more room, is a text that explains it
+pub record IsExplained (p : Program) (before : List ℕ) (status : ℕ) (after : List ℕ) (count : ℕ) : Type 0 where
+  pub record_length : IsRecordLength p.record_length
+  pub code : IsCodeLength (length p.code)
+  pub text : List ℕ
+  pub judgement : Judgement
+  pub explains : Explains p [] text judgement
+  pub written : IsWritten text before status after count

@@ -1,7 +1,8 @@
 //! Programs as text, and what the verifier knows of them as text.
-ghost use Rattle.std.specs.Prelude.{◌≡◌, ◌≢◌, length};
-ghost use Rattle.embedding.specs.declared.statuses.TheConstants.{DONE};
-ghost use Rattle.embedding.specs.Texts.{IsWritten, IsAssembled};
+ghost use Rattle.std.specs.Prelude.{◌≡◌, ◌≢◌, ◌⊎◌, length};
+ghost use Rattle.bpf_image.specs.Program.{without_table, IsRecordLength, IsCodeLength};
+ghost use Rattle.embedding.specs.declared.statuses.TheConstants.{DONE, NO_MEMORY, LENGTHS, RECORD_LENGTH, CODE_LENGTH};
+ghost use Rattle.embedding.specs.Texts.{IsWritten, IsAssembled, IsExplained};
 
 use crate::programs::image_of;
 use crate::statuses::{DONE, LENGTHS, NO_MEMORY, WRONG_TEXT};
@@ -58,15 +59,22 @@ pub fn assemble_into(alloc: Global, text: &[u8], code: &mut [u8], told: &mut Ass
     }
 }
 
-/// Writes what the verifier knows of a program, as text for a person, and how many bytes that has. `LENGTHS` where there is
-/// too little room, and then no text is written.
+/// Writes a text that explains a program to a person, and how many bytes it has. `LENGTHS` where there is too little room,
+/// and then no text is written.
 pub fn explain_into(
     alloc: Global,
     record_length: u16,
     code: &[u8],
     text: &mut [u8],
     count: &mut usize,
-) -> u32 {
+) -> u32
+    ensures explained { (result ≡ DONE) ⊎ (result ≡ LENGTHS)
+        → IsExplained (without_table code.now record_length) text.old result text.new count.new }
+    ensures record { result ≡ RECORD_LENGTH → IsRecordLength record_length → ⊥ }
+    ensures code { result ≡ CODE_LENGTH → IsRecordLength record_length × (IsCodeLength (length code.now) → ⊥) }
+    ensures others { result ≢ DONE → result ≢ LENGTHS → result ≢ RECORD_LENGTH → result ≢ CODE_LENGTH → result ≡ NO_MEMORY }
+    ensures left { result ≢ DONE → text.new ≡ text.old }
+{
     let image = match image_of(alloc, record_length, code) {
         Ok(image) => image,
         Err(status) => return status,

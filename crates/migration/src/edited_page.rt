@@ -19,7 +19,7 @@ const MOST_CHANGED: usize = 8;
 
 /// The pages of a shard that gets more edits than these are rebuilt, too: as a rule some list gets so many that a copy would
 /// be dropped.
-const MOST_EDITS: usize = 512;
+const MOST_EDITS: usize = 128;
 
 /// A page after the edits of its shard, where it begins at this vertex of it, and what the edits did to the lists up to
 /// its end, where these are the counts of those before it. A page of which few vertices have edits is copied as memory.

@@ -1,5 +1,6 @@
 //! What the verifier answers, and what is told of it.
 use crate::code::code_of;
+use crate::images::image_of;
 use anyhow::Result;
 use bpf_image::Image;
 use explanation::{SourceLine, explain, source_lines};
@@ -13,7 +14,7 @@ fn refusal_text(alloc: Global, refusal: Refusal) -> Result<String, AllocError> {
 
 /// The bound and the frames of a program, or the rule that it breaks.
 pub(crate) fn verified(alloc: Global, record_length: u16, input: &str) -> Result<String> {
-    let Ok(image) = Image::new(record_length, code_of(alloc, input)?) else {
+    let Some(image) = image_of(alloc, record_length, input)? else {
         return Ok(String::from_str(alloc, "no image")?);
     };
     match verify(alloc, image) {

@@ -14,8 +14,9 @@ use store::{OpenGate, Workers};
 // How many vertices the graph has, and so how many targets a vertex can have.
 const VERTICES: u32 = 1200;
 
-// How many targets the first vertices have: in a tree, a run, a block, a short block and nowhere.
-const DEGREES: [u32; 5] = [1100, 20, 10, 4, 0];
+// How many targets the first vertices have: in a tree, a run, a block, a short block, nowhere, and a run that is full, which moves
+// with one more.
+const DEGREES: [u32; 6] = [1100, 20, 10, 4, 0, 32];
 
 // How many edits of the tree are put in one by one, and how many are too many for that.
 const FEW: u32 = 20;

@@ -6,7 +6,7 @@ use Rattle.std.proofs.lemmas.Option.{same_Some}
 use Rattle.bpf_image.specs.Program.{without_table}
 use Rattle.script_model.specs.Lexing.{number, hex, is_name}
 use Rattle.session_model.specs.Commands.{LoadProgram}
-use Rattle.script_model.specs.Parsing.{Statement, Asks, option_then, code_statement, list_statement, statement}
+use Rattle.script_model.specs.Parsing.{Statement, Asks, option_then, code_statement, image_statement, list_statement, statement}
 use Rattle.script_model.specs.Execution.{is_comment}
 use Rattle.script.specs.declared.reading.line.Statement.{Statement as CodeStatement}
 use Rattle.script.specs.Said.{NoStatement, Makes, cut_number, cut_statement, cut_saying, said_statement, saying_of, found_statement}
@@ -41,6 +41,17 @@ pub code_statement-long : (name : List ℕ) (line : List (List ℕ)) (n : ℕ) (
 code_statement-long name line n digits others first some =
     let f = first_of line n (digits ∷ others) first in
     rw f.begins (code_long name f.word digits others some)
+
+-- ---- `image`
+
+pub image_statement-unnamed : (name : List ℕ) (line : List (List ℕ)) → is_name name ≡ false → image_statement (name ∷ line) ≡ None
+image_statement-unnamed name [] unnamed = refl
+image_statement-unnamed name (a ∷ []) unnamed = simp unnamed
+image_statement-unnamed name (a ∷ b ∷ line) unnamed = refl
+
+pub image_statement-long : (name digits : List ℕ) (others : List (List ℕ)) → others ≢ [] → image_statement (name ∷ digits ∷ others) ≡ None
+image_statement-long name digits [] some = absurd (some refl)
+image_statement-long name digits (a ∷ others) some = refl
 
 -- ---- `list`
 

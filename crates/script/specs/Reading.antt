@@ -3,7 +3,7 @@ use Rattle.std.specs.Prelude.{ℕ, List, [], ◌∷◌, Option, Some, None, opti
 use Rattle.bpf_image.specs.Program.{without_table}
 use Rattle.map_model.specs.declared.reduction.Reduction.{Reduction}
 use Rattle.script_model.specs.Lexing.{number, hex}
-use Rattle.session_model.specs.Commands.{LoadProgram, RunProgram, ListEdges}
+use Rattle.session_model.specs.Commands.{LoadProgram, LoadImage, RunProgram, ListEdges}
 use Rattle.script_model.specs.Parsing.{pair_of, Statement, Asks, option_then, numbers}
 use Rattle.script.specs.Said.{cut_number}
 
@@ -26,6 +26,10 @@ cut_pair pair = (cut_number pair.0, cut_number pair.1)
 -- the statement to load a program whose code these digits spell
 abbrev pub load_of : List ℕ → ℕ → List ℕ → Option Statement
 load_of name record_length digits = option_then (hex digits) (λ code. Some (Asks (LoadProgram name (without_table code record_length))))
+
+-- the statement to load the program of an image whose bytes these digits spell
+abbrev pub image_of : List ℕ → List ℕ → Option Statement
+image_of name digits = option_then (hex digits) (λ bytes. Some (Asks (LoadImage name bytes)))
 
 -- the statement to run a program with the argument that these digits spell, over these vertices
 abbrev pub run_of : List ℕ → List ℕ → Reduction → List ℕ → List (List ℕ) → Option Statement

@@ -3,7 +3,7 @@ use Rattle.std.specs.Prelude.{ℕ, ◌-◌, ◌^◌, min, if◌then◌else◌, L
 use Rattle.bpf_image.specs.Program.{Program, without_table}
 use Rattle.past_model.specs.declared.edit.Edit.{Edit}
 use Rattle.past_model.specs.declared.edit.Edit.TheVariants.{Insert, Remove}
-use Rattle.session_model.specs.Commands.{Command, MakeGraph, PublishBatch, LoadProgram, TakePin, RunProgram, TellHome, ListEdges}
+use Rattle.session_model.specs.Commands.{Command, MakeGraph, PublishBatch, LoadProgram, LoadImage, TakePin, RunProgram, TellHome, ListEdges}
 use Rattle.script_model.specs.Parsing.{Statement, Asks, BeginBatch, BeginProgram, statement, BatchLine, OneEdit, EndBatch}
 use Rattle.script_model.specs.Execution.{is_comment}
 use Rattle.script.specs.declared.reading.line.BatchLine.{BatchLine as CodeBatchLine}
@@ -32,6 +32,7 @@ abbrev pub cut_command : Command → Command
 cut_command (MakeGraph n) = MakeGraph (cut_number n)
 cut_command (PublishBatch feed edits) = PublishBatch feed edits
 cut_command (LoadProgram name p) = LoadProgram name (cut_program p)
+cut_command (LoadImage name bytes) = LoadImage name bytes
 cut_command (TakePin name) = TakePin name
 cut_command (RunProgram program pin reduction argument frontier) =
     RunProgram program pin reduction argument (map cut_number frontier)
@@ -54,6 +55,7 @@ said_statement (statements.Graph n) = Asks (MakeGraph n)
 said_statement (statements.Batch feed) = BeginBatch feed
 said_statement (statements.Code name record_length code) =
     Asks (LoadProgram name.now (without_table code.items record_length))
+said_statement (statements.Image name bytes) = Asks (LoadImage name.now bytes.items)
 said_statement (statements.Program name record_length) = BeginProgram name.now record_length
 said_statement (statements.Pin name) = Asks (TakePin name.now)
 said_statement (statements.Run program pin reduction argument frontier) =

@@ -29,7 +29,7 @@ pub(crate) fn put_answer(text: &mut Vec<u8>, answer: &Answer) -> Result<(), Allo
             frames,
         } => put_program(text, name, u64::from(*bound), u64::from(*frames)),
         Answer::ProgramRefused { name, refusal } => put_refused(text, name, *refusal),
-        Answer::NoImage { name } => put_image(text, name),
+        Answer::NoImage { name, error } => put_image(text, name, *error),
         Answer::PinTaken {
             name,
             number,

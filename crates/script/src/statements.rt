@@ -77,6 +77,11 @@ impl Script {
                     code,
                 },
             ),
+            Statement::Image { name, bytes } => self.perform(
+                crew,
+                text,
+                Command::LoadImage { name, bytes },
+            ),
             Statement::Program {
                 name,
                 record_length,

@@ -24,6 +24,7 @@ ghost use Rattle.script_model.specs.Texts.{
 
 use crate::line::Line;
 use bpf_asm::AssembleError;
+use bpf_image::ImageError;
 use itoa::Buffer;
 use map_model::{ListedEdge, Row};
 use past_model::Home;
@@ -140,12 +141,16 @@ pub(crate) fn put_refused(
     put(text, b"\n")
 }
 
-/// The line of code that has no image, as its length is not allowed.
-pub(crate) fn put_image(text: &mut Vec<u8>, name: &[u8]) -> Result<(), AllocError>
-    ensures { OnOk result (text.new.items ≡ text.old.items ++ image_text name.now) }
+/// The line of code or bytes that no image has.
+pub(crate) fn put_image(
+    text: &mut Vec<u8>,
+    name: &[u8],
+    error: ImageError,
+) -> Result<(), AllocError>
+    ensures { OnOk result (text.new.items ≡ text.old.items ++ image_text name.now error) }
 {
     put_name(text, b"image ", name)?;
-    put(text, b" error 4")?;
+    put_field(text, b" error ", error as u64)?;
     put(text, b"\n")
 }
 

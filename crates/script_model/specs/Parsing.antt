@@ -5,7 +5,7 @@ use Rattle.past_model.specs.declared.edit.Edit.{Edit}
 use Rattle.past_model.specs.declared.edit.Edit.TheVariants.{Insert, Remove}
 use Rattle.map_model.specs.declared.reduction.Reduction.{Reduction}
 use Rattle.map_model.specs.declared.reduction.Reduction.TheVariants.{Min, Max, Sum}
-use Rattle.session_model.specs.Commands.{Command, MakeGraph, LoadProgram, TakePin, RunProgram, TellHome, ListEdges}
+use Rattle.session_model.specs.Commands.{Command, MakeGraph, LoadProgram, LoadImage, TakePin, RunProgram, TellHome, ListEdges}
 use Rattle.script_model.specs.Lexing.{number, is_name, hex, same_bytes}
 
 pub data Statement : Type 0 where
@@ -61,6 +61,10 @@ code_statement (name ∷ length ∷ digits ∷ []) =
     under_name name (option_then (number length) (λ record_length. option_then (hex digits) (λ code. Some (Asks (LoadProgram name (without_table code record_length))))))
 code_statement _ = None
 
+abbrev pub image_statement : List (List ℕ) → Option Statement
+image_statement (name ∷ digits ∷ []) = under_name name (option_then (hex digits) (λ bytes. Some (Asks (LoadImage name bytes))))
+image_statement _ = None
+
 abbrev pub program_statement : List (List ℕ) → Option Statement
 program_statement (name ∷ length ∷ []) =
     under_name name (option_then (number length) (λ record_length. Some (BeginProgram name record_length)))
@@ -94,7 +98,8 @@ statement word operands =
     else (if same_bytes word (codes "run") then run_statement operands
     else (if same_bytes word (codes "program") then program_statement operands
     else (if same_bytes word (codes "home") then home_statement operands
-    else (if same_bytes word (codes "list") then list_statement operands else None)))))))
+    else (if same_bytes word (codes "list") then list_statement operands
+    else (if same_bytes word (codes "image") then image_statement operands else None))))))))
 
 -- a block ends at a line whose only word is `end`
 abbrev pub is_end : List (List ℕ) → Bool

@@ -4,6 +4,8 @@ use Rattle.std.specs.List.{flat_map}
 use Rattle.std.specs.Fmt.{decimal}
 use Rattle.bpf_model.specs.declared.cause.Cause.{Cause}
 use Rattle.bpf_model.specs.declared.cause.Cause.TheVariants.{BadInstruction, JumpOut, JumpBack, CallTarget, FallsOff, TooDeep, TooLong, UnsetRegister, FrameRegister, PointerUse, OutOfRange, UnsetStackByte, HelperArgument, UnknownHelper, ResultNotNumber, OutOfMemory, ReadOnly}
+use Rattle.bpf_image.specs.declared.image_error.ImageError.{ImageError}
+use Rattle.bpf_image.specs.declared.image_error.ImageError.TheVariants as images
 use Rattle.verifier.specs.declared.refusal.Refusal.{Refusal}
 use Rattle.bpf_asm.specs.declared.errors.TextCause.{TextCause}
 use Rattle.bpf_asm.specs.declared.errors.TextCause.TheVariants.{Syntax, UnknownName, DoubleLabel, UnknownLabel, NumberRange, TooLong, OutOfMemory}
@@ -87,9 +89,17 @@ abbrev pub refused_text : List ℕ → Refusal → List ℕ
 refused_text name refusal =
     codes "refused " ++ name ++ codes " cause " ++ decimal (cause_number refusal.cause) ++ codes " pc " ++ decimal refusal.pc ++ newline
 
--- the image error of a code length that is not allowed
-abbrev pub image_text : List ℕ → List ℕ
-image_text name = codes "image " ++ name ++ codes " error 4" ++ newline
+-- the number of what is wrong with an image
+abbrev pub image_error_number : ImageError → ℕ
+image_error_number images.Magic = 1
+image_error_number images.Length = 2
+image_error_number images.RecordLength = 3
+image_error_number images.CodeLength = 4
+image_error_number images.OutOfMemory = 5
+image_error_number images.TableLength = 6
+
+abbrev pub image_text : List ℕ → ImageError → List ℕ
+image_text name error = codes "image " ++ name ++ codes " error " ++ decimal (image_error_number error) ++ newline
 
 -- what is wrong with a program's text, at a line of its block
 abbrev pub assembler_text : List ℕ → AssembleError → List ℕ
@@ -132,7 +142,7 @@ answer_text (GraphMade vertices) = graph_text vertices
 answer_text (BatchPublished feed number added removed) = batch_text feed number added removed
 answer_text (ProgramAccepted name bound frames) = program_text name bound frames
 answer_text (ProgramRefused name refusal) = refused_text name refusal
-answer_text (NoImage name) = image_text name
+answer_text (NoImage name error) = image_text name error
 answer_text (PinTaken name number edges) = pin_text name number edges
 answer_text (EdgesMapped program pin edges total rows) = run_text program pin edges total ++ flat_map row_text rows
 answer_text (HomeTold v home degree) = home_text v home degree

@@ -8,7 +8,7 @@ use session_model::Fault;
 /// What is wrong with a line of a script. A line's faults are tested in the order of their numbers.
 #[derive(Clone, Copy, Debug, PartialEq, Eq)]
 pub enum LineFault {
-    /// The line has more than 70,000 bytes, its end not counted.
+    /// The line has more than 80,000 bytes, its end not counted.
     LongLine,
     /// A byte that is neither printable ASCII nor a tab, an unknown command, or words that do not fit it.
     Words,

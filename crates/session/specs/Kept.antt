@@ -11,7 +11,7 @@ use Rattle.past_model.specs.declared.entry.Entry.{Entry}
 use Rattle.past_model.specs.Past.{Past}
 use Rattle.history.specs.Moment.{Moment}
 use Rattle.session_model.specs.Session.{KeptProgram, KeptPin, Session}
-use Rattle.session_model.specs.Commands.{Command, MakeGraph, PublishBatch, LoadProgram, TakePin, RunProgram, TellHome, ListEdges, Answer, GraphMade, BatchPublished, ProgramAccepted, ProgramRefused, NoImage, PinTaken, EdgesMapped, HomeTold, EdgesListed}
+use Rattle.session_model.specs.Commands.{Command, MakeGraph, PublishBatch, LoadProgram, LoadImage, TakePin, RunProgram, TellHome, ListEdges, Answer, GraphMade, BatchPublished, ProgramAccepted, ProgramRefused, NoImage, PinTaken, EdgesMapped, HomeTold, EdgesListed}
 use Rattle.session.specs.Handles.{StoreState}
 use Rattle.session.specs.declared.kept.NamedProgram.{NamedProgram}
 use Rattle.session.specs.declared.kept.NamedPin.{NamedPin}
@@ -57,6 +57,7 @@ command_of (commands.MakeGraph vertices) = MakeGraph vertices
 command_of (commands.PublishBatch feed edits) = PublishBatch feed edits.items
 command_of (commands.LoadProgram name record_length code) =
     LoadProgram name.now (without_table code.items record_length)
+command_of (commands.LoadImage name bytes) = LoadImage name.now bytes.items
 command_of (commands.TakePin name) = TakePin name.now
 command_of (commands.RunProgram program pin reduction argument frontier) =
     RunProgram program.now pin.now reduction argument.now frontier.now
@@ -68,7 +69,7 @@ answer_of (answers.GraphMade vertices) = GraphMade vertices
 answer_of (answers.BatchPublished feed number added removed) = BatchPublished feed number added removed
 answer_of (answers.ProgramAccepted name bound frames) = ProgramAccepted name.now bound frames
 answer_of (answers.ProgramRefused name refusal) = ProgramRefused name.now refusal
-answer_of (answers.NoImage name) = NoImage name.now
+answer_of (answers.NoImage name error) = NoImage name.now error
 answer_of (answers.PinTaken name number edges) = PinTaken name.now number edges
 answer_of (answers.EdgesMapped program pin edges total rows) = EdgesMapped program.now pin.now edges total rows.items
 answer_of (answers.HomeTold vertex home degree) = HomeTold vertex home degree
@@ -81,7 +82,7 @@ listing_of (answers.GraphMade vertices) = None
 listing_of (answers.BatchPublished feed number added removed) = None
 listing_of (answers.ProgramAccepted name bound frames) = None
 listing_of (answers.ProgramRefused name refusal) = None
-listing_of (answers.NoImage name) = None
+listing_of (answers.NoImage name error) = None
 listing_of (answers.PinTaken name number edges) = None
 listing_of (answers.EdgesMapped program pin edges total rows) = None
 listing_of (answers.HomeTold vertex home degree) = None

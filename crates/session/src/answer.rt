@@ -4,6 +4,7 @@ ghost use Rattle.std.specs.Prelude.{◌≡◌};
 ghost use Rattle.session.specs.Kept.{listing_of};
 
 use crate::listing::Listing;
+use bpf_image::ImageError;
 use map_model::Row;
 use past_model::Home;
 use verifier::Refusal;
@@ -34,9 +35,10 @@ pub enum Answer<'a> {
         name: &'a [u8],
         refusal: Refusal,
     },
-    /// A program is not kept, since no image has code of that length.
+    /// A program is not kept, since no image has code of that length, or is spelled by these bytes.
     NoImage {
         name: &'a [u8],
+        error: ImageError,
     },
     /// The last version has a name: its number, and how many edges it has.
     PinTaken {

@@ -21,6 +21,11 @@ pub enum Command<'a> {
         record_length: u64,
         code: Vec<u8>,
     },
+    /// The program of an image's bytes, under a name.
+    LoadImage {
+        name: &'a [u8],
+        bytes: Vec<u8>,
+    },
     /// A name for the last version.
     TakePin {
         name: &'a [u8],

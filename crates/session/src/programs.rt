@@ -1,18 +1,20 @@
 //! The programs of a session.
 
-ghost use Rattle.std.specs.Prelude.{◌≡◌, IfSome, IfNone, is_some};
+ghost use Rattle.std.specs.Prelude.{◌≡◌, ◌≢◌, Ok, Err, IfOk, IfErr, IfSome, IfNone, is_some};
 ghost use Rattle.bpf_image.specs.Program.{IsRecordLength, without_table};
 ghost use Rattle.verifier.specs.Verdict.{verdict};
-ghost use Rattle.session_model.specs.Faults.{program_fault};
-ghost use Rattle.session_model.specs.Responses.{load_response, code_response, verdict_response, is_code};
+ghost use Rattle.session_model.specs.Faults.{program_fault, image_fault};
+ghost use Rattle.session_model.specs.Images.{loaded};
+ghost use Rattle.session_model.specs.Responses.{load_response, image_response, code_response, verdict_response, is_code};
 ghost use Rattle.session.specs.Performs.{Performs};
 
 use crate::answer::Answer;
 use crate::error::CommandError;
 use crate::kept::{NamedProgram, find_program};
 use crate::session::Session;
-use bpf_image::{Image, LEAST_RECORD_LENGTH, MOST_RECORD_LENGTH};
+use bpf_image::{Image, ImageError, LEAST_RECORD_LENGTH, MOST_RECORD_LENGTH};
 use session_model::{Fault, MOST_KEPT};
+use std::alloc::Global;
 use std::sync::Arc;
 use verifier::{Cause, verify};
 
@@ -55,8 +57,46 @@ impl Session {
             return Err(CommandError::Fault(fault));
         }
         match image_of(record_length as u16, code) {
-            None => Ok(Answer::NoImage { name }),
+            None => Ok(Answer::NoImage {
+                name,
+                error: ImageError::CodeLength,
+            }),
             Some(image) => self.judge(name, image),
+        }
+    }
+
+    /// What is wrong with the name of an image more: `Order` before there is a graph, `Name` where a program has the
+    /// name, `TooMany` where 256 are kept.
+    fn image_fault(&self, name: &[u8]) -> Option<Fault>
+        ensures { result ≡ image_fault name.now self.now }
+    {
+        if self.store.is_none() {
+            return Some(Fault::Order);
+        }
+        if find_program(&self.programs, name).is_some() {
+            return Some(Fault::Name);
+        }
+        if self.programs.len() >= MOST_KEPT {
+            return Some(Fault::TooMany);
+        }
+        None
+    }
+
+    /// Loads the program of an image's bytes, and keeps it where it is accepted.
+    pub(crate) fn load_image<'a>(
+        &mut self,
+        name: &'a [u8],
+        bytes: &[u8],
+    ) -> Result<Answer<'a>, CommandError>
+        ensures { Performs (image_response name.now bytes.now self.old) result self.old self.new }
+    {
+        if let Some(fault) = self.image_fault(name) {
+            return Err(CommandError::Fault(fault));
+        }
+        match read_image(self.alloc, bytes) {
+            Ok(image) => self.judge(name, image),
+            Err(ImageError::OutOfMemory) => Err(CommandError::OutOfMemory),
+            Err(error) => Ok(Answer::NoImage { name, error }),
         }
     }
 
@@ -99,5 +139,20 @@ fn image_of(record_length: u16, code: Vec<u8>) -> Option<Image>
     match Image::new(record_length, code) {
         Ok(image) => Some(image),
         Err(_) => None,
+    }
+}
+
+/// The image of some bytes, or the first thing that is wrong with them.
+fn read_image(alloc: Global, bytes: &[u8]) -> Result<Image, ImageError>
+    ensures made { IfOk result (λ image. loaded bytes.now ≡ Ok image) }
+    ensures fault { IfErr result (λ error. error ≢ ImageError.OutOfMemory → loaded bytes.now ≡ Err error) }
+{
+    match Image::load(alloc, bytes) {
+        Ok(image) => {
+            // An image keeps to the lengths that it may have.
+            let _lengths = image.lengths();
+            Ok(image)
+        }
+        Err(error) => Err(error),
     }
 }

@@ -72,6 +72,7 @@ impl Session {
                 record_length,
                 code,
             } => self.load_program(name, record_length, code),
+            Command::LoadImage { name, bytes } => self.load_image(name, &bytes),
             Command::TakePin { name } => self.take_pin(name),
             Command::RunProgram {
                 program,

@@ -1,6 +1,7 @@
 -- What a session can be asked for, and what it can answer.
 use Rattle.std.specs.Prelude.{ℕ, List}
 use Rattle.bpf_image.specs.Program.{Program}
+use Rattle.bpf_image.specs.declared.image_error.ImageError.{ImageError}
 use Rattle.map_model.specs.declared.reduction.Reduction.{Reduction}
 use Rattle.map_model.specs.declared.row.Row.{Row}
 use Rattle.map_model.specs.declared.listed_edge.ListedEdge.{ListedEdge}
@@ -15,6 +16,8 @@ pub data Command : Type 0 where
   PublishBatch : (feed : ℕ) (edits : List Edit) → Command
   -- a program under a name
   LoadProgram : (name : List ℕ) → Program → Command
+  -- the program of an image's bytes under a name
+  LoadImage : (name bytes : List ℕ) → Command
   -- a name for the last version
   TakePin : (name : List ℕ) → Command
   -- a program mapped over the edges of a pin; an empty frontier stands for all vertices
@@ -29,8 +32,8 @@ pub data Answer : Type 0 where
   BatchPublished : (feed number added removed : ℕ) → Answer
   ProgramAccepted : (name : List ℕ) (bound frames : ℕ) → Answer
   ProgramRefused : (name : List ℕ) → Refusal → Answer
-  -- code of a length that no image may have
-  NoImage : (name : List ℕ) → Answer
+  -- no image has such code, or is spelled by such bytes
+  NoImage : (name : List ℕ) → ImageError → Answer
   PinTaken : (name : List ℕ) (number edges : ℕ) → Answer
   EdgesMapped : (program pin : List ℕ) (edges total : ℕ) → List Row → Answer
   HomeTold : (vertex : ℕ) → Home → (degree : ℕ) → Answer

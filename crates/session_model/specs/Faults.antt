@@ -54,6 +54,11 @@ abbrev pub program_fault : List ℕ → ℕ → Session → Option Fault
 program_fault name record_length s =
     first_fault ((not (is_some s.past), faults.Order) ∷ (not (is_record_length record_length), faults.Range) ∷ (is_some (program_named name s.programs), faults.Name) ∷ (nat_le MOST_KEPT (length s.programs), faults.TooMany) ∷ [])
 
+-- an image more, under its name
+abbrev pub image_fault : List ℕ → Session → Option Fault
+image_fault name s =
+    first_fault ((not (is_some s.past), faults.Order) ∷ (is_some (program_named name s.programs), faults.Name) ∷ (nat_le MOST_KEPT (length s.programs), faults.TooMany) ∷ [])
+
 -- a pin more
 abbrev pub pin_fault : List ℕ → Session → Option Fault
 pin_fault name s =

@@ -1,5 +1,5 @@
 -- What a session answers to a command, and the session after it.
-use Rattle.std.specs.Prelude.{ℕ, ◌+◌, ◌*◌, ◌==◌, ◌&&◌, nat_le, nat_lt, Bool, if◌then◌else◌, List, [], ◌∷◌, ◌++◌, length, filter, Option, Some, None}
+use Rattle.std.specs.Prelude.{ℕ, ◌+◌, ◌*◌, ◌==◌, ◌&&◌, nat_le, nat_lt, Bool, if◌then◌else◌, List, [], ◌∷◌, ◌++◌, length, filter, Option, Some, None, Result, Ok, Err}
 use Rattle.bpf_isa.specs.declared.limits.TheConstants.{MOST_UNITS}
 use Rattle.past_model.specs.declared.edit.Edit.{Edit}
 use Rattle.past_model.specs.declared.entry.Entry.{Entry}
@@ -8,6 +8,8 @@ use Rattle.past_model.specs.Edits.{added, removed}
 use Rattle.past_model.specs.Past.{Past, opening, longer, graph_of, number_of}
 use Rattle.past_model.specs.Homes.{home_of}
 use Rattle.bpf_image.specs.Program.{Program, units}
+use Rattle.bpf_image.specs.declared.image_error.ImageError.{ImageError}
+use Rattle.bpf_image.specs.declared.image_error.ImageError.TheVariants.{CodeLength}
 use Rattle.map_model.specs.declared.reduction.Reduction.{Reduction}
 use Rattle.map_model.specs.declared.row.Row.{Row}
 use Rattle.map_model.specs.EdgeMap.{all_numbers, rows_of, reduction_of_numbers, listed_edges}
@@ -16,8 +18,9 @@ use Rattle.verifier.specs.Verdict.{Verdict, Accepted, Refused, verdict}
 use Rattle.session_model.specs.declared.fault.Fault.{Fault}
 use Rattle.session_model.specs.declared.fault.Fault.TheVariants as faults
 use Rattle.session_model.specs.Session.{Session, program_named, pin_named}
-use Rattle.session_model.specs.Commands.{Command, MakeGraph, PublishBatch, LoadProgram, TakePin, RunProgram, TellHome, ListEdges, Answer, GraphMade, BatchPublished, ProgramAccepted, ProgramRefused, NoImage, PinTaken, EdgesMapped, HomeTold, EdgesListed}
-use Rattle.session_model.specs.Faults.{graph_fault, batch_fault, program_fault, pin_fault, vertices_fault, home_fault, argument_fault, length_fault}
+use Rattle.session_model.specs.Images.{loaded}
+use Rattle.session_model.specs.Commands.{Command, MakeGraph, PublishBatch, LoadProgram, LoadImage, TakePin, RunProgram, TellHome, ListEdges, Answer, GraphMade, BatchPublished, ProgramAccepted, ProgramRefused, NoImage, PinTaken, EdgesMapped, HomeTold, EdgesListed}
+use Rattle.session_model.specs.Faults.{graph_fault, batch_fault, program_fault, image_fault, pin_fault, vertices_fault, home_fault, argument_fault, length_fault}
 
 -- an answer with the session after it, or a fault
 pub data Response : Type 0 where
@@ -63,10 +66,18 @@ verdict_response (Refused refusal) name p s = Answers (ProgramRefused name refus
 
 -- what becomes of a program whose name and record length are allowed
 abbrev pub code_response : List ℕ → Program → Session → Response
-code_response name p s = if is_code p then verdict_response (verdict p) name p s else Answers (NoImage name) s
+code_response name p s = if is_code p then verdict_response (verdict p) name p s else Answers (NoImage name CodeLength) s
 
 abbrev pub load_response : List ℕ → Program → Session → Response
 load_response name p s = unless_fault (program_fault name p.record_length s) (code_response name p s)
+
+-- what becomes of an image whose name is allowed
+abbrev pub loaded_response : Result Program ImageError → List ℕ → Session → Response
+loaded_response (Ok p) name s = verdict_response (verdict p) name p s
+loaded_response (Err error) name s = Answers (NoImage name error) s
+
+abbrev pub image_response : List ℕ → List ℕ → Session → Response
+image_response name bytes s = unless_fault (image_fault name s) (loaded_response (loaded bytes) name s)
 
 abbrev pub pin_response : List ℕ → Session → Response
 pin_response name s =
@@ -137,6 +148,7 @@ abbrev pub response : Command → Session → Response
 response (MakeGraph n) s = graph_response n s
 response (PublishBatch feed edits) s = publish_response feed edits s
 response (LoadProgram name p) s = load_response name p s
+response (LoadImage name bytes) s = image_response name bytes s
 response (TakePin name) s = pin_response name s
 response (RunProgram program pin reduction argument frontier) s =
     run_response program pin reduction argument frontier s

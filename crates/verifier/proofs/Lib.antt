@@ -26,4 +26,3 @@ pub mod Runs
 pub mod Verdicts
 pub mod Forward
 pub mod Keeping
-pub mod Alone

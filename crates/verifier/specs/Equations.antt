@@ -3,17 +3,12 @@
 use Rattle.std.specs.Prelude.{◌≡◌, ℕ, zero, suc, ◌<◌, ◌==◌, if◌then◌else◌, pos, [], ◌∷◌, Option, Some, None, Result, Ok, Err}
 use Rattle.std.specs.Ordering.{int_eq}
 use Rattle.bpf_isa.specs.declared.instruction.Instruction.{Instruction}
-use Rattle.bpf_image.specs.Program.{Program, units, record_alone}
-use Rattle.bpf_image.specs.declared.lengths.Lengths.{Lengths}
+use Rattle.bpf_image.specs.Program.{Program, units, lengths_of}
 use Rattle.bpf_model.specs.declared.cause.Cause.{Cause}
 use Rattle.abstract_state.specs.declared.state.AbstractState.{AbstractState}
 use Rattle.abstract_state.specs.States.{entry_state, join_of_states}
 use Rattle.verifier.specs.Rules.{Ways, transfer}
 use Rattle.verifier.specs.Listing.{instruction_at}
-
--- how long the regions are of which the rules know. A run has no bytes of a table yet, so that is the record alone.
-abbrev pub known_lengths : Program → Lengths
-known_lengths p = record_alone p.record_length
 
 -- what is known by one way more
 abbrev pub joined_with : Option AbstractState → AbstractState → Option AbstractState
@@ -34,7 +29,7 @@ ways_of (Ok ws) = ws
 ways_of (Err cause) = []
 
 abbrev pub known_ways : Program → ℕ → Option Instruction → Option AbstractState → Ways
-known_ways p pc (Some i) (Some s) = ways_of (transfer (known_lengths p) pc i s)
+known_ways p pc (Some i) (Some s) = ways_of (transfer (lengths_of p) pc i s)
 known_ways p pc None s = []
 known_ways p pc (Some i) None = []
 
@@ -44,7 +39,7 @@ ways_from p a pc = known_ways p pc (instruction_at p pc) (a pc)
 
 -- what comes to pc q from the entry and from the pcs below n
 abbrev pub incoming_state : Program → Assignment → ℕ → ℕ → Option AbstractState
-incoming_state p a zero q = if q == 0 then Some (entry_state (known_lengths p)) else None
+incoming_state p a zero q = if q == 0 then Some (entry_state (lengths_of p)) else None
 incoming_state p a (suc n) q = joined_ways (incoming_state p a n q) (ways_from p a n) q
 
 -- the equations
@@ -53,7 +48,7 @@ IsAssignment p a = (q : ℕ) → q < units p → a q ≡ incoming_state p a q q
 
 -- their one solution, as all ways lead upward: what has come to each pc from the pcs below n
 abbrev pub arrivals : Program → ℕ → ℕ → Option AbstractState
-arrivals p zero q = if q == 0 then Some (entry_state (known_lengths p)) else None
+arrivals p zero q = if q == 0 then Some (entry_state (lengths_of p)) else None
 arrivals p (suc n) q = joined_ways (arrivals p n q) (known_ways p n (instruction_at p n) (arrivals p n n)) q
 
 abbrev pub assignment_of : Program → Assignment

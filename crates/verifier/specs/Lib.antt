@@ -9,6 +9,7 @@ pub mod Walks
 pub mod Verdict
 pub mod VerdictRows
 pub mod HelperVerdicts
+pub mod TableVerdicts
 pub mod Sound
 pub mod Laws
 pub mod Tables

@@ -2,7 +2,7 @@
 -- what is known at its pc, in whatever frame and with whatever callers, no step traps, and the run exits
 -- within the bound.
 use Rattle.std.specs.Prelude.{◌≡◌, ℕ, ◌+◌, ◌<◌, ◌≤◌, ℤ, pos, unsigned_abs, List, [], ◌∷◌, length, Some, slice_index}
-use Rattle.bpf_image.specs.Program.{Program, units, IsImage}
+use Rattle.bpf_image.specs.Program.{Program, units, IsImage, lengths_of}
 use Rattle.graph_model.specs.Graph.{Graph}
 use Rattle.bpf_model.specs.Helpers.{IsView}
 use Rattle.bpf_model.specs.State.{Partial, Saved, State, start, frame_top, most_frames}
@@ -13,7 +13,7 @@ use Rattle.bpf_isa.specs.declared.instruction.Instruction.TheVariants.{CallLocal
 use Rattle.abstract_state.specs.declared.state.AbstractState.{AbstractState}
 use Rattle.verifier.specs.Described.{DescribesState, DescribesCaller}
 use Rattle.verifier.specs.Listing.{instruction_at}
-use Rattle.verifier.specs.Equations.{known_lengths, assignment_of}
+use Rattle.verifier.specs.Equations.{assignment_of}
 use Rattle.verifier.specs.Walks.{longest, deepest, count_from, frames_from, IsLongest, IsDeepest}
 use Rattle.verifier.specs.Verdict.{Accepted, verdict, most_counted}
 
@@ -26,7 +26,7 @@ pub record Waits (p : Program) (depth : ℕ) (caller : Saved) (memory : Partial)
   pub returns : caller.return_pc ≡ pos (place + 1)
   pub abstract_state : AbstractState
   pub walked : assignment_of p place ≡ Some abstract_state
-  pub described : DescribesCaller (known_lengths p) (frame_top depth) abstract_state caller.registers memory
+  pub described : DescribesCaller (lengths_of p) (frame_top depth) abstract_state caller.registers memory
   pub frames : depth + frames_from p (place + 1) ≤ deepest p
 
 abbrev pub AllWait : Program → List Saved → Partial → Type 0
@@ -48,7 +48,7 @@ pub record Stands (p : Program) (k : ℕ) (s : State) : Type 0 where
   pub found : instruction_at p place ≡ Some instruction
   pub abstract_state : AbstractState
   pub walked : assignment_of p place ≡ Some abstract_state
-  pub described : DescribesState (known_lengths p) abstract_state s
+  pub described : DescribesState (lengths_of p) abstract_state s
   pub callers : AllWait p s.callers s.memory
   pub steps : k + (count_from p place + count_behind p s.callers) ≤ longest p
   pub frames : length s.callers + frames_from p place ≤ deepest p
@@ -65,11 +65,11 @@ pub record IsRecord (p : Program) (bytes : List ℕ) : Type 0 where
   pub are_bytes : (i : ℕ) → slice_index bytes i < 256
 
 abbrev pub NeverGoesWrong : Program → Type 0
-NeverGoesWrong p = (g : Graph) (bytes : List ℕ) → IsView g → IsRecord p bytes → (k : ℕ) → IsFine p k (after p g k (start bytes))
+NeverGoesWrong p = (g : Graph) (bytes : List ℕ) → IsView g → IsRecord p bytes → (k : ℕ) → IsFine p k (after p g k (start p bytes))
 
 -- every run exits within the bound
 abbrev pub AlwaysExits : Program → Type 0
-AlwaysExits p = (g : Graph) (bytes : List ℕ) → IsView g → IsRecord p bytes → (v : ℕ) × (after p g (longest p) (start bytes) ≡ Exits v)
+AlwaysExits p = (g : Graph) (bytes : List ℕ) → IsView g → IsRecord p bytes → (v : ℕ) × (after p g (longest p) (start p bytes) ≡ Exits v)
 
 -- what an accepted program keeps
 pub record IsVerified (p : Program) (bound frames : ℕ) : Type 0 where

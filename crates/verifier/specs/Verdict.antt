@@ -7,14 +7,14 @@ use Rattle.bpf_isa.specs.declared.instruction.Instruction.TheVariants.{Jump, Bra
 use Rattle.bpf_isa.specs.Encoding.{units_of}
 use Rattle.bpf_model.specs.State.{most_frames}
 use Rattle.bpf_model.specs.Step.{units_over}
-use Rattle.bpf_image.specs.Program.{Program, units}
+use Rattle.bpf_image.specs.Program.{Program, units, lengths_of}
 use Rattle.bpf_model.specs.declared.cause.Cause.{Cause}
 use Rattle.bpf_model.specs.declared.cause.Cause.TheVariants.{BadInstruction, JumpOut, JumpBack, CallTarget, FallsOff, TooDeep, TooLong, OutOfMemory}
 use Rattle.abstract_state.specs.declared.state.AbstractState.{AbstractState}
 use Rattle.verifier.specs.Rules.{Ways, target, transfer}
 use Rattle.verifier.specs.declared.refusal.Refusal.{Refusal}
 use Rattle.verifier.specs.Listing.{instruction_at, is_start}
-use Rattle.verifier.specs.Equations.{known_lengths, assignment_of}
+use Rattle.verifier.specs.Equations.{assignment_of}
 use Rattle.verifier.specs.declared.weights.TheConstants.{MOST_COUNTED}
 use Rattle.verifier.specs.Functions.{start_above, function_end}
 use Rattle.verifier.specs.Walks.{longest, deepest}
@@ -90,7 +90,7 @@ broken_cause (Ok ws) = None
 broken_cause (Err cause) = Some cause
 
 abbrev pub rule_cause : Program → ℕ → Option Instruction → Option AbstractState → Option Cause
-rule_cause p pc (Some i) (Some s) = broken_cause (transfer (known_lengths p) pc i s)
+rule_cause p pc (Some i) (Some s) = broken_cause (transfer (lengths_of p) pc i s)
 rule_cause p pc None s = None
 rule_cause p pc (Some i) None = None
 

@@ -11,7 +11,7 @@ use crate::functions::{find_ends, has_calls};
 use crate::listing::list;
 use crate::refusal::Refusal;
 use crate::states::{arrive, no_states};
-use crate::walking::{rule_lengths, visit};
+use crate::walking::visit;
 use abstract_state::AbstractState;
 use bpf_image::Image;
 use bpf_isa::Instruction;
@@ -81,7 +81,7 @@ fn walk_and_keep(
 {
     let mut known = no_states(alloc, image.code().len() / 8)?;
     let mut states = no_states(alloc, image.code().len() / 8)?;
-    let entry = Box::new(alloc, AbstractState::entry(rule_lengths(image)))?;
+    let entry = Box::new(alloc, AbstractState::entry(image.lengths()))?;
     arrive(&mut states, 0, entry);
     for pc in 0..image.code().len() / 8 {
         known[pc] = copy_of(alloc, &states[pc])?;

@@ -2,6 +2,7 @@
 ghost use Rattle.verifier.specs.Laws.{AssignedSolves, OneSolution};
 ghost use Rattle.verifier.specs.VerdictRows.{WorkedVerdicts};
 ghost use Rattle.verifier.specs.HelperVerdicts.{WorkedHelperVerdicts};
+ghost use Rattle.verifier.specs.TableVerdicts.{WorkedTableVerdicts, KnowsRecordAlone};
 
 /// What is known at each pc solves the equations of the abstract pass.
 pub fn assigned_solves()
@@ -21,4 +22,14 @@ pub fn worked_verdicts()
 /// The verdicts on worked programs that call helpers.
 pub fn worked_helper_verdicts()
     ensures { WorkedHelperVerdicts }
+{}
+
+/// The verdicts on worked programs that carry a table.
+pub fn worked_table_verdicts()
+    ensures { WorkedTableVerdicts }
+{}
+
+/// Of a program without a table the rules know its record alone.
+pub fn knows_the_record_alone()
+    ensures { KnowsRecordAlone }
 {}

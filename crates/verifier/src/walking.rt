@@ -6,7 +6,7 @@ ghost use Rattle.abstract_state.specs.declared.state.AbstractState.{AbstractStat
 ghost use Rattle.verifier.specs.Rules.{Ways, branch_ways, call_ways};
 ghost use Rattle.verifier.specs.RuleAnswers.{ways_onward};
 ghost use Rattle.verifier.specs.Listing.{listing_of};
-ghost use Rattle.verifier.specs.Equations.{known_lengths, joined_ways};
+ghost use Rattle.verifier.specs.Equations.{joined_ways};
 ghost use Rattle.verifier.specs.Verdict.{first_fault, decoding_fault, flow_fault, rule_fault, unless_memory};
 ghost use Rattle.verifier.specs.Tables.{state_at, LeadInside, IsWalkedTo};
 
@@ -16,20 +16,9 @@ use crate::rules::{Onward, step_over};
 use crate::states::{arrive, arrive_by_side, no_states};
 use abstract_state::{AbstractState, enter_call, return_from_call};
 use abstract_values::Sides;
-use bpf_image::{Image, Lengths};
+use bpf_image::Image;
 use bpf_isa::{Instruction, Operand, Register};
 use std::alloc::{AllocError, Global};
-
-/// How long the regions are of which the rules know. A run has no bytes of a table yet, so they know of the record
-/// alone.
-pub(crate) fn rule_lengths(image: &Image) -> Lengths
-    ensures { result ≡ known_lengths image.now }
-{
-    Lengths {
-        record_length: image.record_length(),
-        table_length: 0,
-    }
-}
 
 /// Both sides of a branch go on with what they know. A state is copied only where both are walked.
 fn split(
@@ -144,7 +133,7 @@ pub(crate) fn visit(
     let Some(instruction) = starting_at(image, listing, pc) else {
         return Ok(());
     };
-    match step_over(rule_lengths(image), instruction, &mut state) {
+    match step_over(image.lengths(), instruction, &mut state) {
         Err(cause) => Err(Refusal { cause, pc }),
         Ok(onward) => {
             go_on(alloc, states, pc, instruction, onward, state)?;
@@ -166,7 +155,7 @@ pub(crate) fn walk(
         (λ refusal. unless_memory refusal (first_fault (rule_fault image.now) (units image.now) ≡ Some refusal)) }
 {
     let mut states = no_states(alloc, image.code().len() / 8)?;
-    let entry = Box::new(alloc, AbstractState::entry(rule_lengths(image)))?;
+    let entry = Box::new(alloc, AbstractState::entry(image.lengths()))?;
     arrive(&mut states, 0, entry);
     for pc in 0..image.code().len() / 8 {
         visit(alloc, image, listing, &mut states, pc)?;

@@ -30,6 +30,11 @@ pub(crate) enum Statement<'a> {
         record_length: u64,
         code: Vec<u8>,
     },
+    /// A program's name, and the bytes of its image.
+    Image {
+        name: &'a [u8],
+        bytes: Vec<u8>,
+    },
     /// A program in assembler text begins, with its name and record length.
     Program {
         name: &'a [u8],

@@ -2,10 +2,10 @@
 
 ghost use Rattle.std.specs.Prelude.{◌≡◌, List, [], ◌∷◌, Option, Some, None, option_map, IfOk, MatchOption};
 ghost use Rattle.script_model.specs.Lexing.{words};
-ghost use Rattle.script_model.specs.Parsing.{feed_of as feed_of_word, graph_statement, batch_statement, code_statement, program_statement, pin_statement, run_statement, home_statement, list_statement, reduction_of as reduction_word, statement as statement_of};
+ghost use Rattle.script_model.specs.Parsing.{feed_of as feed_of_word, graph_statement, batch_statement, code_statement, image_statement, program_statement, pin_statement, run_statement, home_statement, list_statement, reduction_of as reduction_word, statement as statement_of};
 ghost use Rattle.script_model.specs.Execution.{is_comment as is_comment_word};
 ghost use Rattle.script.specs.Said.{said_statement, cut_statement, saying_of, said_line, cut_saying};
-ghost use Rattle.script.specs.Reading.{load_of, run_of, list_of};
+ghost use Rattle.script.specs.Reading.{load_of, image_of, run_of, list_of};
 
 use crate::reading::hex::hex;
 use crate::reading::line::{Line, Statement};
@@ -20,6 +20,13 @@ use std::alloc::{AllocError, Global};
 struct CodeWords<'a> {
     name: &'a [u8],
     record_length: u64,
+    digits: &'a [u8],
+}
+
+/// The words of an `image` command, its bytes in hexadecimal digits.
+#[derive(Drop)]
+struct ImageWords<'a> {
+    name: &'a [u8],
     digits: &'a [u8],
 }
 
@@ -137,6 +144,34 @@ fn code(alloc: Global, operands: &[u8]) -> Result<Option<Statement<'_>>, AllocEr
         name: found.name,
         record_length: found.record_length,
         code,
+    }))
+}
+
+fn image_words(operands: &[u8]) -> Option<ImageWords<'_>>
+    ensures { MatchOption result (image_statement (words operands.now) ≡ None)
+        (λ found. image_statement (words operands.now) ≡ image_of found.name.now found.digits.now) }
+{
+    let (name, rest) = next_word(operands)?;
+    let (digits, rest) = next_word(rest)?;
+    if !is_name(name) || !has_no_word(rest) {
+        return None;
+    }
+    Some(ImageWords { name, digits })
+}
+
+fn image(alloc: Global, operands: &[u8]) -> Result<Option<Statement<'_>>, AllocError>
+    ensures { IfOk result (λ found. option_map said_statement found
+        ≡ option_map cut_statement (image_statement (words operands.now))) }
+{
+    let Some(found) = image_words(operands) else {
+        return Ok(None);
+    };
+    let Some(bytes) = hex(alloc, found.digits)? else {
+        return Ok(None);
+    };
+    Ok(Some(Statement::Image {
+        name: found.name,
+        bytes,
     }))
 }
 
@@ -276,6 +311,9 @@ fn statement<'a>(
     }
     if is_word(word, "list") {
         return list(alloc, operands);
+    }
+    if is_word(word, "image") {
+        return image(alloc, operands);
     }
     Ok(None)
 }

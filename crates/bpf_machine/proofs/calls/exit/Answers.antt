@@ -7,7 +7,7 @@ use Rattle.bpf_machine.proofs.StackFacts.{callers_count}
 use Rattle.bpf_machine.proofs.calls.exit.Goals as goal
 
 pub returns : goal.returns
-returns c lengths g bytes =
+returns c lengths g bytes table =
     let value : values_of c.args.machine.now.registers 0 ≡ Some c.in-Some.value = sym c.register.ensures ∙ c.in-Some.is in
     let count = callers_count c.pop.new.self.kept c.pop.new.self.count in
     let top : c.top_of-top.result ≡ frame_top (length (callers_of c.pop.new.self.kept c.pop.new.self.count)) = c.top_of-top.ensures ∙ ap frame_top (sym count) in

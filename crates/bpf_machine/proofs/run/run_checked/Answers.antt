@@ -9,8 +9,12 @@ use Rattle.bpf_machine.specs.Seen.{state_of}
 use Rattle.bpf_machine.proofs.RunFacts.{stops_at, after_more}
 use Rattle.bpf_machine.proofs.run.run_checked.Goals as goal
 
+-- lengths of a record and a table
+abbrev lengths_with : ℕ → ℕ → Lengths
+lengths_with n m = record { record_length = n; table_length = m }
+
 pub loop-steps-init : goal.loop-steps-init
-loop-steps-init g c = ap (λ s. Goes s) (c.new-machine.ensures.start c.args.bytes.now (c.requires ∙ ap (λ (l : Lengths). l.record_length) (sym c.lengths.ensures.exact)))
+loop-steps-init g c = ap (λ s. Goes s) (c.new-machine.ensures.start c.args.image.now c.args.bytes.now (ap (λ n. lengths_with n (length c.args.image.now.table)) c.requires ∙ sym c.lengths.ensures.exact))
 
 pub returns-in-Exited : goal.returns-in-Exited
 returns-in-Exited g c =
@@ -45,14 +49,14 @@ pub loop-steps-preserved : goal.loop-steps-preserved
 loop-steps-preserved g c =
     let graph = g.G.GraphView.graph c.args.graph.now in
     let goes = (rw c.in-Went.is at c.take_turn.ensures.step) in
-    rw add-one (after_more c.args.image.now graph c.loop-steps.steps (start c.args.bytes.now) (state_of c.loop-steps.machine c.loop-steps.bytes) _ c.loop-steps.invariant goes)
+    rw add-one (after_more c.args.image.now graph c.loop-steps.steps (start c.args.image.now c.args.bytes.now) (state_of c.loop-steps.machine c.loop-steps.bytes c.args.image.now.table) _ c.loop-steps.invariant goes)
 
 pub returns : goal.returns
 returns g c =
     let graph = g.G.GraphView.graph c.args.graph.now in
     let short : length c.loop-steps.bytes ≤ MOST_RECORD_LENGTH = omega (arith, c.loop-steps.auto.bytes, c.lengths.ensures.image.record_length.1) in
     let all : c.args.fuel ≡ c.loop-steps.steps = omega arith in
-    let reached = ap (λ k. after c.args.image.now graph k (start c.args.bytes.now)) all ∙ c.loop-steps.invariant in (
-      step c.args.image.now graph (state_of c.loop-steps.machine c.loop-steps.bytes),
+    let reached = ap (λ k. after c.args.image.now graph k (start c.args.image.now c.args.bytes.now)) all ∙ c.loop-steps.invariant in (
+      step c.args.image.now graph (state_of c.loop-steps.machine c.loop-steps.bytes c.args.image.now.table),
       stops_at c.args.image.now graph c.args.bytes.now c.args.fuel c.loop-steps.machine c.loop-steps.bytes _ reached refl c.loop-steps.auto.bytes short,
     )

@@ -6,4 +6,4 @@ use Rattle.bpf_machine.specs.Seen.{state_of}
 use Rattle.bpf_machine.proofs.run.run_checked.Given as goal
 
 abbrev pub invariant-loop-steps : goal.invariant-loop-steps
-invariant-loop-steps g l = after l.image (g.G.GraphView.graph l.graph) l.steps (start l.fn.bytes) ≡ Goes (state_of l.machine l.bytes)
+invariant-loop-steps g l = after l.image (g.G.GraphView.graph l.graph) l.steps (start l.image l.fn.bytes) ≡ Goes (state_of l.machine l.bytes l.image.table)

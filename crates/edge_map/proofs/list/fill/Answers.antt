@@ -9,6 +9,17 @@ nothing_left : {X : Type 0} (o : Option X) (P : Type 0) (Q : X → Type 0) → M
 nothing_left None P Q h none = h
 nothing_left (Some x) P Q h none = absurd (none x refl)
 
+pub edges-init : goal.edges-init
+edges-init c =
+    let g = graph_of c.args.version.now in
+    record {
+      past = c.requires.past;
+      listed = ap (λ l. l ++ listing c.args.program.now g c.args.argument.now c.args.walk.now.edges) (sym c.requires.empty);
+      few = omega (arith, ap length c.requires.empty);
+      room = c.requires.room;
+      kept = c.for_program-ahead.ensures c.args.program.now g c.args.argument.now;
+    }
+
 -- the block, and what is left, at the end of the list
 at_end : (c : goal.In_default) → let g = graph_of c.args.version.now in let numbered = listing c.args.program.now g c.args.argument.now in
     (c.edges.block.items ≡ take BLOCK_EDGES (numbered c.args.walk.now.edges)) × (numbered c.next.new.self.edges ≡ drop BLOCK_EDGES (numbered c.args.walk.now.edges))

@@ -1,6 +1,5 @@
-use Rattle.std.proofs.Common.{◌≡◌, ◌/◌, length, ap, sym, arith, inl, inr}
+use Rattle.std.proofs.Common.{sym, arith, inl, inr}
 use Rattle.std.proofs.lemmas.Bool.{cases_eq}
-use Rattle.bpf_image.specs.Program.{units}
 use Rattle.verifier.proofs.writing.has_writes.Goals as goal
 
 pub loop-pc-init : goal.loop-pc-init

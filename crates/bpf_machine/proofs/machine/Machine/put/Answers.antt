@@ -10,7 +10,7 @@ use Rattle.bpf_machine.proofs.StackFacts.{stored_set}
 use Rattle.bpf_machine.proofs.machine.Machine.put.Goals as goal
 
 pub returns : goal.returns
-returns c bytes =
+returns c bytes table =
     let number : c.number-number.result ≡ number_of c.args.destination = c.number-number.ensures.exact in
     let other : eqb (number_of c.args.destination) 10 ≡ false = ne_eqb _ _ (λ e. c.if-number-eq10.false (number ∙ e)) in
     let inside : c.number-number.result < length c.args.self.now.registers = search rules in

@@ -1,0 +1,54 @@
+"""The read-only table of a program: of an object in C marked TABLE, or of a file."""
+import pathlib
+import struct
+
+from edgebpf_tools.refusal import Refusal
+
+SECTION = ".edgebpf_table"
+MOST_BYTES = 4096
+TYPES = {"u8": "<B", "u16": "<H", "u32": "<I", "u64": "<Q"}
+
+
+def _number(path, line, word, form):
+    try:
+        return struct.pack(form, int(word))
+    except (ValueError, struct.error):
+        most = 2 ** (8 * struct.calcsize(form)) - 1
+        raise Refusal(f"{path}:{line}: {word} is no number from 0 to {most}") from None
+
+
+def of_file(path, kind=None):
+    """The bytes of a file, or of the numbers of its lines, each of a type."""
+    try:
+        if kind is None:
+            return pathlib.Path(path).read_bytes()
+        lines = pathlib.Path(path).read_text().splitlines()
+    except (OSError, UnicodeDecodeError) as error:
+        raise Refusal(f"{path}: {getattr(error, 'strerror', None) or 'it is no text'}") from None
+    return b"".join(_number(path, at, word, TYPES[kind]) for at, line in enumerate(lines, 1) for word in line.split())
+
+
+def of_program(options, objects):
+    """The table of a program; without one it is empty."""
+    if options.table_type and options.table is None:
+        raise Refusal("--table-type says what the lines of --table FILE are")
+    marked = objects.table()
+    if options.table is None:
+        table = marked
+    elif marked:
+        raise Refusal("a program has one table: drop --table, or the object marked TABLE")
+    else:
+        table = of_file(options.table, options.table_type)
+        if not table:
+            raise Refusal(f"{options.table} has no byte; a table has 1 to {MOST_BYTES}")
+    if len(table) > MOST_BYTES:
+        raise Refusal(f"the table has {len(table)} bytes; it may have 1 to {MOST_BYTES}")
+    return table
+
+
+def line_of(name, length, code, table):
+    """The line of a script that loads a program."""
+    if not table:
+        return f"code {name} {length} {code.hex()}"
+    front = b"BPE2" + struct.pack("<HHH", length, len(code) // 8, len(table))
+    return f"image {name} {(front + code + table).hex()}"
