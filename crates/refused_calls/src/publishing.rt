@@ -55,7 +55,7 @@ fn batches(alloc: Global) -> Result<(Batch, Batch), AllocError> {
 
 /// Whether a step published the next batch, which came by this feed.
 fn is_next(receipt: &Receipt, number: u64, feed: u8) -> bool {
-    receipt.number() == number && receipt.feed() == feed
+    receipt.number() == number && receipt.feed() == Some(feed)
 }
 
 /// What a reader pins: whether it has this number and number of edges, and vertex 1 these neighbours.

@@ -3,7 +3,7 @@ use Rattle.std.specs.Prelude.{◌≡◌, ◌≤◌, ◌⊎◌, ℕ, List, Option
 use Rattle.past_model.specs.declared.entry.Entry.{Entry}
 use Rattle.past_model.specs.declared.limits.TheConstants.{MOST_VERTICES}
 use Rattle.past_model.specs.Edits.{added, removed}
-use Rattle.past_model.specs.Past.{Past, opening, graph_of, number_of, longer}
+use Rattle.past_model.specs.Past.{Past, opening, graph_of, number_of, epoch_of, longer}
 use Rattle.history.specs.Moment.{Moment, Begins}
 use Rattle.store.specs.Ends.{Feeding}
 use Rattle.store.specs.Feeds.{AreFeedsOf}
@@ -13,12 +13,13 @@ use Rattle.session.specs.declared.error.CommandError.{CommandError}
 use Rattle.session.specs.declared.error.CommandError.TheVariants as errors
 
 -- the feeds and the reader are of the publisher's store, and the reader has seen all that was published
-pub record AreHandles (n number : ℕ) (publisher : Storing) (feeds : List Feeding) (reader : Moment) : Type 0 where
+pub record AreHandles (n number epoch : ℕ) (publisher : Storing) (feeds : List Feeding) (reader : Moment) : Type 0 where
   pub feeds_are : AreFeedsOf publisher feeds
   pub seen : Begins publisher.moment reader
   pub count : n ≡ publisher.moment.past.vertex_count
   pub few : n ≤ MOST_VERTICES
   pub number_is : number ≡ number_of publisher.moment.past
+  pub epoch_is : epoch ≡ epoch_of publisher.moment.past
 
 -- the last version of a store, and the batch that it took and could not publish
 pub record StoreState : Type 0 where

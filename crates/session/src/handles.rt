@@ -1,6 +1,6 @@
 //! All ends of one store, in one thread.
 
-ghost use Rattle.std.specs.Prelude.{◌≡◌, ◌<◌, ◌≤◌, ◌↔◌, ◌⊎◌, true, IfOk, IfErr, IsErrOf};
+ghost use Rattle.std.specs.Prelude.{◌≡◌, ◌<◌, ◌≤◌, ◌↔◌, ◌⊎◌, true, Some, IfOk, IfErr, IsErrOf};
 ghost use Rattle.past_model.specs.declared.limits.TheConstants.{MOST_BATCHES, MOST_VERTICES};
 ghost use Rattle.past_model.specs.Past.{number_of};
 ghost use Rattle.session_model.specs.Responses.{entry_of};
@@ -19,8 +19,9 @@ use workers::{Crew, Gate};
 /// the batch that was taken and could not be published.
 pub struct Handles {
     vertex_count: u32,
-    // How many batches are published.
+    // How many batches of its epoch the last version has, and how many epochs ended before it.
     number: u64,
+    epoch: u64,
     ends: Ends,
 }
 
@@ -31,7 +32,7 @@ impl Model for Handles {
 
     ghost view = { λ h. record { past = h.ends.publisher.moment.past; held = h.ends.publisher.held } };
 
-    ghost invariant = { λ h. AreHandles h.vertex_count h.number h.ends.publisher h.ends.feeds.items h.ends.reader };
+    ghost invariant = { λ h. AreHandles h.vertex_count h.number h.epoch h.ends.publisher h.ends.feeds.items h.ends.reader };
 }
 
 impl Handles {
@@ -48,6 +49,7 @@ impl Handles {
         Ok(Handles {
             vertex_count,
             number: 0,
+            epoch: 0,
             ends: Store::new(vertex_count, rt, alloc)?,
         })
     }
@@ -60,7 +62,7 @@ impl Handles {
         self.vertex_count
     }
 
-    /// How many batches are published.
+    /// How many batches of its epoch the last version has.
     pub(crate) fn number(&self) -> u64
         ensures { result ≡ number_of self.now.past }
     {
@@ -97,7 +99,8 @@ impl Handles {
             Ok(Some(receipt)) => {
                 self.ends.reader.learn(&receipt);
                 self.number = receipt.number();
-                if receipt.feed() == feed && are_same(receipt.batch().edits(), copy.edits()) {
+                self.epoch = receipt.epoch();
+                if is_of(&receipt, feed, copy.edits()) {
                     Ok(receipt)
                 } else {
                     Err(CommandError::Store)
@@ -119,7 +122,8 @@ impl Handles {
         let Ok(pin) = self.ends.reader.pin() else {
             return Err(CommandError::Store);
         };
-        if pin.version().number() == self.number {
+        let version = pin.version();
+        if version.epoch() == self.epoch && version.number() == self.number {
             Ok(pin)
         } else {
             Err(CommandError::Store)
@@ -131,6 +135,7 @@ impl Handles {
         let Handles {
             vertex_count: _,
             number: _,
+            epoch: _,
             ends,
         } = self;
         let Ends {
@@ -139,6 +144,19 @@ impl Handles {
             reader: _,
         } = ends;
         let _ = publisher.finish(feeds, rt);
+    }
+}
+
+/// Whether a receipt is of a batch of these edits, by this feed.
+fn is_of(receipt: &Receipt, feed: u8, edits: &[Edit]) -> bool
+    ensures { result ≡ true → receipt.now.entry ≡ Some (entry_of feed edits.now) }
+{
+    let Some(batch) = receipt.batch() else {
+        return false;
+    };
+    match receipt.feed() {
+        None => false,
+        Some(by) => by == feed && are_same(batch.edits(), edits),
     }
 }
 

@@ -72,8 +72,11 @@ fn step_once<R: Threads + Wait>(rt: &R, publisher: &mut Publisher) -> Option<(u6
 {
     match publisher.step(rt, Workers::one(), &OpenGate) {
         Ok(Some(receipt)) => {
-            let number = number_of(receipt.batch());
-            Some((receipt.number(), receipt.feed(), number))
+            let number = match receipt.batch() {
+                None => None,
+                Some(batch) => number_of(batch),
+            };
+            Some((receipt.number(), receipt.feed()?, number))
         }
         _ => None,
     }

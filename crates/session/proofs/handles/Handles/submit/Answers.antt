@@ -19,4 +19,5 @@ invariant_of-self-then-feed-len-2 g c =
       count = was.count;
       few = was.few;
       number_is = was.number_is;
+      epoch_is = was.epoch_is;
     }
