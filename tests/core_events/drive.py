@@ -14,7 +14,7 @@ import tempfile
 
 HERE = os.path.dirname(os.path.abspath(__file__))
 TOP = os.path.dirname(os.path.dirname(HERE))
-BELOW = ["graph_model", "past_model", "migration", "cursors", "store_model", "stream_core"]
+BELOW = ["graph_model", "past_model", "history", "migration", "cursors", "store_model", "stream_core"]
 EVENTS = 100_000
 FEEDS = 4
 
@@ -61,6 +61,10 @@ class Model:
         self.held = None
         return "done"
 
+    def rebase(self):
+        # The graph stays, and so does each run.
+        return "done"
+
     def pin(self, reader, vertex):
         if reader > 15 or vertex >= self.vertex_count:
             return "refused"
@@ -96,7 +100,7 @@ def random_edits(numbers, vertex_count):
 
 def random_event(numbers, model):
     """An event as words, most of which can happen."""
-    kind = numbers.choices(["submit", "take", "part", "publish", "pin", "lend", "graph"], [20, 18, 30, 18, 15, 40, 0.05])[0]
+    kind = numbers.choices(["submit", "take", "part", "publish", "rebase", "pin", "lend", "graph"], [20, 18, 30, 18, 3, 15, 40, 0.05])[0]
     if kind == "submit":
         return [kind, numbers.choice([0, 0, 1, 1, 2, 2, 3, 3, FEEDS]), random_edits(numbers, model.vertex_count)]
     if kind == "part":

@@ -32,7 +32,7 @@ const fn pin(reader: u8, vertex: u32) -> Event {
 }
 
 // The event of a letter: `s`, `w` and `m` submit, `m` the most edits, `l` by the last feed, `f` by a feed that there is not, `v` and `u` edges of a vertex that there is not; `t`
-// takes, a digit is a part, `p` publishes; capital letters pin, and small ones of the same lend.
+// takes, a digit is a part, `p` publishes, `r` rebases; capital letters pin, and small ones of the same lend.
 fn event_of(alloc: Global, letter: char) -> Result<Event, AllocError> {
     match letter {
         's' => submission(alloc, 0, &[Edit::Insert(0, 1)]),
@@ -46,6 +46,7 @@ fn event_of(alloc: Global, letter: char) -> Result<Event, AllocError> {
         '0' => Ok(Event::Part { range: 0 }),
         '1' => Ok(Event::Part { range: 1 }),
         '2' => Ok(Event::Part { range: 2 }),
+        'r' => Ok(Event::Rebase),
         'A' => Ok(pin(0, 0)),
         'a' => Ok(Event::Lend { reader: 0 }),
         'B' => Ok(pin(15, 299)),
@@ -99,11 +100,13 @@ fn from_greatest(alloc: Global, letters: &str) -> Result<String, AllocError> {
     signs_of(alloc, &mut world, letters)
 }
 
-// A reader pins before a batch is published, and again after it; where nothing has happened only the last of the next
+// A reader pins before a batch is published, and again after it; the same with a rebase and a batch more; a batch that is held over a rebase; where nothing has happened only the last of the next
 // events can; what cannot be submitted; a batch by the last feed; parts in either order, each of them tried once more or too early; and 65 batches, of
 // which the last has no room.
-const ROWS: [(&str, &str); 7] = [
+const ROWS: [(&str, &str); 9] = [
     ("stA0paAaa", "ddddded1e"),
+    ("stA0prlt0paAaa", "ddddddddddedse"),
+    ("strA0pAaa", "ddddddd1e"),
     ("t0pacCDB", "rrrrrrrd"),
     ("fvu", "rrr"),
     ("lt0pAa", "ddddd2"),

@@ -2,16 +2,16 @@
 use Rattle.std.proofs.Common.{◌≡◌, ◌<◌, ◌⊎◌, inl, inr, Option, Some, None, List, [], ◌∷◌, ◌++◌, length, drop, refl, sym, ap, subst, ◌∙◌}
 use Rattle.past_model.specs.declared.entry.Entry.{Entry}
 use Rattle.store_model.specs.declared.event.Event.{Event}
-use Rattle.store_model.specs.declared.event.Event.TheVariants.{Submit, Take}
+use Rattle.store_model.specs.declared.event.Event.TheVariants.{Submit, Take, Rebase}
 use Rattle.store_model.specs.declared.reply.Reply.{Reply}
 use Rattle.store_model.specs.declared.reply.Reply.TheVariants.{Done}
 use Rattle.store_model.specs.Core.{Core}
 use Rattle.store_model.specs.Events.{Ran}
 use Rattle.handle_model.specs.Sights.{PublisherSees}
 use Rattle.handle_model.specs.Calls.{IsNext, waiting_after, publication, all_done}
-use Rattle.handle_model.specs.Histories.{Standing, IsSubmitted, IsFirst, IsPublished, IsTaken, AllSee, HistoriesAreRuns}
+use Rattle.handle_model.specs.Histories.{Standing, IsSubmitted, IsFirst, IsPublished, IsTaken, IsRebased, AllSee, HistoriesAreRuns}
 use Rattle.handle_model.proofs.Submissions.{able}
-use Rattle.handle_model.proofs.Publications.{publications_are, ranges_are, takings_are}
+use Rattle.handle_model.proofs.Publications.{publications_are, rebases_are, ranges_are, takings_are}
 
 -- events and then others
 ran_on : (s t u : Core) (events : List Event) (replies : List Reply) (events' : List Event) (replies' : List Reply)
@@ -70,10 +70,21 @@ taken s x y sees call =
       subst (AllSee t) (sym call.now) (record { publisher = held; queue = queue ∙ ap (drop 1) sees.queue }),
     )
 
-called : (s : Core) (x y : Standing) → AllSee s x → IsSubmitted x y ⊎ (IsPublished x y ⊎ IsTaken x y) → LeadsTo s y
+rebased_too : (s : Core) (x y : Standing) → AllSee s x → IsRebased x y → LeadsTo s y
+rebased_too s x y sees call =
+    let (t, step, seen, queue) = rebases_are x.past x.held s sees.publisher in (
+      t,
+      Rebase ∷ [],
+      Done ∷ [],
+      (t, step, refl),
+      subst (AllSee t) (sym call.now) (record { publisher = seen; queue = queue ∙ sees.queue }),
+    )
+
+called : (s : Core) (x y : Standing) → AllSee s x → IsSubmitted x y ⊎ (IsPublished x y ⊎ (IsTaken x y ⊎ IsRebased x y)) → LeadsTo s y
 called s x y sees (inl call) = submitted s x y sees call
 called s x y sees (inr (inl call)) = published s x y sees call
-called s x y sees (inr (inr call)) = taken s x y sees call
+called s x y sees (inr (inr (inl call))) = taken s x y sees call
+called s x y sees (inr (inr (inr call))) = rebased_too s x y sees call
 
 pub histories_are_runs : HistoriesAreRuns
 histories_are_runs s x [] sees calls = (s, [], [], refl, sees)

@@ -5,13 +5,14 @@ use Rattle.std.proofs.lemmas.List.{get_or-set_other}
 use Rattle.std.proofs.lemmas.List.Elements.{filter-append}
 use Rattle.past_model.specs.declared.entry.Entry.{Entry}
 use Rattle.store_model.specs.declared.event.Event.{Event}
-use Rattle.store_model.specs.declared.event.Event.TheVariants.{Submit, Take, Part, Publish, Pin, Lend}
+use Rattle.store_model.specs.declared.event.Event.TheVariants.{Submit, Take, Part, Publish, Rebase, Pin, Lend}
 use Rattle.store_model.specs.declared.reply.Reply.{Reply}
 use Rattle.store_model.specs.declared.reply.Reply.TheVariants.{Done, Refused, Slice, End}
 use Rattle.store_model.specs.Core.{Core, Holding, run_of, entries, held_entries}
 use Rattle.past_model.specs.declared.limits.TheConstants.{FEEDS}
 use Rattle.past_model.specs.Past.{Past, of_feed}
-use Rattle.past_model.specs.Epochs.{ended_batches}
+use Rattle.past_model.specs.Epochs.{mark_of, ended_batches}
+use Rattle.past_model.proofs.Epochs.{ended_batches-push, marked-mark_of}
 use Rattle.handle_model.specs.Sights.{FeedSees}
 use Rattle.store_model.specs.Events.{IsBeginning, can, Answers, after, after_take, after_publish, after_lend, Happens, accepted_by}
 use Rattle.store_model.proofs.Entries.{entries_submit, entries_take, entries_publish, entries_part, marks_take, marks_publish, count_after}
@@ -49,6 +50,15 @@ feeds_left s (Part range) reply able n feed sent is other sees =
 feeds_left s Publish reply able n feed sent is other sees =
     still_sees s (after_publish s.held s) n feed sent (count_after s Publish reply) (marks_publish s.held s)
     (ap (of_feed feed) (entries_publish s.past s.queue s.held s.runs)) sees
+feeds_left s Rebase reply able n feed sent is other sees = record {
+  count = sees.count;
+  ended = sees.ended ++ of_feed feed s.past.log;
+  counted = omega (arith, length-append sees.ended (of_feed feed s.past.log), sees.counted, ended_batches-push s.past.marks (mark_of s.past.log) feed, marked-mark_of s.past.log feed is);
+  all_sent =
+      append_assoc sees.ended (of_feed feed s.past.log) (of_feed feed (held_entries s.held ++ s.queue))
+      ∙ ap (λ l. sees.ended ++ l) (sym (filter-append (λ (x : Entry). x.feed == feed) s.past.log (held_entries s.held ++ s.queue)))
+      ∙ sees.all_sent;
+}
 feeds_left s (Pin reader vertex) reply able n feed sent is other sees = still_sees s (after s (Pin reader vertex) reply) n feed sent refl refl refl sees
 feeds_left s (Lend reader) reply able n feed sent is other sees = still_sees s (after s (Lend reader) reply) n feed sent refl refl refl sees
 
@@ -60,6 +70,7 @@ publisher_left s (Submit feed batch) reply other = (refl, refl, ((record { feed 
 publisher_left s Take reply other = absurd (true≢false other)
 publisher_left s (Part range) reply other = absurd (true≢false other)
 publisher_left s Publish reply other = absurd (true≢false other)
+publisher_left s Rebase reply other = absurd (true≢false other)
 publisher_left s (Pin reader vertex) reply other = (refl, refl, ([], sym (append-nil s.queue)))
 publisher_left s (Lend reader) reply other = (refl, refl, ([], sym (append-nil s.queue)))
 
@@ -76,6 +87,7 @@ readers_left s (Submit feed batch) reply reader other = refl
 readers_left s Take reply reader other = ap (λ l. slice_index_or l reader None) (runs_take s.queue s)
 readers_left s (Part range) reply reader other = refl
 readers_left s Publish reply reader other = ap (λ l. slice_index_or l reader None) (runs_publish s.held s)
+readers_left s Rebase reply reader other = refl
 readers_left s (Pin by vertex) reply reader other =
     get_or-set_other s.runs by reader (Some (record { past = s.past; vertex = vertex; lent = []; ended = false })) None (λ same. eqb-false by reader other (sym same))
 readers_left s (Lend by) reply reader other =

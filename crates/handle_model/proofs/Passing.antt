@@ -4,19 +4,19 @@ use Rattle.std.proofs.lemmas.Bool.{cases_lt}
 use mathlib.Core.List.{IsPrefix}
 use Rattle.past_model.specs.declared.entry.Entry.{Entry}
 use Rattle.past_model.specs.Past.{Past, longer}
-use Rattle.past_model.specs.Epochs.{IsBefore, IsBeforeInEpoch, IsOfEndedEpoch}
+use Rattle.past_model.specs.Epochs.{IsBefore, IsBeforeInEpoch, rebased}
 use Rattle.past_model.proofs.Beginnings.{prefix_shorter, prefix_whole}
-use Rattle.past_model.proofs.Epochs.{before_itself, before_onwards, before_one, before_longer, same_past}
+use Rattle.past_model.proofs.Epochs.{before_itself, before_onwards, before_one, before_longer, before_rebased, same_past}
 use Rattle.store_model.specs.declared.event.Event.{Event}
-use Rattle.store_model.specs.declared.event.Event.TheVariants.{Submit, Take, Part, Publish, Pin, Lend}
+use Rattle.store_model.specs.declared.event.Event.TheVariants.{Submit, Take, Part, Publish, Rebase, Pin, Lend}
 use Rattle.store_model.specs.declared.reply.Reply.{Reply}
 use Rattle.store_model.specs.Core.{Core, Holding}
 use Rattle.store_model.specs.Events.{after, after_take, after_publish, Steps, Ran}
 use Rattle.store_model.proofs.Steps.{step_keeps, runs_keep}
 
--- an event publishes one batch or none
+-- an event publishes one batch, or a rebase, or nothing
 abbrev pub Grown : Past → Past → Type 0
-Grown p q = (q ≡ p) ⊎ ((e : Entry) × (q ≡ longer p e))
+Grown p q = (q ≡ p) ⊎ (((e : Entry) × (q ≡ longer p e)) ⊎ (q ≡ rebased p))
 
 grown_take : (queue : List Entry) (s : Core) → Grown s.past (after_take queue s).past
 grown_take [] s = inl refl
@@ -24,13 +24,14 @@ grown_take (e ∷ es) s = inl refl
 
 grown_publish : (held : Option Holding) (s : Core) → Grown s.past (after_publish held s).past
 grown_publish None s = inl refl
-grown_publish (Some h) s = inr (h.entry, refl)
+grown_publish (Some h) s = inr (inl (h.entry, refl))
 
 grown_after : (s : Core) (event : Event) (reply : Reply) → Grown s.past (after s event reply).past
 grown_after s (Submit feed batch) reply = inl refl
 grown_after s Take reply = grown_take s.queue s
 grown_after s (Part range) reply = inl refl
 grown_after s Publish reply = grown_publish s.held s
+grown_after s Rebase reply = inr (inr refl)
 grown_after s (Pin reader vertex) reply = inl refl
 grown_after s (Lend reader) reply = inl refl
 
@@ -40,7 +41,8 @@ grown s t event reply step =
 
 before_grown : (p q : Past) → Grown p q → IsBefore p q
 before_grown p q (inl same) = subst (IsBefore p) (sym same) (before_itself p)
-before_grown p q (inr (e, next)) = subst (IsBefore p) (sym next) (before_longer p e)
+before_grown p q (inr (inl (e, next))) = subst (IsBefore p) (sym next) (before_longer p e)
+before_grown p q (inr (inr next)) = subst (IsBefore p) (sym next) (before_rebased p)
 
 -- the last version is before what it becomes
 pub goes_on : (s t : Core) (events : List Event) (replies : List Reply) → Ran s events replies t → IsBefore s.past t.past
@@ -73,7 +75,10 @@ one_first p q last (counts, inr first) same in_epoch =
 pub none_between : (p q next : Past) → Grown p next → IsBefore p q → q.vertex_count ≡ next.vertex_count → IsBeforeInEpoch q next → (p ≡ q) ⊎ (next ≡ q)
 none_between p q next (inl same) first counts last =
     inl (before_one p q first (subst (IsBefore q) same (sym counts, inl last)))
-none_between p q next (inr (e, is)) first counts last =
+none_between p q next (inr (inr is)) first counts last =
+    let now : IsBeforeInEpoch q (rebased p) = subst (IsBeforeInEpoch q) is last in
+    inr (is ∙ sym (same_past q (rebased p) (ap (λ x. x.vertex_count) (sym is) ∙ sym counts) now.base now.marks (prefix_whole q.log [] now.log (omega arith))))
+none_between p q next (inr (inl (e, is))) first counts last =
     let now : IsBeforeInEpoch q (longer p e) = subst (IsBeforeInEpoch q) is last in
     elim (cases_lt (length p.log) (length q.log)) [
       | inl all ↦ inr (is ∙ sym (same_past q (longer p e) (ap (λ x. x.vertex_count) (sym is) ∙ sym counts) now.base now.marks (prefix_whole q.log (p.log ++ e ∷ []) now.log (omega (arith, length-append p.log (e ∷ []))))))

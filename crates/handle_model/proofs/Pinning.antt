@@ -8,7 +8,7 @@ use Rattle.past_model.specs.Past.{Past}
 use Rattle.past_model.specs.Epochs.{IsBefore, IsBeforeInEpoch}
 use Rattle.past_model.proofs.Epochs.{before_one}
 use Rattle.store_model.specs.declared.event.Event.{Event}
-use Rattle.store_model.specs.declared.event.Event.TheVariants.{Submit, Take, Part, Publish, Pin, Lend}
+use Rattle.store_model.specs.declared.event.Event.TheVariants.{Submit, Take, Part, Publish, Rebase, Pin, Lend}
 use Rattle.store_model.specs.declared.reply.Reply.{Reply}
 use Rattle.store_model.specs.declared.reply.Reply.TheVariants.{Done, Refused, Slice, End}
 use Rattle.store_model.specs.Core.{Core, Holding, Run, run_of, words_of}
@@ -26,6 +26,7 @@ can_still s reader run (Submit feed batch) other = refl
 can_still s reader run Take other = refl
 can_still s reader run (Part range) other = refl
 can_still s reader run Publish other = refl
+can_still s reader run Rebase other = refl
 can_still s reader run (Pin by vertex) other = refl
 can_still s reader run (Lend by) other = ap is_some (other_run s reader by run other)
 
@@ -35,6 +36,7 @@ answers_still s reader run (Submit feed batch) reply other answers = answers
 answers_still s reader run Take reply other answers = answers
 answers_still s reader run (Part range) reply other answers = answers
 answers_still s reader run Publish reply other answers = answers
+answers_still s reader run Rebase reply other answers = answers
 answers_still s reader run (Pin by vertex) reply other answers = answers
 answers_still s reader run (Lend by) reply other answers =
     subst (λ o. MatchOption o ⊥ (λ was. Lends (words_of was) was.lent reply)) (sym (other_run s reader by run other)) answers
@@ -54,6 +56,7 @@ after_still s reader run (Submit feed batch) reply other = refl
 after_still s reader run Take reply other = take_still s.queue s reader run
 after_still s reader run (Part range) reply other = refl
 after_still s reader run Publish reply other = publish_still s.held s reader run
+after_still s reader run Rebase reply other = refl
 after_still s reader run (Pin by vertex) reply other =
     ap (λ l. record s { runs = l }) (set_comm s.runs by reader (Some (new_run s.past vertex)) (Some run) (eqb-false by reader other))
 after_still s reader run (Lend by) reply other =

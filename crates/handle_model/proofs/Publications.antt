@@ -7,13 +7,14 @@ use Rattle.past_model.specs.declared.edit.Edit.{Edit}
 use Rattle.past_model.specs.declared.entry.Entry.{Entry}
 use Rattle.past_model.specs.Past.{Past, longer}
 use Rattle.store_model.specs.declared.event.Event.{Event}
-use Rattle.store_model.specs.declared.event.Event.TheVariants.{Take, Part, Publish}
+use Rattle.past_model.specs.Epochs.{rebased}
+use Rattle.store_model.specs.declared.event.Event.TheVariants.{Take, Part, Publish, Rebase}
 use Rattle.store_model.specs.declared.reply.Reply.TheVariants.{Done}
 use Rattle.store_model.specs.Core.{Core, Holding, Run, range_of, is_done}
 use Rattle.store_model.specs.Events.{Steps, Ran}
 use Rattle.handle_model.specs.Sights.{new_holding}
 use Rattle.handle_model.specs.Calls.{AreRangesOf, are_distinct, all_done, publication}
-use Rattle.handle_model.specs.Laws.{PublicationsAre, RangesAre, TakingsAre}
+use Rattle.handle_model.specs.Laws.{PublicationsAre, RebasesAre, RangesAre, TakingsAre}
 
 -- a store with a batch of which these ranges are done
 abbrev at_work : Past → List Entry → Entry → List ℕ → List (Option Run) → Core
@@ -150,3 +151,11 @@ takings_are past None e s sees (rest, next) =
     )
 takings_are past (Some h) e s sees is =
     (s, refl, record { published = sees.published; holds = sees.holds ∙ ap (λ x. Some (new_holding x)) is }, refl)
+
+pub rebases_are : RebasesAre
+rebases_are past held s sees = (
+  record s { past = rebased s.past },
+  (refl, refl, refl),
+  record { published = ap rebased sees.published; holds = sees.holds },
+  refl,
+)

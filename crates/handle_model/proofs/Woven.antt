@@ -3,8 +3,9 @@ use Rattle.std.proofs.Common.{◌≡◌, true, false, nat_lt, is_none, Option, o
 use Rattle.std.proofs.lemmas.Bool.{and_from, and_parts, lt-ltb, ltb-true, true≢false, false≢true}
 use Rattle.past_model.specs.declared.entry.Entry.{Entry}
 use Rattle.past_model.specs.Past.{longer}
+use Rattle.past_model.specs.Epochs.{rebased}
 use Rattle.store_model.specs.declared.event.Event.{Event}
-use Rattle.store_model.specs.declared.event.Event.TheVariants.{Submit, Take, Part, Publish, Pin, Lend}
+use Rattle.store_model.specs.declared.event.Event.TheVariants.{Submit, Take, Part, Publish, Rebase, Pin, Lend}
 use Rattle.store_model.specs.declared.reply.Reply.{Reply}
 use Rattle.store_model.specs.declared.reply.Reply.TheVariants.{Done, Refused, Slice, End}
 use Rattle.store_model.specs.Core.{Core, Holding, is_open, is_whole}
@@ -39,6 +40,7 @@ still_able s t Take alike own able =
 still_able s t (Part range) alike own able = ap (is_held_and (λ h. is_open h range)) alike.held ∙ able
 still_able s t Publish alike own able = ap (is_held_and is_whole) alike.held ∙ able
 still_able s t (Submit feed batch) alike own able = absurd (false≢true own)
+still_able s t Rebase alike own able = able
 still_able s t (Pin reader vertex) alike own able = absurd (false≢true own)
 still_able s t (Lend reader) alike own able = absurd (false≢true own)
 
@@ -59,6 +61,7 @@ happens_alike s t (Part range) reply alike own able = record { past = alike.past
 happens_alike s t Publish reply alike own able =
     subst (λ h. IsAlike (after_publish s.held s) (after_publish h t)) (sym alike.held) (publishes_alike s t s.held alike)
 happens_alike s t (Submit feed batch) reply alike own able = absurd (false≢true own)
+happens_alike s t Rebase reply alike own able = record { past = ap rebased alike.past; held = alike.held; queue = alike.queue }
 happens_alike s t (Pin reader vertex) reply alike own able = absurd (false≢true own)
 happens_alike s t (Lend reader) reply alike own able = absurd (false≢true own)
 
@@ -108,6 +111,9 @@ woven s s' t t' todo (Part range ∷ events) replies alike ran is more =
     (λ mid u rest still ran onwards. woven mid s' u t' (filter is_of_publisher events) events rest still ran refl onwards)
 woven s s' t t' todo (Publish ∷ events) replies alike ran is more =
     own_woven s s' t t' Publish todo events replies alike ran refl is more
+    (λ mid u rest still ran onwards. woven mid s' u t' (filter is_of_publisher events) events rest still ran refl onwards)
+woven s s' t t' todo (Rebase ∷ events) replies alike ran is more =
+    own_woven s s' t t' Rebase todo events replies alike ran refl is more
     (λ mid u rest still ran onwards. woven mid s' u t' (filter is_of_publisher events) events rest still ran refl onwards)
 woven s s' t t' todo (Pin reader vertex ∷ events) replies alike ran is more =
     other_woven s s' t t' (Pin reader vertex) todo events replies alike ran refl more (λ mid u rest still ran onwards. woven mid s' u t' todo events rest still ran is onwards)

@@ -9,7 +9,7 @@ use Rattle.past_model.specs.Past.{Past}
 use Rattle.past_model.specs.Epochs.{IsBeforeInEpoch}
 use Rattle.store_model.specs.declared.limits.TheConstants.{READERS, QUEUE_PLACES}
 use Rattle.store_model.specs.declared.event.Event.{Event}
-use Rattle.store_model.specs.declared.event.Event.TheVariants.{Submit, Take, Part, Publish, Pin, Lend}
+use Rattle.store_model.specs.declared.event.Event.TheVariants.{Submit, Take, Part, Publish, Rebase, Pin, Lend}
 use Rattle.store_model.specs.declared.reply.Reply.{Reply}
 use Rattle.store_model.specs.declared.reply.Reply.TheVariants.{Done, Slice, End}
 use Rattle.store_model.specs.Core.{Core, Run, is_done, range_of}
@@ -62,6 +62,12 @@ IsPublication past held e later =
     → (t : Core) × Ran s (publication held ranges) (all_done (publication held ranges)) t × PublisherSees t later None
     × (t.queue ≡ waiting_after s.queue held)
 
+-- the store was rebased, and what was held still is
+abbrev pub IsRebase : Past → Option Entry → Past → Type 0
+IsRebase past held later =
+    (s : Core) → PublisherSees s past held
+    → (t : Core) × Steps s Rebase Done t × PublisherSees t later held × (t.queue ≡ s.queue)
+
 -- the next batch was taken, unless it was held before, and it is held; nothing was published
 abbrev pub IsTaking : Past → Option Entry → Entry → Past → Type 0
 IsTaking past held e later =
@@ -76,6 +82,7 @@ is_of_reader reader (Submit feed batch) = false
 is_of_reader reader Take = false
 is_of_reader reader (Part range) = false
 is_of_reader reader Publish = false
+is_of_reader reader Rebase = false
 
 -- a run that was lent nothing yet
 abbrev pub new_run : Past → ℕ → Run

@@ -3,6 +3,7 @@ use Rattle.std.specs.Prelude.{◌≡◌, ℕ, ◌<◌, List, [], ◌∷◌, ◌+
 use Rattle.past_model.specs.declared.entry.Entry.{Entry}
 use Rattle.past_model.specs.Edits.{AreEditsBelow}
 use Rattle.past_model.specs.Past.{Past, opening, longer}
+use Rattle.past_model.specs.Epochs.{rebased}
 use Rattle.past_model.specs.declared.limits.TheConstants.{FEEDS}
 use Rattle.store_model.specs.declared.limits.TheConstants.{QUEUE_PLACES}
 use Rattle.store_model.specs.declared.event.Event.{Event}
@@ -47,10 +48,14 @@ pub record IsTaken (x y : Standing) : Type 0 where
   pub next : IsFirst None x.waiting entry
   pub now : y ≡ record { past = x.past; held = Some entry; waiting = waiting_after x.waiting None }
 
+-- a rebase was published
+pub record IsRebased (x y : Standing) : Type 0 where
+  pub now : y ≡ record x { past = rebased x.past }
+
 -- each standing comes of the one before by a call of a feed or of the publisher
 abbrev pub AreCalls : Standing → List Standing → Type 0
 AreCalls x [] = Unit {0}
-AreCalls x (y ∷ ys) = (IsSubmitted x y ⊎ (IsPublished x y ⊎ IsTaken x y)) × AreCalls y ys
+AreCalls x (y ∷ ys) = (IsSubmitted x y ⊎ (IsPublished x y ⊎ (IsTaken x y ⊎ IsRebased x y))) × AreCalls y ys
 
 abbrev pub last_of : Standing → List Standing → Standing
 last_of x [] = x

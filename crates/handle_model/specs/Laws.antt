@@ -6,14 +6,14 @@ use Rattle.graph_model.specs.Graph.{neighbours}
 use Rattle.past_model.specs.Edits.{AreEditsBelow}
 use Rattle.past_model.specs.Past.{Past, graph_of, longer}
 use Rattle.past_model.specs.declared.limits.TheConstants.{FEEDS}
-use Rattle.past_model.specs.Epochs.{IsBefore}
+use Rattle.past_model.specs.Epochs.{IsBefore, rebased}
 use Rattle.store_model.specs.declared.event.Event.{Event}
-use Rattle.store_model.specs.declared.event.Event.TheVariants.{Submit, Take, Part, Publish, Pin, Lend}
+use Rattle.store_model.specs.declared.event.Event.TheVariants.{Submit, Take, Part, Publish, Rebase, Pin, Lend}
 use Rattle.store_model.specs.declared.reply.Reply.{Reply}
 use Rattle.store_model.specs.Core.{Core, run_of}
 use Rattle.store_model.specs.Events.{IsBeginning, Steps, Ran}
 use Rattle.handle_model.specs.Sights.{FeedSees, PublisherSees, CursorSees}
-use Rattle.handle_model.specs.Calls.{IsSubmission, IsPublication, IsTaking, IsPin, IsLend, IsNext, AreRangesOf, publication, is_of_reader, new_run, with_run}
+use Rattle.handle_model.specs.Calls.{IsSubmission, IsPublication, IsRebase, IsTaking, IsPin, IsLend, IsNext, AreRangesOf, publication, is_of_reader, new_run, with_run}
 
 -- a batch of a feed that there is, whose edits name vertices, is the next that the feed has sent
 abbrev pub SubmissionsAre : Type 0
@@ -24,6 +24,10 @@ SubmissionsAre =
 -- what is published is longer by the next batch
 abbrev pub PublicationsAre : Type 0
 PublicationsAre = (past : Past) (held : Option Entry) (e : Entry) → IsPublication past held e (longer past e)
+
+-- a rebase keeps what is held and what waits
+abbrev pub RebasesAre : Type 0
+RebasesAre = (past : Past) (held : Option Entry) → IsRebase past held (rebased past)
 
 -- each batch has such ranges
 abbrev pub RangesAre : Type 0
@@ -51,6 +55,7 @@ is_submission_of feed (Submit by batch) = by == feed
 is_submission_of feed Take = false
 is_submission_of feed (Part range) = false
 is_submission_of feed Publish = false
+is_submission_of feed Rebase = false
 is_submission_of feed (Pin reader vertex) = false
 is_submission_of feed (Lend reader) = false
 
@@ -58,6 +63,7 @@ abbrev pub is_of_publisher : Event → Bool
 is_of_publisher Take = true
 is_of_publisher (Part range) = true
 is_of_publisher Publish = true
+is_of_publisher Rebase = true
 is_of_publisher (Submit feed batch) = false
 is_of_publisher (Pin reader vertex) = false
 is_of_publisher (Lend reader) = false

@@ -1,5 +1,5 @@
 //! The laws of handles and their calls. Each function does nothing: its contract is the law.
-ghost use Rattle.handle_model.specs.Laws.{SubmissionsAre, PublicationsAre, RangesAre, TakingsAre, PinsAre, LendsAre, EachToItsOwn, WovenPublications};
+ghost use Rattle.handle_model.specs.Laws.{SubmissionsAre, PublicationsAre, RebasesAre, RangesAre, TakingsAre, PinsAre, LendsAre, EachToItsOwn, WovenPublications};
 ghost use Rattle.handle_model.specs.Histories.{HistoriesAreRuns, AllSeeOpening};
 
 /// A submission whose batch names vertices is the event of its name: the feed has sent that batch more.
@@ -11,6 +11,11 @@ pub fn submissions_are()
 /// publishing: what is published is longer by it.
 pub fn publications_are()
     ensures { PublicationsAre }
+{}
+
+/// A rebase is the event of its name: what is held still is, and nothing leaves the queue.
+pub fn rebases_are()
+    ensures { RebasesAre }
 {}
 
 /// Each batch has a list of the ranges of its edits, each once.

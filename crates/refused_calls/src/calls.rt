@@ -49,7 +49,7 @@ pub(crate) fn apply<R: Threads + Wait>(rt: &R, alloc: Global) -> Result<(), Stop
     }
 }
 
-// The batch is submitted, taken, done and published, and a reader's run is lent the neighbours of vertex 3.
+// The batch is submitted, taken, done and published, the store is rebased, and a reader's run is lent the neighbours of vertex 3.
 fn events_of(alloc: Global) -> Result<Vec<Event>, AllocError> {
     Ok(vec![in alloc;
         Event::Submit {
@@ -60,6 +60,7 @@ fn events_of(alloc: Global) -> Result<Vec<Event>, AllocError> {
         Event::Part { range: 0 },
         Event::Part { range: 1 },
         Event::Publish,
+        Event::Rebase,
         Event::Pin {
             reader: 2,
             vertex: 3

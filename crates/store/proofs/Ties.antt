@@ -7,13 +7,13 @@ use Rattle.past_model.specs.Past.{Past}
 use Rattle.past_model.specs.declared.limits.TheConstants.{FEEDS}
 use Rattle.history.specs.Moment.{Moment, Begins}
 use Rattle.store.specs.Ends.{Feeding, after_put}
-use Rattle.handle_model.specs.Calls.{IsSubmission, IsPublication, IsTaking}
+use Rattle.handle_model.specs.Calls.{IsSubmission, IsPublication, IsRebase, IsTaking}
 use Rattle.handle_model.proofs.Submissions.{submissions_are}
-use Rattle.handle_model.proofs.Publications.{publications_are, takings_are}
+use Rattle.handle_model.proofs.Publications.{publications_are, rebases_are, takings_are}
 use Rattle.handle_model.proofs.Pinning.{pins_are}
 use Rattle.store.specs.Receipts.{Publication}
-use Rattle.store.specs.Storing.{Storing, IsPublished, IsKept}
-use Rattle.store.specs.Ties.{SubmitsAsEvent, PublishesAsEvents, TakesAsEvent, PinsAsEvent}
+use Rattle.store.specs.Storing.{Storing, IsPublished, IsRebased, IsKept}
+use Rattle.store.specs.Ties.{SubmitsAsEvent, PublishesAsEvents, RebasesAsEvent, TakesAsEvent, PinsAsEvent}
 
 pub submission_is : (s t : Feeding) (batch : List Edit) → t ≡ after_put s batch → s.feed < FEEDS → AreEditsBelow s.vertex_count batch → SubmitsAsEvent s batch t
 submission_is s t batch is feed below =
@@ -24,6 +24,9 @@ publication_is s t p published =
     let past = ap (λ (x : Storing). x.moment.past) published.after ∙ ap (λ (x : Publication). x.moment.past) published.receipt in
     let here : PublishesAsEvents s published.entry t = subst (IsPublication s.moment.past s.held published.entry) (sym past) (publications_are s.moment.past s.held published.entry) in
     subst (λ (x : Publication). IfSome x.entry (λ e. PublishesAsEvents s e t)) (sym published.receipt) here
+
+pub rebase_is : (s t : Storing) (p : Publication) → IsRebased s p t → RebasesAsEvent s t
+rebase_is s t p done = subst (IsRebase s.moment.past s.held) (ap (λ (x : Storing). x.moment.past) (sym done.after)) (rebases_are s.moment.past s.held)
 
 pub taking_is : (s t : Storing) → IsKept s t → TakesAsEvent s t
 taking_is s t kept e held =
@@ -43,6 +46,11 @@ pub published_is : {X E : Type 0} (publication_of : X → Publication) (result :
 published_is publication_of (Ok (Some r)) s t published = publication_is s t (publication_of r) published
 published_is publication_of (Ok None) s t published = tt
 published_is publication_of (Err e) s t published = tt
+
+pub rebased_is : {X E : Type 0} (publication_of : X → Publication) (result : Result X E) (s t : Storing) → IfOk result (λ r. IsRebased s (publication_of r) t)
+    → IfOk result (λ _. RebasesAsEvent s t)
+rebased_is publication_of (Ok r) s t done = rebase_is s t (publication_of r) done
+rebased_is publication_of (Err e) s t done = tt
 
 pub taken_is : {X E : Type 0} (result : Result X E) (s t : Storing) → IfErr result (λ _. IsKept s t) → IfErr result (λ _. TakesAsEvent s t)
 taken_is (Ok done) s t kept = tt

@@ -4,7 +4,7 @@ use Rattle.past_model.specs.declared.edit.Edit.{Edit}
 use Rattle.past_model.specs.declared.entry.Entry.{Entry}
 use Rattle.history.specs.Moment.{Moment}
 use Rattle.store.specs.Ends.{Feeding}
-use Rattle.handle_model.specs.Calls.{IsSubmission, IsPublication, IsTaking, IsPin}
+use Rattle.handle_model.specs.Calls.{IsSubmission, IsPublication, IsRebase, IsTaking, IsPin}
 use Rattle.store.specs.Storing.{Storing}
 
 -- a submission of this batch
@@ -14,6 +14,10 @@ SubmitsAsEvent s batch t = IsSubmission s.vertex_count s.feed batch s.sent t.sen
 -- a publication of this entry: it is taken unless it is held, its ranges are edited, and it is published
 abbrev pub PublishesAsEvents : Storing → Entry → Storing → Type 0
 PublishesAsEvents s e t = IsPublication s.moment.past s.held e t.moment.past
+
+-- a rebase: what was held still is
+abbrev pub RebasesAsEvent : Storing → Storing → Type 0
+RebasesAsEvent s t = IsRebase s.moment.past s.held t.moment.past
 
 -- what is held in the end was taken, unless it was held before, and nothing was published
 abbrev pub TakesAsEvent : Storing → Storing → Type 0

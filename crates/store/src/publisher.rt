@@ -7,7 +7,7 @@ ghost use Rattle.store_model.specs.declared.limits.TheConstants.{QUEUE_PLACES};
 ghost use Rattle.history.specs.Moment.{OneStore};
 ghost use Rattle.store.specs.Held.{entry_in, entry_held, IsTurn, IsAside, IsHolding, IsNoted};
 ghost use Rattle.store.specs.Feeds.{AreFeedsOf, AreDelivered};
-ghost use Rattle.store.specs.Ties.{PublishesAsEvents, TakesAsEvent};
+ghost use Rattle.store.specs.Ties.{PublishesAsEvents, RebasesAsEvent, TakesAsEvent};
 ghost use Rattle.store.specs.Storing.{taken_of, IsPublished, IsRebased, IsIdle, IsKept};
 
 use crate::committer::Committer;
@@ -123,6 +123,18 @@ impl Publisher {
     /// homes stay as they are. A held batch stays held. It may wait for readers. `EpochsFull` comes exactly after 1,024
     /// rebases. After an error nothing is changed.
     pub fn rebase<R: Wait>(&mut self, rt: &R) -> Result<Receipt, RebaseError>
+        ensures same_queue { self.new.queue ≡ self.old.queue }
+        ensures same_store { OneStore self.old.moment self.new.moment }
+        ensures rebased { IfOk result (λ receipt. IsRebased self.old receipt self.new) }
+        ensures event { IfOk result (λ _. RebasesAsEvent self.old self.new) }
+        ensures same { IfErr result (λ _. self.new ≡ self.old) }
+        ensures full { IsErrOf result RebaseError.EpochsFull ↔ (epoch_of self.old.moment.past ≡ MOST_EPOCHS) }
+    {
+        self.rebase_next(rt)
+    }
+
+    // Publishes it, or goes on with one that is not shown yet.
+    fn rebase_next<R: Wait>(&mut self, rt: &R) -> Result<Receipt, RebaseError>
         ensures same_queue { self.new.queue ≡ self.old.queue }
         ensures same_store { OneStore self.old.moment self.new.moment }
         ensures rebased { IfOk result (λ receipt. IsRebased self.old receipt self.new) }

@@ -8,7 +8,7 @@ use Rattle.past_model.specs.declared.entry.Entry.{Entry}
 use Rattle.past_model.specs.Edits.{AreEditsBelow, are_edits_below}
 use Rattle.past_model.specs.Past.{Past, IsPast, of_feed}
 use Rattle.store_model.specs.declared.event.Event.{Event}
-use Rattle.store_model.specs.declared.event.Event.TheVariants.{Submit, Take, Part, Publish, Pin, Lend}
+use Rattle.store_model.specs.declared.event.Event.TheVariants.{Submit, Take, Part, Publish, Rebase, Pin, Lend}
 use Rattle.store_model.specs.declared.reply.Reply.{Reply}
 use Rattle.store_model.specs.declared.reply.Reply.TheVariants.{Done, Refused, Slice, End}
 use Rattle.store_model.specs.Core.{Core, Holding, Run, opening_core, held_entries, entries}
@@ -16,7 +16,7 @@ use Rattle.store_model.specs.Events.{can, Answers, after_take, after_publish, af
 use Rattle.store_model.specs.Laws.{NothingLost, LogIsPast}
 use Rattle.past_model.specs.declared.limits.TheConstants.{FEEDS}
 use Rattle.past_model.specs.Epochs.{AreSince}
-use Rattle.past_model.proofs.Epochs.{since_opening, since_more}
+use Rattle.past_model.proofs.Epochs.{since_opening, since_more, since_rebase, IsPast-rebased}
 use Rattle.past_model.proofs.Below.{below_from_test}
 use Rattle.store_model.specs.declared.limits.TheConstants.{QUEUE_PLACES}
 use Rattle.past_model.proofs.Pasts.{IsPast-opening, IsPast-longer}
@@ -73,6 +73,8 @@ since_after s (Part range) reply all able answers since =
     same_since s (after s (Part range) reply) all refl (ap (λ l. s.past.log ++ (l ++ s.queue)) (entries_part s.held range)) since
 since_after s Publish reply all able answers since =
     same_since s (after_publish s.held s) all (marks_publish s.held s) (entries_publish s.past s.queue s.held s.runs) since
+since_after s Rebase reply all able answers since =
+    none_more (after s Rebase reply) all (since_rebase s.past.marks all s.past.log (held_entries s.held ++ s.queue) since)
 since_after s (Pin reader vertex) reply all able answers since = none_more s all since
 since_after s (Lend reader) reply all able answers since = none_more s all since
 
@@ -81,6 +83,7 @@ none_accepted (Submit feed batch) = refl
 none_accepted Take = refl
 none_accepted (Part range) = refl
 none_accepted Publish = refl
+none_accepted Rebase = refl
 none_accepted (Pin reader vertex) = refl
 none_accepted (Lend reader) = refl
 
@@ -161,6 +164,7 @@ sound_after s (Submit feed batch) reply able now = record {
 sound_after s Take reply able now = sound_take s.past s.queue s.held s.runs now
 sound_after s (Part range) reply able now = record { past = now.past; held = sound_part s.past.vertex_count range s.held now.held; queue = now.queue }
 sound_after s Publish reply able now = sound_publish s.past s.queue s.held s.runs now
+sound_after s Rebase reply able now = record { past = IsPast-rebased s.past now.past; held = now.held; queue = now.queue }
 sound_after s (Pin reader vertex) reply able now = record { past = now.past; held = now.held; queue = now.queue }
 sound_after s (Lend reader) reply able now = record { past = now.past; held = now.held; queue = now.queue }
 
@@ -185,5 +189,6 @@ count_after s (Submit feed batch) reply = refl
 count_after s Take reply = count_take s.queue s
 count_after s (Part range) reply = refl
 count_after s Publish reply = count_publish s.held s
+count_after s Rebase reply = refl
 count_after s (Pin reader vertex) reply = refl
 count_after s (Lend reader) reply = refl

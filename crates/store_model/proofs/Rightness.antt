@@ -4,9 +4,9 @@ use Rattle.std.proofs.lemmas.Bool.{false≢true}
 use Rattle.past_model.specs.declared.entry.Entry.{Entry}
 use Rattle.past_model.specs.Past.{Past}
 use Rattle.past_model.specs.Epochs.{IsBefore}
-use Rattle.past_model.proofs.Epochs.{before_itself, before_onwards, before_longer}
+use Rattle.past_model.proofs.Epochs.{before_itself, before_onwards, before_longer, before_rebased}
 use Rattle.store_model.specs.declared.event.Event.{Event}
-use Rattle.store_model.specs.declared.event.Event.TheVariants.{Submit, Take, Part, Publish, Pin, Lend}
+use Rattle.store_model.specs.declared.event.Event.TheVariants.{Submit, Take, Part, Publish, Rebase, Pin, Lend}
 use Rattle.store_model.specs.declared.reply.Reply.{Reply}
 use Rattle.store_model.specs.declared.reply.Reply.TheVariants.{Done, Refused, Slice, End}
 use Rattle.store_model.specs.Core.{Core, Holding, Run, words_of, opening_core}
@@ -60,6 +60,7 @@ further_after s (Submit feed batch) reply = before_itself s.past
 further_after s Take reply = further_take s.queue s
 further_after s (Part range) reply = before_itself s.past
 further_after s Publish reply = further_publish s.held s
+further_after s Rebase reply = before_rebased s.past
 further_after s (Pin reader vertex) reply = before_itself s.past
 further_after s (Lend reader) reply = before_itself s.past
 

@@ -3,7 +3,7 @@ use Rattle.std.proofs.Common.{◌≡◌, ℕ, zero, suc, Option, Some, None, Lis
 use Rattle.std.proofs.lemmas.Option.{same_Some, none-some}
 use Rattle.past_model.specs.declared.entry.Entry.{Entry}
 use Rattle.store_model.specs.declared.event.Event.{Event}
-use Rattle.store_model.specs.declared.event.Event.TheVariants.{Submit, Take, Part, Publish, Pin, Lend}
+use Rattle.store_model.specs.declared.event.Event.TheVariants.{Submit, Take, Part, Publish, Rebase, Pin, Lend}
 use Rattle.store_model.specs.declared.reply.Reply.{Reply}
 use Rattle.store_model.specs.declared.reply.Reply.TheVariants.{Done, Refused, Slice, End}
 use Rattle.store_model.specs.Core.{Core, Holding, Run, words_of, run_of}
@@ -68,6 +68,7 @@ each_after Q R s Take reply others pins lends now answers reader run e =
 each_after Q R s (Part range) reply others pins lends now answers reader run e = others run (now reader run e)
 each_after Q R s Publish reply others pins lends now answers reader run e =
     others run (now reader run (ap (λ l. slice_index_or l reader None) (sym (runs_publish s.held s)) ∙ e))
+each_after Q R s Rebase reply others pins lends now answers reader run e = others run (now reader run e)
 each_after Q R s (Pin place vertex) reply others pins lends now answers reader run e =
     elim (set_run s.runs place reader (Some (pinned s vertex)) run e) [
       | inl mine ↦ subst R (same_Some (pinned s vertex) run mine) (pins vertex)

@@ -3,10 +3,11 @@ use Rattle.std.specs.Prelude.{◌≡◌, ℕ, ◌<◌, Bool, true, false, ◌&&�
 use Rattle.past_model.specs.declared.entry.Entry.{Entry}
 use Rattle.past_model.specs.Edits.{are_edits_below}
 use Rattle.past_model.specs.Past.{longer}
+use Rattle.past_model.specs.Epochs.{rebased}
 use Rattle.past_model.specs.declared.limits.TheConstants.{FEEDS}
 use Rattle.store_model.specs.declared.limits.TheConstants.{READERS, QUEUE_PLACES}
 use Rattle.store_model.specs.declared.event.Event.{Event}
-use Rattle.store_model.specs.declared.event.Event.TheVariants.{Submit, Take, Part, Publish, Pin, Lend}
+use Rattle.store_model.specs.declared.event.Event.TheVariants.{Submit, Take, Part, Publish, Rebase, Pin, Lend}
 use Rattle.store_model.specs.declared.reply.Reply.{Reply}
 use Rattle.store_model.specs.declared.reply.Reply.TheVariants.{Done, Refused, Slice, End}
 use Rattle.store_model.specs.Core.{Core, Holding, Run, is_open, is_whole, words_of, run_of}
@@ -23,6 +24,7 @@ can s (Submit feed batch) =
 can s Take = is_none s.held && nat_lt 0 (length s.queue)
 can s (Part range) = is_held_and (λ h. is_open h range) s.held
 can s Publish = is_held_and is_whole s.held
+can s Rebase = true
 can s (Pin reader vertex) = nat_lt reader READERS && nat_lt vertex s.past.vertex_count
 can s (Lend reader) = is_some (run_of s reader)
 
@@ -44,6 +46,7 @@ Answers s (Submit feed batch) reply = reply ≡ Done
 Answers s Take reply = reply ≡ Done
 Answers s (Part range) reply = reply ≡ Done
 Answers s Publish reply = reply ≡ Done
+Answers s Rebase reply = reply ≡ Done
 Answers s (Pin reader vertex) reply = reply ≡ Done
 
 -- the queue's first batch is held, and none of it is done
@@ -70,6 +73,7 @@ after s (Submit feed batch) reply = record s { queue = s.queue ++ (record { feed
 after s Take reply = after_take s.queue s
 after s (Part range) reply = record s { held = option_map (after_part range) s.held }
 after s Publish reply = after_publish s.held s
+after s Rebase reply = record s { past = rebased s.past }
 after s (Pin reader vertex) reply =
     record s { runs = slice_set s.runs reader (Some (record { past = s.past; vertex = vertex; lent = []; ended = false })) }
 after s (Lend reader) reply = record s { runs = slice_set s.runs reader (option_map (after_lend reply) (run_of s reader)) }

@@ -1,13 +1,13 @@
 -- Laws of all lists of events. Each is the contract of a public function.
 use Rattle.std.specs.Prelude.{◌≡◌, ℕ, ◌<◌, true, List, [], ◌∷◌, ◌++◌, length, Some, Vec}
 use Rattle.std.specs.declared.alloc.Global.{Global}
-use Rattle.past_model.specs.declared.edit.Edit.TheVariants.{Insert}
+use Rattle.past_model.specs.declared.edit.Edit.TheVariants.{Insert, Remove}
 use Rattle.past_model.specs.declared.entry.Entry.{Entry}
 use Rattle.past_model.specs.declared.limits.TheConstants.{FEEDS}
 use Rattle.past_model.specs.Past.{IsPast, of_feed}
 use Rattle.past_model.specs.Epochs.{ended_batches, IsBefore, AreSince}
 use Rattle.store_model.specs.declared.event.Event.{Event}
-use Rattle.store_model.specs.declared.event.Event.TheVariants.{Submit, Take, Part, Publish, Pin, Lend}
+use Rattle.store_model.specs.declared.event.Event.TheVariants.{Submit, Take, Part, Publish, Rebase, Pin, Lend}
 use Rattle.store_model.specs.declared.reply.Reply.{Reply}
 use Rattle.store_model.specs.declared.reply.Reply.TheVariants.{Done, Slice, End}
 use Rattle.store_model.specs.Core.{Core, Run, opening_core, run_of, words_of, held_entries, entries}
@@ -51,13 +51,14 @@ RunsAreOfVersions =
     (n reader : ℕ) (events : List Event) (replies : List Reply) (s : Core) (run : Run)
     → Ran (opening_core n) events replies s → run_of s reader ≡ Some run → IsOfVersion s run
 
--- a worked row: a reader pins before a batch is published, and again after it
+-- a worked row: a reader pins before a batch is published, and again after it, a rebase and a batch more
 abbrev pub row_events : List Event
 row_events =
-    Submit 0 (Insert 0 1 ∷ []) ∷ Take ∷ Pin 0 0 ∷ Part 0 ∷ Publish ∷ Lend 0 ∷ Pin 0 0 ∷ Lend 0 ∷ Lend 0 ∷ []
+    Submit 0 (Insert 0 1 ∷ []) ∷ Take ∷ Pin 0 0 ∷ Part 0 ∷ Publish ∷ Rebase ∷ Submit 3 (Insert 0 2 ∷ Remove 0 1 ∷ []) ∷ Take ∷ Part 0 ∷ Publish ∷ Lend 0 ∷ Pin 0 0 ∷ Lend 0 ∷ Lend 0 ∷ []
 
 abbrev pub row_replies : Vec ℕ Global → List Reply
-row_replies words = Done ∷ Done ∷ Done ∷ Done ∷ Done ∷ End ∷ Done ∷ Slice words ∷ End ∷ []
+row_replies words =
+    Done ∷ Done ∷ Done ∷ Done ∷ Done ∷ Done ∷ Done ∷ Done ∷ Done ∷ Done ∷ End ∷ Done ∷ Slice words ∷ End ∷ []
 
 abbrev pub RowRuns : Type 0
-RowRuns = (words : Vec ℕ Global) → words.items ≡ 1 ∷ [] → (s : Core) × Ran (opening_core 4) row_events (row_replies words) s
+RowRuns = (words : Vec ℕ Global) → words.items ≡ 2 ∷ [] → (s : Core) × Ran (opening_core 4) row_events (row_replies words) s

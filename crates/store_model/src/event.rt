@@ -15,6 +15,8 @@ pub enum Event {
     Part { range: u32 },
     /// The held batch, all of whose ranges are done, makes the next version.
     Publish,
+    /// The graph so far is the base of a new epoch, whose log is empty.
+    Rebase,
     /// A reader begins a run: over one vertex's neighbours, in the version of that moment.
     Pin { reader: u8, vertex: u32 },
     /// A reader's run is lent its next words.
@@ -35,6 +37,7 @@ impl Event {
             Event::Take => Ok(Event::Take),
             Event::Part { range } => Ok(Event::Part { range: *range }),
             Event::Publish => Ok(Event::Publish),
+            Event::Rebase => Ok(Event::Rebase),
             Event::Pin { reader, vertex } => Ok(Event::Pin {
                 reader: *reader,
                 vertex: *vertex,

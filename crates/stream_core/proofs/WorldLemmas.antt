@@ -8,9 +8,14 @@ use Rattle.past_model.specs.declared.entry.Entry.{Entry}
 use Rattle.graph_model.specs.Graph.{empty_graph, neighbours}
 use Rattle.past_model.specs.declared.limits.TheConstants.{FEEDS}
 use Rattle.past_model.specs.Edits.{AreEditsBelow, are_edits_below}
-use Rattle.past_model.specs.Past.{Past, graph_of, opening, longer}
+use Rattle.past_model.specs.Past.{Past, IsPast, graph_of, opening, longer}
+use Rattle.past_model.specs.Epochs.{rebased}
+use Rattle.past_model.proofs.Epochs.{graph_of-rebased, IsPast-rebased}
+use Rattle.history.specs.Moment.{Beginning, moment_of, and_then}
+use Rattle.history.specs.declared.published.Published.TheVariants.{Batch as OneBatch, Rebase as OneRebase}
+use Rattle.history.proofs.Moments.{after_all-append, vertex_count-moment_of}
 use Rattle.past_model.proofs.Below.{below_from_test}
-use Rattle.past_model.proofs.Pasts.{graph_of-longer, vertex_count-graph_of}
+use Rattle.past_model.proofs.Pasts.{graph_of-longer, vertex_count-graph_of, IsPast-opening, IsPast-longer}
 use Rattle.migration.specs.Part.{Part}
 use Rattle.migration.specs.Table.{IsTable}
 use Rattle.store_model.specs.declared.limits.TheConstants.{QUEUE_PLACES}
@@ -23,8 +28,8 @@ use Rattle.store_model.proofs.Entries.{below_append}
 use Rattle.stream_core.specs.declared.reader_run.ReaderRun.{ReaderRun}
 use Rattle.stream_core.specs.Tables.{IsTableInWork}
 use Rattle.stream_core.specs.Work.{Work, holding_of, IsEditable, IsWorkAfter}
-use Rattle.stream_core.specs.Runs.{run_in, version_at, IsRunIn, IsLendable, IsLent}
-use Rattle.stream_core.specs.World.{core_of, IsWorld}
+use Rattle.stream_core.specs.Runs.{past_at, run_in, IsRunIn, IsLendable, IsLent}
+use Rattle.stream_core.specs.World.{core_of, IsWorkIn, IsWorld}
 use Rattle.stream_core.proofs.TableLemmas.{table_begun, table_whole}
 
 -- ---- a store in which nothing has happened
@@ -38,6 +43,7 @@ pub first_world : (n : ℕ) (parts : List Part) → 1 ≤ n → n ≤ 1048576 �
 first_world n parts some most table = record {
   some = some;
   most = most;
+  past_is = IsPast-opening n;
   published = table;
   waiting = tt;
   work = tt;
@@ -55,6 +61,7 @@ world_submitted past queue held parts runs feed batch is able =
     record {
       some = is.some;
       most = is.most;
+      past_is = is.past_is;
       published = is.published;
       waiting = below_append past.vertex_count queue ((record { feed = feed; batch = batch }) ∷ []) is.waiting (below, tt);
       work = is.work;
@@ -72,6 +79,7 @@ pub world_taken : (past : Past) (e : Entry) (rest : List Entry) (held : Option W
 world_taken past e rest held parts runs is = record {
   some = is.some;
   most = is.most;
+  past_is = is.past_is;
   published = is.published;
   waiting = is.waiting.1;
   work = record { below = is.waiting.0; table = table_begun (graph_of past) e.batch parts is.published };
@@ -96,6 +104,7 @@ pub world_edited : (past : Past) (queue : List Entry) (w next : Work) (parts : L
 world_edited past queue w next parts runs range is done = record {
   some = is.some;
   most = is.most;
+  past_is = is.past_is;
   published = is.published;
   waiting = is.waiting;
   work = record {
@@ -112,37 +121,6 @@ core_edited past queue w next runs range done =
     ap (λ (e : Entry). record (core_of past queue None runs) { held = Some (record { entry = e; done = next.done }) }) done.entry
     ∙ ap (λ l. record (core_of past queue None runs) { held = Some (record { entry = w.entry; done = l }) }) done.done
 
--- ---- a longer log keeps what runs are
-
--- a past with another log
-abbrev with_log : Past → List Entry → Past
-with_log past log = record past { log = log }
-
-version_kept : (past : Past) (e : Entry) (number : ℕ) → number ≤ length past.log → version_at number (longer past e) ≡ version_at number past
-version_kept past e number low = ap (with_log past) (take-append-le number past.log (e ∷ []) low)
-
--- a run, by its version
-abbrev run_at : ReaderRun → Past → Run
-run_at r version = record { past = version; vertex = r.vertex; lent = take r.place (neighbours (graph_of version) r.vertex); ended = r.ended }
-
-run_kept : (past : Past) (e : Entry) (r : ReaderRun) → r.number ≤ length past.log → run_in (longer past e) r ≡ run_in past r
-run_kept past e r low = ap (run_at r) (version_kept past e r.number low)
-
-run_later : (past : Past) (e : Entry) (r : ReaderRun) → IsRunIn past r → IsRunIn (longer past e) r
-run_later past e r is =
-    let same = sym (version_kept past e r.number is.published) in
-    record {
-      published = (let low = is.published in omega (arith, length_push past.log e));
-      table = subst (λ version. IsTable (graph_of version) r.table) same is.table;
-      within = subst (λ version. r.place ≤ length (neighbours (graph_of version) r.vertex)) same is.within;
-    }
-
-same_runs : (f h : ReaderRun → Run) (runs : List (Option ReaderRun)) → ((reader : ℕ) (r : ReaderRun) → get_or runs reader None ≡ Some r → f r ≡ h r) → map (option_map f) runs ≡ map (option_map h) runs
-same_runs f h [] agree = refl
-same_runs f h (None ∷ runs) agree = ap (λ l. None ∷ l) (same_runs f h runs (λ reader. agree (suc reader)))
-same_runs f h (Some r ∷ runs) agree =
-    ap (λ x. Some x ∷ map (option_map f) runs) (agree 0 r refl) ∙ ap (λ l. Some (h r) ∷ l) (same_runs f h runs (λ reader. agree (suc reader)))
-
 -- ---- the held batch is published
 
 pub world_published : (past : Past) (queue : List Entry) (w : Work) (parts : List Part) (runs : List (Option ReaderRun))
@@ -150,18 +128,52 @@ pub world_published : (past : Past) (queue : List Entry) (w : Work) (parts : Lis
 world_published past queue w parts runs is whole = record {
   some = is.some;
   most = is.most;
+  past_is = IsPast-longer past w.entry is.past_is is.work.below;
   published = subst (λ g. IsTable g w.parts) (sym (graph_of-longer past w.entry)) (table_whole (graph_of past) w.entry.batch w.done w.parts whole is.work.table);
   waiting = is.waiting;
   work = tt;
   places = is.places;
-  each = λ reader r e. run_later past w.entry r (is.each reader r e);
+  each = is.each;
 }
 
-pub core_published : (past : Past) (queue : List Entry) (w : Work) (parts : List Part) (runs : List (Option ReaderRun))
-    → IsWorld past queue (Some w) parts runs → core_of (longer past w.entry) queue None runs ≡ after (core_of past queue (Some w) runs) Publish Done
-core_published past queue w parts runs is =
-    ap (λ l. record (core_of (longer past w.entry) queue None runs) { runs = l })
-    (same_runs (run_in (longer past w.entry)) (run_in past) runs (λ reader r e. run_kept past w.entry r (is.each reader r e).published))
+pub core_published : (past : Past) (queue : List Entry) (w : Work) (runs : List (Option ReaderRun))
+    → core_of (longer past w.entry) queue None runs ≡ after (core_of past queue (Some w) runs) Publish Done
+core_published past queue w runs = refl
+
+-- ---- a rebase
+
+still_editable : (past : Past) (held : Option Work) → IsPast past → MatchOption held (Unit {0}) (IsWorkIn past) → MatchOption held (Unit {0}) (IsWorkIn (rebased past))
+still_editable past None is work = tt
+still_editable past (Some w) is work = record {
+  below = work.below;
+  table = subst (λ g. IsTableInWork g w.entry.batch w.done w.parts) (sym (graph_of-rebased past is)) work.table;
+}
+
+pub world_rebased : (past : Past) (queue : List Entry) (held : Option Work) (parts : List Part) (runs : List (Option ReaderRun))
+    → IsWorld past queue held parts runs → IsWorld (rebased past) queue held parts runs
+world_rebased past queue held parts runs is = record {
+  some = is.some;
+  most = is.most;
+  past_is = IsPast-rebased past is.past_is;
+  published = subst (λ g. IsTable g parts) (sym (graph_of-rebased past is.past_is)) is.published;
+  waiting = is.waiting;
+  work = still_editable past held is.past_is is.work;
+  places = is.places;
+  each = is.each;
+}
+
+-- ---- what the history has more
+
+pub past_at-batch : (n : ℕ) (k : Beginning) (e : Entry) → past_at n (and_then k (OneBatch e)) ≡ longer (past_at n k) e
+past_at-batch n k e = ap (λ (p : Past). record p { vertex_count = n }) (after_all-append (opening n) k.published (OneBatch e ∷ []))
+
+pub past_at-rebase : (n : ℕ) (k : Beginning) → past_at n (and_then k OneRebase) ≡ rebased (past_at n k)
+past_at-rebase n k =
+    let p : Past = (moment_of n k).past in
+    let count : p.vertex_count ≡ n = vertex_count-moment_of n k in
+    let same : record p { vertex_count = n } ≡ p = λ i. record p { vertex_count = sym count i } in
+    let last : record (rebased p) { vertex_count = n } ≡ rebased p = λ i. record (rebased p) { vertex_count = sym count i } in
+    ap (λ (q : Past). record q { vertex_count = n }) (after_all-append (opening n) k.published (OneRebase ∷ [])) ∙ last ∙ ap rebased (sym same)
 
 -- ---- a reader's run is put in its place
 
@@ -173,41 +185,34 @@ set_place (o ∷ xs) (suc place) zero x y e = inr e
 set_place (o ∷ xs) (suc place) (suc reader) x y e = set_place xs place reader x y e
 
 world_with_run : (past : Past) (queue : List Entry) (held : Option Work) (parts : List Part) (runs : List (Option ReaderRun)) (place : ℕ) (r : ReaderRun)
-    → IsWorld past queue held parts runs → IsRunIn past r → IsWorld past queue held parts (set runs place (Some r))
+    → IsWorld past queue held parts runs → IsRunIn past.vertex_count r → IsWorld past queue held parts (set runs place (Some r))
 world_with_run past queue held parts runs place r is run = record {
   some = is.some;
   most = is.most;
+  past_is = is.past_is;
   published = is.published;
   waiting = is.waiting;
   work = is.work;
   places = length-set runs place (Some r) ∙ is.places;
-  each = λ reader other e. elim (set_place runs place reader r other e) [ inl same ↦ subst (IsRunIn past) same run | inr old ↦ is.each reader other old ];
+  each = λ reader other e. elim (set_place runs place reader r other e) [ inl same ↦ subst (IsRunIn past.vertex_count) same run | inr old ↦ is.each reader other old ];
 }
 
 -- a run that begins now
-abbrev pub new_run : Past → ℕ → List Part → ReaderRun
-new_run past vertex parts = record { number = length past.log; vertex = vertex; place = 0; ended = false; table = parts }
+abbrev pub new_run : Beginning → ℕ → List Part → ReaderRun
+new_run k vertex parts = record { known = k; vertex = vertex; place = 0; ended = false; table = parts }
 
-version_now : (past : Past) → version_at (length past.log) past ≡ past
-version_now past = ap (with_log past) (take_all (length past.log) past.log (le_refl (length past.log)))
-
-pub world_pinned : (past : Past) (queue : List Entry) (held : Option Work) (parts : List Part) (runs : List (Option ReaderRun)) (reader vertex : ℕ)
-    → IsWorld past queue held parts runs → IsWorld past queue held parts (set runs reader (Some (new_run past vertex parts)))
-world_pinned past queue held parts runs reader vertex is =
-    world_with_run past queue held parts runs reader (new_run past vertex parts) is record {
-      published = le_refl (length past.log);
-      table = subst (λ version. IsTable (graph_of version) parts) (sym (version_now past)) is.published;
-      within = omega arith;
-    }
+pub world_pinned : (n : ℕ) (k : Beginning) (queue : List Entry) (held : Option Work) (parts : List Part) (runs : List (Option ReaderRun)) (reader vertex : ℕ)
+    → IsWorld (past_at n k) queue held parts runs → IsWorld (past_at n k) queue held parts (set runs reader (Some (new_run k vertex parts)))
+world_pinned n k queue held parts runs reader vertex is =
+    world_with_run (past_at n k) queue held parts runs reader (new_run k vertex parts) is record { table = is.published; within = omega arith }
 
 abbrev with_run : Core → ℕ → Run → Core
 with_run s reader run = record s { runs = set s.runs reader (Some run) }
 
-pub core_pinned : (past : Past) (queue : List Entry) (held : Option Work) (parts : List Part) (runs : List (Option ReaderRun)) (reader vertex : ℕ)
-    → core_of past queue held (set runs reader (Some (new_run past vertex parts))) ≡ after (core_of past queue held runs) (Pin reader vertex) Done
-core_pinned past queue held parts runs reader vertex =
-    ap (λ l. record (core_of past queue held runs) { runs = l }) (map-set (option_map (run_in past)) runs reader (Some (new_run past vertex parts)))
-    ∙ ap (λ p. with_run (core_of past queue held runs) reader (run_at (new_run past vertex parts) p)) (version_now past)
+pub core_pinned : (n : ℕ) (k : Beginning) (queue : List Entry) (held : Option Work) (parts : List Part) (runs : List (Option ReaderRun)) (reader vertex : ℕ)
+    → core_of (past_at n k) queue held (set runs reader (Some (new_run k vertex parts))) ≡ after (core_of (past_at n k) queue held runs) (Pin reader vertex) Done
+core_pinned n k queue held parts runs reader vertex =
+    ap (λ l. record (core_of (past_at n k) queue held runs) { runs = l }) (map-set (option_map (run_in n)) runs reader (Some (new_run k vertex parts)))
 
 -- ---- a reader's run is lent more
 
@@ -223,7 +228,7 @@ some_inside (x ∷ xs) (suc i) h = (let rest = some_inside xs i h in omega arith
 
 -- a reader that has a run has a place
 pub run_inside : (past : Past) (queue : List Entry) (held : Option Work) (runs : List (Option ReaderRun)) (reader : ℕ) → can (core_of past queue held runs) (Lend reader) ≡ true → reader < length runs
-run_inside past queue held runs reader able = some_inside runs reader (sym (is_some-option_map (run_in past) (get_or runs reader None)) ∙ ap is_some (sym (get_or-runs (run_in past) runs reader)) ∙ able)
+run_inside past queue held runs reader able = some_inside runs reader (sym (is_some-option_map (run_in past.vertex_count) (get_or runs reader None)) ∙ ap is_some (sym (get_or-runs (run_in past.vertex_count) runs reader)) ∙ able)
   where
     is_some-option_map : (f : ReaderRun → Run) (o : Option ReaderRun) → is_some (option_map f o) ≡ is_some o
     is_some-option_map f None = refl
@@ -232,31 +237,31 @@ run_inside past queue held runs reader able = some_inside runs reader (sym (is_s
 -- and none means that it has none
 pub no_lend : (past : Past) (queue : List Entry) (held : Option Work) (runs : List (Option ReaderRun)) (reader : ℕ) → can (core_of past queue held runs) (Lend reader) ≡ true → get_or runs reader None ≡ None → ⊥
 no_lend past queue held runs reader able none =
-    false≢true (ap (λ o. is_some (option_map (run_in past) o)) (sym none) ∙ ap is_some (sym (get_or-runs (run_in past) runs reader)) ∙ able)
+    false≢true (ap (λ o. is_some (option_map (run_in past.vertex_count) o)) (sym none) ∙ ap is_some (sym (get_or-runs (run_in past.vertex_count) runs reader)) ∙ able)
 
 pub lendable : (past : Past) (queue : List Entry) (held : Option Work) (parts : List Part) (runs : List (Option ReaderRun)) (reader : ℕ) (r : ReaderRun)
     → IsWorld past queue held parts runs → get_or runs reader None ≡ Some r → IsLendable r
-lendable past queue held parts runs reader r is has = record { past = past; small = is.most; is = is.each reader r has }
+lendable past queue held parts runs reader r is has = record { vertices = past.vertex_count; small = is.most; is = is.each reader r has }
 
 pub world_lent : (past : Past) (queue : List Entry) (held : Option Work) (parts : List Part) (runs : List (Option ReaderRun)) (reader : ℕ) (r next : ReaderRun) (reply : Reply)
-    → IsWorld past queue held parts runs → get_or runs reader None ≡ Some r → IsLent past r reply next → IsWorld past queue held parts (set runs reader (Some next))
+    → IsWorld past queue held parts runs → get_or runs reader None ≡ Some r → IsLent past.vertex_count r reply next → IsWorld past queue held parts (set runs reader (Some next))
 world_lent past queue held parts runs reader r next reply is has lent =
     world_with_run past queue held parts runs reader next is (lent.still (is.each reader r has))
 
-run_has : (past : Past) (runs : List (Option ReaderRun)) (reader : ℕ) (r : ReaderRun) → get_or runs reader None ≡ Some r → get_or (map (option_map (run_in past)) runs) reader None ≡ Some (run_in past r)
-run_has past runs reader r has = get_or-runs (run_in past) runs reader ∙ ap (option_map (run_in past)) has
+run_has : (past : Past) (runs : List (Option ReaderRun)) (reader : ℕ) (r : ReaderRun) → get_or runs reader None ≡ Some r → get_or (map (option_map (run_in past.vertex_count)) runs) reader None ≡ Some (run_in past.vertex_count r)
+run_has past runs reader r has = get_or-runs (run_in past.vertex_count) runs reader ∙ ap (option_map (run_in past.vertex_count)) has
 
 pub answers_lent : (past : Past) (queue : List Entry) (held : Option Work) (parts : List Part) (runs : List (Option ReaderRun)) (reader : ℕ) (r next : ReaderRun) (reply : Reply)
-    → IsWorld past queue held parts runs → get_or runs reader None ≡ Some r → IsLent past r reply next → Answers (core_of past queue held runs) (Lend reader) reply
+    → IsWorld past queue held parts runs → get_or runs reader None ≡ Some r → IsLent past.vertex_count r reply next → Answers (core_of past queue held runs) (Lend reader) reply
 answers_lent past queue held parts runs reader r next reply is has lent =
     subst (λ o. MatchOption o ⊥ (λ run. Lends (words_of run) run.lent reply)) (sym (run_has past runs reader r has)) (lent.answer (is.each reader r has))
 
 pub core_lent : (past : Past) (queue : List Entry) (held : Option Work) (parts : List Part) (runs : List (Option ReaderRun)) (reader : ℕ) (r next : ReaderRun) (reply : Reply)
-    → IsWorld past queue held parts runs → get_or runs reader None ≡ Some r → IsLent past r reply next → core_of past queue held (set runs reader (Some next)) ≡ after (core_of past queue held runs) (Lend reader) reply
+    → IsWorld past queue held parts runs → get_or runs reader None ≡ Some r → IsLent past.vertex_count r reply next → core_of past queue held (set runs reader (Some next)) ≡ after (core_of past queue held runs) (Lend reader) reply
 core_lent past queue held parts runs reader r next reply is has lent =
-    ap (λ l. record (core_of past queue held runs) { runs = l }) (map-set (option_map (run_in past)) runs reader (Some next))
+    ap (λ l. record (core_of past queue held runs) { runs = l }) (map-set (option_map (run_in past.vertex_count)) runs reader (Some next))
     ∙ ap (λ run. with_run (core_of past queue held runs) reader run) (lent.run (is.each reader r has))
-    ∙ ap (λ o. record (core_of past queue held runs) { runs = set (map (option_map (run_in past)) runs) reader (option_map (after_lend reply) o) }) (sym (run_has past runs reader r has))
+    ∙ ap (λ o. record (core_of past queue held runs) { runs = set (map (option_map (run_in past.vertex_count)) runs) reader (option_map (after_lend reply) o) }) (sym (run_has past runs reader r has))
 
 -- ---- calls that may have failed
 
@@ -266,19 +271,19 @@ world_after_part past queue w next parts runs range (Ok u) is done same = world_
 world_after_part past queue w next parts runs range (Err e) is done same = subst (λ x. IsWorld past queue (Some x) parts runs) (sym same) is
 
 pub world_after_lend : {E : Type 0} (past : Past) (queue : List Entry) (held : Option Work) (parts : List Part) (runs : List (Option ReaderRun)) (reader : ℕ) (r next : ReaderRun) (result : Result Reply E)
-    → IsWorld past queue held parts runs → get_or runs reader None ≡ Some r → IfOk result (λ reply. (p : Past) → IsLent p r reply next) → OnErr result (next ≡ r) → IsWorld past queue held parts (set runs reader (Some next))
-world_after_lend past queue held parts runs reader r next (Ok reply) is has lent same = world_lent past queue held parts runs reader r next reply is has (lent past)
+    → IsWorld past queue held parts runs → get_or runs reader None ≡ Some r → IfOk result (λ reply. (n : ℕ) → IsLent n r reply next) → OnErr result (next ≡ r) → IsWorld past queue held parts (set runs reader (Some next))
+world_after_lend past queue held parts runs reader r next (Ok reply) is has lent same = world_lent past queue held parts runs reader r next reply is has (lent past.vertex_count)
 world_after_lend past queue held parts runs reader r next (Err e) is has lent same =
-    world_with_run past queue held parts runs reader next is (subst (IsRunIn past) (sym same) (is.each reader r has))
+    world_with_run past queue held parts runs reader next is (subst (IsRunIn past.vertex_count) (sym same) (is.each reader r has))
 
 pub answers_after_lend : {E : Type 0} (past : Past) (queue : List Entry) (held : Option Work) (parts : List Part) (runs : List (Option ReaderRun)) (reader : ℕ) (r next : ReaderRun) (result : Result Reply E)
-    → IsWorld past queue held parts runs → get_or runs reader None ≡ Some r → IfOk result (λ reply. (p : Past) → IsLent p r reply next)
+    → IsWorld past queue held parts runs → get_or runs reader None ≡ Some r → IfOk result (λ reply. (n : ℕ) → IsLent n r reply next)
     → IfOk result (λ reply. Answers (core_of past queue held runs) (Lend reader) reply)
-answers_after_lend past queue held parts runs reader r next (Ok reply) is has lent = answers_lent past queue held parts runs reader r next reply is has (lent past)
+answers_after_lend past queue held parts runs reader r next (Ok reply) is has lent = answers_lent past queue held parts runs reader r next reply is has (lent past.vertex_count)
 answers_after_lend past queue held parts runs reader r next (Err e) is has lent = tt
 
 pub core_after_lend : {E : Type 0} (past : Past) (queue : List Entry) (held : Option Work) (parts : List Part) (runs : List (Option ReaderRun)) (reader : ℕ) (r next : ReaderRun) (result : Result Reply E)
-    → IsWorld past queue held parts runs → get_or runs reader None ≡ Some r → IfOk result (λ reply. (p : Past) → IsLent p r reply next)
+    → IsWorld past queue held parts runs → get_or runs reader None ≡ Some r → IfOk result (λ reply. (n : ℕ) → IsLent n r reply next)
     → IfOk result (λ reply. core_of past queue held (set runs reader (Some next)) ≡ after (core_of past queue held runs) (Lend reader) reply)
-core_after_lend past queue held parts runs reader r next (Ok reply) is has lent = core_lent past queue held parts runs reader r next reply is has (lent past)
+core_after_lend past queue held parts runs reader r next (Ok reply) is has lent = core_lent past queue held parts runs reader r next reply is has (lent past.vertex_count)
 core_after_lend past queue held parts runs reader r next (Err e) is has lent = tt

@@ -4,7 +4,7 @@ use Rattle.std.specs.List.{AllByRecursion}
 use Rattle.past_model.specs.declared.limits.TheConstants.{MOST_VERTICES}
 use Rattle.past_model.specs.declared.entry.Entry.{Entry}
 use Rattle.past_model.specs.Edits.{AreEditsBelow}
-use Rattle.past_model.specs.Past.{Past, graph_of}
+use Rattle.past_model.specs.Past.{Past, IsPast, graph_of}
 use Rattle.migration.specs.Part.{Part}
 use Rattle.migration.specs.Table.{IsTable}
 use Rattle.store_model.specs.declared.limits.TheConstants.{READERS}
@@ -19,7 +19,7 @@ core_of past queue held runs = record {
   past = past;
   queue = queue;
   held = option_map holding_of held;
-  runs = map (option_map (run_in past)) runs;
+  runs = map (option_map (run_in past.vertex_count)) runs;
 }
 
 -- the batch's edits name vertices, and its parts are those of the last version, as far as they are edited
@@ -30,8 +30,9 @@ pub record IsWorkIn (past : Past) (w : Work) : Type 0 where
 pub record IsWorld (past : Past) (queue : List Entry) (held : Option Work) (parts : List Part) (runs : List (Option ReaderRun)) : Type 0 where
   pub some : 1 ≤ past.vertex_count
   pub most : past.vertex_count ≤ MOST_VERTICES
+  pub past_is : IsPast past
   pub published : IsTable (graph_of past) parts
   pub waiting : AllByRecursion (λ (e : Entry). AreEditsBelow past.vertex_count e.batch) queue
   pub work : MatchOption held (Unit {0}) (IsWorkIn past)
   pub places : length runs ≡ READERS
-  pub each : (reader : ℕ) (run : ReaderRun) → slice_index_or runs reader None ≡ Some run → IsRunIn past run
+  pub each : (reader : ℕ) (run : ReaderRun) → slice_index_or runs reader None ≡ Some run → IsRunIn past.vertex_count run

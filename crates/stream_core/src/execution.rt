@@ -38,6 +38,10 @@ pub fn step(world: &mut World, event: Event) -> Result<Reply, AllocError>
             world.publish()?;
             Ok(Reply::Done)
         }
+        Event::Rebase => {
+            world.rebase()?;
+            Ok(Reply::Done)
+        }
         Event::Pin { reader, vertex } => {
             world.pin(reader, vertex)?;
             Ok(Reply::Done)

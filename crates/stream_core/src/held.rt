@@ -39,13 +39,11 @@ impl Held {
         }
     }
 
-    /// Puts the batch at the end of a log.
-    pub(crate) fn enter(&self, log: &mut Vec<Entry>) -> Result<(), AllocError>
-        ensures ok { OnOk result (log.new.items ≡ log.old.items ++ self.now.entry ∷ []) }
-        ensures err { OnErr result (log.new.items ≡ log.old.items) }
+    /// The batch, and the feed that it came by.
+    pub(crate) fn entry(&self) -> &Entry
+        ensures { result.now ≡ self.now.entry }
     {
-        log.push(self.entry.share()?)?;
-        Ok(())
+        &self.entry
     }
 
     /// Puts the shards in the place of those that were published before.

@@ -1,14 +1,18 @@
 //! The store as one value.
-ghost use Rattle.std.specs.Prelude.{◌≡◌, ◌≤◌, true, is_some, IfOk, OnOk, OnErr};
+ghost use Rattle.std.specs.Prelude.{◌≡◌, ◌<◌, ◌≤◌, true, is_some, IfOk, OnOk, OnErr};
 ghost use Rattle.past_model.specs.declared.limits.TheConstants.{MOST_VERTICES};
 ghost use Rattle.past_model.specs.Past.{graph_of};
 ghost use Rattle.migration.specs.Table.{IsTable, parts_of};
+ghost use Rattle.history.specs.declared.limits.TheConstants.{MOST_PUBLICATIONS};
+ghost use Rattle.history.specs.declared.published.Published.TheVariants.{Batch as OneBatch, Rebase as OneRebase};
+ghost use Rattle.history.specs.Moment.{count_of, and_then};
 ghost use Rattle.store_model.specs.Core.{opening_core, run_of};
 ghost use Rattle.store_model.specs.Events.{can, after, Answers};
 
 use crate::held::Held;
 use crate::reader_run::ReaderRun;
 use crate::version_shards::VersionShards;
+use history::{Head, Known, MOST_PUBLICATIONS};
 use migration::Shard;
 use past_model::{Batch, Entry, FEEDS};
 use std::alloc::{AllocError, Global};
@@ -17,12 +21,14 @@ use std::marker::Model;
 use std::sync::Arc;
 use store_model::{Event, QUEUE_PLACES, READERS, Reply};
 
-/// All that the store has: the log of its batches, the queue, the batch in work, the shards that were
-/// published last, and each reader's run.
+/// All that the store has: the history of what it published, which takes no memory, the queue, the batch in work, the
+/// shards that were published last, and each reader's run.
 pub struct World {
     alloc: Global,
     vertex_count: u32,
-    log: Vec<Entry>,
+    head: Head,
+    known: Known,
+    count: u64,
     queue: VecDeque<Entry>,
     held: Option<Held>,
     table: VersionShards,
@@ -35,7 +41,9 @@ impl Drop for World {
         let World {
             alloc: _alloc,
             vertex_count: _vertex_count,
-            log: _log,
+            head: _head,
+            known: _known,
+            count: _count,
             queue: _queue,
             held: _held,
             table: _table,
@@ -46,14 +54,17 @@ impl Drop for World {
 
 impl Model for World {
     ghost use Rattle.store_model.specs.Core.{Core};
-    ghost use Rattle.past_model.specs.Past.{past_in};
+    ghost use Rattle.std.specs.Prelude.{◌≡◌};
+    ghost use Rattle.history.specs.Moment.{count_of};
+    ghost use Rattle.stream_core.specs.Runs.{past_at};
     ghost use Rattle.stream_core.specs.World.{core_of, IsWorld};
 
     ghost Value = { Core };
 
-    ghost view = { λ w. core_of (past_in w.vertex_count w.log.items) w.queue.items w.held w.runs.items };
+    ghost view = { λ w. core_of (past_at w.vertex_count w.known) w.queue.items w.held w.runs.items };
 
-    ghost invariant = { λ w. IsWorld (past_in w.vertex_count w.log.items) w.queue.items w.held w.table w.runs.items };
+    ghost invariant = { λ w. IsWorld (past_at w.vertex_count w.known) w.queue.items w.held w.table w.runs.items
+        × (w.known.book ≡ w.head) × (w.count ≡ count_of w.known) };
 }
 
 impl World {
@@ -71,10 +82,13 @@ impl World {
         for _ in 0..READERS {
             runs.push(None)?;
         }
+        let (head, known) = Head::new();
         Ok(World {
             alloc,
             vertex_count,
-            log: Vec::new(alloc),
+            head,
+            known,
+            count: 0,
             queue: VecDeque::new(alloc),
             held: None,
             table: VersionShards::empty(alloc, vertex_count)?,
@@ -108,6 +122,7 @@ impl World {
                 None => false,
                 Some(held) => held.is_whole(),
             },
+            Event::Rebase => true,
             Event::Pin { reader, vertex } => *reader < READERS && *vertex < self.vertex_count,
             Event::Lend { reader } => self.has_run(*reader),
         }
@@ -160,19 +175,34 @@ impl World {
         Ok(())
     }
 
-    /// Puts the held batch at the end of the log, and its shards in the place of the ones before.
+    /// Puts the held batch at the end of the log, and its shards in the place of the ones before. It fails after 4,199,424
+    /// publications.
     pub(crate) fn publish(&mut self) -> Result<(), AllocError>
         requires { can self.old events.Publish ≡ true }
         ensures ok { OnOk result (self.new ≡ after self.old events.Publish replies.Done) }
         ensures err { OnErr result (self.new ≡ self.old) }
     {
         if let Some(held) = &self.held {
-            held.enter(&mut self.log)?;
+            let known = longer(&self.head, &self.known, self.count, held.entry())?;
             if let Some(held) = self.held.take() {
                 held.show(&mut self.table);
+                self.known = known;
+                self.count += 1;
                 return Ok(());
             }
         }
+        Ok(())
+    }
+
+    /// Makes the graph of this moment the base of a new epoch, whose log is empty. It fails after 4,199,424 publications.
+    pub(crate) fn rebase(&mut self) -> Result<(), AllocError>
+        requires { can self.old events.Rebase ≡ true }
+        ensures ok { OnOk result (self.new ≡ after self.old events.Rebase replies.Done) }
+        ensures err { OnErr result (self.new ≡ self.old) }
+    {
+        let known = rebased(&self.head, &self.known, self.count)?;
+        self.known = known;
+        self.count += 1;
         Ok(())
     }
 
@@ -184,7 +214,7 @@ impl World {
     {
         let table = self.table.share(self.alloc)?;
         let run = ReaderRun {
-            number: self.log.len(),
+            known: self.known.again(),
             vertex,
             place: 0,
             ended: false,
@@ -206,5 +236,37 @@ impl World {
             return run.lend(alloc);
         }
         Ok(Reply::End)
+    }
+}
+
+// What is known once the history has a batch more.
+fn longer(head: &Head, known: &Known, count: u64, entry: &Entry) -> Result<Known, AllocError>
+    requires book { known.now.book ≡ head.now }
+    requires count { count ≡ count_of known.now }
+    ensures known { IfOk result (λ longer. longer ≡ and_then known.now (OneBatch entry.now)) }
+    ensures room { IfOk result (λ _. count < MOST_PUBLICATIONS) }
+{
+    if count >= MOST_PUBLICATIONS {
+        return Err(AllocError);
+    }
+    match head.add(known, count, entry) {
+        Some(longer) => Ok(longer),
+        None => Err(AllocError),
+    }
+}
+
+// What is known once the history has a rebase more.
+fn rebased(head: &Head, known: &Known, count: u64) -> Result<Known, AllocError>
+    requires book { known.now.book ≡ head.now }
+    requires count { count ≡ count_of known.now }
+    ensures known { IfOk result (λ longer. longer ≡ and_then known.now OneRebase) }
+    ensures room { IfOk result (λ _. count < MOST_PUBLICATIONS) }
+{
+    if count >= MOST_PUBLICATIONS {
+        return Err(AllocError);
+    }
+    match head.rebase(known, count) {
+        Some(longer) => Ok(longer),
+        None => Err(AllocError),
     }
 }
