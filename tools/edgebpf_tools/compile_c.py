@@ -29,8 +29,8 @@ def arguments(words):
     parser.add_argument("function", nargs="?", metavar="FUNCTION", help="may be left out where one is not static")
     parser.add_argument("length", type=int, metavar="LENGTH", help="bytes of a record, 16 to 256: 16 and the argument's")
     parser.add_argument("--name", help="the program's name in the script; else the function's")
-    parser.add_argument("--table", metavar="FILE", help="the bytes of a table, which the function reads by its third parameter; else "
-                        "those of the object marked TABLE. The line is `image NAME HEX` then")
+    parser.add_argument("--table", metavar="FILE", help="the bytes of a table, which the function reads by its third parameter; "
+                        "else those of the object marked TABLE. The line is `image NAME HEX` then")
     parser.add_argument("--table-type", choices=list(tables.TYPES), help="the file of --table has numbers of this type, one a line")
     parser.add_argument("--on", metavar="GRAPH", help="a script that makes a graph: run the program on its last version")
     parser.add_argument("--script", action="store_true", help="with --on: print the script in place of running it")
@@ -78,11 +78,12 @@ def linked(options, folder):
     compiled = f"{folder}/program.o"
     sys.stderr.write(clang.compile_to_bpf(options.file, compiled, [HEADERS], options.optimize))
     found = of_object(options, compiled)
-    if not tables.of_program(options, found[0]) and explain.is_ready() and loses_an_index(options.length, found[2].code):
+    table = tables.of_program(options, found[0]).hex()
+    if explain.is_ready() and loses_an_index(options.length, found[2].code, table):
         again = f"{folder}/again.o"
         clang.compile_to_bpf(options.file, again, [HEADERS], options.optimize, has_opaque_indices=True)
         other = of_object(options, again)
-        if explain.explain(options.length, other[2].code.hex())[1] == 0:
+        if explain.explain(options.length, other[2].code.hex(), table=table)[1] == 0:
             found = other
     warn_of_result(compiled, found[1].name)
     return found
@@ -94,10 +95,10 @@ def of_object(options, compiled):
     return objects, entry, link(objects, entry, options.length)
 
 
-def loses_an_index(length, code):
+def loses_an_index(length, code, table):
     """Whether a program is refused for an index of which too little is known, as far as the program that explains is there."""
     try:
-        return "\nrule 11:" in explain.explain(length, code.hex())[0]
+        return "\nrule 11:" in explain.explain(length, code.hex(), table=table)[0]
     except Refusal:
         return False
 
@@ -106,8 +107,8 @@ def explained(words, name, length, code, table):
     """Why a program is refused, at its line of C: `edgebpf_explain` knows the values, if it is there."""
 
     def explain_refusal(verdict, meaning):
-        if explain.is_ready() and not table:
-            told, _ = explain.explain(length, code.hex())
+        if explain.is_ready():
+            told, _ = explain.explain(length, code.hex(), table=table.hex())
             if told:
                 lines = words.refusal(told)
                 return "\n".join([f"{name} is refused: {lines[0]}", *lines[1:]])
@@ -117,9 +118,9 @@ def explained(words, name, length, code, table):
     return explain_refusal
 
 
-def show(options, words, code):
+def show(options, words, code, table):
     """Prints the source with the verifier's state, or writes a page of it. Returns 1 for a refused program."""
-    told, status = explain.explain(options.length, code.hex())
+    told, status = explain.explain(options.length, code.hex(), table=table.hex())
     if not told:
         raise Refusal("edgebpf_explain wrote nothing")
     if options.html:
@@ -160,9 +161,7 @@ def finish(options, objects, function, program):
     words = CWords(objects, program, options.length)
     table = tables.of_program(options, objects)
     if options.explain or options.html:
-        if table:
-            raise Refusal("--explain and --html know no table")
-        return show(options, words, program.code)
+        return show(options, words, program.code, table)
     line = tables.line_of(name, options.length, program.code, table)
     if options.on is None:
         print(line)

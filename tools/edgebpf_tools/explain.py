@@ -26,11 +26,11 @@ def is_ready():
     return subprocess.run(asked, stdout=subprocess.DEVNULL, stderr=subprocess.DEVNULL).returncode == 0
 
 
-def explain(length, code=None, text=None, is_asked_for=False):
-    """What is told of code in hexadecimal digits or of assembler text, and the status: 1 of a refused program. Of what is no
-    program nothing is told; the program's standard error, which says why, is passed on. Unless the user asked for it, the program
-    does not say which build of it runs."""
-    words = [str(length)] + ([] if code is None else [code])
+def explain(length, code=None, text=None, is_asked_for=False, table=None):
+    """What is told of code in hexadecimal digits or of assembler text, perhaps with a table, and the status: 1 of a refused program.
+    Of what is no program nothing is told; the program's standard error, which says why, is passed on. Unless the user asked for it,
+    the program does not say which build of it runs."""
+    words = [str(length)] + ([] if code is None else [code]) + (["--table", table] if table else [])
     environment = dict(os.environ) if is_asked_for else {"EDGEBPF_PROVED": "elsewhere", **os.environ}
     try:
         run = subprocess.run([*command(), *words], input=text or "", stdout=subprocess.PIPE, text=True, env=environment)
@@ -49,6 +49,7 @@ def arguments(words):
     parser.add_argument("length", metavar="LENGTH", help="how many bytes a record has, from 16 to 256; of an edge it is 16 and "
                         "what the run's argument has")
     parser.add_argument("code", metavar="HEX", nargs="?", help="the code in hexadecimal digits, as a script's code line has it")
+    parser.add_argument("--table", metavar="HEX", help="the table that the program reads, in hexadecimal digits")
     parser.add_argument("--html", metavar="FILE", help="write a page, with the ways drawn and what is known at the place under "
                         "the pointer")
     return parser.parse_args(words)
@@ -57,7 +58,7 @@ def arguments(words):
 def perform(words):
     options = arguments(words)
     text = sys.stdin.read() if options.code is None else None
-    told, status = explain(options.length, options.code, text, is_asked_for=True)
+    told, status = explain(options.length, options.code, text, is_asked_for=True, table=options.table)
     print(told, end="")
     if options.html and told:
         try:

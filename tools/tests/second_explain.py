@@ -20,7 +20,7 @@ def ends(low, high):
 def value_text(value):
     if value[0] == "number":
         return ends(*value[1:])
-    return f"record+{ends(*value[1:])}" if value[0] == "record" else f"stack{value[1] or '+0'}"
+    return f"stack{value[1] or '+0'}" if value[0] == "stack" else f"{value[0]}+{ends(*value[1:])}"
 
 
 def state_text(state):
@@ -38,9 +38,9 @@ def operands(instruction):
     return [parts[2], parts[3][1]] if kind == "alu" and parts[3][0] == "register" else []
 
 
-def walk(code, length):
+def walk(code, length, table):
     """Prints each instruction with the state before it, up to one that breaks a rule; returns the state there."""
-    instructions, states = listed(code), {0: State.entry(length)}
+    instructions, states = listed(code), {0: State.entry(length, table)}
     for pc, (instruction, units) in instructions.items():
         print(f"{pc}: {instruction}")
         state = states.pop(pc, None)
@@ -50,7 +50,7 @@ def walk(code, length):
         before = state.copy()
         print("    " + state_text(before))
         try:
-            ways = ways_from(state, length, pc, instruction, units)
+            ways = ways_from(state, length, pc, instruction, units, table)
         except Broken:
             return instruction, before
         for target, after in ways:
@@ -58,21 +58,22 @@ def walk(code, length):
     return None, None
 
 
-def main(length, code):
+def main(length, code, table=b""):
     print(f"program of {len(code) // 8} units, records of {length} bytes")
     try:
-        bound, frames, _ = verify(code, length)
+        bound, frames, _ = verify(code, length, table)
     except Refused as refused:
-        instruction, state = walk(code, length)
+        instruction, state = walk(code, length, table)
         print(f"refused at {refused.pc}: {instruction}\nrule {refused.cause}: {CAUSES[refused.cause]}")
         for register in operands(instruction) if instruction else ():
             value = state.registers[register]
             print(f"known of r{register}: {'nothing' if value == UNSET else value_text(value)}")
         print("what helps: see docs/BPF.md")
         return 1
-    walk(code, length)
+    walk(code, length, table)
     print(f"accepted, bound {bound}, frames {frames}")
     return 0
 
 
-sys.exit(main(int(sys.argv[1]), bytes.fromhex(sys.argv[2])))
+# LENGTH HEX, and perhaps --table HEX.
+sys.exit(main(int(sys.argv[1]), *map(bytes.fromhex, sys.argv[2:3] + sys.argv[4:])))

@@ -3,6 +3,7 @@ import pathlib
 import sys
 import tempfile
 import unittest
+import unittest.mock
 
 from tools_here import MISSING, TOOLS, run_tool
 
@@ -72,7 +73,14 @@ class Tables(unittest.TestCase):
         self.refused("a program has one table", MARKED + READS, "--table", "FOLDER/raw", raw=b"\1")
         self.refused("--table-type says what the lines of --table FILE are", READS, "--table-type", "u8")
         self.refused("mark one const object TABLE", MARKED.replace("TABLE ", "") + by_name)
-        self.refused("--explain and --html know no table", MARKED + READS, "--explain")
+
+    def test_what_is_known_of_a_table(self):
+        with unittest.mock.patch.dict("os.environ", {"EDGEBPF_EXPLAIN": str(TOOLS / "tests" / "second_explain.py")}):
+            self.assertIn("table (r3) table+0\n", self.compiled(MARKED + READS, "--explain").stdout)
+            written = READS.replace("const u16", "u16").replace("return table[edge->target & 3]", "table[0] = 1; return 0")
+            run_of_it = self.compiled(MARKED + written, "--explain")
+        self.assertEqual(run_of_it.returncode, 1)
+        self.assertIn("goes to the table, which is only read", run_of_it.stderr)
 
 
 if __name__ == "__main__":

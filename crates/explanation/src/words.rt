@@ -68,7 +68,7 @@ pub(crate) fn words_of_advice(advice: Advice) -> &'static str
             "compare numbers alone, such as two offsets in place of two pointers"
         }
         Advice::NoTables => {
-            "go by a pointer to the record or the frame; a table in .rodata is not there: pack its numbers into a constant, or hand them in as the argument of the run"
+            "go by a pointer to the record, the frame or the table; a table in .rodata is not there: mark one const object TABLE, pack its numbers into a constant, or hand them in as the argument of the run"
         }
         Advice::SpillWhole => {
             "store a pointer by stxdw to the frame alone, at a multiple of 8 below r10"
@@ -77,7 +77,7 @@ pub(crate) fn words_of_advice(advice: Advice) -> &'static str
             "test the number first: compare it with a constant, and use what was compared where it is small enough; a signed number may be below zero besides"
         }
         Advice::KnowTheReach => {
-            "stay inside: the record has as many bytes as its length says, from 0 on, and the frame has 512 below r10"
+            "stay inside: record and table have as many bytes as their lengths say, from 0 on, and the frame has 512 below r10"
         }
         Advice::SetBytes => "store to these bytes on each way that leads here",
         Advice::HelperArguments => {
