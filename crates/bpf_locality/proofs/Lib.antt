@@ -1,5 +1,6 @@
 mod Places
 mod Asking
 mod Written
+mod Tables
 mod Read
 mod Live

@@ -1,11 +1,12 @@
 -- What a step touches. A byte is live where it is in the record or in a live frame, and it may be read where it is live
 -- or in the table.
-use Rattle.std.specs.Prelude.{◌≡◌, ℕ, ◌≤◌, Bool, true, false, length}
+use Rattle.std.specs.Prelude.{◌≡◌, ℕ, ◌≤◌, Bool, true, false, List, length}
 use Rattle.bpf_image.specs.Program.{Program, IsImage, lengths_of}
 use Rattle.bpf_image.specs.declared.lengths.Lengths.{Lengths}
 use Rattle.graph_model.specs.Graph.{Graph}
-use Rattle.bpf_model.specs.State.{State, in_table, live_frames, may_read, may_write, most_frames}
+use Rattle.bpf_model.specs.State.{State, start, HasTable, in_table, live_frames, may_read, may_write, most_frames}
 use Rattle.bpf_model.specs.Step.{Next, Goes, Exits, Traps, step}
+use Rattle.bpf_model.specs.Run.{after}
 
 -- whether the byte at an address is live
 abbrev pub is_live : Lengths → State → ℕ → Bool
@@ -44,6 +45,12 @@ abbrev pub LeavesTable : Type 0
 LeavesTable =
     (p : Program) (g : Graph) (s t : State) → IsImage p → step p g s ≡ Goes t → live_frames s ≤ most_frames → live_frames t ≤ most_frames
     → (a : ℕ) → in_table (length p.table) a 1 ≡ true → t.memory a ≡ s.memory a
+
+-- so each state of each run of an image has its table
+abbrev pub RunsHaveTable : Type 0
+RunsHaveTable =
+    (p : Program) (g : Graph) (bytes : List ℕ) → IsImage p → length bytes ≡ p.record_length
+    → (k : ℕ) (s : State) → after p g k (start p bytes) ≡ Goes s → HasTable s p.table
 
 -- no step depends on a byte that may not be read
 abbrev pub ReadsReadableBytes : Type 0

@@ -1,6 +1,6 @@
 //! The laws of what a step touches. Each function does nothing: its contract is the law.
 ghost use Rattle.bpf_locality.specs.Live.{SomeBytesAreLive};
-ghost use Rattle.bpf_locality.specs.Locality.{WritesLiveBytes, LeavesTable, ReadsReadableBytes};
+ghost use Rattle.bpf_locality.specs.Locality.{WritesLiveBytes, LeavesTable, RunsHaveTable, ReadsReadableBytes};
 
 /// In each state the bytes of the record and of the current frame are live, those of the table may be read, and
 /// address 0 is neither. So the laws below speak of some bytes, and not of all.
@@ -17,6 +17,11 @@ pub fn a_step_writes_live_bytes()
 /// A step of an image leaves each byte of its table as it is, while no more frames are live than a run may have.
 pub fn a_step_leaves_the_table()
     ensures { LeavesTable }
+{}
+
+/// Each state of each run of an image, accepted or not, has the bytes of its table where it began.
+pub fn a_run_has_its_table()
+    ensures { RunsHaveTable }
 {}
 
 /// Two states that differ in no register, no caller and no byte that may be read take the same step: both exit with one

@@ -18,12 +18,12 @@ const WRONG_WORDS: u8 = 2;
 /// What is told of what the words hand in.
 fn told(rt: &HostRuntime, alloc: Global, asked: &Asked) -> Result<Explanation, Failure> {
     match &asked.code {
-        Some(digits) => told_of_digits(alloc, asked.record_length, digits),
+        Some(digits) => told_of_digits(alloc, asked, digits),
         None => {
             let Ok(text) = io::read_to_string(alloc, rt.stdin()) else {
                 return Err(Failure::Input);
             };
-            told_of_text(alloc, asked.record_length, &text)
+            told_of_text(alloc, asked, &text)
         }
     }
 }

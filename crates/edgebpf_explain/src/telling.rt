@@ -1,6 +1,7 @@
 //! From what was handed in to what is told.
+use crate::words::Asked;
 use bpf_asm::{AssembleError, TextCause, assemble};
-use bpf_image::Image;
+use bpf_image::{Image, ImageError};
 use explanation::{Explanation, SourceLine, explain, source_lines};
 use hex::FromHexError;
 use std::alloc::{AllocError, Global};
@@ -11,10 +12,12 @@ use thiserror::Error;
 pub enum Failure {
     #[error("{0}")]
     Text(AssembleError),
-    #[error("the code is not pairs of hexadecimal digits")]
+    #[error("the code or the table is not pairs of hexadecimal digits")]
     Digits,
     #[error("the code is not 1 to 4096 whole units of 8 bytes")]
     CodeLength,
+    #[error("the table is not 1 to 4096 bytes")]
+    TableLength,
     #[error("standard input could not be read as text")]
     Input,
     #[error("memory")]
@@ -27,42 +30,62 @@ impl From<AllocError> for Failure {
     }
 }
 
+/// The bytes that digits spell.
+fn bytes_of(alloc: Global, digits: &str) -> Result<Vec<u8>, Failure> {
+    match hex::decode(alloc, digits) {
+        Ok(bytes) => Ok(bytes),
+        Err(FromHexError::OutOfMemory) => Err(Failure::Memory),
+        Err(_) => Err(Failure::Digits),
+    }
+}
+
+/// The image of code, with the table that is asked for.
+fn image_of(alloc: Global, asked: &Asked, code: Vec<u8>) -> Result<Image, Failure> {
+    let Some(digits) = &asked.table else {
+        return match Image::new(asked.record_length, code) {
+            Ok(image) => Ok(image),
+            Err(_) => Err(Failure::CodeLength),
+        };
+    };
+    let table = bytes_of(alloc, digits)?;
+    match Image::with_table(asked.record_length, code, table) {
+        Ok(image) => Ok(image),
+        Err((_, _, ImageError::TableLength)) => Err(Failure::TableLength),
+        Err(_) => Err(Failure::CodeLength),
+    }
+}
+
 /// What is told of code.
 fn told_of(
     alloc: Global,
-    record_length: u16,
+    asked: &Asked,
     code: Vec<u8>,
     source: &[SourceLine<'_>],
 ) -> Result<Explanation, Failure> {
-    let Ok(image) = Image::new(record_length, code) else {
-        return Err(Failure::CodeLength);
-    };
+    let image = image_of(alloc, asked, code)?;
     Ok(explain(alloc, image, source)?)
 }
 
 /// What is told of code in hexadecimal digits.
 pub(crate) fn told_of_digits(
     alloc: Global,
-    record_length: u16,
+    asked: &Asked,
     digits: &str,
 ) -> Result<Explanation, Failure> {
-    match hex::decode(alloc, digits) {
-        Ok(code) => told_of(alloc, record_length, code, &[]),
-        Err(FromHexError::OutOfMemory) => Err(Failure::Memory),
-        Err(_) => Err(Failure::Digits),
-    }
+    let code = bytes_of(alloc, digits)?;
+    told_of(alloc, asked, code, &[])
 }
 
 /// What is told of assembler text.
 pub(crate) fn told_of_text(
     alloc: Global,
-    record_length: u16,
+    asked: &Asked,
     text: &str,
 ) -> Result<Explanation, Failure> {
     match assemble(alloc, text) {
         Ok(code) => {
             let source = source_lines(alloc, text)?;
-            told_of(alloc, record_length, code, &source)
+            told_of(alloc, asked, code, &source)
         }
         Err(error) if error.cause == TextCause::OutOfMemory => Err(Failure::Memory),
         Err(error) => Err(Failure::Text(error)),

@@ -9,6 +9,16 @@ pub struct Asked {
     pub record_length: u16,
     /// The code in hexadecimal digits, unless it is assembler text on standard input.
     pub code: Option<String>,
+    /// The table in hexadecimal digits, if the program has one.
+    pub table: Option<String>,
+}
+
+/// A copy of digits, if there are any.
+fn copy_of(alloc: Global, digits: Option<&str>) -> Result<Option<String>, Error> {
+    match digits {
+        None => Ok(None),
+        Some(digits) => Ok(Some(digits.to_string(alloc)?)),
+    }
 }
 
 /// What the words ask for, the program's name first among them.
@@ -24,17 +34,20 @@ pub(crate) fn options(alloc: Global, words: &[String]) -> Result<Asked, Error> {
         .help(
             "The code in hexadecimal digits; without it assembler text is read from standard input",
         );
+    let table = Arg::new(alloc, "table")
+        .long("table")
+        .value_name("HEX")
+        .action(ArgAction::Set)
+        .help("The table that the program reads, 1 to 4096 bytes in hexadecimal digits");
     let command = Command::new(alloc, "edgebpf-explain")
         .about("Tells what is known at each place of a BPF program, and why one is refused.")
         .arg(length.value_parser(clap::value_parser!(u16).range(16..=256)))?
-        .arg(code)?;
+        .arg(code)?
+        .arg(table)?;
     let matches = command.try_get_matches_from(words)?;
-    let code = match matches.get_str("code") {
-        None => None,
-        Some(digits) => Some(digits.to_string(alloc)?),
-    };
     Ok(Asked {
         record_length: matches.get_one::<u16>("length").unwrap_or(16),
-        code,
+        code: copy_of(alloc, matches.get_str("code"))?,
+        table: copy_of(alloc, matches.get_str("table"))?,
     })
 }
