@@ -8,7 +8,7 @@ from assembler import assemble
 from bpf import BITS_64, Graph, run
 from verifier import Refused, judged
 
-LONG_LINE, WORDS, ORDER, RANGE, NAME, ARGUMENT, FRONTIER, TOO_MANY, LOG_FULL, OPEN_BLOCK = range(1, 11)
+LONG_LINE, WORDS, ORDER, RANGE, NAME, ARGUMENT, FRONTIER, TOO_MANY, LOG_FULL, OPEN_BLOCK, EPOCHS_FULL = range(1, 12)
 FEEDS = ("A", "B", "C", "D")
 REDUCTIONS = {
     "min": lambda numbers: min(numbers, default=BITS_64),
@@ -75,6 +75,8 @@ def is_command(command, words):
         return len(words) == 1 and are_names(words)
     if command == "home":
         return len(words) == 1 and are_numbers(words)
+    if command == "rebase":
+        return not words
     if command == "list":
         return len(words) == 3 and are_names(words[:2]) and hexadecimal(words[2]) is not None
     if command == "program":
@@ -99,7 +101,7 @@ class Session:
     def __init__(self):
         self.vertices = None
         self.homes = {}
-        self.batches = 0
+        self.batches = self.epoch = 0
         self.targets, self.edge_count = {}, 0
         self.programs, self.pins = {}, {}
         self.block = None
@@ -240,6 +242,10 @@ class Session:
             vertex = int(words[0])
             test(vertex >= self.vertices, RANGE)
             self.said.append(f"home {vertex} {self.homes.get(vertex, 'block')} degree {len(self.targets.get(vertex, ()))}")
+        elif command == "rebase":
+            test(self.epoch >= 1024, EPOCHS_FULL)
+            self.batches, self.epoch = 0, self.epoch + 1
+            self.said.append(f"rebase epoch {self.epoch} edges {self.edge_count}")
         elif command == "list":
             self.list_edges(*words)
         else:

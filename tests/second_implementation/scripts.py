@@ -8,7 +8,7 @@ from programs import Programs
 from script import home_after
 from verifier import Refused, judged
 
-ODD_COMMANDS = ["list t a -", "list t a", "list t a - 0", "list n1 n2 zz", "home", "home x", "home 99", "home 0 1", "batch E", "end", "graph 4", "foo"]
+ODD_COMMANDS = ["rebase 1", "list t a -", "list t a", "list t a - 0", "list n1 n2 zz", "home", "home x", "home 99", "home 0 1", "batch E", "end", "graph 4", "foo"]
 ODD_COMMANDS += ["batch", "pin", "pin a b", "code a 16", "run a", "pin a.b", "home 18446744073709551616", "  # a comment", "\t", "#end", "batch  B x"]
 ODD_COMMANDS += ["\x7f", "a\r", "pin " + "x" * 33, "program p 15", "program p 257", "code p 16 0", "code p 16 -", "code p 16 95", "run n1 n2 avg -", "image p", "image p 4250453", "image p -", "image p 42504531100000"]
 ODD_EDITS = ["- 0", "-0 0", "", "# c", "+ 0", "+ 0 0 0", "end x", "+ 0 99999999999999999999", "+ 00 000", "+ -1 0"]
@@ -83,6 +83,8 @@ class Writer:
             return self.run() if kind == "r" else self.list_edges()
         if kind == "h":
             return [f"home {self.vertex()}"]
+        if kind == "e":
+            return ["rebase"]
         if self.has_hubs and self.often(0.7):
             return self.single_edits()
         if self.vertices > 12 and self.often(0.8 if self.is_big else 0.4):
@@ -181,9 +183,9 @@ class Writer:
 
     def choose_graph(self):
         """How many vertices there are, and on which of them most happens."""
-        self.is_big, self.kinds = self.often(0.02) or self.has_hubs, "tttccccppprrrrrllbbbbh"
+        self.is_big, self.kinds = self.often(0.02) or self.has_hubs, "tttccccppprrrrrllbbbbhe"
         if self.is_big:
-            self.vertices, self.kinds = self.choice([1030, 1100, 1500]), "tccpprrlbbbbbbbbbh"
+            self.vertices, self.kinds = self.choice([1030, 1100, 1500]), "tccpprrlbbbbbbbbbhe"
         elif self.often(0.25):
             self.vertices = self.choice([13, 14, 256, 257, 300, 513, 1000, 5000] if self.often(0.98) else [65537, 1048576])
         else:

@@ -2,7 +2,7 @@
 import re
 from dataclasses import dataclass, field
 
-MOST_VERTICES, MOST_EDITS, MOST_BATCHES, MOST_NAMES = 1_048_576, 65_536, 4_096, 256
+MOST_VERTICES, MOST_EDITS, MOST_BATCHES, MOST_EPOCHS, MOST_NAMES = 1_048_576, 65_536, 4_096, 1_024, 256
 MOST_BYTES, MOST_PROGRAM_LINES = 80_000, 65_536
 FEEDS = ("A", "B", "C", "D")
 NAME = re.compile(r"[A-Za-z0-9_-]{1,32}")
@@ -17,6 +17,7 @@ FORMS = {
     "run": "run PROGRAM PIN min|max|sum HEX [U ..]: runs a program over the edges of all vertices, or of some, ascending",
     "home": "home V: where the last version keeps the targets of a vertex",
     "list": "list PROGRAM PIN HEX: all edges of a pin, each with the number that a program exits with",
+    "rebase": "rebase: makes the last version's graph the base of a new epoch, and forgets the log",
 }
 
 
@@ -82,6 +83,7 @@ class Language:
 
     vertices: int = None
     batches: int = 0
+    epochs: int = 0
     programs: dict = field(default_factory=dict)
     pins: set = field(default_factory=set)
     block: list = None
@@ -118,7 +120,7 @@ class Language:
         command = words[0]
         if command not in FORMS:
             raise Complaint("no command has this name; .help lists them", 0)
-        counts = {"graph": 2, "batch": 2, "code": 4, "image": 3, "program": 3, "pin": 2, "home": 2, "list": 4}
+        counts = {"graph": 2, "batch": 2, "code": 4, "image": 3, "program": 3, "pin": 2, "home": 2, "list": 4, "rebase": 1}
         if len(words) != counts.get(command, len(words)) or (command == "run" and len(words) < 5):
             raise Complaint(FORMS[command], 0)
         if (command == "graph") != (self.vertices is None):
@@ -158,6 +160,10 @@ class Language:
             raise Complaint("a pin has this name", 1)
         if len(self.pins) >= MOST_NAMES:
             raise Complaint(f"there are {MOST_NAMES} pins", 1)
+
+    def _check_rebase(self, words):
+        if self.epochs >= MOST_EPOCHS:
+            raise Complaint(f"{MOST_EPOCHS} epochs ended", 0)
 
     def _check_home(self, words):
         number(words, 1, "a vertex", 0, self.vertices - 1)
@@ -223,6 +229,8 @@ class Language:
             self.edits = edits_below(self.vertices)
         elif words[0] == "batch":
             self.batches += 1
+        elif words[0] == "rebase":
+            self.batches, self.epochs = 0, self.epochs + 1
         elif words[0] == "pin":
             self.pins.add(words[1])
         elif words[0] in ("code", "program") and said[0] == "program":

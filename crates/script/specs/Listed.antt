@@ -1,6 +1,6 @@
 -- The lines of a list, which are written apart from its first one.
 use Rattle.std.specs.Prelude.{ℕ, List}
-use Rattle.session_model.specs.Commands.{Answer, GraphMade, BatchPublished, ProgramAccepted, ProgramRefused, NoImage, PinTaken, EdgesMapped, HomeTold, EdgesListed}
+use Rattle.session_model.specs.Commands.{Answer, GraphMade, BatchPublished, ProgramAccepted, ProgramRefused, NoImage, PinTaken, EdgesMapped, HomeTold, Rebased, EdgesListed}
 use Rattle.script_model.specs.Texts.{answer_text, list_text}
 
 -- the lines of an answer, but for those of the edges that it lists
@@ -14,3 +14,4 @@ first_text (NoImage name error) = answer_text (NoImage name error)
 first_text (PinTaken name number edges) = answer_text (PinTaken name number edges)
 first_text (EdgesMapped program pin edges total rows) = answer_text (EdgesMapped program pin edges total rows)
 first_text (HomeTold v home degree) = answer_text (HomeTold v home degree)
+first_text (Rebased epoch edges) = answer_text (Rebased epoch edges)

@@ -3,7 +3,7 @@ use Rattle.std.specs.Prelude.{ℕ, ◌-◌, ◌^◌, min, if◌then◌else◌, L
 use Rattle.bpf_image.specs.Program.{Program, without_table}
 use Rattle.past_model.specs.declared.edit.Edit.{Edit}
 use Rattle.past_model.specs.declared.edit.Edit.TheVariants.{Insert, Remove}
-use Rattle.session_model.specs.Commands.{Command, MakeGraph, PublishBatch, LoadProgram, LoadImage, TakePin, RunProgram, TellHome, ListEdges}
+use Rattle.session_model.specs.Commands.{Command, MakeGraph, PublishBatch, LoadProgram, LoadImage, TakePin, RunProgram, TellHome, Rebase, ListEdges}
 use Rattle.script_model.specs.Parsing.{Statement, Asks, BeginBatch, BeginProgram, statement, BatchLine, OneEdit, EndBatch}
 use Rattle.script_model.specs.Execution.{is_comment}
 use Rattle.script.specs.declared.reading.line.BatchLine.{BatchLine as CodeBatchLine}
@@ -37,6 +37,7 @@ cut_command (TakePin name) = TakePin name
 cut_command (RunProgram program pin reduction argument frontier) =
     RunProgram program pin reduction argument (map cut_number frontier)
 cut_command (TellHome v) = TellHome (cut_number v)
+cut_command Rebase = Rebase
 cut_command (ListEdges program pin argument) = ListEdges program pin argument
 
 abbrev pub cut_statement : Statement → Statement
@@ -61,6 +62,7 @@ said_statement (statements.Pin name) = Asks (TakePin name.now)
 said_statement (statements.Run program pin reduction argument frontier) =
     Asks (RunProgram program.now pin.now reduction argument.items frontier.items)
 said_statement (statements.Home v) = Asks (TellHome v)
+said_statement statements.Rebase = Asks Rebase
 said_statement (statements.List program pin argument) = Asks (ListEdges program.now pin.now argument.items)
 
 -- what a line outside blocks says

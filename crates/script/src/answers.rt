@@ -5,8 +5,8 @@ ghost use Rattle.session.specs.Kept.{answer_of};
 ghost use Rattle.script.specs.Listed.{first_text};
 
 use crate::texts::{
-    put_batch, put_graph, put_home, put_image, put_list, put_pin, put_program, put_refused,
-    put_rows, put_run,
+    put_batch, put_graph, put_home, put_image, put_list, put_pin, put_program, put_rebase,
+    put_refused, put_rows, put_run,
 };
 use session::Answer;
 use std::alloc::AllocError;
@@ -50,6 +50,7 @@ pub(crate) fn put_answer(text: &mut Vec<u8>, answer: &Answer) -> Result<(), Allo
             home,
             degree,
         } => put_home(text, *vertex, *home, u64::from(*degree)),
+        Answer::Rebased { epoch, edges } => put_rebase(text, *epoch, *edges),
         Answer::EdgesListed {
             program,
             pin,

@@ -105,6 +105,7 @@ impl Script {
                 },
             ),
             Statement::Home { vertex } => self.perform(crew, text, Command::TellHome { vertex }),
+            Statement::Rebase => self.perform(crew, text, Command::Rebase),
             Statement::List {
                 program,
                 pin,

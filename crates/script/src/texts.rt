@@ -16,6 +16,7 @@ ghost use Rattle.script_model.specs.Texts.{
   row_text,
   home_word,
   home_text,
+  rebase_text,
   list_text,
   edge_text,
   feed_text,
@@ -179,6 +180,15 @@ pub(crate) fn put_pin(
 {
     put_name(text, b"pin ", name)?;
     put_field(text, b" version ", number)?;
+    put_field(text, b" edges ", edges)?;
+    put(text, b"\n")
+}
+
+/// The line of a rebase.
+pub(crate) fn put_rebase(text: &mut Vec<u8>, epoch: u64, edges: u64) -> Result<(), AllocError>
+    ensures { OnOk result (text.new.items ≡ text.old.items ++ rebase_text epoch edges) }
+{
+    put_field(text, b"rebase epoch ", epoch)?;
     put_field(text, b" edges ", edges)?;
     put(text, b"\n")
 }

@@ -5,7 +5,7 @@ use Rattle.past_model.specs.declared.edit.Edit.{Edit}
 use Rattle.past_model.specs.declared.edit.Edit.TheVariants.{Insert, Remove}
 use Rattle.map_model.specs.declared.reduction.Reduction.{Reduction}
 use Rattle.map_model.specs.declared.reduction.Reduction.TheVariants.{Min, Max, Sum}
-use Rattle.session_model.specs.Commands.{Command, MakeGraph, LoadProgram, LoadImage, TakePin, RunProgram, TellHome, ListEdges}
+use Rattle.session_model.specs.Commands.{Command, MakeGraph, LoadProgram, LoadImage, TakePin, RunProgram, TellHome, Rebase, ListEdges}
 use Rattle.script_model.specs.Lexing.{number, is_name, hex, same_bytes}
 
 pub data Statement : Type 0 where
@@ -83,6 +83,10 @@ abbrev pub home_statement : List (List ℕ) → Option Statement
 home_statement (v ∷ []) = option_then (number v) (λ vertex. Some (Asks (TellHome vertex)))
 home_statement _ = None
 
+abbrev pub rebase_statement : List (List ℕ) → Option Statement
+rebase_statement [] = Some (Asks Rebase)
+rebase_statement _ = None
+
 abbrev pub list_statement : List (List ℕ) → Option Statement
 list_statement (program ∷ pin ∷ digits ∷ []) =
     under_name program (under_name pin (option_then (hex digits) (λ argument. Some (Asks (ListEdges program pin argument)))))
@@ -99,7 +103,8 @@ statement word operands =
     else (if same_bytes word (codes "program") then program_statement operands
     else (if same_bytes word (codes "home") then home_statement operands
     else (if same_bytes word (codes "list") then list_statement operands
-    else (if same_bytes word (codes "image") then image_statement operands else None))))))))
+    else (if same_bytes word (codes "image") then image_statement operands
+    else (if same_bytes word (codes "rebase") then rebase_statement operands else None)))))))))
 
 -- a block ends at a line whose only word is `end`
 abbrev pub is_end : List (List ℕ) → Bool

@@ -16,7 +16,7 @@ use Rattle.past_model.specs.declared.home.Home.{Home}
 use Rattle.past_model.specs.declared.home.Home.TheVariants.{Block, Gapped, Tree}
 use Rattle.session_model.specs.declared.fault.Fault.{Fault}
 use Rattle.session_model.specs.declared.fault.Fault.TheVariants as faults
-use Rattle.session_model.specs.Commands.{Answer, GraphMade, BatchPublished, ProgramAccepted, ProgramRefused, NoImage, PinTaken, EdgesMapped, HomeTold, EdgesListed}
+use Rattle.session_model.specs.Commands.{Answer, GraphMade, BatchPublished, ProgramAccepted, ProgramRefused, NoImage, PinTaken, EdgesMapped, HomeTold, Rebased, EdgesListed}
 use Rattle.script_model.specs.declared.line_fault.LineFault.{LineFault}
 use Rattle.script_model.specs.declared.line_fault.LineFault.TheVariants as line_faults
 
@@ -31,6 +31,7 @@ fault_number faults.ArgumentLength = 6
 fault_number faults.Frontier = 7
 fault_number faults.TooMany = 8
 fault_number faults.LogFull = 9
+fault_number faults.EpochsFull = 11
 
 abbrev pub line_fault_number : LineFault → ℕ
 line_fault_number line_faults.LongLine = 1
@@ -126,6 +127,9 @@ abbrev pub home_text : ℕ → Home → ℕ → List ℕ
 home_text v home degree =
     codes "home " ++ decimal v ++ codes " " ++ home_word home ++ codes " degree " ++ decimal degree ++ newline
 
+abbrev pub rebase_text : ℕ → ℕ → List ℕ
+rebase_text epoch edges = codes "rebase epoch " ++ decimal epoch ++ codes " edges " ++ decimal edges ++ newline
+
 -- the first line of a list
 abbrev pub list_text : List ℕ → List ℕ → ℕ → List ℕ
 list_text program pin edges =
@@ -146,6 +150,7 @@ answer_text (NoImage name error) = image_text name error
 answer_text (PinTaken name number edges) = pin_text name number edges
 answer_text (EdgesMapped program pin edges total rows) = run_text program pin edges total ++ flat_map row_text rows
 answer_text (HomeTold v home degree) = home_text v home degree
+answer_text (Rebased epoch edges) = rebase_text epoch edges
 answer_text (EdgesListed program pin edges listed) = list_text program pin edges ++ flat_map edge_text listed
 
 abbrev pub fault_text : LineFault → ℕ → List ℕ

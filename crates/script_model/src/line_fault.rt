@@ -19,7 +19,7 @@ pub enum LineFault {
 }
 
 impl LineFault {
-    /// The number that is written: 1 to 10.
+    /// The number that is written: 1 to 11.
     pub fn number(self) -> u64
         ensures { result ≡ line_fault_number self }
     {

@@ -2,18 +2,19 @@
 use Rattle.std.specs.Prelude.{◌≡◌, ◌⊎◌, Some, None, Result, Ok, Err, ⊤}
 use Rattle.past_model.specs.declared.entry.Entry.{Entry}
 use Rattle.session_model.specs.Session.{Session}
-use Rattle.session_model.specs.Commands.{Answer, BatchPublished, PinTaken, HomeTold}
+use Rattle.session_model.specs.Commands.{Answer, BatchPublished, PinTaken, HomeTold, Rebased}
 use Rattle.session_model.specs.Responses.{Response, Answers, Fails}
 use Rattle.session.specs.declared.answer.Answer.{Answer as GivenAnswer}
 use Rattle.session.specs.declared.error.CommandError.{CommandError}
 use Rattle.session.specs.declared.error.CommandError.TheVariants as errors
 use Rattle.session.specs.Kept.{answer_of}
 
--- only the store gives these answers: a batch that is published, a pin on the last version, a home in it
+-- only the store gives these answers: a batch that is published, a pin on the last version, a home in it, a rebase of it
 abbrev pub IsAskedOfStore : Answer → Type 0
 IsAskedOfStore (BatchPublished feed number gained lost) = ⊤
 IsAskedOfStore (PinTaken name number edges) = ⊤
 IsAskedOfStore (HomeTold vertex home degree) = ⊤
+IsAskedOfStore (Rebased epoch edges) = ⊤
 IsAskedOfStore answer = ⊥
 
 abbrev pub IsOfStore : Response → Type 0
@@ -24,8 +25,8 @@ IsOfStore (Fails fault) = ⊥
 abbrev pub IsAsItWas : (old new : Session) → Type 0
 IsAsItWas old new = (new ≡ old) ⊎ ((e : Entry) × (new ≡ record old { held = Some e }))
 
--- the store gave no such answer as it should: for a batch none is held, so none is for lack of memory or of a worker; for a pin
--- or a home the session is as it was
+-- the store gave no such answer as it should: for a batch none is held, so none is for lack of memory or of a worker; for a pin,
+-- a home or a rebase the session is as it was
 abbrev pub IsUnanswered : Answer → (old new : Session) → Type 0
 IsUnanswered (BatchPublished feed number gained lost) old new = new.held ≡ None
 IsUnanswered answer old new = new ≡ old

@@ -61,6 +61,11 @@ pub enum Answer<'a> {
         home: Home,
         degree: u32,
     },
+    /// A new epoch began: how many ended before it, and how many edges there are.
+    Rebased {
+        epoch: u64,
+        edges: u64,
+    },
     /// How many edges a pin has, and each of them with its number, which is run when it is asked for.
     EdgesListed {
         program: &'a [u8],

@@ -43,6 +43,8 @@ pub enum Command<'a> {
     TellHome {
         vertex: u64,
     },
+    /// The last version's graph becomes the base of a new epoch, whose log is empty.
+    Rebase,
     /// All edges of a pin, each with the number that a program exits with for it, both by their names, with the
     /// argument's bytes.
     ListEdges {

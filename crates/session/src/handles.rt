@@ -1,8 +1,10 @@
 //! All ends of one store, in one thread.
 
 ghost use Rattle.std.specs.Prelude.{◌≡◌, ◌<◌, ◌≤◌, ◌↔◌, ◌⊎◌, true, Some, IfOk, IfErr, IsErrOf};
-ghost use Rattle.past_model.specs.declared.limits.TheConstants.{MOST_BATCHES, MOST_VERTICES};
-ghost use Rattle.past_model.specs.Past.{number_of};
+ghost use Rattle.past_model.specs.declared.limits.TheConstants.{MOST_BATCHES, MOST_EPOCHS, MOST_VERTICES};
+ghost use Rattle.graph_model.specs.Graph.{edge_count};
+ghost use Rattle.past_model.specs.Past.{number_of, epoch_of, graph_of};
+ghost use Rattle.past_model.specs.Epochs.{rebased};
 ghost use Rattle.session_model.specs.Responses.{entry_of};
 ghost use Rattle.session.specs.Handles.{Publishes, new_store};
 
@@ -12,7 +14,7 @@ use std::alloc::Global;
 use std::marker::Model;
 use std::sync::Wait;
 use std::thread::Threads;
-use store::{Ends, Pin, PublishError, Receipt, Store, StoreError};
+use store::{Ends, Pin, PublishError, RebaseError, Receipt, Store, StoreError};
 use workers::{Crew, Gate};
 
 /// The ends of a store. Whoever opens one has to close it. Contracts see it as what the last version is the replay of, and
@@ -69,6 +71,13 @@ impl Handles {
         self.number
     }
 
+    /// How many epochs ended before the last version.
+    pub(crate) fn epoch(&self) -> u64
+        ensures { result ≡ epoch_of self.now.past }
+    {
+        self.epoch
+    }
+
     /// Hands a batch in by one of the feeds. `false` if there is no such feed, or the store refuses the batch.
     fn submit<R: Wait>(&mut self, rt: &R, feed: u8, batch: Batch) -> bool
         ensures { self.new ≡ self.old }
@@ -110,6 +119,31 @@ impl Handles {
             Err(PublishError::WorkerRefused) => Err(CommandError::WorkerRefused),
             Ok(None) => Err(CommandError::Store),
             Err(PublishError::LogFull) => unreachable!(),
+        }
+    }
+
+    /// Publishes the last version's graph as the base of a new epoch. How many edges it has. `Store` comes where the reader
+    /// gets no hold on the last version.
+    pub(crate) fn rebase<R: Wait>(&mut self, rt: &R) -> Result<u64, CommandError>
+        requires room { epoch_of self.old.past < MOST_EPOCHS }
+        ensures edges { IfOk result (λ edges. edges ≡ edge_count (graph_of self.old.past)) }
+        ensures rebased { IfOk result (λ _. self.new ≡ record self.old { past = rebased self.old.past }) }
+        ensures same { IfErr result (λ _. self.new ≡ self.old) }
+        ensures error { IfErr result (λ e. (e ≡ CommandError.OutOfMemory) ⊎ (e ≡ CommandError.Store)) }
+    {
+        let pin = self.pin()?;
+        let edges = pin.version().edge_count();
+        // Let go, so that the log that ends has no owner here.
+        drop(pin);
+        match self.ends.publisher.rebase(rt) {
+            Ok(receipt) => {
+                self.ends.reader.learn(&receipt);
+                self.number = receipt.number();
+                self.epoch = receipt.epoch();
+                Ok(edges)
+            }
+            Err(RebaseError::OutOfMemory) => Err(CommandError::OutOfMemory),
+            Err(RebaseError::EpochsFull) => unreachable!(),
         }
     }
 

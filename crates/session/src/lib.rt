@@ -15,6 +15,7 @@ mod listing;
 mod lists;
 mod pins;
 mod programs;
+mod rebases;
 mod runs;
 mod session;
 

@@ -53,8 +53,8 @@ impl Session {
     /// workers, their gate and the order in which threads run. Batches and runs are in pieces: a batch's are the ranges
     /// of 256 vertices that it edits, a run's are 64 places each of its frontier. Besides it answers `OutOfMemory` for
     /// lack of memory, `WorkerRefused` where a thread could not be started, of which one worker needs none, and `Store`
-    /// where its store does not answer as it should, which comes only of a command that is answered by a publication, a pin
-    /// or a home. After a fault the session is as it was, and so it is after lack of memory or of a worker, but that the batch may be
+    /// where its store does not answer as it should, which comes only of a command that is answered by a publication, a pin,
+    /// a home or a rebase. After a fault the session is as it was, and so it is after lack of memory or of a worker, but that the batch may be
     /// held: the same batch handed in again goes on with it. After `Store` of a batch none is held, and there is no use of the
     /// session but `close`.
     pub fn perform<'a, Ga: Gate, R: Threads + Wait>(
@@ -91,6 +91,7 @@ impl Session {
                 },
             ),
             Command::TellHome { vertex } => self.tell_home(vertex),
+            Command::Rebase => self.rebase(crew.rt),
             Command::ListEdges {
                 program,
                 pin,

@@ -24,6 +24,8 @@ pub data Command : Type 0 where
   RunProgram : (program pin : List ℕ) (reduction : Reduction) (argument frontier : List ℕ) → Command
   -- where the last version keeps a vertex's neighbours
   TellHome : (vertex : ℕ) → Command
+  -- the last version's graph becomes the base of a new epoch
+  Rebase : Command
   -- all edges of a pin, each with the number that a program exits with for it
   ListEdges : (program pin argument : List ℕ) → Command
 
@@ -37,5 +39,6 @@ pub data Answer : Type 0 where
   PinTaken : (name : List ℕ) (number edges : ℕ) → Answer
   EdgesMapped : (program pin : List ℕ) (edges total : ℕ) → List Row → Answer
   HomeTold : (vertex : ℕ) → Home → (degree : ℕ) → Answer
+  Rebased : (epoch edges : ℕ) → Answer
   -- how many edges there are, and then each with its number
   EdgesListed : (program pin : List ℕ) (edges : ℕ) → List ListedEdge → Answer

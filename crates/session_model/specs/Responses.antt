@@ -5,7 +5,8 @@ use Rattle.past_model.specs.declared.edit.Edit.{Edit}
 use Rattle.past_model.specs.declared.entry.Entry.{Entry}
 use Rattle.graph_model.specs.Graph.{Graph, numbers_below, edge_count, degree}
 use Rattle.past_model.specs.Edits.{added, removed}
-use Rattle.past_model.specs.Past.{Past, opening, longer, graph_of, number_of}
+use Rattle.past_model.specs.Past.{Past, opening, longer, graph_of, number_of, epoch_of}
+use Rattle.past_model.specs.Epochs.{rebased}
 use Rattle.past_model.specs.Homes.{home_of}
 use Rattle.bpf_image.specs.Program.{Program, units}
 use Rattle.bpf_image.specs.declared.image_error.ImageError.{ImageError}
@@ -19,8 +20,8 @@ use Rattle.session_model.specs.declared.fault.Fault.{Fault}
 use Rattle.session_model.specs.declared.fault.Fault.TheVariants as faults
 use Rattle.session_model.specs.Session.{Session, program_named, pin_named}
 use Rattle.session_model.specs.Images.{loaded}
-use Rattle.session_model.specs.Commands.{Command, MakeGraph, PublishBatch, LoadProgram, LoadImage, TakePin, RunProgram, TellHome, ListEdges, Answer, GraphMade, BatchPublished, ProgramAccepted, ProgramRefused, NoImage, PinTaken, EdgesMapped, HomeTold, EdgesListed}
-use Rattle.session_model.specs.Faults.{graph_fault, batch_fault, program_fault, image_fault, pin_fault, vertices_fault, home_fault, argument_fault, length_fault}
+use Rattle.session_model.specs.Commands.{Command, MakeGraph, PublishBatch, LoadProgram, LoadImage, TakePin, RunProgram, TellHome, Rebase, ListEdges, Answer, GraphMade, BatchPublished, ProgramAccepted, ProgramRefused, NoImage, PinTaken, EdgesMapped, HomeTold, Rebased, EdgesListed}
+use Rattle.session_model.specs.Faults.{graph_fault, batch_fault, program_fault, image_fault, pin_fault, vertices_fault, home_fault, rebase_fault, argument_fault, length_fault}
 
 -- an answer with the session after it, or a fault
 pub data Response : Type 0 where
@@ -127,6 +128,16 @@ abbrev pub home_response : ℕ → Session → Response
 home_response v s =
     response_with s.past faults.Order (λ past. unless_fault (home_fault v past) (Answers (home_answer v past) s))
 
+-- a new epoch: its number, and how many edges the graph has
+abbrev pub rebase_answer : Past → Answer
+rebase_answer past = Rebased (epoch_of past + 1) (edge_count (graph_of past))
+
+-- what is held still is
+abbrev pub rebase_response : Session → Response
+rebase_response s =
+    response_with s.past faults.Order (λ past.
+    unless_fault (rebase_fault past) (Answers (rebase_answer past) (record s { past = Some (rebased past) })))
+
 -- all edges of a graph with the numbers of a program: how many there are, and each
 abbrev pub list_answer : List ℕ → List ℕ → Program → Graph → List ℕ → Answer
 list_answer program pin p g argument = EdgesListed program pin (edge_count g) (listed_edges p (longest p) g argument)
@@ -153,4 +164,5 @@ response (TakePin name) s = pin_response name s
 response (RunProgram program pin reduction argument frontier) s =
     run_response program pin reduction argument frontier s
 response (TellHome v) s = home_response v s
+response Rebase s = rebase_response s
 response (ListEdges program pin argument) s = list_response program pin argument s

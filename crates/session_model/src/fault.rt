@@ -24,7 +24,10 @@ pub enum Fault {
     /// The 65,537th edit of a batch or line of a program, or a 257th program or pin.
     #[error("there are as many as there may be")]
     TooMany = 8,
-    /// A batch where 4,096 are published already.
+    /// A batch where 4,096 are published already since the last rebase.
     #[error("as many batches are published as may be")]
     LogFull = 9,
+    /// A rebase where 1,024 are published already.
+    #[error("as many rebases are published as may be")]
+    EpochsFull = 11,
 }

@@ -56,6 +56,8 @@ pub(crate) enum Statement<'a> {
     Home {
         vertex: u64,
     },
+    /// The last version's graph becomes the base of a new epoch.
+    Rebase,
     /// All edges of a pin with the numbers of a program.
     List {
         program: &'a [u8],

@@ -2,7 +2,7 @@
 
 ghost use Rattle.std.specs.Prelude.{◌≡◌, List, [], ◌∷◌, Option, Some, None, option_map, IfOk, MatchOption};
 ghost use Rattle.script_model.specs.Lexing.{words};
-ghost use Rattle.script_model.specs.Parsing.{feed_of as feed_of_word, graph_statement, batch_statement, code_statement, image_statement, program_statement, pin_statement, run_statement, home_statement, list_statement, reduction_of as reduction_word, statement as statement_of};
+ghost use Rattle.script_model.specs.Parsing.{feed_of as feed_of_word, graph_statement, batch_statement, code_statement, image_statement, program_statement, pin_statement, run_statement, home_statement, rebase_statement, list_statement, reduction_of as reduction_word, statement as statement_of};
 ghost use Rattle.script_model.specs.Execution.{is_comment as is_comment_word};
 ghost use Rattle.script.specs.Said.{said_statement, cut_statement, saying_of, said_line, cut_saying};
 ghost use Rattle.script.specs.Reading.{load_of, image_of, run_of, list_of};
@@ -244,6 +244,15 @@ fn home(operands: &[u8]) -> Option<Statement<'_>>
     Some(Statement::Home { vertex })
 }
 
+fn rebase(operands: &[u8]) -> Option<Statement<'_>>
+    ensures { option_map said_statement result ≡ option_map cut_statement (rebase_statement (words operands.now)) }
+{
+    if !has_no_word(operands) {
+        return None;
+    }
+    Some(Statement::Rebase)
+}
+
 fn list_words(operands: &[u8]) -> Option<ListWords<'_>>
     ensures { MatchOption result (list_statement (words operands.now) ≡ None)
         (λ found. list_statement (words operands.now)
@@ -314,6 +323,9 @@ fn statement<'a>(
     }
     if is_word(word, "image") {
         return image(alloc, operands);
+    }
+    if is_word(word, "rebase") {
+        return Ok(rebase(operands));
     }
     Ok(None)
 }
