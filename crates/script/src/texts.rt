@@ -184,13 +184,22 @@ pub(crate) fn put_pin(
     put(text, b"\n")
 }
 
+/// The epoch that began, at the end of the line of a rebase.
+fn put_epoch(text: &mut Vec<u8>, epoch: u64, edges: u64) -> Result<(), AllocError>
+    ensures { OnOk result (text.new.items ≡ text.old.items
+        ++ (codes " epoch " ++ (decimal epoch ++ (codes " edges " ++ (decimal edges ++ newline))))) }
+{
+    put_field(text, b" epoch ", epoch)?;
+    put_field(text, b" edges ", edges)?;
+    put(text, b"\n")
+}
+
 /// The line of a rebase.
 pub(crate) fn put_rebase(text: &mut Vec<u8>, epoch: u64, edges: u64) -> Result<(), AllocError>
     ensures { OnOk result (text.new.items ≡ text.old.items ++ rebase_text epoch edges) }
 {
-    put_field(text, b"rebase epoch ", epoch)?;
-    put_field(text, b" edges ", edges)?;
-    put(text, b"\n")
+    put(text, b"rebase")?;
+    put_epoch(text, epoch, edges)
 }
 
 /// The first line of a run.

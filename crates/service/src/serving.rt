@@ -203,7 +203,7 @@ impl Serving {
 /// executed once all of it was read, and one without end is a fault once it is too long. Batches and runs are done by workers, and neither their number, nor their gate, nor the order
 /// in which threads run changes what is written; a piece of a batch is a range of 256 vertices, one of a run 64 places
 /// of its frontier. `WorkerRefused` comes where a thread could not be started; one worker needs none. `Store` comes only
-/// at a line whose answer the store alone gives: the end of a batch, a pin or a home.
+/// at a line whose answer the store alone gives: the end of a batch, a pin, a home or a rebase.
 pub fn serve<I: Input, O: Output, Ga: Gate, R: Threads + Wait>(
     input: &mut I,
     output: &mut O,
