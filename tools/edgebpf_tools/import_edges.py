@@ -9,6 +9,8 @@ from edgebpf_tools.refusal import Refusal
 
 MOST_VERTICES = 1_048_576
 MOST_EDITS = 65_536
+# So many batches at most go by without a rebase; a log has room for 4,096.
+MOST_BATCHES = 4_000
 # So many bits hold a vertex.
 VERTEX_BITS = 20
 
@@ -29,6 +31,8 @@ def arguments(words):
     parser.add_argument("--undirected", action="store_true", help="each edge also leads back")
     parser.add_argument("--rectangular", choices=["same", "apart"], help="of a matrix with another number of columns than rows: row K "
                         "and column K are one vertex, or columns are vertices after those of the rows")
+    parser.add_argument("--rebase", action="store_true", help="end with a rebase, so that no memory is kept for the batches: 12 bytes an "
+                        "edge. After 4,000 batches there is one without this too")
     parser.add_argument("--quiet", action="store_true", help="no progress on standard error, only warnings")
     return parser.parse_args(words)
 
@@ -100,13 +104,17 @@ def sorted_edges(sources, targets, is_symmetric):
     return edges[is_first]
 
 
-def write_script(count, edges, out):
+def write_script(count, edges, out, ends_with_rebase):
     """Writes the graph and its batches as bytes; answers how many batches."""
     out.write(b"graph %d\n" % count)
     starts = range(0, len(edges), MOST_EDITS)
-    for start in starts:
+    for number, start in enumerate(starts):
+        if number and number % MOST_BATCHES == 0:
+            out.write(b"rebase\n")
         part = edges[start : start + MOST_EDITS]
         out.write(b"batch A\n" + decimals.edits(part >> VERTEX_BITS, part & (MOST_VERTICES - 1)) + b"end\n")
+    if ends_with_rebase:
+        out.write(b"rebase\n")
     return len(starts)
 
 
@@ -142,7 +150,7 @@ def perform(words):
     with contextlib.ExitStack() as stack:
         if numbering.ids is not None:
             numbering.write_table(stack.enter_context(owned.whole_file(table)))
-        batches = write_script(numbering.count, edges, sys.stdout.buffer)
+        batches = write_script(numbering.count, edges, sys.stdout.buffer, options.rebase)
         sys.stdout.flush()
     if not options.quiet:
         if numbering.ids is not None:

@@ -77,8 +77,8 @@ class Cutter:
             if vertex < MOST_VERTICES:
                 self.is_source[vertex] = True
             return part_of(vertex, self.count)
-        if words and words[0] not in ("graph", "batch", "end") and not words[0].startswith("#"):
-            raise Refusal(f"line {self.line + place + 1}: `{words[0][:40]}` makes no graph; here are only graph, batches and comments")
+        if words and words[0] not in ("graph", "batch", "end", "rebase") and not words[0].startswith("#"):
+            raise Refusal(f"line {self.line + place + 1}: `{words[0][:40]}` makes no graph; here are only graph, batches, rebases and comments")
         self.is_made = self.is_made or words[:1] == ["graph"]
         return EVERY
 

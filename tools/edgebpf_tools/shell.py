@@ -19,7 +19,9 @@ TOOLS = pathlib.Path(__file__).resolve().parent.parent
 DOTS = {
     ".help": ".help [COMMAND]: what there is, or how a command goes; also help and ?",
     ".import": ".import FILE: makes the graph of a file of edges, by edgebpf-import",
-    ".load": ".load FILE.c [FUNCTION] LENGTH: compiles a function, by edgebpf-c, and sends its code line",
+    ".load": ".load FILE.c [FUNCTION] LENGTH: compiles a function, by edgebpf-c, and sends its line",
+    ".image": ".image NAME FILE: sends the image in a file, which begins with BPE1 or BPE2",
+    ".compact": ".compact: forgets all batches, by a rebase; the graph and pins stay",
     ".explain": ".explain NAME: what is known at each place of a program that was sent, and why it is refused, by edgebpf-explain",
     ".read": ".read FILE: takes the lines of a script",
     ".script": ".script: all lines that were sent",
@@ -35,6 +37,14 @@ PLAIN = {"help": ".help", "?": ".help", "quit": ".quit", "exit": ".quit"}
 # How many bytes of lines are read at a time, where there are so many.
 BLOCK = 1 << 20
 NOTE = b"\n(edgebpf is at work: its answer will be dropped, and its graph stays. Ctrl-\\ ends the session.)\n"
+
+
+def parts_of(image):
+    """The length of records, the code and the table in an image's bytes, as `_program` tells them."""
+    length, units = (int.from_bytes(image[place : place + 2], "little") for place in (4, 6))
+    front = 10 if image[:4] == b"BPE2" else 8
+    end = front + 8 * units
+    return str(length), image[front:end].hex(), None, image[end:].hex() or None
 
 
 class Shell:
@@ -162,21 +172,32 @@ class Shell:
         self._wants(words, len(words) in (3, 4))
         self._companion("edgebpf-c", *words[1:])
 
+    def _image(self, words):
+        self._wants(words, len(words) == 3)
+        self.command(f"image {words[1]} {pathlib.Path(words[2]).read_bytes().hex() or '-'}")
+
+    def _compact(self, words):
+        self._wants(words, len(words) == 1)
+        self.command("rebase")
+
     def _program(self, name):
-        """The length of a program's records, its code and its text, of which one is None: the last that was sent by this name."""
+        """The length of a program's records, its code or its text, the other of which is None, and its table: the last that was sent by
+        this name."""
         for number in range(len(self.sent) - 1, -1, -1):
             words = self.sent[number].split()
             if words[:2] == ["code", name]:
-                return words[2], words[3].replace("-", ""), None
+                return words[2], words[3].replace("-", ""), None, None
+            if words[:2] == ["image", name]:
+                return parts_of(bytes.fromhex(words[2].replace("-", "")))
             if words[:2] == ["program", name]:
                 end = next(at for at in range(number, len(self.sent)) if self.sent[at].split() == ["end"])
-                return words[2], None, "\n".join(self.sent[number + 1 : end]) + "\n"
+                return words[2], None, "\n".join(self.sent[number + 1 : end]) + "\n", None
         raise Complaint("no program of this name was sent", 1)
 
     def _explain(self, words):
         self._wants(words, len(words) == 2)
-        length, code, text = self._program(words[1])
-        told, _ = explain.explain(length, code, text)
+        length, code, text, table = self._program(words[1])
+        told, _ = explain.explain(length, code, text, table=table)
         self.say(told.rstrip("\n") or "there is nothing to explain")
 
     def _read(self, words):

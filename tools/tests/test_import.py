@@ -1,8 +1,10 @@
 """edgebpf-import: the formats that it reads, the scripts that it writes, and its errors."""
 import importlib.util
+import io
 import pathlib
 import tempfile
 import unittest
+import unittest.mock
 
 from tools_here import run_tool
 
@@ -23,6 +25,18 @@ class EdgebpfImport(unittest.TestCase):
         for text in ("1 2\n0 2\n0 1\n", "# a\n# b\n0\t1\r\n0\t2\r\n1\t2\r\n", "0 1 9.5\n0 2 x\n\n1 2", "0 1\n0 1\n0 2\n1 2\n"):
             self.assertEqual(self.made(text).stdout, FIRST)
         self.assertEqual(self.made("1 2\n1 3\n2 3\n", "--base", "1").stdout, FIRST)
+
+    def test_rebases(self):
+        """One at the end if it is asked for, and one before a log is full."""
+        self.assertEqual(self.made("1 2\n0 2\n0 1\n", "--rebase").stdout, FIRST + "rebase\n")
+        import numpy
+        from edgebpf_tools import import_edges
+
+        out = io.BytesIO()
+        with unittest.mock.patch.multiple(import_edges, MOST_EDITS=1, MOST_BATCHES=2):
+            self.assertEqual(import_edges.write_script(4, numpy.array([1, 2, 3]), out, False), 3)
+        batches = [f"batch A\n+ 0 {target}\nend\n" for target in (1, 2, 3)]
+        self.assertEqual(out.getvalue().decode(), "graph 4\n" + batches[0] + batches[1] + "rebase\n" + batches[2])
 
     def test_matrix_market(self):
         head = "%%MatrixMarket matrix coordinate real "

@@ -83,6 +83,16 @@ class EdgebpfShell(unittest.TestCase):
         self.assertIn("image e error 4\nthe code is not 1 to 4,096 whole units", said)
         self.assertIn("assembler p error 1 line 1\nline 1 of the program: it is no statement", said)
 
+    def test_images_and_epochs(self):
+        """An image from a file is sent and explained with its table; `.compact` begins an epoch, and batches count from 1 again."""
+        image = self.folder / "image"
+        image.write_bytes(bytes.fromhex("425045321000020004006130000000000000" + "9500000000000000" + "0a000000"))
+        said = self.said(f"{BEGUN}.image t {image}\nrun t a sum -\n.compact\nbatch B\n+ 3 0\nend\n.image t {image}\n", status=1)
+        runs = "program t bound 2 frames 1\nrun t a edges 3 total 30\nrow 0 20\nrow 1 10\n"
+        self.assertIn(f"{runs}rebase epoch 1 edges 3\nbatch B version 1 added 1 removed 0\n", said)
+        self.assertIn("a program has this name", said)
+        self.assertIn("image e error 2\nthe image has more or fewer bytes", self.said(BEGUN + "image e 42504531\n"))
+
     def test_greatest_rows(self):
         said = self.said(BEGUN + TARGET + ".top 1\nrun t a sum -\n")
         self.assertTrue(said.endswith("total 5\nrow 0 3\n.. the greatest 1 of 2 rows (.top 0 shows all)\n"), said)
