@@ -94,7 +94,7 @@ def foreign() -> Any:
 def load() -> Any:
     """The library, whose calls are its attributes."""
     if cffi is None:
-        raise Error("the Python package cffi is not there: install it, or use edgebpf.connect")
+        raise Error("the Python package cffi is not there: apt-get install python3-cffi, or use edgebpf.connect")
     found = path()
     if found is None:
         raise Error(f"{NAME} is not there: install edgebpf, or run make -C dist in a checkout, or name the library by EDGEBPF_LIBRARY")
