@@ -79,7 +79,7 @@ pub(crate) fn run_events(alloc: Global) -> Result<(), Stop> {
         return Err(Stop::NotRun);
     };
     let degree = cursors::degree(shard_of(shards(&world), 300), 300);
-    let is_right = degree == 1 && replies.len() == 8 && replies[7] == Reply::End;
+    let is_right = degree == 1 && replies.len() == 9 && replies[8] == Reply::End;
     if is_right { Ok(()) } else { Err(Stop::Wrong) }
 }
 
