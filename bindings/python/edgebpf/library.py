@@ -91,6 +91,17 @@ def foreign() -> Any:
 
 
 @functools.cache
+def kind(name: str) -> Any:
+    """A C type by its name."""
+    return foreign().typeof(name)
+
+
+def new(name: str) -> Any:
+    """A value of a C type, all of whose bytes are 0."""
+    return foreign().new(kind(name))
+
+
+@functools.cache
 def load() -> Any:
     """The library, whose calls are its attributes."""
     if cffi is None:
@@ -115,9 +126,9 @@ class Handle:
 
     def __init__(self) -> None:
         library = load()
-        self.at, self.lock = foreign().gc(foreign().new("handle *"), library.edgebpf_close), threading.Lock()
+        self.at, self.lock = foreign().gc(new("handle *"), library.edgebpf_close), threading.Lock()
 
 
-def numbers(kind: str, values: npt.NDArray[Any]) -> tuple[Any, int]:
-    """A numpy array as the library wants it: where it lies, and how many values it has. `kind` is the C type of one."""
-    return foreign().from_buffer(f"{kind}[]", values), len(values)
+def numbers(of: str, values: npt.NDArray[Any]) -> tuple[Any, int]:
+    """A numpy array as the library wants it: where it lies, and how many values it has. `of` is the C type of one."""
+    return foreign().from_buffer(kind(f"{of}[]"), values), len(values)

@@ -4,6 +4,7 @@ from __future__ import annotations
 import ctypes
 import threading
 from collections.abc import Callable
+from operator import index
 from typing import Any
 
 import numpy as np
@@ -85,7 +86,7 @@ class Store:
         """
         if feed not in FEEDS:
             raise ValueError("a feed is A, B, C or D")
-        handle, change = self._open(), library.foreign().new("change *")
+        handle, change = self._open(), library.new("change *")
         new, old = edges_of(inserts, self.vertices), edges_of(removes, self.vertices)
         sources, targets = joined(new[0], old[0]), joined(new[1], old[1])
         if len(sources) > MOST_EDITS:
@@ -120,10 +121,12 @@ class Version:
     is closed, or with the last view of it."""
 
     def __init__(self, handle: library.Handle) -> None:
-        info = library.foreign().new("info *")
+        info = library.new("info *")
         self._handle: library.Handle | None = handle
         self._csr: tuple[npt.NDArray[np.int64], Vertices] | None = None
-        self._lend, self._room = library.load().edgebpf_version_lend, Room(LEAST_ROOM)
+        self._lend = library.load().edgebpf_version_lend
+        # Made at the first question for a vertex's targets.
+        self._room: Room | None = None
         self._memory: memoryview | None = None
         library.check(library.load().edgebpf_version_info(handle.at, info))
         self.number, self.vertices, self.edges = info.number, info.vertices, info.edges
@@ -141,7 +144,7 @@ class Version:
         reduction: "sum" (modulo 2^64), "min" or "max". frontier: an ascending array of vertices, or None for all.
         argument: as many bytes as the program's record has beyond 16.
         """
-        number, totals = NUMBERS[reduction], library.foreign().new("totals *")
+        number, totals = NUMBERS[reduction], library.new("totals *")
         chosen = np.arange(self.vertices, dtype=np.uint32) if frontier is None else vertices_of(frontier, self.vertices)
         if np.any(chosen[1:] <= chosen[:-1]):
             raise ValueError("a frontier ascends, and has no vertex twice")
@@ -175,12 +178,13 @@ class Version:
             raise VertexRange(f"a vertex is not below {self.vertices}")
         handle = self._open()
         with handle.lock:
+            room = self._room or Room(LEAST_ROOM)
             while True:
-                room = self._room
+                self._room = room
                 library.check(self._lend(handle.at, vertex, room.slices, room.count, room.lent))
                 if room.lent[0] < room.count:
                     return [self._view(handle, room.slices[place]) for place in range(room.lent[0])]
-                self._room = Room(4 * room.count)
+                room = Room(4 * room.count)
 
     def _view(self, handle: library.Handle, one: Any) -> Vertices:
         """The array of a slice."""
@@ -190,14 +194,16 @@ class Version:
 
     def neighbours(self, vertex: int) -> Vertices:
         """The targets of a vertex, ascending, as a read-only uint32 array: a view where they lie in one slice, else a copy."""
-        handle, room = self._handle, self._room
-        if handle is not None and 0 <= vertex < self.vertices:
+        vertex, handle, room = index(vertex), self._handle, self._room
+        if handle is not None and room is not None and 0 <= vertex < self.vertices:
             # Most lists lie in one slice.
             with handle.lock:
                 library.check(self._lend(handle.at, vertex, room.slices, room.count, room.lent))
                 if room.lent[0] == 1:
                     return self._view(handle, room.slices[0])
         slices = self.slices(vertex)
+        if len(slices) == 1:
+            return slices[0]
         whole = np.concatenate(slices) if slices else np.empty(0, np.uint32)
         whole.flags.writeable = False
         return whole

@@ -68,7 +68,7 @@ class Program:
 
     def _verify(self) -> library.Handle:
         """Verifies the program by the library, and returns its handle."""
-        code, verdict = self._bytes(), library.foreign().new("verdict *")
+        code, verdict = self._bytes(), library.new("verdict *")
         handle = library.Handle()
         status = library.load().edgebpf_program_new(self.record, code, len(code), verdict, handle.at)
         if status == library.REFUSED:
@@ -81,7 +81,7 @@ class Program:
         """The code, by the library's assembler where the program is a text."""
         if self.code is not None:
             return self.code
-        told, text = library.foreign().new("assembled *"), (self.text or "").encode()
+        told, text = library.new("assembled *"), (self.text or "").encode()
         code = library.foreign().new("uint8_t[]", 8 * MOST_UNITS)
         status = library.load().edgebpf_assemble(text, len(text), code, len(code), told)
         if status == library.WRONG_TEXT:
