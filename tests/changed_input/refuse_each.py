@@ -79,6 +79,15 @@ def ranges():
     return "".join(f"{line}\n" for line in [*lines, "pin b", "run t a sum -", "run t b min - 0 9 263", "list t a -"]).encode()
 
 
+def epochs():
+    """Two rebases between batches of three feeds, pins from before and after them, and runs of an image with a table."""
+    edits = [f"+ {256 * place} {place}" for place in range(5)]
+    image = "image w 42504532100002000400" + "6130000000000000" + "9500000000000000" + "0a000000"
+    lines = ["graph 1280", "batch C", *edits, "end", "pin a", "rebase", "pin b", "batch D", "- 0 0", "+ 256 9", "end", image, TARGET]
+    lines += ["run w a sum -", "rebase", "batch B", "+ 1 1", "+ 700 2", "end", "pin c", "run t c sum -", "list w c -", "list t a -"]
+    return "".join(f"{line}\n" for line in lines).encode()
+
+
 def run(program, shim, refused, given, words, told):
     room = {**os.environ, "LD_PRELOAD": shim, "REFUSED": str(refused), "TOLD": told}
     return subprocess.run([program, *words], input=given, capture_output=True, env=room)
@@ -146,7 +155,7 @@ def main():
             missing = [line for line in asked.says if line not in kinds]
             print(*[f"{line}: never said" for line in missing], sep="\n", end="\n" if missing else "")
             sys.exit(1 if wrong or missing else 0)
-        own = {"homes": homes(), "ranges": ranges()}
+        own = {"homes": homes(), "ranges": ranges(), "epochs": epochs()}
         first = os.path.join(os.path.dirname(os.path.abspath(__file__)), "../../examples/first.script")
         for path in asked.scripts or [first]:
             own[os.path.basename(path)] = open(path, "rb").read()
