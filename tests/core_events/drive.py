@@ -14,9 +14,18 @@ import tempfile
 
 HERE = os.path.dirname(os.path.abspath(__file__))
 TOP = os.path.dirname(os.path.dirname(HERE))
-BELOW = ["graph_model", "past_model", "history", "migration", "cursors", "store_model", "stream_core"]
+USED = ["cursors", "migration", "past_model", "stream_core"]
 EVENTS = 100_000
 FEEDS = 4
+
+
+def crates_below(rows, names):
+    """These crates of the repository and all that they stand on, by the lines of crates.txt."""
+    found = set()
+    for name in names:
+        if name in rows:
+            found |= {name} | crates_below(rows, rows[name].split(":")[1].split())
+    return found
 
 
 class Model:
@@ -150,10 +159,11 @@ def replies_of(lines):
     with tempfile.TemporaryDirectory() as folder:
         os.mkdir(f"{folder}/crates")
         with open(f"{TOP}/crates.txt") as listed:
-            rows = [row for row in listed if row.split(":")[0] in BELOW]
+            rows = {row.split(":")[0]: row for row in listed if ":" in row}
+        below = crates_below(rows, USED)
         with open(f"{folder}/crates.txt", "w") as out:
-            out.writelines(rows + ["driver: cursors migration past_model stream_core\n"])
-        for name in BELOW:
+            out.writelines([row for name, row in rows.items() if name in below] + [f"driver: {' '.join(USED)}\n"])
+        for name in below:
             shutil.copytree(f"{TOP}/crates/{name}", f"{folder}/crates/{name}", ignore=shutil.ignore_patterns("out"))
         os.makedirs(f"{folder}/crates/driver/src")
         shutil.copyfile(f"{HERE}/driver.rattle", f"{folder}/crates/driver/src/main.rt")
