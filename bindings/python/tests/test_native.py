@@ -11,7 +11,7 @@ from test_package import TARGET, edgebpf, np
 
 
 @unittest.skipIf(np is None, "not there: numpy")
-@unittest.skipIf(np is not None and edgebpf.library.path() is None, "not there: libedgebpf.so, which make -C dist makes")
+@unittest.skipIf(np is not None and edgebpf.library.path() is None, "not there: cffi, or libedgebpf.so, which make -C dist makes")
 class Native(test_package.Package):
     # These are of a process, or of the package as it lies on disk.
     test_ended = test_cookbook = test_from_c = test_installed = None
