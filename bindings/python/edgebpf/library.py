@@ -1,4 +1,4 @@
-"""The library `libedgebpf.so` by cffi. A call lets go of the interpreter's lock, and takes the lock of each handle that it is given."""
+"""The library `libedgebpf.so` by cffi. A call releases the interpreter's lock, and takes the lock of each handle that it is given."""
 from __future__ import annotations
 
 import ctypes.util
