@@ -146,7 +146,12 @@ class Explain(unittest.TestCase):
 class RealRefusals(unittest.TestCase):
     def test_of_code_and_of_text(self):
         """A load across the record's end, as docs/BPF.md has it for cause 11."""
-        for words, text, place in ((["61100d00000000009500000000000000"], None, "0"), ([], "ldxw r0, [r1+13]\nexit\n", "0, line 1")):
+        source = "ldxw r0, [r1+13]\nexit\n"
+        for words, text, place in (
+            (["61100d00000000009500000000000000"], None, "0"),
+            ([], source, "0, line 1"),
+            ([], "; a comment\n" * 299 + source, "0, line 300"),
+        ):
             run = run_tool("edgebpf-explain", "16", *words, text=text)
             self.assertEqual((run.stderr, run.returncode), ("", 1))
             self.assertIn(f"\nrefused at {place}: ldxw r0, [r1+13]\nrule 11: ", run.stdout)
