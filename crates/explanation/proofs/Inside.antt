@@ -3,11 +3,11 @@ use Rattle.std.proofs.Common.{◌≡◌, ℕ, zero, suc, ◌<◌, Option, Some, 
 use Rattle.std.specs.Prelude.{◌⊎◌, nat_lt}
 use Rattle.bpf_image.specs.Program.{Program, units}
 use Rattle.bpf_model.specs.declared.cause.Cause.{Cause}
-use Rattle.bpf_model.specs.declared.cause.Cause.TheVariants.{TooDeep, TooLong}
+use Rattle.bpf_model.specs.declared.cause.Cause.TheVariants.{TooDeep, TooLong, TooManyPairs}
 use Rattle.bpf_model.specs.State.{most_frames}
 use Rattle.verifier.specs.declared.refusal.Refusal.{Refusal}
-use Rattle.verifier.specs.Walks.{longest, deepest}
-use Rattle.verifier.specs.Verdict.{first_fault, fault_after, decoding_fault, flow_fault, frames_fault, length_fault, rule_fault, Verdict, unless_refused, verdict, most_counted, Accepted, Refused}
+use Rattle.verifier.specs.Walks.{longest, deepest, pairs}
+use Rattle.verifier.specs.Verdict.{first_fault, fault_after, decoding_fault, flow_fault, frames_fault, length_fault, pairs_fault, rule_fault, Verdict, unless_refused, verdict, most_counted, most_pairs, Accepted, Refused}
 
 -- where the first fault is, if it is not before
 after_inside : (before : Option Refusal) (cause : Option Cause) (n : ℕ) (r : Refusal) → fault_after before cause n ≡ Some r → (before ≡ Some r → r.pc < n) → r.pc < suc n
@@ -45,14 +45,24 @@ inside_by_rules p r h =
       | inr none ↦ absurd (let e : Accepted (longest p) (deepest p) ≡ Refused r = none in cc)
     ]
 
+abbrev by_pairs : Program → Verdict
+by_pairs p = unless_refused (pairs_fault p) (by_rules p)
+
+inside_by_pairs : (p : Program) (r : Refusal) → 0 < units p → by_pairs p ≡ Refused r → r.pc < units p
+inside_by_pairs p r some h =
+    elim (refused_by (pairs_fault p) (by_rules p) r h) [
+      | inl found ↦ whole_inside (nat_lt most_pairs (pairs p)) TooManyPairs r (units p) some found
+      | inr next ↦ inside_by_rules p r next
+    ]
+
 abbrev by_length : Program → Verdict
-by_length p = unless_refused (length_fault p) (by_rules p)
+by_length p = unless_refused (length_fault p) (by_pairs p)
 
 inside_by_length : (p : Program) (r : Refusal) → 0 < units p → by_length p ≡ Refused r → r.pc < units p
 inside_by_length p r some h =
-    elim (refused_by (length_fault p) (by_rules p) r h) [
+    elim (refused_by (length_fault p) (by_pairs p) r h) [
       | inl found ↦ whole_inside (nat_lt most_counted (longest p)) TooLong r (units p) some found
-      | inr next ↦ inside_by_rules p r next
+      | inr next ↦ inside_by_pairs p r some next
     ]
 
 abbrev by_frames : Program → Verdict

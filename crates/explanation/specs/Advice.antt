@@ -16,7 +16,7 @@ use Rattle.abstract_values.specs.declared.value.AbstractValue.TheVariants.{Unset
 use Rattle.abstract_state.specs.declared.state.AbstractState.{AbstractState}
 use Rattle.abstract_state.specs.States.{register, entry_state}
 use Rattle.explanation.specs.declared.advice.Advice.{Advice}
-use Rattle.explanation.specs.declared.advice.Advice.TheVariants.{KnownInstructions, LandInside, Unroll, ForwardCalls, EndFunctions, FewerFrames, ShorterRuns, SetRegister, SetResult, CopyFrameRegister, SwapOperands, MoveByConstants, MovePointers, CompareNumbers, NoTables, SpillWhole, TestFirst, KnowTheReach, SetBytes, HelperArguments, KnownHelpers, AnswerNumber, MoreMemory, WriteElsewhere}
+use Rattle.explanation.specs.declared.advice.Advice.TheVariants.{KnownInstructions, LandInside, Unroll, ForwardCalls, EndFunctions, FewerFrames, ShorterRuns, SetRegister, SetResult, CopyFrameRegister, SwapOperands, MoveByConstants, MovePointers, CompareNumbers, NoTables, SpillWhole, TestFirst, KnowTheReach, SetBytes, HelperArguments, KnownHelpers, AnswerNumber, MoreMemory, WriteElsewhere, FewerCalls}
 
 -- a register is read that is not set
 abbrev pub unset_advice : Instruction → Advice
@@ -95,6 +95,7 @@ advice_at causes.UnknownHelper i s = KnownHelpers
 advice_at causes.ResultNotNumber i s = AnswerNumber
 advice_at causes.OutOfMemory i s = MoreMemory
 advice_at causes.ReadOnly i s = WriteElsewhere
+advice_at causes.TooManyPairs i s = FewerCalls
 
 -- where no instruction stands, or nothing is known before it, an exit and the entry serve: no rule of values asks then
 abbrev pub advice_for : Cause → Option Instruction → Option AbstractState → Advice

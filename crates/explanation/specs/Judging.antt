@@ -24,6 +24,7 @@ judges_values causes.UnknownHelper = true
 judges_values causes.ResultNotNumber = true
 judges_values causes.OutOfMemory = false
 judges_values causes.ReadOnly = true
+judges_values causes.TooManyPairs = false
 
 -- what is known is told of all pcs of an accepted program, and of those up to the one that breaks a rule of values
 abbrev pub is_told : Judgement → ℕ → Bool
@@ -34,6 +35,7 @@ is_told (Refused r) pc = judges_values r.cause && nat_le pc r.pc
 abbrev pub is_of_the_whole : Cause → Bool
 is_of_the_whole causes.TooDeep = true
 is_of_the_whole causes.TooLong = true
+is_of_the_whole causes.TooManyPairs = true
 is_of_the_whole _ = false
 
 -- a refusal stands inside a code of so many units

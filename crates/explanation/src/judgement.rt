@@ -26,6 +26,7 @@ pub(crate) fn judges_values(cause: Cause) -> bool
         | Cause::FallsOff
         | Cause::TooDeep
         | Cause::TooLong
+        | Cause::TooManyPairs
         | Cause::OutOfMemory => false,
         Cause::UnsetRegister
         | Cause::FrameRegister
@@ -43,7 +44,10 @@ pub(crate) fn judges_values(cause: Cause) -> bool
 pub(crate) fn is_of_the_whole(cause: Cause) -> bool
     ensures { result ≡ is_of_the_whole_of cause }
 {
-    matches!(cause, Cause::TooDeep | Cause::TooLong)
+    matches!(
+        cause,
+        Cause::TooDeep | Cause::TooLong | Cause::TooManyPairs
+    )
 }
 
 impl Judgement {

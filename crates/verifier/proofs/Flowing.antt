@@ -86,7 +86,7 @@ both_none : (a b : Option Cause) → option_or a b ≡ None → (a ≡ None) × 
 both_none None b h = (refl, h)
 both_none (Some c) b h = absurd cc
 
-one_ahead : (p : Program) (pc : ℕ) (z x : ℤ) → Ahead p pc x → IsOneOf z (x ∷ []) → Ahead p pc z
+pub one_ahead : (p : Program) (pc : ℕ) (z x : ℤ) → Ahead p pc x → IsOneOf z (x ∷ []) → Ahead p pc z
 one_ahead p pc z x h m = elim m [ inl same ↦ rw same h | inr none ↦ absurd none ]
 
 two_ahead : (p : Program) (pc : ℕ) (z x y : ℤ) → Ahead p pc x → Ahead p pc y → IsOneOf z (x ∷ y ∷ []) → Ahead p pc z
