@@ -441,6 +441,15 @@ def test_flow(instructions, units_of_code):
             raise Refused(FALLS_OFF, pc)
 
 
+def functions_of(instructions):
+    """The instructions of each function by its entry, ascending."""
+    functions, entry = {entry: {} for entry in function_entries(instructions)}, 0
+    for pc, found in instructions.items():
+        entry = pc if pc in functions else entry
+        functions[entry][pc] = found
+    return functions
+
+
 def pairs_of(functions):
     """For each function its instructions, and once more those of each function that it calls, for each call of it."""
     pairs = {}
@@ -553,11 +562,7 @@ def verify(code, record_length, table=b""):
         raise Refused(TOO_DEEP, 0)
     if counts[0] > MOST_COUNTED:
         raise Refused(TOO_LONG, 0)
-    functions = {entry: {} for entry in function_entries(instructions)}
-    entry = 0
-    for pc, found in instructions.items():
-        entry = pc if pc in functions else entry
-        functions[entry][pc] = found
+    functions = functions_of(instructions)
     if pairs_of(functions)[0] > MOST_PAIRS:
         raise Refused(TOO_MANY_PAIRS, 0)
     passing = Passing(functions, record_length, table)

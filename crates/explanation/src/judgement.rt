@@ -44,10 +44,7 @@ pub(crate) fn judges_values(cause: Cause) -> bool
 pub(crate) fn is_of_the_whole(cause: Cause) -> bool
     ensures { result ≡ is_of_the_whole_of cause }
 {
-    matches!(
-        cause,
-        Cause::TooDeep | Cause::TooLong | Cause::TooManyPairs
-    )
+    matches!(cause, Cause::TooDeep | Cause::TooLong | Cause::TooManyPairs)
 }
 
 impl Judgement {
