@@ -13,8 +13,7 @@ use Rattle.bpf_model.specs.declared.cause.Cause.{Cause}
 use Rattle.bpf_model.specs.declared.cause.Cause.TheVariants as causes
 use Rattle.abstract_values.specs.declared.value.AbstractValue.{AbstractValue}
 use Rattle.abstract_values.specs.declared.value.AbstractValue.TheVariants.{Unset, Number, Record, Stack, Table}
-use Rattle.abstract_state.specs.declared.state.AbstractState.{AbstractState}
-use Rattle.abstract_state.specs.States.{register, entry_state}
+use Rattle.abstract_state.specs.States.{AbstractState, register, entry_state}
 use Rattle.explanation.specs.declared.advice.Advice.{Advice}
 use Rattle.explanation.specs.declared.advice.Advice.TheVariants.{KnownInstructions, LandInside, Unroll, ForwardCalls, EndFunctions, FewerFrames, ShorterRuns, SetRegister, SetResult, CopyFrameRegister, SwapOperands, MoveByConstants, MovePointers, CompareNumbers, NoTables, SpillWhole, TestFirst, KnowTheReach, SetBytes, HelperArguments, KnownHelpers, AnswerNumber, MoreMemory, WriteElsewhere, FewerCalls}
 
@@ -26,14 +25,14 @@ unset_advice _ = SetRegister
 -- something is added to a value in 64 bits
 abbrev pub sum_advice : (left : AbstractValue) → Advice
 sum_advice (Number lo hi) = SwapOperands
-sum_advice (Stack offset) = MoveByConstants
+sum_advice (Stack frame offset) = MoveByConstants
 sum_advice (Record lo hi) = MovePointers
 sum_advice (Table lo hi) = MovePointers
 sum_advice Unset = MovePointers
 
 -- something is taken from a value in 64 bits
 abbrev pub difference_advice : (left : AbstractValue) → Advice
-difference_advice (Stack offset) = MoveByConstants
+difference_advice (Stack frame offset) = MoveByConstants
 difference_advice _ = MovePointers
 
 abbrev pub alu_advice : Width → Operation → (left : AbstractValue) → Advice

@@ -48,13 +48,13 @@ pub(crate) fn is_of_the_whole(cause: Cause) -> bool
 }
 
 impl Judgement {
-    /// Whether it is told what is known at a pc.
-    pub(crate) fn tells(self, pc: usize) -> bool
-        ensures { result ≡ is_told self pc }
+    /// Whether it is told what is known at the pcs.
+    pub(crate) fn tells(self) -> bool
+        ensures { result ≡ is_told self }
     {
         match self {
             Judgement::Accepted { .. } => true,
-            Judgement::Refused(refusal) => judges_values(refusal.cause) && pc <= refusal.pc,
+            Judgement::Refused(refusal) => judges_values(refusal.cause),
         }
     }
 }
