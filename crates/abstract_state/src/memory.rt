@@ -98,12 +98,10 @@ pub fn load(
         AbstractValue::Record { lo, hi } => {
             load_outside_frame(lengths.record_length, lo, hi, offset, bytes)
         }
-        AbstractValue::Stack { frame, offset: top } => load_stack(
-            state,
-            frame,
-            i32::from(top) + i32::from(offset),
-            bytes,
-        ),
+        AbstractValue::Stack { frame, offset: top } => {
+            let place = i32::from(top) + i32::from(offset);
+            load_stack(state, frame, place, bytes)
+        }
         AbstractValue::Table { lo, hi } => {
             load_outside_frame(lengths.table_length, lo, hi, offset, bytes)
         }
@@ -263,13 +261,10 @@ pub fn store(
                 Err(Cause::OutOfRange)
             }
         }
-        AbstractValue::Stack { frame, offset: top } => store_stack(
-            state,
-            frame,
-            i32::from(top) + i32::from(offset),
-            bytes,
-            value,
-        ),
+        AbstractValue::Stack { frame, offset: top } => {
+            let place = i32::from(top) + i32::from(offset);
+            store_stack(state, frame, place, bytes, value)
+        }
         AbstractValue::Table { lo, hi } => {
             if is_address(value) {
                 return Err(Cause::PointerUse);
