@@ -20,10 +20,13 @@ pub mod EntryTable
 pub mod OneFunction
 pub mod Arrivals
 pub mod WaysAhead
+pub mod Passages
+pub mod Passing
 pub mod Visits
-pub mod Knowing
 pub mod Joins
 pub mod Runs
+pub mod Ends
+pub mod Going
 pub mod Verdicts
 pub mod Forward
 pub mod Keeping

@@ -16,19 +16,19 @@ use Rattle.verifier.proofs.Flowing.{Flows, Ahead, end_inside, one_ahead}
 use Rattle.verifier.proofs.Weighing.{LeadsAhead, standing, none_over, weighs_at}
 use Rattle.verifier.proofs.OneFunction.{no_pcs}
 
-before_end : (p : Program) (pc : ℕ) (i : Instruction) → Flows p → instruction_at p pc ≡ Some i → pc + units_of i + 1 ≤ function_end p pc → Ahead p pc (pos (pc + units_of i))
+before_end : (p : Program) (pc : ℕ) (i : Instruction) → Flows p → instruction_at p pc ≡ Some i → pc + units_of i + 1 ≤ function_end p pc → Ahead p pc (function_end p pc) (pos (pc + units_of i))
 before_end p pc i passed found lt =
     let end = end_inside p pc (inside p pc i found) in
     let some = units_some i in
     let there = stands_at p (pc + units_of i) passed.decodes (next_starts p pc i found) (omega (arith, lt, end)) in
-    record { place = pc + units_of i; is = refl; behind = omega (arith, some); instruction = there.0; found = there.1 }
+    record { place = pc + units_of i; is = refl; behind = omega (arith, some); under = omega (arith, lt); instruction = there.0; found = there.1 }
 
 pub following_ahead : (p : Program) → Flows p → LeadsAhead p (following p)
 following_ahead p passed pc i z found one =
     elim (cases_Bool (ltb (pc + units_of i) (function_end p pc))) [
       | inl is ↦
           let lt = ltb-true (pc + units_of i) (function_end p pc) is in
-          one_ahead p pc z (pos (pc + units_of i)) (before_end p pc i passed found (omega (arith, lt))) (rw is at one)
+          one_ahead p pc (function_end p pc) z (pos (pc + units_of i)) (before_end p pc i passed found (omega (arith, lt))) (rw is at one)
       | inr not_is ↦ absurd (let none : IsOneOf z [] = (rw not_is at one) in none)
     ]
 

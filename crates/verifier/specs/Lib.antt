@@ -13,6 +13,5 @@ pub mod TableVerdicts
 pub mod Sound
 pub mod Laws
 pub mod Tables
-pub mod Known
 pub mod Actions
 pub mod Writing

@@ -10,11 +10,10 @@ use Rattle.bpf_model.specs.Step.{units_over}
 use Rattle.bpf_image.specs.Program.{Program, units, lengths_of}
 use Rattle.bpf_model.specs.declared.cause.Cause.{Cause}
 use Rattle.bpf_model.specs.declared.cause.Cause.TheVariants.{BadInstruction, JumpOut, JumpBack, CallTarget, FallsOff, TooDeep, TooLong, TooManyPairs, OutOfMemory}
-use Rattle.abstract_state.specs.declared.state.AbstractState.{AbstractState}
-use Rattle.verifier.specs.Rules.{Ways, target, transfer}
+use Rattle.verifier.specs.Rules.{target}
 use Rattle.verifier.specs.declared.refusal.Refusal.{Refusal}
 use Rattle.verifier.specs.Listing.{instruction_at, is_start}
-use Rattle.verifier.specs.Equations.{assignment_of}
+use Rattle.verifier.specs.Equations.{main_passage, calls_of, first_refusal}
 use Rattle.verifier.specs.declared.weights.TheConstants.{MOST_COUNTED, MOST_PAIRS}
 use Rattle.verifier.specs.Functions.{start_above, function_end}
 use Rattle.verifier.specs.Walks.{longest, deepest, pairs}
@@ -93,19 +92,11 @@ most_pairs = MOST_PAIRS
 abbrev pub pairs_fault : Program → Option Refusal
 pairs_fault p = if nat_lt most_pairs (pairs p) then Some (record { cause = TooManyPairs; pc = 0 }) else None
 
--- ---- sixth pass: at each walked pc the instruction's rules hold of what is known there
+-- ---- sixth pass: at each walked pc the instruction's rules hold of what is known there, and within each call again of
+-- what is known there by that call
 
-abbrev pub broken_cause : Result Ways Cause → Option Cause
-broken_cause (Ok ws) = None
-broken_cause (Err cause) = Some cause
-
-abbrev pub rule_cause : Program → ℕ → Option Instruction → Option AbstractState → Option Cause
-rule_cause p pc (Some i) (Some s) = broken_cause (transfer (lengths_of p) pc i s)
-rule_cause p pc None s = None
-rule_cause p pc (Some i) None = None
-
-abbrev pub rule_fault : Program → ℕ → Option Cause
-rule_fault p pc = rule_cause p pc (instruction_at p pc) (assignment_of p pc)
+abbrev pub rule_refusal : Program → Option Refusal
+rule_refusal p = first_refusal p (calls_of p (main_passage p)) (main_passage p) (units p)
 
 -- ---- the answer
 
@@ -126,7 +117,7 @@ verdict p =
     (unless_refused (frames_fault p)
     (unless_refused (length_fault p)
     (unless_refused (pairs_fault p)
-    (unless_refused (first_fault (rule_fault p) (units p)) (Accepted (longest p) (deepest p)))))))
+    (unless_refused (rule_refusal p) (Accepted (longest p) (deepest p)))))))
 
 -- a refusal for lack of memory: no rule gives it
 abbrev pub no_memory : Refusal

@@ -4,7 +4,7 @@ ghost use Rattle.verifier.specs.VerdictRows.{WorkedVerdicts};
 ghost use Rattle.verifier.specs.HelperVerdicts.{WorkedHelperVerdicts};
 ghost use Rattle.verifier.specs.TableVerdicts.{WorkedTableVerdicts, KnowsRecordAlone};
 
-/// What is known at each pc solves the equations of the abstract pass.
+/// What is known at each pc of a passage solves its equations.
 pub fn assigned_solves()
     ensures { AssignedSolves }
 {}

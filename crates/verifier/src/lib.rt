@@ -6,7 +6,6 @@
 mod actions;
 mod flow;
 mod functions;
-mod known;
 pub mod laws;
 mod listing;
 mod places;
@@ -21,7 +20,6 @@ mod writing;
 
 pub use bpf_model::Cause;
 pub use bpf_operations::Action;
-pub use known::known_states;
 pub use refusal::Refusal;
 pub use rules::{Onward, step_over};
 pub use verified::{Verified, verify};
