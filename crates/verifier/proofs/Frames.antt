@@ -1,20 +1,20 @@
 -- Calls and returns: what is known where a function begins and after its exit describes the run there.
-use Rattle.std.proofs.Common.{◌≡◌, ◌≢◌, ℕ, zero, suc, ◌+◌, ◌-◌, ◌*◌, ◌^◌, ◌<◌, ◌≤◌, true, false, leb, ltb, List, [], ◌∷◌, length, map, set, Option, Some, None, get_or, refl, sym, ap, subst, ◌∙◌, arith, inl, inr}
-use Rattle.std.specs.Prelude.{ℤ, pos, ◌+ℤ◌}
+use Rattle.std.proofs.Common.{◌≡◌, ◌≢◌, ℕ, zero, suc, ◌+◌, ◌-◌, ◌<◌, ◌≤◌, true, false, leb, ltb, List, [], ◌∷◌, length, map, set, Option, Some, None, get_or, refl, sym, ap, subst, ◌∙◌, arith, inl, inr}
+use Rattle.std.specs.Prelude.{ℤ}
 use Rattle.std.proofs.lemmas.Bool.{cases_eq, lt-leb, lt-ltb, le-leb, le-ltb}
 use Rattle.std.proofs.lemmas.Int.{ints}
 use Rattle.bpf_isa.specs.declared.instruction.Instruction.TheVariants.{CallLocal, Exit}
 use Rattle.bpf_image.specs.declared.limits.TheConstants.{MOST_RECORD_LENGTH}
 use Rattle.bpf_image.specs.declared.lengths.Lengths.{Lengths}
 use Rattle.bpf_model.specs.declared.trap.TrapKind.TheVariants.{UnsetResult}
-use Rattle.bpf_model.specs.State.{Partial, Saved, State, only, without_values, record_base, table_base, frame_top, frame_bytes, live_frames, most_frames}
+use Rattle.bpf_model.specs.State.{Partial, Saved, State, without_values, record_base, table_base, frame_top, frame_bytes, live_frames, most_frames}
 use Rattle.bpf_model.specs.Calls.{saved_state, enter, return_to}
-use Rattle.bpf_model.specs.Step.{Goes, number_or_trap, call, leave}
+use Rattle.bpf_model.specs.Step.{number_or_trap, call, leave}
 use Rattle.abstract_values.specs.declared.value.AbstractValue.{AbstractValue}
 use Rattle.abstract_values.specs.declared.value.AbstractValue.TheVariants.{Unset, Number, Record, Stack, Table}
 use Rattle.abstract_values.specs.Described.{Describes}
-use Rattle.abstract_state.specs.States.{AbstractState, new_frame, nothing_kept, known_of, kept_of, frame_of, without_pointers, callee_state, left_state}
-use Rattle.abstract_state.specs.Described.{DescribesLive, DescribesParts, DescribesKept}
+use Rattle.abstract_state.specs.States.{AbstractState, new_frame, nothing_kept, known_of, frame_of, without_pointers, callee_state, left_state}
+use Rattle.abstract_state.specs.Described.{DescribesLive, DescribesKept}
 use Rattle.abstract_state.proofs.Stores.{set_other}
 use Rattle.abstract_state.proofs.Entered.{set_at, more_live, live_kept, new_described, kept_beside, frame_dropped, dropped_at}
 use Rattle.verifier.specs.Rules.{Ways, exit_ways}

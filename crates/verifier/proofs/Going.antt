@@ -1,23 +1,21 @@
 -- A passage whose calls are gone through in turn.
-use Rattle.std.proofs.Common.{◌≡◌, ◌≢◌, ℕ, zero, suc, ◌+◌, ◌-◌, ◌<◌, ◌≤◌, length, Bool, true, false, Option, Some, None, Ok, Err, get_or, set, refl, sym, ap, ◌∙◌, inl, inr, arith}
-use Rattle.std.specs.Prelude.{ℤ, pos, is_some, unsigned_abs}
+use Rattle.std.proofs.Common.{◌≡◌, ◌≢◌, ℕ, zero, suc, ◌+◌, ◌-◌, ◌<◌, ◌≤◌, length, Option, Some, None, Ok, Err, refl, sym, ap, ◌∙◌, inl, inr, arith}
+use Rattle.std.specs.Prelude.{ℤ, pos, unsigned_abs}
 use Rattle.std.specs.Global.{Box}
 use Rattle.std.proofs.lemmas.Bool.{cases_Bool}
 use Rattle.std.proofs.lemmas.Int.{ints}
 use Rattle.std.proofs.lemmas.List.{get_or-set_other}
-use Rattle.bpf_isa.specs.declared.instruction.Instruction.{Instruction}
 use Rattle.bpf_isa.specs.declared.instruction.Instruction.TheVariants.{CallLocal}
 use Rattle.bpf_image.specs.Program.{Program, units}
-use Rattle.abstract_state.specs.States.{AbstractState, most_callers}
+use Rattle.abstract_state.specs.States.{AbstractState}
 use Rattle.verifier.specs.declared.refusal.Refusal.{Refusal}
 use Rattle.verifier.specs.Rules.{target}
 use Rattle.verifier.specs.Listing.{instruction_at}
-use Rattle.verifier.specs.Functions.{start_above, entry_called, is_entry, entry_from, function_end}
-use Rattle.verifier.specs.Walks.{next_pcs, IsOneOf}
-use Rattle.verifier.specs.Equations.{Passage, passage_at, Calls, Outcome, joined_ways, first_refusal, unless_refused_within, ways_after, opening, outcome_at, outcome, states, calls_of}
+use Rattle.verifier.specs.Functions.{entry_called, is_entry, entry_from, function_end}
+use Rattle.verifier.specs.Equations.{Passage, passage_at, Calls, Outcome, joined_ways, first_refusal, unless_refused_within, ways_after, opening, outcome_at, outcome, calls_of}
 use Rattle.verifier.specs.Tables.{Table, boxed_state, state_at, Reaches, IsGoneTo, IsAtCall}
 use Rattle.verifier.proofs.Listed.{inside}
-use Rattle.verifier.proofs.Flowing.{Flows, ahead, call_ahead, call_begins, end_inside}
+use Rattle.verifier.proofs.Flowing.{Flows, ahead, call_ahead, end_inside}
 use Rattle.verifier.proofs.Ends.{same_end, ends_below, called_begins, deeper}
 use Rattle.verifier.proofs.Passing.{call_step, call_broken}
 use Rattle.verifier.proofs.Visits.{has_beginning, start_is}
@@ -77,7 +75,7 @@ callee_begins p calls v old now n begins exits known passed first le lt h =
     let above = ends_below p n begins (called_begins p n begins (omega (arith, lt, end)) called.0) called.2 called.1 in
     (called.1, λ q from. h.taken q ∙ ap boxed_state (get_or-set_other h.before n q None None (λ e. omega (arith, e, from, called.2))) ∙ h.gone_to.nothing_behind q (omega (arith, above, one_end, from, lt)))
 
-same_passage : (a b f g : ℕ) (s t : AbstractState) → a ≡ b → f ≡ g → s ≡ t → passage_at a f s ≡ passage_at b g t
+pub same_passage : (a b f g : ℕ) (s t : AbstractState) → a ≡ b → f ≡ g → s ≡ t → passage_at a f s ≡ passage_at b g t
 same_passage a b f g s t one two three = rw (one, two, three) refl
 
 some_passage : Passage → Option Passage
@@ -109,7 +107,7 @@ pub broken : (p : Program) (v : Passage) (old now : Table) (n last begins frame 
     → IsAtCall p (calls_of p v) v old n last now exits begins known → frame ≡ v.frame + 1
     → outcome p (calls_of p (passage_at begins frame known)) (passage_at begins frame known) ≡ Err r → outcome p (calls_of p v) v ≡ Err r
 broken p v old now n last begins frame exits known r lt h next is =
-    call_broken p (calls_of p v) v old h.before n last exits h.distance h.state r lt h.gone_to h.found h.walked (comes p v old now n last begins frame exits known h (Err r) next is)
+    call_broken p (calls_of p v) v n h.distance h.state r lt h.gone_to.fine h.found h.walked (comes p v old now n last begins frame exits known h (Err r) next is)
 
 -- a call is not the last instruction
 pub behind_inside : (p : Program) (n : ℕ) (z : ℤ) → Flows p → instruction_at p n ≡ Some (CallLocal z) → n + 1 < units p

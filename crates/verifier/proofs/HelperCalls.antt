@@ -12,7 +12,7 @@ use Rattle.bpf_model.specs.declared.cause.Cause.{Cause}
 use Rattle.bpf_model.specs.declared.cause.Cause.TheVariants.{HelperArgument}
 use Rattle.bpf_model.specs.declared.helper.Helper.{Helper}
 use Rattle.bpf_model.specs.declared.helper.Helper.TheVariants.{Degree, HasEdge, Neighbour, VertexCount, Gather}
-use Rattle.bpf_model.specs.State.{Partial, State, with_value, with_values, without_values, frame_top, frame_bytes}
+use Rattle.bpf_model.specs.State.{Partial, State, with_value, with_values, without_values}
 use Rattle.bpf_model.specs.Helpers.{IsView, no_neighbour, with_answer, is_room, gather, argument, helper_effect}
 use Rattle.bpf_model.specs.Next.{Goes}
 use Rattle.bpf_model.specs.Step.{call_helper}

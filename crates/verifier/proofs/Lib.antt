@@ -27,6 +27,7 @@ pub mod Joins
 pub mod Runs
 pub mod Ends
 pub mod Going
+pub mod Knowing
 pub mod Verdicts
 pub mod Forward
 pub mod Keeping

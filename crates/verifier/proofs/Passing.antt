@@ -1,8 +1,7 @@
 -- One pc of a passage, by what its instruction leads to.
-use Rattle.std.proofs.Common.{◌≡◌, ◌≢◌, ℕ, zero, suc, ◌+◌, ◌-◌, ◌<◌, ◌≤◌, List, [], ◌∷◌, ◌++◌, length, Option, Some, None, Result, Ok, Err, get_or, set, refl, sym, ap, subst, ◌∙◌, arith, inl, inr, ◌⊎◌}
+use Rattle.std.proofs.Common.{◌≡◌, ◌≢◌, ℕ, ◌+◌, ◌-◌, ◌<◌, ◌≤◌, [], ◌∷◌, ◌++◌, length, Option, Some, None, Ok, Err, get_or, set, refl, sym, ap, subst, ◌∙◌, arith, inl, inr, ◌⊎◌}
 use Rattle.std.specs.Prelude.{ℤ, pos}
 use Rattle.std.specs.Global.{Box}
-use Rattle.std.proofs.lemmas.Int.{ints}
 use Rattle.bpf_isa.specs.declared.instruction.Instruction.{Instruction}
 use Rattle.bpf_isa.specs.declared.instruction.Instruction.TheVariants.{CallLocal, Exit}
 use Rattle.bpf_image.specs.Program.{Program, units, lengths_of}
@@ -16,13 +15,14 @@ use Rattle.verifier.specs.Rules.{Ways, exit_ways, transfer}
 use Rattle.verifier.specs.Described.{IsWay}
 use Rattle.verifier.specs.Listing.{instruction_at}
 use Rattle.verifier.specs.Walks.{next_pcs, IsOneOf}
-use Rattle.verifier.specs.Equations.{Passage, Calls, Outcome, joined_with, joined_ways, known_ways, opening, outcome_at, ways_after, arrivals, states, refusal_at, joined_exit, exit_state, outcome, calls_of}
+use Rattle.verifier.specs.Equations.{Passage, Calls, joined_with, joined_ways, known_ways, opening, outcome_at, ways_after, states, first_refusal, refusal_at, joined_exit, outcome, calls_of}
 use Rattle.verifier.specs.Tables.{boxed_state, state_at, Reaches, IsGoneTo}
 use Rattle.verifier.proofs.Arrivals.{States}
 use Rattle.verifier.proofs.RuleParts.{ok}
 use Rattle.verifier.proofs.Flowing.{Flows, ahead}
 use Rattle.verifier.proofs.WaysAhead.{ways_lead}
-use Rattle.verifier.proofs.Passages.{skipped, stepped, refused_here}
+use Rattle.verifier.specs.Known.{IsBrokenAt}
+use Rattle.verifier.proofs.Passages.{stepped, refused_outcome}
 
 -- the table has what has come to a pc
 pub has_come : (p : Program) (calls : Calls) (v : Passage) (old before : States) (n last : ℕ) (exits : Option (Box AbstractState)) (b : Box AbstractState) → n < units p → IsGoneTo p calls v old n last before exits → get_or before n None ≡ Some b → states p calls v n ≡ Some b.value
@@ -119,15 +119,19 @@ call_step p calls v old before after n last further exits z s o flows in_functio
     walked_step p calls v old before after n last further exits exits (CallLocal z) s [] o flows in_function lt h found walked (call_goes (lengths_of p) n z s) comes (λ b e. inl refl) refl far reaches long came
 
 -- a broken rule
-pub rule_broken : (p : Program) (calls : Calls) (v : Passage) (old before : States) (n last : ℕ) (exits : Option (Box AbstractState)) (i : Instruction) (s : AbstractState) (cause : Cause)
-    → n < units p → IsGoneTo p calls v old n last before exits → instruction_at p n ≡ Some i → states p calls v n ≡ Some s → transfer (lengths_of p) n i s ≡ Err cause
-    → outcome p calls v ≡ Err (record { cause = cause; pc = n })
-rule_broken p calls v old before n last exits i s cause lt h found walked fails =
-    refused_here p calls v old before n last exits (record { cause = cause; pc = n }) lt h (rw (found, walked, fails) refl)
+pub rule_broken : (p : Program) (v : Passage) (old before : States) (n last : ℕ) (exits : Option (Box AbstractState)) (i : Instruction) (s : AbstractState) (cause : Cause)
+    → IsGoneTo p (calls_of p v) v old n last before exits → instruction_at p n ≡ Some i → states p (calls_of p v) v n ≡ Some s → transfer (lengths_of p) n i s ≡ Err cause
+    → IsBrokenAt p v n (record { cause = cause; pc = n })
+rule_broken p v old before n last exits i s cause h found walked fails =
+    record { fine = h.fine; broken = (rw (found, walked, fails) refl); here = refl }
+
+-- is what comes of the passage
+pub broken_outcome : (p : Program) (v : Passage) (n : ℕ) (r : Refusal) → n < units p → IsBrokenAt p v n r → outcome p (calls_of p v) v ≡ Err r
+broken_outcome p v n r lt h = refused_outcome p (calls_of p v) v n r lt h.fine h.broken
 
 -- a rule that is broken in a function that is called
-pub call_broken : (p : Program) (calls : Calls) (v : Passage) (old before : States) (n last : ℕ) (exits : Option (Box AbstractState)) (z : ℤ) (s : AbstractState) (r : Refusal)
-    → n < units p → IsGoneTo p calls v old n last before exits → instruction_at p n ≡ Some (CallLocal z) → states p calls v n ≡ Some s → outcome_at calls (opening v n (CallLocal z) s) ≡ Err r
+pub call_broken : (p : Program) (calls : Calls) (v : Passage) (n : ℕ) (z : ℤ) (s : AbstractState) (r : Refusal)
+    → n < units p → first_refusal p calls v n ≡ None → instruction_at p n ≡ Some (CallLocal z) → states p calls v n ≡ Some s → outcome_at calls (opening v n (CallLocal z) s) ≡ Err r
     → outcome p calls v ≡ Err r
-call_broken p calls v old before n last exits z s r lt h found walked fails =
-    refused_here p calls v old before n last exits r lt h (rw (found, walked, call_goes (lengths_of p) n z s, fails) refl)
+call_broken p calls v n z s r lt fine found walked fails =
+    refused_outcome p calls v n r lt fine (rw (found, walked, call_goes (lengths_of p) n z s, fails) refl)

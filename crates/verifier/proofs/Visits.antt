@@ -1,5 +1,5 @@
 -- Where a walked pc leads.
-use Rattle.std.proofs.Common.{◌≡◌, ◌≢◌, ℕ, zero, suc, ◌+◌, ◌-◌, ◌<◌, ◌≤◌, Option, Some, None, Ok, refl, sym, ap, ◌∙◌, inl, inr, arith}
+use Rattle.std.proofs.Common.{◌≡◌, ◌≢◌, ℕ, ◌-◌, ◌≤◌, Some, None, Ok, refl, inl, inr, arith}
 use Rattle.std.specs.Prelude.{ℤ, pos, negsuc, is_some, ◌&&◌, nat_lt, unsigned_abs}
 use Rattle.std.proofs.lemmas.Bool.{cases_Bool}
 use Rattle.bpf_isa.specs.declared.instruction.Instruction.TheVariants.{CallLocal}

@@ -1,5 +1,5 @@
 -- What is known of a state describes it, and the ways onward describe what a step leads to.
-use Rattle.std.specs.Prelude.{◌≡◌, ℕ, suc, ◌<◌, List, [], ◌∷◌, length, Some, ◌⊎◌, ℤ}
+use Rattle.std.specs.Prelude.{◌≡◌, ℕ, ◌<◌, List, [], ◌∷◌, length, Some, ◌⊎◌, ℤ}
 use Rattle.bpf_isa.specs.declared.instruction.Instruction.{Instruction}
 use Rattle.bpf_isa.specs.declared.instruction.Instruction.TheVariants.{CallLocal, Exit}
 use Rattle.bpf_image.specs.declared.lengths.Lengths.{Lengths}

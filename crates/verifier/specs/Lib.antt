@@ -10,8 +10,10 @@ pub mod Verdict
 pub mod VerdictRows
 pub mod HelperVerdicts
 pub mod TableVerdicts
+pub mod LentVerdicts
 pub mod Sound
 pub mod Laws
 pub mod Tables
+pub mod Known
 pub mod Actions
 pub mod Writing

@@ -1,13 +1,13 @@
 -- The verifier's answer: the first broken rule by pass, pc and cause, or the bound of a program that
 -- breaks none.
-use Rattle.std.specs.Prelude.{◌≡◌, ℕ, zero, suc, ◌+◌, nat_lt, nat_le, ◌&&◌, if◌then◌else◌, ℤ, pos, negsuc, ◌⊎◌, Option, Some, None, Result, Ok, Err, is_some}
+use Rattle.std.specs.Prelude.{◌≡◌, ℕ, zero, suc, ◌+◌, nat_lt, nat_le, ◌&&◌, if◌then◌else◌, ℤ, pos, negsuc, ◌⊎◌, Option, Some, None, is_some}
 use Rattle.std.specs.Option.{option_or}
 use Rattle.bpf_isa.specs.declared.instruction.Instruction.{Instruction}
 use Rattle.bpf_isa.specs.declared.instruction.Instruction.TheVariants.{Jump, Branch, CallLocal, Exit}
 use Rattle.bpf_isa.specs.Encoding.{units_of}
 use Rattle.bpf_model.specs.State.{most_frames}
 use Rattle.bpf_model.specs.Step.{units_over}
-use Rattle.bpf_image.specs.Program.{Program, units, lengths_of}
+use Rattle.bpf_image.specs.Program.{Program, units}
 use Rattle.bpf_model.specs.declared.cause.Cause.{Cause}
 use Rattle.bpf_model.specs.declared.cause.Cause.TheVariants.{BadInstruction, JumpOut, JumpBack, CallTarget, FallsOff, TooDeep, TooLong, TooManyPairs, OutOfMemory}
 use Rattle.verifier.specs.Rules.{target}

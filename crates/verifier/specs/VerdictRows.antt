@@ -1,10 +1,10 @@
 -- Worked programs of several functions, with records of 16 bytes, and the verdict on each. They follow from
 -- the definitions by computing.
-use Rattle.std.specs.Prelude.{◌≡◌, ℕ, ◌-◌, List, [], ◌∷◌, ◌++◌}
+use Rattle.std.specs.Prelude.{◌≡◌, ℕ, List, [], ◌∷◌, ◌++◌}
 use Rattle.bpf_image.specs.Program.{without_table}
 use Rattle.bpf_model.specs.CallRows.{code_unit, exit, call_over, set_r0, kept_register, nine_deep}
 use Rattle.bpf_model.specs.declared.cause.Cause.{Cause}
-use Rattle.bpf_model.specs.declared.cause.Cause.TheVariants.{JumpOut, CallTarget, FallsOff, TooDeep, UnsetRegister, PointerUse, UnsetStackByte, ResultNotNumber}
+use Rattle.bpf_model.specs.declared.cause.Cause.TheVariants.{JumpOut, CallTarget, FallsOff, TooDeep, ResultNotNumber}
 use Rattle.verifier.specs.Verdict.{Verdict, Accepted, Refused, verdict}
 
 -- calllocal f; calllocal f; exit; f: mov r0, 7; exit
@@ -31,35 +31,6 @@ falls_into_an_entry = call_over 1 ++ set_r0 7 ++ set_r0 7 ++ exit
 abbrev pub stack_is_lent : List ℕ
 stack_is_lent = code_unit 0xbf 0xa1 0 0 ++ call_over 1 ++ exit ++ code_unit 0xbf 0x10 0 0 ++ exit
 
--- the offset of a unit below 0
-abbrev pub unit_below : ℕ → ℕ → ℕ → ℕ → List ℕ
-unit_below opcode registers offset immediate =
-    opcode ∷ registers ∷ (256 - offset) ∷ 255 ∷ immediate ∷ 0 ∷ 0 ∷ 0 ∷ []
-
--- mov r1, r10; add r1, -n
-abbrev pub lend : ℕ → List ℕ
-lend n = code_unit 0xbf 0xa1 0 0 ++ (0x07 ∷ 1 ∷ 0 ∷ 0 ∷ (256 - n) ∷ 255 ∷ 255 ∷ 255 ∷ [])
-
--- mov r1, r10; add r1, -8; calllocal f; ldxdw r0, [r10-8]; exit; f: stdw [r1+0], 9; mov r0, 0; exit
-abbrev pub callee_sets_a_slot : List ℕ
-callee_sets_a_slot =
-    lend 8 ++ call_over 2 ++ unit_below 0x79 0xa0 8 0 ++ exit ++ code_unit 0x7a 1 0 9 ++ set_r0 0 ++ exit
-
--- mov r1, r10; add r1, -8; calllocal f; exit; f: ldxb r0, [r1+0]; exit
-abbrev pub callee_reads_an_unset_byte : List ℕ
-callee_reads_an_unset_byte = lend 8 ++ call_over 1 ++ exit ++ code_unit 0x71 0x10 0 0 ++ exit
-
--- calllocal f; mov r1, r10; add r1, -1; calllocal f; ldxb r0, [r10-1]; exit; f: stb [r1+0], 1; mov r0, 0; exit
-abbrev pub one_pc_two_regions : List ℕ
-one_pc_two_regions =
-    call_over 5 ++ lend 1 ++ call_over 2 ++ unit_below 0x71 0xa0 1 0 ++ exit ++ code_unit 0x72 1 0 1 ++ set_r0 0 ++ exit
-
--- mov r1, r10; add r1, -8; calllocal f; ldxdw r1, [r10-8]; ldxb r0, [r1+0]; exit; f: stxdw [r1+0], r10; mov r0, 0; exit
-abbrev pub pointer_of_a_dropped_frame : List ℕ
-pointer_of_a_dropped_frame =
-    lend 8 ++ call_over 3 ++ unit_below 0x79 0xa1 8 0 ++ code_unit 0x71 0x10 0 0 ++ exit ++ code_unit 0x7b 0xa1 0 0
-    ++ set_r0 0 ++ exit
-
 abbrev pub of_code : List ℕ → Verdict
 of_code code = verdict (without_table code 16)
 
@@ -76,7 +47,3 @@ WorkedVerdicts =
     × (of_code falls_into_an_entry ≡ refusal_at FallsOff 1)
     × (of_code nine_deep ≡ refusal_at TooDeep 0)
     × (of_code stack_is_lent ≡ refusal_at ResultNotNumber 4)
-    × (of_code callee_sets_a_slot ≡ Accepted 8 2)
-    × (of_code callee_reads_an_unset_byte ≡ refusal_at UnsetStackByte 4)
-    × (of_code one_pc_two_regions ≡ Accepted 12 2)
-    × (of_code pointer_of_a_dropped_frame ≡ refusal_at PointerUse 4)

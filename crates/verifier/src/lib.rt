@@ -6,6 +6,7 @@
 mod actions;
 mod flow;
 mod functions;
+mod known;
 pub mod laws;
 mod listing;
 mod places;
@@ -20,6 +21,7 @@ mod writing;
 
 pub use bpf_model::Cause;
 pub use bpf_operations::Action;
+pub use known::{KnownPassage, known_states};
 pub use refusal::Refusal;
 pub use rules::{Onward, step_over};
 pub use verified::{Verified, verify};

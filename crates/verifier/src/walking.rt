@@ -10,6 +10,7 @@ ghost use Rattle.verifier.specs.Listing.{listing_of};
 ghost use Rattle.verifier.specs.Walks.{next_pcs, IsOneOf};
 ghost use Rattle.verifier.specs.Equations.{Passage, passage_at, joined_with, joined_ways, ways_after, outcome, calls_of};
 ghost use Rattle.verifier.specs.Verdict.{first_fault, decoding_fault, flow_fault, rule_refusal, unless_memory};
+ghost use Rattle.verifier.specs.Known.{IsBrokenAt};
 ghost use Rattle.verifier.specs.Tables.{Table, boxed_state, state_at, HasEnds, LeadInside, IsGoneTo, IsAtCall, Reaches};
 
 use crate::places::{entry_called_at, length_of, place_at, starting_at};
@@ -101,7 +102,7 @@ fn join_exit(exits: &mut Option<Box<AbstractState>>, state: Box<AbstractState>)
 }
 
 /// What is known after a call comes to the next instruction, if the function may return.
-fn go_on_behind(
+pub(crate) fn go_on_after(
     states: &mut Vec<Option<Box<AbstractState>>>,
     pc: usize,
     left: Option<Box<AbstractState>>,
@@ -119,7 +120,7 @@ fn go_on_behind(
 
 /// Goes over what is at a pc of a passage, if that is walked. At a call it answers where the function begins that is called,
 /// and what is known there.
-fn visit(
+pub(crate) fn visit(
     alloc: Global,
     image: &Image,
     listing: &[Option<Instruction>],
@@ -140,7 +141,7 @@ fn visit(
         (λ called. MatchOption called
             ((further : ℕ) → last ≤ further → Reaches image.now pc further → IsGoneTo image.now (calls_of image.now v) v old (pc + 1) further states.new.items exits.new)
             (λ call. IsAtCall image.now (calls_of image.now v) v old pc last states.new.items exits.new call.0 call.1.value))
-        (λ refusal. unless_memory refusal (outcome image.now (calls_of image.now v) v ≡ Err refusal)) }
+        (λ refusal. unless_memory refusal (IsBrokenAt image.now v pc refusal)) }
 {
     let Some(mut state) = states[pc].take() else {
         return Ok(None);
@@ -179,7 +180,7 @@ fn visit(
 }
 
 /// Goes through a passage: answers what is known after its exits.
-fn go_through(
+pub(crate) fn go_through(
     alloc: Global,
     image: &Image,
     listing: &[Option<Instruction>],
@@ -215,7 +216,7 @@ fn go_through(
         if let Some((begins, known)) = opened {
             match go_through(alloc, image, listing, ends, states, begins, frame + 1, known) {
                 Err(refusal) => return Err(refusal),
-                Ok(left) => go_on_behind(states, pc, left),
+                Ok(left) => go_on_after(states, pc, left),
             }
         }
     }

@@ -10,4 +10,4 @@ use Rattle.verifier.proofs.laws.worked_verdicts.Goals as goal
 
 pub returns : goal.returns
 unfolding verdict transfer weight_over weight_from called function_end start_from decoding read_row row_at register_at
-returns c = (refl, refl, refl, refl, refl, refl, refl, refl, refl, refl, refl, refl)
+returns c = (refl, refl, refl, refl, refl, refl, refl, refl)

@@ -1,4 +1,4 @@
-use Rattle.std.proofs.Common.{◌≡◌, ◌≢◌, ℕ, ℤ, length, sym, ap, ◌∙◌, ◌-◌, Some, None, Err, Option, get_or, set, inr, arith}
+use Rattle.std.proofs.Common.{◌≡◌, ℕ, length, sym, ap, ◌∙◌, ◌-◌, Some, None, Err, Option, get_or, set, inr, arith}
 use Rattle.std.proofs.lemmas.List.{length-set, get_or_read_under}
 use Rattle.bpf_isa.specs.declared.instruction.Instruction.{Instruction}
 use Rattle.bpf_isa.specs.declared.instruction.Instruction.TheVariants.{CallLocal, Exit}
@@ -28,7 +28,7 @@ returns-in-Err c = record { gone = λ v old last frame entry h.
     let exits_here : instruction_at c.args.image.now c.args.pc ≡ Some Exit = found ∙ ap (λ i. some_instruction i) c.in-Exit.is in
     let step = c.in-Err.ensures (lengths_of c.args.image.now) c.args.pc in
     let fails : transfer (lengths_of c.args.image.now) c.args.pc Exit c.in-Some.state.value ≡ Err c.in-Err.cause = rw (← c.deref.ensures) step in
-    inr (rule_broken c.args.image.now (calls_of c.args.image.now v) v old c.args.states.now.items c.args.pc last c.args.exits.now Exit c.in-Some.state.value c.in-Err.cause c.requires.inside h exits_here known fails)
+    inr (rule_broken c.args.image.now v old c.args.states.now.items c.args.pc last c.args.exits.now Exit c.in-Some.state.value c.in-Err.cause h exits_here known fails)
   }
 
 pub returns-in_default-entry_called_at : goal.returns-in_default-entry_called_at
@@ -94,7 +94,7 @@ returns-in-Err-step_over c = record { gone = λ v old last frame entry h.
     let known : states c.args.image.now (calls_of c.args.image.now v) v c.args.pc ≡ Some c.in-Some.state.value = has_come c.args.image.now (calls_of c.args.image.now v) v old c.args.states.now.items c.args.pc last c.args.exits.now c.in-Some.state c.requires.inside h (sym here) in
     let step = c.in-Err-step_over.ensures c.args.pc in
     let fails : transfer (lengths_of c.args.image.now) c.args.pc c.in-Some-starting_at.instruction c.in-Some.state.value ≡ Err c.in-Err-step_over.cause = rw (← c.lengths.ensures.exact, ← c.deref_mut-in_default-instruction.ensures.value) step in
-    inr (rule_broken c.args.image.now (calls_of c.args.image.now v) v old c.args.states.now.items c.args.pc last c.args.exits.now c.in-Some-starting_at.instruction c.in-Some.state.value c.in-Err-step_over.cause c.requires.inside h found known fails)
+    inr (rule_broken c.args.image.now v old c.args.states.now.items c.args.pc last c.args.exits.now c.in-Some-starting_at.instruction c.in-Some.state.value c.in-Err-step_over.cause h found known fails)
   }
 
 pub returns-in_ok-go_on-in-Ok : goal.returns-in_ok-go_on-in-Ok
