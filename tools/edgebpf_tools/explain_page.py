@@ -79,7 +79,7 @@ class Way:
 
 
 def known_things(line):
-    """What is known, as names and values: `  r1 record+0  bytes -8 to -1` and the like."""
+    """What is known, as names and values: `  r1 record+0  bytes[0] -8 to -1` and the like."""
     things = []
     for thing in line.strip().split("  "):
         words = thing.split(" ")

@@ -165,12 +165,12 @@ fn put_set_bytes(text: &mut String, frame: &Frame, number: u64) -> Result<(), Al
 }
 
 /// Writes which bytes are set of the frame of a number, if it is live.
-fn put_set_bytes_of(text: &mut String, state: &AbstractState, number: usize) -> Result<(), AllocError>
+fn put_set_bytes_of(text: &mut String, state: &AbstractState, number: u8) -> Result<(), AllocError>
     ensures { OnOk result (string_bytes text.new ≡ string_bytes text.old ++ set_bytes_piece state.now number) }
 {
     match state.frame(number) {
         None => Ok(()),
-        Some(frame) => put_set_bytes(text, frame, number as u64),
+        Some(frame) => put_set_bytes(text, frame, u64::from(number)),
     }
 }
 
@@ -180,14 +180,18 @@ fn put_all_set_bytes(text: &mut String, state: &AbstractState) -> Result<(), All
     ensures { OnOk result (string_bytes text.new
         ≡ string_bytes text.old ++ pieces_to (set_bytes_piece state.now) most_frames) }
 {
-    for number in 0..MOST_FRAMES {
+    for number in 0..MOST_FRAMES as u8 {
         put_set_bytes_of(text, state, number)?;
     }
     Ok(())
 }
 
 /// Writes what is known of the frames, where it is asked which bytes are set.
-fn put_asked_frames(text: &mut String, state: &AbstractState, cause: Cause) -> Result<(), AllocError>
+fn put_asked_frames(
+    text: &mut String,
+    state: &AbstractState,
+    cause: Cause,
+) -> Result<(), AllocError>
     ensures { OnOk result (string_bytes text.new ≡ string_bytes text.old ++ frame_lines cause state.now) }
 {
     match cause {

@@ -67,7 +67,11 @@ fn put_known_line(text: &mut String, state: Option<&AbstractState>) -> Result<()
 }
 
 /// Writes what is known at a pc in a passage, if it comes there.
-fn put_passage_line(text: &mut String, passage: Option<&KnownPassage>, pc: usize) -> Result<(), AllocError>
+fn put_passage_line(
+    text: &mut String,
+    passage: Option<&KnownPassage>,
+    pc: usize,
+) -> Result<(), AllocError>
     ensures { OnOk result (string_bytes text.new
         ≡ string_bytes text.old ++ passage_line pc (option_map (λ t. t.now) passage.entry)) }
 {

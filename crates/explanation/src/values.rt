@@ -251,12 +251,12 @@ pub(crate) fn put_frame(text: &mut String, frame: &Frame, number: u64) -> Result
 }
 
 /// Writes what is known of the frame of a number, if it is live.
-fn put_if_live(text: &mut String, state: &AbstractState, number: usize) -> Result<(), AllocError>
+fn put_if_live(text: &mut String, state: &AbstractState, number: u8) -> Result<(), AllocError>
     ensures { OnOk result (string_bytes text.new ≡ string_bytes text.old ++ frame_piece state.now number) }
 {
     match state.frame(number) {
         None => Ok(()),
-        Some(frame) => put_frame(text, frame, number as u64),
+        Some(frame) => put_frame(text, frame, u64::from(number)),
     }
 }
 
@@ -265,7 +265,7 @@ fn put_if_live(text: &mut String, state: &AbstractState, number: usize) -> Resul
 fn put_frames(text: &mut String, state: &AbstractState) -> Result<(), AllocError>
     ensures { OnOk result (string_bytes text.new ≡ string_bytes text.old ++ frames_text state.now) }
 {
-    for number in 0..MOST_FRAMES {
+    for number in 0..MOST_FRAMES as u8 {
         put_if_live(text, state, number)?;
     }
     Ok(())
