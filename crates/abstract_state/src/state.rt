@@ -83,7 +83,8 @@ impl Frame {
 }
 
 impl AbstractState {
-    ghost use Rattle.abstract_state.specs.States.{register, with_register, entry_state};
+    ghost use Rattle.std.specs.Prelude.{Some, None, MatchOption};
+    ghost use Rattle.abstract_state.specs.States.{register, with_register, entry_state, frame_of};
 
     /// What is known where a program begins, of a record and a table of so many bytes.
     pub fn entry(lengths: Lengths) -> AbstractState
@@ -106,6 +107,24 @@ impl AbstractState {
             ],
             frame: Frame::new(),
             called: [None, None, None, None, None, None, None],
+        }
+    }
+
+    /// What is known of the bytes of a frame, if it is live. Frame 0 is the program's own.
+    pub fn frame(&self, number: u8) -> Option<&Frame>
+        ensures { MatchOption result (frame_of self.now number ≡ None) (λ frame. frame_of self.now number ≡ Some frame.now) }
+    {
+        if number == 0 {
+            return Some(&self.frame);
+        }
+        let called: &[Option<Box<Called>>] = &self.called;
+        let at = usize::from(number) - 1;
+        if at >= called.len() {
+            return None;
+        }
+        match &called[at] {
+            None => None,
+            Some(called) => Some(&called.frame),
         }
     }
 
