@@ -25,26 +25,6 @@ fn is_inside(length: u16, lo: u16, hi: u16, offset: i16, bytes: usize) -> bool
     begins_inside && ends_inside
 }
 
-/// What a load from the frame of a called function gives.
-fn load_called(
-    called: &[Option<Box<Called>>; MOST_CALLERS],
-    at: usize,
-    place: i32,
-    bytes: usize,
-) -> Result<AbstractValue, Cause>
-    requires some { 1 ≤ bytes }
-    requires few { bytes ≤ 8 }
-    ensures { result ≡ frame_load_result (frame_called (slice_index_or called.now at None)) place bytes }
-{
-    if at >= MOST_CALLERS {
-        return Err(Cause::OutOfRange);
-    }
-    match &called[at] {
-        None => Err(Cause::OutOfRange),
-        Some(called) => load_live(&called.frame, place, bytes),
-    }
-}
-
 /// What a load from a frame gives.
 fn load_stack(
     state: &AbstractState,
@@ -56,10 +36,10 @@ fn load_stack(
     requires few { bytes ≤ 8 }
     ensures { result ≡ frame_load_result (frame_of state.now frame) place bytes }
 {
-    if frame == 0 {
-        return load_live(&state.frame, place, bytes);
+    match state.frame(frame) {
+        None => Err(Cause::OutOfRange),
+        Some(frame) => load_live(frame, place, bytes),
     }
-    load_called(&state.called, usize::from(frame) - 1, place, bytes)
 }
 
 /// What a load from a record or a table of this length gives.

@@ -99,8 +99,8 @@ pub returned : (p : Program) (v : Passage) (old now back after : Table) (n begin
 returned p v old now back after n begins frame exits known o passed first le lt h next is long same longer came =
     let end = end_inside p v.entry first in
     call_step p (calls_of p v) v old h.before after n (function_end p v.entry - 1) (function_end p v.entry - 1) exits h.distance h.state o passed le (omega (arith, lt, end)) h.gone_to h.found h.walked
-      (comes p v old now n (function_end p v.entry - 1) begins frame exits known h (Ok o) next is) (omega arith) (reaches_end p v.entry n passed first le lt)
-      (longer ∙ long ∙ h.long) (λ q. came q ∙ ap (λ s. joined_ways s (ways_after n (Ok o)) q) (same q ∙ h.taken q))
+    (comes p v old now n (function_end p v.entry - 1) begins frame exits known h (Ok o) next is) (omega arith) (reaches_end p v.entry n passed first le lt)
+    (longer ∙ long ∙ h.long) (λ q. came q ∙ ap (λ s. joined_ways s (ways_after n (Ok o)) q) (same q ∙ h.taken q))
 
 -- a rule was broken in it
 pub broken : (p : Program) (v : Passage) (old now : Table) (n last begins frame : ℕ) (exits : Option (Box AbstractState)) (known : AbstractState) (r : Refusal) → n < units p

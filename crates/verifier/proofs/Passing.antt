@@ -1,5 +1,5 @@
 -- One pc of a passage, by what its instruction leads to.
-use Rattle.std.proofs.Common.{◌≡◌, ◌≢◌, ℕ, ◌+◌, ◌-◌, ◌<◌, ◌≤◌, [], ◌∷◌, ◌++◌, length, Option, Some, None, Ok, Err, get_or, set, refl, sym, ap, subst, ◌∙◌, arith, inl, inr, ◌⊎◌}
+use Rattle.std.proofs.Common.{◌≡◌, ◌≢◌, ℕ, ◌+◌, ◌<◌, ◌≤◌, [], ◌∷◌, ◌++◌, length, Option, Some, None, Ok, Err, get_or, set, refl, sym, ap, subst, ◌∙◌, arith, inl, inr, ◌⊎◌}
 use Rattle.std.specs.Prelude.{ℤ, pos}
 use Rattle.std.specs.Global.{Box}
 use Rattle.bpf_isa.specs.declared.instruction.Instruction.{Instruction}
@@ -9,13 +9,13 @@ use Rattle.bpf_image.specs.declared.lengths.Lengths.{Lengths}
 use Rattle.bpf_model.specs.declared.cause.Cause.{Cause}
 use Rattle.abstract_values.specs.declared.value.AbstractValue.{AbstractValue}
 use Rattle.abstract_values.specs.declared.value.AbstractValue.TheVariants.{Unset, Number, Record, Stack, Table}
-use Rattle.abstract_state.specs.States.{AbstractState, left_state}
+use Rattle.abstract_state.specs.States.{AbstractState}
 use Rattle.verifier.specs.declared.refusal.Refusal.{Refusal}
 use Rattle.verifier.specs.Rules.{Ways, exit_ways, transfer}
 use Rattle.verifier.specs.Described.{IsWay}
 use Rattle.verifier.specs.Listing.{instruction_at}
 use Rattle.verifier.specs.Walks.{next_pcs, IsOneOf}
-use Rattle.verifier.specs.Equations.{Passage, Calls, joined_with, joined_ways, known_ways, opening, outcome_at, ways_after, states, first_refusal, refusal_at, joined_exit, outcome, calls_of}
+use Rattle.verifier.specs.Equations.{Passage, Calls, left_by, joined_ways, known_ways, opening, outcome_at, ways_after, states, first_refusal, refusal_at, joined_exit, outcome, calls_of}
 use Rattle.verifier.specs.Tables.{boxed_state, state_at, Reaches, IsGoneTo}
 use Rattle.verifier.proofs.Arrivals.{States}
 use Rattle.verifier.proofs.RuleParts.{ok}
@@ -97,7 +97,7 @@ exit_goes l n s ws h = exit_none (get_or s.registers 0 Unset) ws h
 pub exit_step : (p : Program) (calls : Calls) (v : Passage) (old before after : States) (n last further : ℕ) (exits more : Option (Box AbstractState)) (s : AbstractState) (ws : Ways)
     → Flows p → v.entry ≤ n → n < units p → IsGoneTo p calls v old n last before exits
     → instruction_at p n ≡ Some Exit → states p calls v n ≡ Some s → transfer (lengths_of p) n Exit s ≡ ok ws
-    → boxed_state more ≡ joined_with (boxed_state exits) (left_state (v.frame - 1) s)
+    → boxed_state more ≡ left_by v.frame (boxed_state exits) s
     → last ≤ further → Reaches p n further
     → length after ≡ length before → ((q : ℕ) → state_at after q ≡ state_at (set before n None) q) → IsGoneTo p calls v old (n + 1) further after more
 exit_step p calls v old before after n last further exits more s ws flows in_function lt h found walked goes left far reaches long came =

@@ -63,6 +63,7 @@ put_follows l pc units i a s d r n ws at described h new =
     let known : DescribesState l (with_register a d w.value) after = record {
       parts = put_described l (live s) a s.registers s.memory d w.value n described.parts (new w.value w.from);
       frame_register = frame_register_stays s.registers (number_of d) n w.may ∙ described.frame_register;
-      few_callers = described.few_callers; kept = described.kept;
+      few_callers = described.few_callers;
+      kept = described.kept;
     } in
     rw w.may (subst (λ v. Follows l i a s v (Goes after)) w.to (stays (pos (pc + units), with_register a d w.value) (inl refl) moved known refl))

@@ -125,9 +125,13 @@ first_refusal p calls v zero = None
 first_refusal p calls v (suc n) =
     option_or (first_refusal p calls v n) (refusal_at p calls v n (instruction_at p n) (states p calls v n))
 
--- what an exit leaves
+-- what an exit of the function of a frame leaves; the program itself ends there, and leaves nothing
+abbrev pub left_by : ℕ → Option AbstractState → AbstractState → Option AbstractState
+left_by zero known s = known
+left_by (suc caller) known s = joined_with known (left_state caller s)
+
 abbrev pub joined_exit : Passage → Option AbstractState → Option Instruction → Option AbstractState → Option AbstractState
-joined_exit v known (Some Exit) (Some s) = joined_with known (left_state (v.frame - 1) s)
+joined_exit v known (Some Exit) (Some s) = left_by v.frame known s
 joined_exit v known i s = known
 
 -- what the exits below pc n leave

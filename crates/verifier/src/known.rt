@@ -129,22 +129,52 @@ fn go_over(
         let opened = match visit(alloc, image, listing, &mut states, &mut exits, pc, frame) {
             Err(refusal) => {
                 rule_or_memory(refusal)?;
-                return Ok((KnownPassage { entry, last: pc, states: kept }, None));
+                return Ok((
+                    KnownPassage {
+                        entry,
+                        last: pc,
+                        states: kept,
+                    },
+                    None,
+                ));
             }
             Ok(opened) => opened,
         };
         if let Some((begins, known)) = opened {
             let again = Box::new(alloc, known.copy(alloc)?)?;
-            match go_through(alloc, image, listing, ends, &mut states, begins, frame + 1, known) {
+            match go_through(
+                alloc,
+                image,
+                listing,
+                ends,
+                &mut states,
+                begins,
+                frame + 1,
+                known,
+            ) {
                 Err(refusal) => {
                     rule_or_memory(refusal)?;
-                    return Ok((KnownPassage { entry, last: pc, states: kept }, Some((begins, again))));
+                    return Ok((
+                        KnownPassage {
+                            entry,
+                            last: pc,
+                            states: kept,
+                        },
+                        Some((begins, again)),
+                    ));
                 }
                 Ok(left) => go_on_after(&mut states, pc, left),
             }
         }
     }
-    Ok((KnownPassage { entry, last: end - 1, states: kept }, None))
+    Ok((
+        KnownPassage {
+            entry,
+            last: end - 1,
+            states: kept,
+        },
+        None,
+    ))
 }
 
 /// Tells a passage, and those that are open within it where a rule is broken.
@@ -167,7 +197,15 @@ fn tell(
         × Tells image.now (passage_at entry frame known.value)
         (first_refusal image.now (calls_of image.now (passage_at entry frame known.value)) (passage_at entry frame known.value) (units image.now)) told) }
 {
-    let (passage, called) = go_over(alloc, image, &layout.listing, &layout.ends, entry, frame, known)?;
+    let (passage, called) = go_over(
+        alloc,
+        image,
+        &layout.listing,
+        &layout.ends,
+        entry,
+        frame,
+        known,
+    )?;
     passages.push(passage)?;
     match called {
         None => Ok(()),

@@ -139,8 +139,8 @@ pub(crate) fn visit(
         → IsGoneTo image.now (calls_of image.now v) v old pc last states.old.items exits.old
         → MatchResult result
         (λ called. MatchOption called
-            ((further : ℕ) → last ≤ further → Reaches image.now pc further → IsGoneTo image.now (calls_of image.now v) v old (pc + 1) further states.new.items exits.new)
-            (λ call. IsAtCall image.now (calls_of image.now v) v old pc last states.new.items exits.new call.0 call.1.value))
+        ((further : ℕ) → last ≤ further → Reaches image.now pc further → IsGoneTo image.now (calls_of image.now v) v old (pc + 1) further states.new.items exits.new)
+        (λ call. IsAtCall image.now (calls_of image.now v) v old pc last states.new.items exits.new call.0 call.1.value))
         (λ refusal. unless_memory refusal (IsBrokenAt image.now v pc refusal)) }
 {
     let Some(mut state) = states[pc].take() else {
@@ -154,7 +154,10 @@ pub(crate) fn visit(
             if let Err(cause) = exit(&state) {
                 return Err(Refusal { cause, pc });
             }
-            leave_call(&mut state, frame.saturating_sub(1));
+            if frame == 0 {
+                return Ok(None);
+            }
+            leave_call(&mut state, frame - 1);
             join_exit(exits, state);
             Ok(None)
         }
@@ -214,7 +217,16 @@ pub(crate) fn go_through(
             Ok(opened) => opened,
         };
         if let Some((begins, known)) = opened {
-            match go_through(alloc, image, listing, ends, states, begins, frame + 1, known) {
+            match go_through(
+                alloc,
+                image,
+                listing,
+                ends,
+                states,
+                begins,
+                frame + 1,
+                known,
+            ) {
                 Err(refusal) => return Err(refusal),
                 Ok(left) => go_on_after(states, pc, left),
             }

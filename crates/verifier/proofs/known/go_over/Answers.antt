@@ -29,9 +29,12 @@ loop-pc-init c =
     let kept_size : length c.in_ok-kept.kept.items ≡ units c.args.image.now = c.in_ok-kept.ensures.same_length ∙ ap (λ xs. length xs / 8) c.code.ensures.exact in
     let size : length c.in_ok-states.states.items ≡ units c.args.image.now = c.in_ok-states.ensures.same_length ∙ ap (λ xs. length xs / 8) c.code-2.ensures.exact in
     let at : (q : ℕ) → state_at c.arrive.new.states.items q ≡ joined_ways (state_at [] q) ((pos c.args.entry, c.args.known.value) ∷ []) q = λ q. (let a = c.arrive.ensures.arrived q in rw (place, c.in_ok-states.ensures.none q) at a) in
-    let first = begun c.args.image.now (calls_of c.args.image.now (passage_at c.args.entry c.args.frame c.args.known.value)) (passage_at c.args.entry c.args.frame c.args.known.value) [] c.arrive.new.states.items (c.arrive.ensures.same_length ∙ size) (λ q from. refl) at in
-    (later c.args.image.now (calls_of c.args.image.now (passage_at c.args.entry c.args.frame c.args.known.value)) (passage_at c.args.entry c.args.frame c.args.known.value) [] c.arrive.new.states.items c.args.entry c.args.entry (c.from-end.result - 1) None first (omega (arith, end, end_behind c.args.image.now c.args.entry)), omega arith, omega (arith, end, end_behind c.args.image.now c.args.entry),
-      record { same_length = kept_size; known = λ q from to. absurd (omega (arith, from, to)) })
+    let first = begun c.args.image.now (calls_of c.args.image.now (passage_at c.args.entry c.args.frame c.args.known.value)) (passage_at c.args.entry c.args.frame c.args.known.value) [] c.arrive.new.states.items (c.arrive.ensures.same_length ∙ size) (λ q from. refl) at in (
+      later c.args.image.now (calls_of c.args.image.now (passage_at c.args.entry c.args.frame c.args.known.value)) (passage_at c.args.entry c.args.frame c.args.known.value) [] c.arrive.new.states.items c.args.entry c.args.entry (c.from-end.result - 1) None first (omega (arith, end, end_behind c.args.image.now c.args.entry)),
+      omega arith,
+      omega (arith, end, end_behind c.args.image.now c.args.entry),
+      record { same_length = kept_size; known = λ q from to. absurd (omega (arith, from, to)) },
+    )
 
 pub index-requires : goal.index-requires
 index-requires c =
@@ -170,7 +173,7 @@ loop-pc-preserved c =
     let kept : IsKeptTo c.args.image.now (passage_at c.args.entry c.args.frame c.args.known.value) (c.loop-pc.pc + 1) (set c.loop-pc.kept.items c.loop-pc.pc c.in_ok-kept-2.field-0) = kept_more c.args.image.now (passage_at c.args.entry c.args.frame c.args.known.value) c.loop-pc.pc (c.from-end.result - 1) [] c.loop-pc.states.items c.loop-pc.kept.items c.loop-pc.exits c.in_ok-kept-2.field-0 below c.loop-pc.invariant.0 c.loop-pc.invariant.3 same in
     elim c.match-opened.branch [
       | in-Some+in_ok-copy+in_ok-again+in-Ok-go_through w ↦ (
-    let h : IsAtCall c.args.image.now (calls_of c.args.image.now (passage_at c.args.entry c.args.frame c.args.known.value)) (passage_at c.args.entry c.args.frame c.args.known.value) [] c.loop-pc.pc (function_end c.args.image.now c.args.entry - 1) c.visit.new.states.items c.visit.new.exits w.in-Some.begins w.in-Some.known.value = rw (end, w.in-Some.is) at (c.in-Ok.ensures.gone (passage_at c.args.entry c.args.frame c.args.known.value) [] (c.from-end.result - 1) refl c.loop-pc.invariant.1 c.loop-pc.invariant.0) in
+          let h : IsAtCall c.args.image.now (calls_of c.args.image.now (passage_at c.args.entry c.args.frame c.args.known.value)) (passage_at c.args.entry c.args.frame c.args.known.value) [] c.loop-pc.pc (function_end c.args.image.now c.args.entry - 1) c.visit.new.states.items c.visit.new.exits w.in-Some.begins w.in-Some.known.value = rw (end, w.in-Some.is) at (c.in-Ok.ensures.gone (passage_at c.args.entry c.args.frame c.args.known.value) [] (c.from-end.result - 1) refl c.loop-pc.invariant.1 c.loop-pc.invariant.0) in
           let all : IsGoneTo c.args.image.now (calls_of c.args.image.now (passage_at c.args.entry c.args.frame c.args.known.value)) (passage_at c.args.entry c.args.frame c.args.known.value) [] (c.loop-pc.pc + 1) (function_end c.args.image.now c.args.entry - 1) w.go_on_after.new.states.items c.visit.new.exits = returned c.args.image.now (passage_at c.args.entry c.args.frame c.args.known.value) [] c.visit.new.states.items w.go_through.new.states.items w.go_on_after.new.states.items c.loop-pc.pc w.in-Some.begins (c.args.frame + 1) c.visit.new.exits w.in-Some.known.value (boxed_state w.in-Ok-go_through.left) passed c.requires.inside c.loop-pc.invariant.1 lt h refl w.in-Ok-go_through.ensures.comes w.in-Ok-go_through.ensures.same_length w.in-Ok-go_through.ensures.before w.go_on_after.ensures.same_length w.go_on_after.ensures.gone in
           (rw (end, w.states-is) all, omega (arith, c.loop-pc.invariant.1), omega (arith, c.loop-pc-test.true), kept))
       | in_default w ↦ (
