@@ -1,7 +1,9 @@
 pub mod Zipped
 pub mod Bytes
-pub mod Joined
 pub mod Loads
 pub mod Stores
 pub mod Gathers
 pub mod JoinOrder
+pub mod Joined
+pub mod Entered
+pub mod Places

@@ -1,24 +1,22 @@
 -- Laws of what is known of states. Each is the contract of a public function.
-use Rattle.std.specs.Prelude.{◌≡◌, ℕ, ◌+◌, ◌<◌, ◌≤◌, ◌^◌, ℤ, FitsSigned, Some, Ok}
+use Rattle.std.specs.Prelude.{◌≡◌, ℕ, ◌<◌, ◌≤◌, ◌^◌, ℤ, FitsSigned, Some, Ok}
 use Rattle.std.specs.Int.{w16}
 use Rattle.bpf_isa.specs.declared.instruction.Size.{Size}
-use Rattle.bpf_model.specs.declared.limits.TheConstants.{FRAME_BYTES}
-use Rattle.bpf_model.specs.State.{Partial, record_base, number_at, address_at}
+use Rattle.bpf_model.specs.State.{Partial, most_frames, number_at, address_at}
 use Rattle.bpf_isa.specs.Sizes.{size_bytes}
 use Rattle.bpf_image.specs.declared.lengths.Lengths.{Lengths}
 use Rattle.abstract_values.specs.declared.value.AbstractValue.{AbstractValue}
 use Rattle.abstract_values.specs.Described.{AreShort, Describes}
-use Rattle.abstract_state.specs.declared.state.AbstractState.{AbstractState}
-use Rattle.abstract_state.specs.States.{join_of_states}
+use Rattle.abstract_state.specs.States.{AbstractState, join_of_states}
 use Rattle.abstract_state.specs.Memory.{load_result, store_result, gather_result}
 use Rattle.abstract_state.specs.Described.{DescribesParts, IsAllowed, IsReadable, IsWritten, IsStored}
 
 -- what one of two states describes, their join describes too
 abbrev pub JoinDescribesStates : Type 0
 JoinDescribesStates =
-    (lengths : Lengths) (top : ℕ) (a b : AbstractState) (registers memory : Partial)
-    → (DescribesParts lengths top a registers memory → DescribesParts lengths top (join_of_states a b) registers memory)
-    × (DescribesParts lengths top b registers memory → DescribesParts lengths top (join_of_states a b) registers memory)
+    (lengths : Lengths) (live : ℕ) (a b : AbstractState) (registers memory : Partial)
+    → (DescribesParts lengths live a registers memory → DescribesParts lengths live (join_of_states a b) registers memory)
+    × (DescribesParts lengths live b registers memory → DescribesParts lengths live (join_of_states a b) registers memory)
 
 -- the order of two ways, and of three, makes no difference to what is known where they meet
 abbrev pub JoinIsOrderless : Type 0
@@ -29,31 +27,30 @@ JoinIsOrderless =
 -- what the rules say of a load describes the number that is there, and its bytes may be read
 abbrev pub LoadDescribes : Type 0
 LoadDescribes =
-    (lengths : Lengths) (top : ℕ) (a : AbstractState) (registers memory : Partial) (base v : AbstractValue) (offset : ℤ) (size : Size) (x : ℕ)
-    → AreShort lengths → FRAME_BYTES ≤ top → top < 2 ^ 64 → FitsSigned w16 offset
+    (lengths : Lengths) (live : ℕ) (a : AbstractState) (registers memory : Partial) (base v : AbstractValue) (offset : ℤ) (size : Size) (x : ℕ)
+    → AreShort lengths → live ≤ most_frames → FitsSigned w16 offset
     → load_result lengths a base offset (size_bytes size) ≡ Ok v
-    → DescribesParts lengths top a registers memory → Describes lengths top base (Some x)
-    → (n : ℕ) × IsReadable lengths top (address_at x offset) (size_bytes size)
-    × (number_at memory (address_at x offset) (size_bytes size) ≡ Some n) × Describes lengths top v (Some n)
+    → DescribesParts lengths live a registers memory → Describes lengths live base (Some x)
+    → (n : ℕ) × IsReadable lengths live (address_at x offset) (size_bytes size)
+    × (number_at memory (address_at x offset) (size_bytes size) ≡ Some n) × Describes lengths live v (Some n)
 
--- what the rules say of a store describes the memory after it, and the store is allowed. The frame lies
--- above the record.
+-- what the rules say of a store describes the memory after it, and the store is allowed.
 abbrev pub StoreDescribes : Type 0
 StoreDescribes =
-    (lengths : Lengths) (top : ℕ) (a b : AbstractState) (registers before after : Partial) (base v : AbstractValue) (offset : ℤ) (size : Size) (x n : ℕ)
-    → lengths.record_length < 2 ^ 16 → record_base + 2 ^ 17 ≤ top → top < 2 ^ 64 → FitsSigned w16 offset → n < 2 ^ 64
+    (lengths : Lengths) (live : ℕ) (a b : AbstractState) (registers before after : Partial) (base v : AbstractValue) (offset : ℤ) (size : Size) (x n : ℕ)
+    → lengths.record_length < 2 ^ 16 → live ≤ most_frames → FitsSigned w16 offset → n < 2 ^ 64
     → store_result lengths a base offset (size_bytes size) v ≡ Ok b
-    → DescribesParts lengths top a registers before
-    → Describes lengths top base (Some x) → Describes lengths top v (Some n)
+    → DescribesParts lengths live a registers before
+    → Describes lengths live base (Some x) → Describes lengths live v (Some n)
     → IsStored before after (address_at x offset) (size_bytes size) n
-    → IsAllowed lengths top (address_at x offset) (size_bytes size) × DescribesParts lengths top b registers after
+    → IsAllowed lengths live (address_at x offset) (size_bytes size) × DescribesParts lengths live b registers after
 
 -- what the rules say of gather describes the memory after it, and its bytes are allowed
 abbrev pub GatherDescribes : Type 0
 GatherDescribes =
-    (lengths : Lengths) (top : ℕ) (a b : AbstractState) (registers before after : Partial) (pointer : AbstractValue) (room x : ℕ)
-    → lengths.record_length < 2 ^ 16 → record_base + 2 ^ 17 ≤ top → 1 ≤ room
+    (lengths : Lengths) (live : ℕ) (a b : AbstractState) (registers before after : Partial) (pointer : AbstractValue) (room x : ℕ)
+    → lengths.record_length < 2 ^ 16 → live ≤ most_frames → 1 ≤ room
     → gather_result lengths a pointer room ≡ Ok b
-    → DescribesParts lengths top a registers before → Describes lengths top pointer (Some x)
+    → DescribesParts lengths live a registers before → Describes lengths live pointer (Some x)
     → IsWritten before after x room
-    → IsAllowed lengths top x room × DescribesParts lengths top b registers after
+    → IsAllowed lengths live x room × DescribesParts lengths live b registers after

@@ -1,4 +1,5 @@
 pub mod States
+pub mod Called
 pub mod Memory
 pub mod Described
 pub mod Laws

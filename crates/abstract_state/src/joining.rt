@@ -1,9 +1,10 @@
-//! What is known where two ways meet, of all registers and the stack.
-ghost use Rattle.std.specs.Prelude.{◌≡◌, ◌&&◌, IsTrue, length};
+//! What is known where two ways meet, of all registers and the stacks.
+ghost use Rattle.std.specs.Prelude.{◌≡◌, ◌&&◌, IsTrue, length, map};
 ghost use Rattle.abstract_values.specs.Values.{join_of};
-ghost use Rattle.abstract_state.specs.States.{elementwise, join_of_states};
+ghost use Rattle.abstract_state.specs.States.{elementwise, join_of_frames, join_if_live, join_of_states};
+ghost use Rattle.abstract_state.specs.Called.{frame_called, kept_by};
 
-use crate::state::AbstractState;
+use crate::state::{AbstractState, Called, Frame, MOST_CALLERS};
 use abstract_values::{AbstractValue, join};
 
 /// Whether it is seen at once that a join with the other changes nothing, as with most: neither an unset value nor
@@ -54,11 +55,53 @@ fn keep_set(flags: &mut [bool], others: &[bool])
     }
 }
 
+/// Joins what is known of a frame's bytes.
+fn join_frame(frame: &mut Frame, other: &Frame)
+    ensures { frame.new ≡ join_of_frames frame.old other.now }
+{
+    keep_set(&mut frame.bytes_set, &other.bytes_set);
+    join_values(&mut frame.slots, &other.slots);
+}
+
+/// A frame of a called function is live that is live by both ways.
+fn join_if_called(called: Option<Box<Called>>, other: &Option<Box<Called>>) -> Option<Box<Called>>
+    ensures frame { frame_called result ≡ join_if_live (frame_called called) (frame_called other.now) }
+    ensures kept { kept_by result ≡ elementwise join_of (kept_by called) (kept_by other.now) }
+{
+    let Some(mut called) = called else {
+        return None;
+    };
+    match other {
+        None => None,
+        Some(other) => {
+            join_frame(&mut called.frame, &other.frame);
+            join_values(&mut called.kept, &other.kept);
+            Some(called)
+        }
+    }
+}
+
+/// Joins the frames of called functions.
+fn join_called(
+    called: &mut [Option<Box<Called>>; MOST_CALLERS],
+    others: &[Option<Box<Called>>; MOST_CALLERS],
+)
+    ensures frames { map frame_called called.new
+        ≡ elementwise join_if_live (map frame_called called.old) (map frame_called others.now) }
+    ensures kept { map kept_by called.new
+        ≡ elementwise (elementwise join_of) (map kept_by called.old) (map kept_by others.now) }
+{
+    for i in 0..MOST_CALLERS {
+        let frame = called[i].take();
+        called[i] = join_if_called(frame, &others[i]);
+    }
+}
+
 /// What is known where one way more comes in. A place with one way needs no join: its state is moved.
 pub fn join_into(state: &mut AbstractState, other: &AbstractState)
     ensures { state.new ≡ join_of_states state.old other.now }
 {
     join_values(&mut state.registers, &other.registers);
-    keep_set(&mut state.bytes_set, &other.bytes_set);
-    join_values(&mut state.slots, &other.slots);
+    join_frame(&mut state.frame, &other.frame);
+    join_called(&mut state.called, &other.called);
 }

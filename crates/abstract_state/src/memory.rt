@@ -1,12 +1,13 @@
 //! Loads and stores through what is known of their base (RFC 9669, section 5).
-ghost use Rattle.std.specs.Prelude.{◌≡◌, ◌≤◌, ◌<◌, ◌+◌, ◌+ℤ◌, if◌then◌else◌, Some, None, Ok, Err, IfErr, IfSome, ◌≤ℤ◌};
+ghost use Rattle.std.specs.Prelude.{◌≡◌, ℕ, ◌≤◌, ◌+ℤ◌, if◌then◌else◌, None, Ok, Err, IfErr, map, slice_index_or, slice_set};
 ghost use Rattle.bpf_isa.specs.Sizes.{size_bytes};
-ghost use Rattle.abstract_values.specs.declared.limits.TheConstants.{FRAME_BOTTOM};
-ghost use Rattle.abstract_state.specs.Memory.{is_within, is_in_frame, frame_index, is_pointer, load_result, load_signed_result, frame_store_result, store_result, gather_result, table_write_cause, store_answer, any_of_size};
+ghost use Rattle.abstract_state.specs.States.{AbstractState as Known, frame_of, with_if_live};
+ghost use Rattle.abstract_state.specs.Called.{frame_called, kept_by};
+ghost use Rattle.abstract_state.specs.Memory.{is_within, load_result, load_signed_result, frame_load_result, frame_store_result, store_result, frame_gather_result, gather_result, table_write_cause, store_answer, any_of_size};
 
-use crate::stack::{any_number, fill_frame, is_whole_slot, load_frame, store_frame};
-use crate::state::AbstractState;
-use abstract_values::{AbstractValue, FRAME_BOTTOM};
+use crate::stack::{any_number, fill_live, is_address, load_live, store_live};
+use crate::state::{AbstractState, Called, MOST_CALLERS};
+use abstract_values::AbstractValue;
 use bpf_image::Lengths;
 use bpf_isa::{SignedSize, Size};
 use bpf_model::{Cause, FRAME_BYTES};
@@ -24,36 +25,20 @@ fn is_inside(length: u16, lo: u16, hi: u16, offset: i16, bytes: usize) -> bool
     begins_inside && ends_inside
 }
 
-/// Whether bytes at an offset from a place lie in the frame.
-fn is_inside_frame(top: i16, offset: i16, bytes: usize) -> bool
-    requires { bytes ≤ FRAME_BYTES }
-    ensures { result ≡ is_in_frame (top +ℤ offset) bytes }
+/// What a load from a frame gives.
+fn load_stack(
+    state: &AbstractState,
+    frame: u8,
+    place: i32,
+    bytes: usize,
+) -> Result<AbstractValue, Cause>
+    requires some { 1 ≤ bytes }
+    requires few { bytes ≤ 8 }
+    ensures { result ≡ frame_load_result (frame_of state.now frame) place bytes }
 {
-    let place = i64::from(top) + i64::from(offset);
-    let begins_inside = i64::from(FRAME_BOTTOM) <= place;
-    let ends_inside = place + bytes as i64 <= 0;
-    begins_inside && ends_inside
-}
-
-/// Which byte of the frame stands at an offset from a place, from the lowest.
-fn frame_byte(top: i16, offset: i16) -> usize
-    requires { FRAME_BOTTOM ≤ℤ (top +ℤ offset) }
-    ensures { result ≡ frame_index (top +ℤ offset) }
-{
-    let place = i64::from(top) + i64::from(offset);
-    (FRAME_BYTES as i64 + place) as usize
-}
-
-/// The first byte of the frame at an offset from a place, if so many bytes lie in the frame.
-fn find_in_frame(top: i16, offset: i16, bytes: usize) -> Option<usize>
-    requires { bytes ≤ FRAME_BYTES }
-    ensures found { result ≡ (if is_in_frame (top +ℤ offset) bytes then Some (frame_index (top +ℤ offset)) else None) }
-    ensures inside { IfSome result (λ first. first + bytes ≤ FRAME_BYTES) }
-{
-    if is_inside_frame(top, offset, bytes) {
-        Some(frame_byte(top, offset))
-    } else {
-        None
+    match state.frame(frame) {
+        None => Err(Cause::OutOfRange),
+        Some(frame) => load_live(frame, place, bytes),
     }
 }
 
@@ -93,10 +78,10 @@ pub fn load(
         AbstractValue::Record { lo, hi } => {
             load_outside_frame(lengths.record_length, lo, hi, offset, bytes)
         }
-        AbstractValue::Stack { offset: top } => match find_in_frame(top, offset, bytes) {
-            None => Err(Cause::OutOfRange),
-            Some(first) => load_frame(state, first, bytes),
-        },
+        AbstractValue::Stack { frame, offset: top } => {
+            let place = i32::from(top) + i32::from(offset);
+            load_stack(state, frame, place, bytes)
+        }
         AbstractValue::Table { lo, hi } => {
             load_outside_frame(lengths.table_length, lo, hi, offset, bytes)
         }
@@ -120,44 +105,100 @@ pub fn load_signed(
     })
 }
 
-fn is_address(value: AbstractValue) -> bool
-    ensures { result ≡ is_pointer value }
-{
-    matches!(
-        value,
-        AbstractValue::Record { .. } | AbstractValue::Stack { .. } | AbstractValue::Table { .. }
-    )
-}
-
-/// Stores a value in the frame, if it may stand there.
-fn store_in_frame(
-    state: &mut AbstractState,
-    top: i16,
-    offset: i16,
+/// Stores a value in the frame of a called function, if that is live and the value may stand there.
+fn store_called(
+    called: &mut [Option<Box<Called>>; MOST_CALLERS],
+    at: usize,
+    place: i32,
     bytes: usize,
     value: AbstractValue,
 ) -> Result<(), Cause>
     requires some { 1 ≤ bytes }
     requires few { bytes ≤ 8 }
-    ensures stored { frame_store_result state.old (top +ℤ offset) bytes value ≡ store_answer result state.new }
+    ensures stored { (s : Known) (frame : ℕ)
+        → frame_store_result s frame (frame_called (slice_index_or called.old at None)) place bytes value
+        ≡ store_answer result (with_if_live s frame (frame_called (slice_index_or called.new at None))) }
+    ensures frames { map frame_called called.new
+        ≡ slice_set (map frame_called called.old) at (frame_called (slice_index_or called.new at None)) }
+    ensures kept { map kept_by called.new ≡ map kept_by called.old }
+    ensures unchanged { IfErr result (λ cause. map frame_called called.new ≡ map frame_called called.old) }
+{
+    if at >= MOST_CALLERS {
+        return Err(Cause::OutOfRange);
+    }
+    let Some(mut taken) = called[at].take() else {
+        return Err(Cause::OutOfRange);
+    };
+    let answer = store_live(&mut taken.frame, place, bytes, value);
+    called[at] = Some(taken);
+    answer
+}
+
+/// Stores a value in a frame, if that is live and the value may stand there.
+fn store_stack(
+    state: &mut AbstractState,
+    frame: u8,
+    place: i32,
+    bytes: usize,
+    value: AbstractValue,
+) -> Result<(), Cause>
+    requires some { 1 ≤ bytes }
+    requires few { bytes ≤ 8 }
+    ensures stored { frame_store_result state.old frame (frame_of state.old frame) place bytes value
+        ≡ store_answer result state.new }
     ensures unchanged { IfErr result (λ cause. state.new ≡ state.old) }
 {
-    match find_in_frame(top, offset, bytes) {
-        None => {
-            if is_address(value) {
-                Err(Cause::PointerUse)
-            } else {
-                Err(Cause::OutOfRange)
-            }
-        }
-        Some(first) => {
-            if is_address(value) && !is_whole_slot(first, bytes) {
-                return Err(Cause::PointerUse);
-            }
-            store_frame(state, first, bytes, value);
-            Ok(())
-        }
+    if frame == 0 {
+        return store_live(&mut state.frame, place, bytes, value);
     }
+    store_called(
+        &mut state.called,
+        usize::from(frame) - 1,
+        place,
+        bytes,
+        value,
+    )
+}
+
+/// Fills bytes of the frame of a called function, if that is live and they lie in it.
+fn fill_called(
+    called: &mut [Option<Box<Called>>; MOST_CALLERS],
+    at: usize,
+    place: i32,
+    room: usize,
+) -> Result<(), Cause>
+    requires some { 1 ≤ room }
+    requires few { room ≤ FRAME_BYTES }
+    ensures filled { (s : Known) (frame : ℕ)
+        → frame_gather_result s frame (frame_called (slice_index_or called.old at None)) place room
+        ≡ store_answer result (with_if_live s frame (frame_called (slice_index_or called.new at None))) }
+    ensures frames { map frame_called called.new
+        ≡ slice_set (map frame_called called.old) at (frame_called (slice_index_or called.new at None)) }
+    ensures kept { map kept_by called.new ≡ map kept_by called.old }
+    ensures unchanged { IfErr result (λ cause. map frame_called called.new ≡ map frame_called called.old) }
+{
+    if at >= MOST_CALLERS {
+        return Err(Cause::OutOfRange);
+    }
+    let Some(mut taken) = called[at].take() else {
+        return Err(Cause::OutOfRange);
+    };
+    let answer = fill_live(&mut taken.frame, place, room);
+    called[at] = Some(taken);
+    answer
+}
+
+/// Fills bytes of a frame, if that is live and they lie in it.
+fn fill_stack(state: &mut AbstractState, frame: u8, place: i32, room: usize) -> Result<(), Cause>
+    requires some { 1 ≤ room }
+    requires few { room ≤ FRAME_BYTES }
+    ensures filled { frame_gather_result state.old frame (frame_of state.old frame) place room ≡ store_answer result state.new }
+    ensures unchanged { IfErr result (λ cause. state.new ≡ state.old) }
+{
+    if frame == 0 {
+        return fill_live(&mut state.frame, place, room);
+    }
+    fill_called(&mut state.called, usize::from(frame) - 1, place, room)
 }
 
 /// The broken rule where bytes would be written through a pointer into the table.
@@ -200,7 +241,10 @@ pub fn store(
                 Err(Cause::OutOfRange)
             }
         }
-        AbstractValue::Stack { offset: top } => store_in_frame(state, top, offset, bytes, value),
+        AbstractValue::Stack { frame, offset: top } => {
+            let place = i32::from(top) + i32::from(offset);
+            store_stack(state, frame, place, bytes, value)
+        }
         AbstractValue::Table { lo, hi } => {
             if is_address(value) {
                 return Err(Cause::PointerUse);
@@ -233,13 +277,12 @@ pub fn gather(
                 Err(Cause::OutOfRange)
             }
         }
-        AbstractValue::Stack { offset: top } => match find_in_frame(top, 0, room) {
-            None => Err(Cause::OutOfRange),
-            Some(first) => {
-                fill_frame(state, first, room);
-                Ok(())
-            }
-        },
+        AbstractValue::Stack { frame, offset: top } => fill_stack(
+            state,
+            frame,
+            i32::from(top),
+            room,
+        ),
         AbstractValue::Table { lo, hi } => Err(cause_of_table_write(lengths, lo, hi, 0, room)),
     }
 }

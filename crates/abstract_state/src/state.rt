@@ -1,25 +1,60 @@
-//! What is known of all registers and of a frame's stack.
+//! What is known of all registers and of the stacks of all live frames.
 ghost use Rattle.std.specs.Prelude.{◌≡◌};
 ghost use Rattle.abstract_state.specs.States.{entry_table};
 
 use abstract_values::AbstractValue;
 use bpf_image::Lengths;
 use bpf_isa::Register;
-use bpf_model::FRAME_BYTES;
+use bpf_model::{FRAME_BYTES, MOST_FRAMES};
+use std::marker::Model;
 
 /// How many aligned slots of eight bytes a frame has.
 pub const FRAME_SLOTS: usize = FRAME_BYTES / 8;
 
-/// What is known of all registers and of the stack of a frame at a place.
+/// How many functions may wait for one that they called.
+pub const MOST_CALLERS: usize = MOST_FRAMES - 1;
+
+/// What is known of the stack bytes of a frame.
 #[derive(Clone, Copy, Debug, PartialEq, Eq)]
-pub struct AbstractState {
+pub struct Frame {
     /// What was spilled to each aligned slot of eight bytes, from the lowest; `Unset` where nothing was.
     pub slots: [AbstractValue; FRAME_SLOTS],
-    /// R0 to R10, by number. They part two runs of equal bytes: the library of C fills a long run at a cost
-    /// that two shorter ones do not have.
-    pub registers: [AbstractValue; 11],
-    /// Which stack bytes are set, from the lowest.
+    /// Which bytes are set, from the lowest.
     pub bytes_set: [bool; FRAME_BYTES],
+}
+
+/// What is known of the frame of a function that is called, and what is kept for its caller.
+#[derive(Clone, Copy, Debug, PartialEq, Eq)]
+pub struct Called {
+    pub(crate) frame: Frame,
+    /// R6 to R9 of the function that called it.
+    pub(crate) kept: [AbstractValue; 4],
+}
+
+/// What is known of all registers and of the stacks of all live frames at a place. The frame of the program itself is a
+/// part of it; each function that is called brings a frame of its own.
+#[derive(Drop)]
+pub struct AbstractState {
+    /// R0 to R10, by number.
+    pub(crate) registers: [AbstractValue; 11],
+    /// Frame 0.
+    pub(crate) frame: Frame,
+    /// Frames 1 to 7, each there while its function runs or waits.
+    pub(crate) called: [Option<Box<Called>>; MOST_CALLERS],
+}
+
+impl Model for AbstractState {
+    ghost use Rattle.std.specs.Prelude.{◌∷◌, Some, map};
+    ghost use Rattle.abstract_state.specs.States.{AbstractState as Known};
+    ghost use Rattle.abstract_state.specs.Called.{frame_called, kept_by};
+
+    ghost Value = { Known };
+
+    ghost view = { λ v. record {
+      registers = v.registers;
+      frames = Some v.frame ∷ map frame_called v.called;
+      kept = map kept_by v.called;
+    } };
 }
 
 /// What is known of R3 where a program begins: it points to the table, if there is one.
@@ -33,8 +68,23 @@ fn entry_table(lengths: Lengths) -> AbstractValue
     }
 }
 
+impl Frame {
+    ghost use Rattle.abstract_state.specs.States.{new_frame};
+
+    /// A frame of which no byte is set.
+    pub(crate) fn new() -> Frame
+        ensures { result ≡ new_frame }
+    {
+        Frame {
+            slots: [AbstractValue::Unset; FRAME_SLOTS],
+            bytes_set: [false; FRAME_BYTES],
+        }
+    }
+}
+
 impl AbstractState {
-    ghost use Rattle.abstract_state.specs.States.{register, with_register, entry_state};
+    ghost use Rattle.std.specs.Prelude.{Some, None, MatchOption};
+    ghost use Rattle.abstract_state.specs.States.{register, with_register, entry_state, frame_of};
 
     /// What is known where a program begins, of a record and a table of so many bytes.
     pub fn entry(lengths: Lengths) -> AbstractState
@@ -47,13 +97,34 @@ impl AbstractState {
             hi: u64::from(lengths.record_length),
         };
         let table = entry_table(lengths);
-        let stack = AbstractValue::Stack { offset: 0 };
+        let stack = AbstractValue::Stack {
+            frame: 0,
+            offset: 0,
+        };
         AbstractState {
             registers: [
                 unset, record, length, table, unset, unset, unset, unset, unset, unset, stack,
             ],
-            bytes_set: [false; FRAME_BYTES],
-            slots: [AbstractValue::Unset; FRAME_SLOTS],
+            frame: Frame::new(),
+            called: [None, None, None, None, None, None, None],
+        }
+    }
+
+    /// What is known of the bytes of a frame, if it is live. Frame 0 is the program's own.
+    pub fn frame(&self, number: u8) -> Option<&Frame>
+        ensures { MatchOption result (frame_of self.now number ≡ None) (λ frame. frame_of self.now number ≡ Some frame.now) }
+    {
+        if number == 0 {
+            return Some(&self.frame);
+        }
+        let called: &[Option<Box<Called>>] = &self.called;
+        let at = usize::from(number) - 1;
+        if at >= called.len() {
+            return None;
+        }
+        match &called[at] {
+            None => None,
+            Some(called) => Some(&called.frame),
         }
     }
 

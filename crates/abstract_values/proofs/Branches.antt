@@ -157,26 +157,26 @@ side_sound w c a b x y p q h =
       | inr not_is ↦ rw not_is (p, q)
     ]
 
-numbers_described : (l : Lengths) (top : ℕ) (o : Option (Range × Range)) (x y : ℕ) → x < 2 ^ 64 → y < 2 ^ 64 → Pair o x y → DescribesSide l top (numbers o) x y
-numbers_described l top None x y p q h = h
-numbers_described l top (Some r) x y p q h = (number_described l top r.0 x h.0 p, number_described l top r.1 y h.1 q)
+numbers_described : (l : Lengths) (live : ℕ) (o : Option (Range × Range)) (x y : ℕ) → x < 2 ^ 64 → y < 2 ^ 64 → Pair o x y → DescribesSide l live (numbers o) x y
+numbers_described l live None x y p q h = h
+numbers_described l live (Some r) x y p q h = (number_described l live r.0 x h.0 p, number_described l live r.1 y h.1 q)
 
 low_in : (w : Width) (m x : ℕ) → x < m → low w x < m
 low_in w m x lt = omega (arith, mod-le x (modulus w), lt)
 
-sides_sound : (w : Width) (c : Comparison) (l : Lengths) (top : ℕ) (a b : Range) (x y : ℕ) → Within a x → Within b y → x < 2 ^ 64 → y < 2 ^ 64 → (t : Bool) → holds w c x y ≡ t → DescribesSide l top (side_of (both_sides w c a b) t) x y
-sides_sound w c l top a b x y p q r s true h =
-    numbers_described l top (side w c a b) x y r s (side_sound w c a b x y p q (λ lt. h))
-sides_sound w c l top a b x y p q r s false h =
-    numbers_described l top (side w (opposite c) a b) x y r s (side_sound w (opposite c) a b x y p q (λ lt. opposite_holds w c (low w x) (low w y) (low_in w (order_limit w (opposite c)) x lt) h))
+sides_sound : (w : Width) (c : Comparison) (l : Lengths) (live : ℕ) (a b : Range) (x y : ℕ) → Within a x → Within b y → x < 2 ^ 64 → y < 2 ^ 64 → (t : Bool) → holds w c x y ≡ t → DescribesSide l live (side_of (both_sides w c a b) t) x y
+sides_sound w c l live a b x y p q r s true h =
+    numbers_described l live (side w c a b) x y r s (side_sound w c a b x y p q (λ lt. h))
+sides_sound w c l live a b x y p q r s false h =
+    numbers_described l live (side w (opposite c) a b) x y r s (side_sound w (opposite c) a b x y p q (λ lt. opposite_holds w c (low w x) (low w y) (low_in w (order_limit w (opposite c)) x lt) h))
 
-pub narrow_describes : (w : Width) (c : Comparison) (l : Lengths) (top : ℕ) (a b : AbstractValue) (sides : Sides) (x y : ℕ) → narrowing w c a b ≡ decided sides → Describes l top a (Some x) → Describes l top b (Some y) → DescribesSide l top (side_of sides (holds w c x y)) x y
-narrow_describes w c l top (Number lo hi) (Number lo' hi') sides x y h p q =
-    let first = number_within l top lo hi x p in
-    let second = number_within l top lo' hi' y q in
+pub narrow_describes : (w : Width) (c : Comparison) (l : Lengths) (live : ℕ) (a b : AbstractValue) (sides : Sides) (x y : ℕ) → narrowing w c a b ≡ decided sides → Describes l live a (Some x) → Describes l live b (Some y) → DescribesSide l live (side_of sides (holds w c x y)) x y
+narrow_describes w c l live (Number lo hi) (Number lo' hi') sides x y h p q =
+    let first = number_within l live lo hi x p in
+    let second = number_within l live lo' hi' y q in
     let same : both_sides w c (range lo hi) (range lo' hi') ≡ sides = (let e : decided (both_sides w c (range lo hi) (range lo' hi')) ≡ decided sides = h in cc) in
-    subst (λ t. DescribesSide l top (side_of t (holds w c x y)) x y) same (sides_sound w c l top (range lo hi) (range lo' hi') x y first.0 second.0 first.1 second.1 (holds w c x y) refl)
-narrow_describes w c l top (Record lo hi) Unset sides x y h p q = absurd cc
-narrow_describes w c l top (Stack offset) Unset sides x y h p q = absurd cc
-narrow_describes w c l top (Table lo hi) Unset sides x y h p q = absurd cc
-narrow_describes w c l top _ _ sides x y h p q = absurd cc
+    subst (λ t. DescribesSide l live (side_of t (holds w c x y)) x y) same (sides_sound w c l live (range lo hi) (range lo' hi') x y first.0 second.0 first.1 second.1 (holds w c x y) refl)
+narrow_describes w c l live (Record lo hi) Unset sides x y h p q = absurd cc
+narrow_describes w c l live (Stack frame offset) Unset sides x y h p q = absurd cc
+narrow_describes w c l live (Table lo hi) Unset sides x y h p q = absurd cc
+narrow_describes w c l live _ _ sides x y h p q = absurd cc

@@ -10,7 +10,7 @@ use Rattle.bpf_isa.specs.declared.instruction.Width.TheVariants.{Bits64}
 use Rattle.bpf_isa.specs.declared.instruction.Operation.{Operation}
 use Rattle.bpf_isa.specs.declared.instruction.Operation.TheVariants as operations
 use Rattle.bpf_image.specs.declared.lengths.Lengths.{Lengths}
-use Rattle.bpf_model.specs.State.{record_base, table_base}
+use Rattle.bpf_model.specs.State.{record_base, table_base, frame_top, most_frames}
 use Rattle.bpf_model.specs.declared.limits.TheConstants.{FRAME_BYTES}
 use Rattle.bpf_model.specs.Arithmetic.{low, alu_number}
 use Rattle.bpf_model.specs.declared.cause.Cause.{Cause}
@@ -88,68 +88,68 @@ distance_of r y h lt =
     ]
 
 -- a place in the record that a pointer describes
-record Points (l : Lengths) (top : ℕ) (v : AbstractValue) (z : ℤ) : Type 0 where
+record Points (l : Lengths) (live : ℕ) (v : AbstractValue) (z : ℤ) : Type 0 where
   place : ℕ
   is : pos place ≡ z
   inside : place ≤ l.record_length
-  described : Describes l top v (Some (record_base + place))
+  described : Describes l live v (Some (record_base + place))
 
-between : (l : Lengths) (top : ℕ) (lo hi z : ℤ) → pos 0 ≤ℤ lo → hi ≤ℤ pos l.record_length → lo ≤ℤ z → z ≤ℤ hi → Points l top (Record (unsigned_abs lo) (unsigned_abs hi)) z
-between l top (pos a) (pos b) (pos m) p q above below =
+between : (l : Lengths) (live : ℕ) (lo hi z : ℤ) → pos 0 ≤ℤ lo → hi ≤ℤ pos l.record_length → lo ≤ℤ z → z ≤ℤ hi → Points l live (Record (unsigned_abs lo) (unsigned_abs hi)) z
+between l live (pos a) (pos b) (pos m) p q above below =
     record { place = m; is = refl; inside = omega (arith, ints); described = (m, refl, omega (arith, ints), omega (arith, ints), omega (arith, ints)) }
-between l top (pos a) (pos b) (negsuc m) p q above below = absurd (omega (arith, ints))
-between l top (pos a) (negsuc b) z p q above below = absurd (omega (arith, ints))
-between l top (negsuc a) hi z p q above below = absurd (omega (arith, ints))
+between l live (pos a) (pos b) (negsuc m) p q above below = absurd (omega (arith, ints))
+between l live (pos a) (negsuc b) z p q above below = absurd (omega (arith, ints))
+between l live (negsuc a) hi z p q above below = absurd (omega (arith, ints))
 
-points : (l : Lengths) (top : ℕ) (lo hi z : ℤ) (v : AbstractValue) → record_pointer l lo hi ≡ ok v → lo ≤ℤ z → z ≤ℤ hi → Points l top v z
-points l top lo hi z v h above below =
+points : (l : Lengths) (live : ℕ) (lo hi z : ℤ) (v : AbstractValue) → record_pointer l lo hi ≡ ok v → lo ≤ℤ z → z ≤ℤ hi → Points l live v z
+points l live lo hi z v h above below =
     elim (cases_Bool (is_place l.record_length lo && is_place l.record_length hi)) [
       | inl is ↦
           let same : Record (unsigned_abs lo) (unsigned_abs hi) ≡ v = (let e : ok (Record (unsigned_abs lo) (unsigned_abs hi)) ≡ ok v = (rw is at h) in cc) in
           let both = and_parts (is_place l.record_length lo) (is_place l.record_length hi) is in
           let first = and_parts (int_le (pos 0) lo) (int_le lo (pos l.record_length)) both.0 in
           let last = and_parts (int_le (pos 0) hi) (int_le hi (pos l.record_length)) both.1 in
-          subst (λ w. Points l top w z) same (between l top lo hi z (at_most (pos 0) lo first.0) (at_most hi (pos l.record_length) last.1) above below)
+          subst (λ w. Points l live w z) same (between l live lo hi z (at_most (pos 0) lo first.0) (at_most hi (pos l.record_length) last.1) above below)
       | inr not_is ↦ absurd (let e : failed OutOfRange ≡ ok v = (rw not_is at h) in cc)
     ]
 
 -- a place in the table that a pointer describes
-record TablePoints (l : Lengths) (top : ℕ) (v : AbstractValue) (z : ℤ) : Type 0 where
+record TablePoints (l : Lengths) (live : ℕ) (v : AbstractValue) (z : ℤ) : Type 0 where
   place : ℕ
   is : pos place ≡ z
   inside : place ≤ l.table_length
-  described : Describes l top v (Some (table_base + place))
+  described : Describes l live v (Some (table_base + place))
 
-table_between : (l : Lengths) (top : ℕ) (lo hi z : ℤ) → pos 0 ≤ℤ lo → hi ≤ℤ pos l.table_length → lo ≤ℤ z → z ≤ℤ hi → TablePoints l top (Table (unsigned_abs lo) (unsigned_abs hi)) z
-table_between l top (pos a) (pos b) (pos m) p q above below =
+table_between : (l : Lengths) (live : ℕ) (lo hi z : ℤ) → pos 0 ≤ℤ lo → hi ≤ℤ pos l.table_length → lo ≤ℤ z → z ≤ℤ hi → TablePoints l live (Table (unsigned_abs lo) (unsigned_abs hi)) z
+table_between l live (pos a) (pos b) (pos m) p q above below =
     record { place = m; is = refl; inside = omega (arith, ints); described = (m, refl, omega (arith, ints), omega (arith, ints), omega (arith, ints)) }
-table_between l top (pos a) (pos b) (negsuc m) p q above below = absurd (omega (arith, ints))
-table_between l top (pos a) (negsuc b) z p q above below = absurd (omega (arith, ints))
-table_between l top (negsuc a) hi z p q above below = absurd (omega (arith, ints))
+table_between l live (pos a) (pos b) (negsuc m) p q above below = absurd (omega (arith, ints))
+table_between l live (pos a) (negsuc b) z p q above below = absurd (omega (arith, ints))
+table_between l live (negsuc a) hi z p q above below = absurd (omega (arith, ints))
 
-table_points : (l : Lengths) (top : ℕ) (lo hi z : ℤ) (v : AbstractValue) → table_pointer l lo hi ≡ ok v → lo ≤ℤ z → z ≤ℤ hi → TablePoints l top v z
-table_points l top lo hi z v h above below =
+table_points : (l : Lengths) (live : ℕ) (lo hi z : ℤ) (v : AbstractValue) → table_pointer l lo hi ≡ ok v → lo ≤ℤ z → z ≤ℤ hi → TablePoints l live v z
+table_points l live lo hi z v h above below =
     elim (cases_Bool (is_place l.table_length lo && is_place l.table_length hi)) [
       | inl is ↦
           let same : Table (unsigned_abs lo) (unsigned_abs hi) ≡ v = (let e : ok (Table (unsigned_abs lo) (unsigned_abs hi)) ≡ ok v = (rw is at h) in cc) in
           let both = and_parts (is_place l.table_length lo) (is_place l.table_length hi) is in
           let first = and_parts (int_le (pos 0) lo) (int_le lo (pos l.table_length)) both.0 in
           let last = and_parts (int_le (pos 0) hi) (int_le hi (pos l.table_length)) both.1 in
-          subst (λ w. TablePoints l top w z) same (table_between l top lo hi z (at_most (pos 0) lo first.0) (at_most hi (pos l.table_length) last.1) above below)
+          subst (λ w. TablePoints l live w z) same (table_between l live lo hi z (at_most (pos 0) lo first.0) (at_most hi (pos l.table_length) last.1) above below)
       | inr not_is ↦ absurd (let e : failed OutOfRange ≡ ok v = (rw not_is at h) in cc)
     ]
 
 -- a stack pointer that stays in its frame
-record StaysInFrame (v : AbstractValue) (offset : ℤ) : Type 0 where
+record StaysInFrame (frame : ℕ) (v : AbstractValue) (offset : ℤ) : Type 0 where
   least : FRAME_BOTTOM ≤ℤ offset
   most : offset ≤ℤ pos 0
-  value : Stack offset ≡ v
+  value : Stack frame offset ≡ v
 
-stays : (offset : ℤ) (v : AbstractValue) → stack_pointer offset ≡ ok v → StaysInFrame v offset
-stays offset v h =
+stays : (frame : ℕ) (offset : ℤ) (v : AbstractValue) → stack_pointer frame offset ≡ ok v → StaysInFrame frame v offset
+stays frame offset v h =
     elim (cases_Bool (int_le FRAME_BOTTOM offset && int_le offset (pos 0))) [
       | inl is ↦
-          let same : Stack offset ≡ v = (let e : ok (Stack offset) ≡ ok v = (rw is at h) in cc) in
+          let same : Stack frame offset ≡ v = (let e : ok (Stack frame offset) ≡ ok v = (rw is at h) in cc) in
           let both = and_parts (int_le FRAME_BOTTOM offset) (int_le offset (pos 0)) is in
           record { least = at_most FRAME_BOTTOM offset both.0; most = at_most offset (pos 0) both.1; value = same }
       | inr not_is ↦ absurd (let e : failed OutOfRange ≡ ok v = (rw not_is at h) in cc)
@@ -167,107 +167,111 @@ address top (pos n) low high least most =
 address top (negsuc n) low high least most =
     record { at = top - (n + 1); is = omega (arith, ints); below = omega (arith, high) }
 
+-- and of one in a live frame
+in_frame : (live frame : ℕ) (offset : ℤ) → live ≤ most_frames → frame < live → FRAME_BOTTOM ≤ℤ offset → offset ≤ℤ pos 0 → Address (frame_top frame) offset
+in_frame live frame offset few is_live least most = address (frame_top frame) offset (omega arith) (omega (arith, few, is_live)) least most
+
 -- a range moves no stack pointer
-known_constant : (b : Bool) (z : ℤ) (v : AbstractValue) → stack_result b z ≡ ok v → (b ≡ true) × (stack_pointer z ≡ ok v)
-known_constant true z v h = (refl, h)
-known_constant false z v h = absurd cc
+known_constant : (b : Bool) (frame : ℕ) (z : ℤ) (v : AbstractValue) → stack_result b frame z ≡ ok v → (b ≡ true) × (stack_pointer frame z ≡ ok v)
+known_constant true frame z v h = (refl, h)
+known_constant false frame z v h = absurd cc
 
-stack_sum : (l : Lengths) (top : ℕ) (offset : ℤ) (r : Range) (v : AbstractValue) (x y : ℕ) → FRAME_BYTES ≤ top → top < 2 ^ 64 → stack_result (is_constant r) (offset +ℤ least_distance r) ≡ ok v → Describes l top (Stack offset) (Some x) → Within r y → y < 2 ^ 64 → Describes l top v (Some (alu_number Bits64 operations.Add x y))
-stack_sum l top offset r v x y low high h p inside lt =
+stack_sum : (l : Lengths) (live frame : ℕ) (offset : ℤ) (r : Range) (v : AbstractValue) (x y : ℕ) → live ≤ most_frames → stack_result (is_constant r) frame (offset +ℤ least_distance r) ≡ ok v → Describes l live (Stack frame offset) (Some x) → Within r y → y < 2 ^ 64 → Describes l live v (Some (alu_number Bits64 operations.Add x y))
+stack_sum l live frame offset r v x y few h p inside lt =
     let x-is : x ≡ p.0 = (let e : Some x ≡ Some p.0 = p.1 in cc) in
     let far = distance_of r y inside lt in
-    let known = known_constant (is_constant r) (offset +ℤ least_distance r) v h in
-    let frame = stays (offset +ℤ least_distance r) v known.1 in
-    let there = address top (offset +ℤ least_distance r) low high frame.least frame.most in
+    let known = known_constant (is_constant r) frame (offset +ℤ least_distance r) v h in
+    let within = stays frame (offset +ℤ least_distance r) v known.1 in
+    let there = in_frame live frame (offset +ℤ least_distance r) few p.5 within.least within.most in
     let moved : pos there.at ≡ pos x +ℤ far.d = omega (arith, ints, there.is, x-is, p.2, far.one known.0) in
-    let same = sum_at x y there.at far.d (stack_below l top x offset high p) lt there.below far.moves moved in
-    rw same (subst (λ w. Describes l top w (Some there.at)) frame.value (there.at, refl, there.is, frame.least, frame.most))
+    let same = sum_at x y there.at far.d (stack_below l live x frame offset few p) lt there.below far.moves moved in
+    rw same (subst (λ w. Describes l live w (Some there.at)) within.value (there.at, refl, there.is, within.least, within.most, p.5))
 
-stack_difference : (l : Lengths) (top : ℕ) (offset : ℤ) (r : Range) (v : AbstractValue) (x y : ℕ) → FRAME_BYTES ≤ top → top < 2 ^ 64 → stack_result (is_constant r) (offset -ℤ least_distance r) ≡ ok v → Describes l top (Stack offset) (Some x) → Within r y → y < 2 ^ 64 → Describes l top v (Some (alu_number Bits64 operations.Subtract x y))
-stack_difference l top offset r v x y low high h p inside lt =
+stack_difference : (l : Lengths) (live frame : ℕ) (offset : ℤ) (r : Range) (v : AbstractValue) (x y : ℕ) → live ≤ most_frames → stack_result (is_constant r) frame (offset -ℤ least_distance r) ≡ ok v → Describes l live (Stack frame offset) (Some x) → Within r y → y < 2 ^ 64 → Describes l live v (Some (alu_number Bits64 operations.Subtract x y))
+stack_difference l live frame offset r v x y few h p inside lt =
     let x-is : x ≡ p.0 = (let e : Some x ≡ Some p.0 = p.1 in cc) in
     let far = distance_of r y inside lt in
-    let known = known_constant (is_constant r) (offset -ℤ least_distance r) v h in
-    let frame = stays (offset -ℤ least_distance r) v known.1 in
-    let there = address top (offset -ℤ least_distance r) low high frame.least frame.most in
+    let known = known_constant (is_constant r) frame (offset -ℤ least_distance r) v h in
+    let within = stays frame (offset -ℤ least_distance r) v known.1 in
+    let there = in_frame live frame (offset -ℤ least_distance r) few p.5 within.least within.most in
     let moved : pos there.at ≡ pos x -ℤ far.d = omega (arith, ints, there.is, x-is, p.2, far.one known.0) in
-    let same = difference_at x y there.at far.d (stack_below l top x offset high p) lt there.below far.moves moved in
-    rw same (subst (λ w. Describes l top w (Some there.at)) frame.value (there.at, refl, there.is, frame.least, frame.most))
+    let same = difference_at x y there.at far.d (stack_below l live x frame offset few p) lt there.below far.moves moved in
+    rw same (subst (λ w. Describes l live w (Some there.at)) within.value (there.at, refl, there.is, within.least, within.most, p.5))
 
 -- a sum on a record pointer
-record_sum : (l : Lengths) (top lo hi : ℕ) (r : Range) (v : AbstractValue) (x y : ℕ) → l.record_length < 2 ^ 16 → record_pointer l (pos lo +ℤ least_distance r) (pos hi +ℤ greatest_distance r) ≡ ok v → Describes l top (Record lo hi) (Some x) → Within r y → y < 2 ^ 64 → Describes l top v (Some (alu_number Bits64 operations.Add x y))
-record_sum l top lo hi r v x y short h p inside lt =
+record_sum : (l : Lengths) (live lo hi : ℕ) (r : Range) (v : AbstractValue) (x y : ℕ) → l.record_length < 2 ^ 16 → record_pointer l (pos lo +ℤ least_distance r) (pos hi +ℤ greatest_distance r) ≡ ok v → Describes l live (Record lo hi) (Some x) → Within r y → y < 2 ^ 64 → Describes l live v (Some (alu_number Bits64 operations.Add x y))
+record_sum l live lo hi r v x y short h p inside lt =
     let x-is : x ≡ record_base + p.0 = (let e : Some x ≡ Some (record_base + p.0) = p.1 in cc) in
     let far = distance_of r y inside lt in
-    let there = points l top (pos lo +ℤ least_distance r) (pos hi +ℤ greatest_distance r) (pos p.0 +ℤ far.d) v h (omega (arith, ints, far.above, p.2)) (omega (arith, ints, far.below, p.3)) in
+    let there = points l live (pos lo +ℤ least_distance r) (pos hi +ℤ greatest_distance r) (pos p.0 +ℤ far.d) v h (omega (arith, ints, far.above, p.2)) (omega (arith, ints, far.below, p.3)) in
     let moved : pos (record_base + there.place) ≡ pos x +ℤ far.d = omega (arith, ints, there.is, x-is) in
-    let same = sum_at x y (record_base + there.place) far.d (record_below l top lo hi x short p) lt (omega (arith, there.inside, short)) far.moves moved in
+    let same = sum_at x y (record_base + there.place) far.d (record_below l live lo hi x short p) lt (omega (arith, there.inside, short)) far.moves moved in
     rw same there.described
 
-record_difference : (l : Lengths) (top lo hi : ℕ) (r : Range) (v : AbstractValue) (x y : ℕ) → l.record_length < 2 ^ 16 → record_pointer l (pos lo -ℤ greatest_distance r) (pos hi -ℤ least_distance r) ≡ ok v → Describes l top (Record lo hi) (Some x) → Within r y → y < 2 ^ 64 → Describes l top v (Some (alu_number Bits64 operations.Subtract x y))
-record_difference l top lo hi r v x y short h p inside lt =
+record_difference : (l : Lengths) (live lo hi : ℕ) (r : Range) (v : AbstractValue) (x y : ℕ) → l.record_length < 2 ^ 16 → record_pointer l (pos lo -ℤ greatest_distance r) (pos hi -ℤ least_distance r) ≡ ok v → Describes l live (Record lo hi) (Some x) → Within r y → y < 2 ^ 64 → Describes l live v (Some (alu_number Bits64 operations.Subtract x y))
+record_difference l live lo hi r v x y short h p inside lt =
     let x-is : x ≡ record_base + p.0 = (let e : Some x ≡ Some (record_base + p.0) = p.1 in cc) in
     let far = distance_of r y inside lt in
-    let there = points l top (pos lo -ℤ greatest_distance r) (pos hi -ℤ least_distance r) (pos p.0 -ℤ far.d) v h (omega (arith, ints, far.below, p.2)) (omega (arith, ints, far.above, p.3)) in
+    let there = points l live (pos lo -ℤ greatest_distance r) (pos hi -ℤ least_distance r) (pos p.0 -ℤ far.d) v h (omega (arith, ints, far.below, p.2)) (omega (arith, ints, far.above, p.3)) in
     let moved : pos (record_base + there.place) ≡ pos x -ℤ far.d = omega (arith, ints, there.is, x-is) in
-    let same = difference_at x y (record_base + there.place) far.d (record_below l top lo hi x short p) lt (omega (arith, there.inside, short)) far.moves moved in
+    let same = difference_at x y (record_base + there.place) far.d (record_below l live lo hi x short p) lt (omega (arith, there.inside, short)) far.moves moved in
     rw same there.described
 
 -- a sum on a table pointer
-table_sum : (l : Lengths) (top lo hi : ℕ) (r : Range) (v : AbstractValue) (x y : ℕ) → l.table_length < 2 ^ 16 → table_pointer l (pos lo +ℤ least_distance r) (pos hi +ℤ greatest_distance r) ≡ ok v → Describes l top (Table lo hi) (Some x) → Within r y → y < 2 ^ 64 → Describes l top v (Some (alu_number Bits64 operations.Add x y))
-table_sum l top lo hi r v x y short h p inside lt =
+table_sum : (l : Lengths) (live lo hi : ℕ) (r : Range) (v : AbstractValue) (x y : ℕ) → l.table_length < 2 ^ 16 → table_pointer l (pos lo +ℤ least_distance r) (pos hi +ℤ greatest_distance r) ≡ ok v → Describes l live (Table lo hi) (Some x) → Within r y → y < 2 ^ 64 → Describes l live v (Some (alu_number Bits64 operations.Add x y))
+table_sum l live lo hi r v x y short h p inside lt =
     let x-is : x ≡ table_base + p.0 = (let e : Some x ≡ Some (table_base + p.0) = p.1 in cc) in
     let far = distance_of r y inside lt in
-    let there = table_points l top (pos lo +ℤ least_distance r) (pos hi +ℤ greatest_distance r) (pos p.0 +ℤ far.d) v h (omega (arith, ints, far.above, p.2)) (omega (arith, ints, far.below, p.3)) in
+    let there = table_points l live (pos lo +ℤ least_distance r) (pos hi +ℤ greatest_distance r) (pos p.0 +ℤ far.d) v h (omega (arith, ints, far.above, p.2)) (omega (arith, ints, far.below, p.3)) in
     let moved : pos (table_base + there.place) ≡ pos x +ℤ far.d = omega (arith, ints, there.is, x-is) in
-    let same = sum_at x y (table_base + there.place) far.d (table_below l top lo hi x short p) lt (omega (arith, there.inside, short)) far.moves moved in
+    let same = sum_at x y (table_base + there.place) far.d (table_below l live lo hi x short p) lt (omega (arith, there.inside, short)) far.moves moved in
     rw same there.described
 
-table_difference : (l : Lengths) (top lo hi : ℕ) (r : Range) (v : AbstractValue) (x y : ℕ) → l.table_length < 2 ^ 16 → table_pointer l (pos lo -ℤ greatest_distance r) (pos hi -ℤ least_distance r) ≡ ok v → Describes l top (Table lo hi) (Some x) → Within r y → y < 2 ^ 64 → Describes l top v (Some (alu_number Bits64 operations.Subtract x y))
-table_difference l top lo hi r v x y short h p inside lt =
+table_difference : (l : Lengths) (live lo hi : ℕ) (r : Range) (v : AbstractValue) (x y : ℕ) → l.table_length < 2 ^ 16 → table_pointer l (pos lo -ℤ greatest_distance r) (pos hi -ℤ least_distance r) ≡ ok v → Describes l live (Table lo hi) (Some x) → Within r y → y < 2 ^ 64 → Describes l live v (Some (alu_number Bits64 operations.Subtract x y))
+table_difference l live lo hi r v x y short h p inside lt =
     let x-is : x ≡ table_base + p.0 = (let e : Some x ≡ Some (table_base + p.0) = p.1 in cc) in
     let far = distance_of r y inside lt in
-    let there = table_points l top (pos lo -ℤ greatest_distance r) (pos hi -ℤ least_distance r) (pos p.0 -ℤ far.d) v h (omega (arith, ints, far.below, p.2)) (omega (arith, ints, far.above, p.3)) in
+    let there = table_points l live (pos lo -ℤ greatest_distance r) (pos hi -ℤ least_distance r) (pos p.0 -ℤ far.d) v h (omega (arith, ints, far.below, p.2)) (omega (arith, ints, far.above, p.3)) in
     let moved : pos (table_base + there.place) ≡ pos x -ℤ far.d = omega (arith, ints, there.is, x-is) in
-    let same = difference_at x y (table_base + there.place) far.d (table_below l top lo hi x short p) lt (omega (arith, there.inside, short)) far.moves moved in
+    let same = difference_at x y (table_base + there.place) far.d (table_below l live lo hi x short p) lt (omega (arith, there.inside, short)) far.moves moved in
     rw same there.described
 
-add_sound : (l : Lengths) (top : ℕ) (a b v : AbstractValue) (x y : ℕ) → AreShort l → FRAME_BYTES ≤ top → top < 2 ^ 64 → sum_result l a b ≡ ok v → Describes l top a (Some x) → Describes l top b (Some y) → Describes l top v (Some (alu_number Bits64 operations.Add x y))
-add_sound l top (Record lo hi) (Number c d) v x y short low high h p q =
-    let inside = number_within l top c d y q in
-    record_sum l top lo hi (range c d) v x y short.0 h p inside.0 inside.1
-add_sound l top (Stack offset) (Number c d) v x y short low high h p q =
-    let inside = number_within l top c d y q in
-    stack_sum l top offset (range c d) v x y low high h p inside.0 inside.1
-add_sound l top (Table lo hi) (Number c d) v x y short low high h p q =
-    let inside = number_within l top c d y q in
-    table_sum l top lo hi (range c d) v x y short.1 h p inside.0 inside.1
-add_sound l top a b v x y short low high h p q = numbers_sound Bits64 operations.Add l top a b v x y h p q
+add_sound : (l : Lengths) (live : ℕ) (a b v : AbstractValue) (x y : ℕ) → AreShort l → live ≤ most_frames → sum_result l a b ≡ ok v → Describes l live a (Some x) → Describes l live b (Some y) → Describes l live v (Some (alu_number Bits64 operations.Add x y))
+add_sound l live (Record lo hi) (Number c d) v x y short few h p q =
+    let inside = number_within l live c d y q in
+    record_sum l live lo hi (range c d) v x y short.0 h p inside.0 inside.1
+add_sound l live (Stack frame offset) (Number c d) v x y short few h p q =
+    let inside = number_within l live c d y q in
+    stack_sum l live frame offset (range c d) v x y few h p inside.0 inside.1
+add_sound l live (Table lo hi) (Number c d) v x y short few h p q =
+    let inside = number_within l live c d y q in
+    table_sum l live lo hi (range c d) v x y short.1 h p inside.0 inside.1
+add_sound l live a b v x y short few h p q = numbers_sound Bits64 operations.Add l live a b v x y h p q
 
-subtract_sound : (l : Lengths) (top : ℕ) (a b v : AbstractValue) (x y : ℕ) → AreShort l → FRAME_BYTES ≤ top → top < 2 ^ 64 → difference_result l a b ≡ ok v → Describes l top a (Some x) → Describes l top b (Some y) → Describes l top v (Some (alu_number Bits64 operations.Subtract x y))
-subtract_sound l top (Record lo hi) (Number c d) v x y short low high h p q =
-    let inside = number_within l top c d y q in
-    record_difference l top lo hi (range c d) v x y short.0 h p inside.0 inside.1
-subtract_sound l top (Stack offset) (Number c d) v x y short low high h p q =
-    let inside = number_within l top c d y q in
-    stack_difference l top offset (range c d) v x y low high h p inside.0 inside.1
-subtract_sound l top (Table lo hi) (Number c d) v x y short low high h p q =
-    let inside = number_within l top c d y q in
-    table_difference l top lo hi (range c d) v x y short.1 h p inside.0 inside.1
-subtract_sound l top a b v x y short low high h p q = numbers_sound Bits64 operations.Subtract l top a b v x y h p q
+subtract_sound : (l : Lengths) (live : ℕ) (a b v : AbstractValue) (x y : ℕ) → AreShort l → live ≤ most_frames → difference_result l a b ≡ ok v → Describes l live a (Some x) → Describes l live b (Some y) → Describes l live v (Some (alu_number Bits64 operations.Subtract x y))
+subtract_sound l live (Record lo hi) (Number c d) v x y short few h p q =
+    let inside = number_within l live c d y q in
+    record_difference l live lo hi (range c d) v x y short.0 h p inside.0 inside.1
+subtract_sound l live (Stack frame offset) (Number c d) v x y short few h p q =
+    let inside = number_within l live c d y q in
+    stack_difference l live frame offset (range c d) v x y few h p inside.0 inside.1
+subtract_sound l live (Table lo hi) (Number c d) v x y short few h p q =
+    let inside = number_within l live c d y q in
+    table_difference l live lo hi (range c d) v x y short.1 h p inside.0 inside.1
+subtract_sound l live a b v x y short few h p q = numbers_sound Bits64 operations.Subtract l live a b v x y h p q
 
-pub alu_describes : (w : Width) (operation : Operation) (l : Lengths) (top : ℕ) (a b v : AbstractValue) (x y : ℕ) → AreShort l → FRAME_BYTES ≤ top → top < 2 ^ 64 → alu_result w operation l a b ≡ ok v → Describes l top a (Some x) → Describes l top b (Some y) → Describes l top v (Some (alu_number w operation x y))
-alu_describes w operations.Move l top a b v x y short low high h p q = move_sound w l top b v x y short high h q
-alu_describes Bits64 operations.Add l top a b v x y short low high h p q = add_sound l top a b v x y short low high h p q
-alu_describes Bits64 operations.Subtract l top a b v x y short low high h p q = subtract_sound l top a b v x y short low high h p q
-alu_describes w operation l top a b v x y short low high h p q = numbers_sound w operation l top a b v x y h p q
+pub alu_describes : (w : Width) (operation : Operation) (l : Lengths) (live : ℕ) (a b v : AbstractValue) (x y : ℕ) → AreShort l → live ≤ most_frames → alu_result w operation l a b ≡ ok v → Describes l live a (Some x) → Describes l live b (Some y) → Describes l live v (Some (alu_number w operation x y))
+alu_describes w operations.Move l live a b v x y short few h p q = move_sound w l live b v x y short few h q
+alu_describes Bits64 operations.Add l live a b v x y short few h p q = add_sound l live a b v x y short few h p q
+alu_describes Bits64 operations.Subtract l live a b v x y short few h p q = subtract_sound l live a b v x y short few h p q
+alu_describes w operation l live a b v x y short few h p q = numbers_sound w operation l live a b v x y h p q
 
 -- for the code: the pointer at two offsets that are what the rules name
 pub pointer_at : (l : Lengths) (lo hi first last : ℤ) (r : Result AbstractValue Cause) → r ≡ record_pointer l lo hi → lo ≡ first → hi ≡ last → r ≡ record_pointer l first last
 pointer_at l lo hi first last r e p q = e ∙ ap (λ z. record_pointer l z hi) p ∙ ap (λ z. record_pointer l first z) q
 
-pub stack_pointer_at : (b : Bool) (offset place : ℤ) (r : Result AbstractValue Cause) → r ≡ stack_pointer offset → b ≡ true → offset ≡ place → r ≡ stack_result b place
-stack_pointer_at b offset place r e test same = rw test (e ∙ ap stack_pointer same)
+pub stack_pointer_at : (b : Bool) (frame : ℕ) (offset place : ℤ) (r : Result AbstractValue Cause) → r ≡ stack_pointer frame offset → b ≡ true → offset ≡ place → r ≡ stack_result b frame place
+stack_pointer_at b frame offset place r e test same = rw test (e ∙ ap (stack_pointer frame) same)
 
 pub table_pointer_at : (l : Lengths) (lo hi first last : ℤ) (r : Result AbstractValue Cause) → r ≡ table_pointer l lo hi → lo ≡ first → hi ≡ last → r ≡ table_pointer l first last
 table_pointer_at l lo hi first last r e p q = e ∙ ap (λ z. table_pointer l z hi) p ∙ ap (λ z. table_pointer l first z) q

@@ -1,5 +1,5 @@
 -- What is known of a value: which numbers or addresses it may be, and how arithmetic changes that.
-use Rattle.std.specs.Prelude.{ℕ, ◌^◌, ◌&&◌, int_le, min, max, if◌then◌else◌, ℤ, pos, negsuc, ◌+ℤ◌, ◌-ℤ◌, ◌≤ℤ◌, unsigned_abs, Bool, Result, Ok, Err}
+use Rattle.std.specs.Prelude.{ℕ, ◌^◌, ◌==◌, ◌&&◌, int_le, min, max, if◌then◌else◌, ℤ, pos, negsuc, ◌+ℤ◌, ◌-ℤ◌, ◌≤ℤ◌, unsigned_abs, Bool, Result, Ok, Err}
 use Rattle.std.specs.Int.{w64, cast_signed}
 use Rattle.std.specs.Ordering.{int_eq}
 use Rattle.bpf_isa.specs.declared.instruction.Width.{Width}
@@ -24,7 +24,7 @@ use Rattle.abstract_values.specs.Ranges.{range, constant, is_constant, everythin
 abbrev pub join_of : AbstractValue → AbstractValue → AbstractValue
 join_of (Number a b) (Number c d) = Number (min a c) (max b d)
 join_of (Record a b) (Record c d) = Record (min a c) (max b d)
-join_of (Stack a) (Stack b) = if int_eq a b then Stack a else Unset
+join_of (Stack f a) (Stack g b) = if f == g && int_eq a b then Stack f a else Unset
 join_of (Table a b) (Table c d) = Table (min a c) (max b d)
 join_of _ _ = Unset
 
@@ -36,7 +36,7 @@ abbrev pub of_number : {A : Type 0} → (Range → A) → AbstractValue → Resu
 of_number f Unset = Err UnsetRegister
 of_number f (Number lo hi) = Ok (f (range lo hi))
 of_number f (Record lo hi) = Err PointerUse
-of_number f (Stack offset) = Err PointerUse
+of_number f (Stack frame offset) = Err PointerUse
 of_number f (Table lo hi) = Err PointerUse
 
 -- what a function makes of two numbers; a value that is not set comes before a pointer
@@ -45,8 +45,8 @@ of_numbers f Unset b = Err UnsetRegister
 of_numbers f (Number lo hi) b = of_number (f (range lo hi)) b
 of_numbers f (Record lo hi) Unset = Err UnsetRegister
 of_numbers f (Record lo hi) b = Err PointerUse
-of_numbers f (Stack offset) Unset = Err UnsetRegister
-of_numbers f (Stack offset) b = Err PointerUse
+of_numbers f (Stack frame offset) Unset = Err UnsetRegister
+of_numbers f (Stack frame offset) b = Err PointerUse
 of_numbers f (Table lo hi) Unset = Err UnsetRegister
 of_numbers f (Table lo hi) b = Err PointerUse
 
@@ -55,10 +55,10 @@ abbrev pub move_result : Width → AbstractValue → Result AbstractValue Cause
 move_result w Unset = Err UnsetRegister
 move_result w (Number lo hi) = Ok (number (input w (range lo hi)))
 move_result Bits64 (Record lo hi) = Ok (Record lo hi)
-move_result Bits64 (Stack offset) = Ok (Stack offset)
+move_result Bits64 (Stack frame offset) = Ok (Stack frame offset)
 move_result Bits64 (Table lo hi) = Ok (Table lo hi)
 move_result Bits32 (Record lo hi) = Err PointerUse
-move_result Bits32 (Stack offset) = Err PointerUse
+move_result Bits32 (Stack frame offset) = Err PointerUse
 move_result Bits32 (Table lo hi) = Err PointerUse
 
 -- how far a number may move a pointer, at least and at most: a constant counts as a signed number
@@ -87,13 +87,13 @@ table_pointer lengths lo hi =
     if is_place lengths.table_length lo && is_place lengths.table_length hi then Ok (Table (unsigned_abs lo) (unsigned_abs hi)) else Err OutOfRange
 
 -- a pointer into a stack frame, which does not leave it
-abbrev pub stack_pointer : ℤ → Result AbstractValue Cause
-stack_pointer offset =
-    if int_le FRAME_BOTTOM offset && int_le offset (pos 0) then Ok (Stack offset) else Err OutOfRange
+abbrev pub stack_pointer : ℕ → ℤ → Result AbstractValue Cause
+stack_pointer frame offset =
+    if int_le FRAME_BOTTOM offset && int_le offset (pos 0) then Ok (Stack frame offset) else Err OutOfRange
 
 -- a stack pointer has one offset, so only a constant moves it
-abbrev pub stack_result : Bool → ℤ → Result AbstractValue Cause
-stack_result is_known offset = if is_known then stack_pointer offset else Err PointerUse
+abbrev pub stack_result : Bool → ℕ → ℤ → Result AbstractValue Cause
+stack_result is_known frame offset = if is_known then stack_pointer frame offset else Err PointerUse
 
 -- the number that arithmetic on two numbers gives
 abbrev pub number_result : Width → Operation → Range → Range → AbstractValue
@@ -103,8 +103,8 @@ number_result w operation a b = number (computed_range w operation a b)
 abbrev pub sum_result : Lengths → AbstractValue → AbstractValue → Result AbstractValue Cause
 sum_result lengths (Record lo hi) (Number c d) =
     record_pointer lengths (pos lo +ℤ least_distance (range c d)) (pos hi +ℤ greatest_distance (range c d))
-sum_result lengths (Stack offset) (Number c d) =
-    stack_result (is_constant (range c d)) (offset +ℤ least_distance (range c d))
+sum_result lengths (Stack frame offset) (Number c d) =
+    stack_result (is_constant (range c d)) frame (offset +ℤ least_distance (range c d))
 sum_result lengths (Table lo hi) (Number c d) =
     table_pointer lengths (pos lo +ℤ least_distance (range c d)) (pos hi +ℤ greatest_distance (range c d))
 sum_result lengths a b = of_numbers (number_result Bits64 operations.Add) a b
@@ -113,8 +113,8 @@ sum_result lengths a b = of_numbers (number_result Bits64 operations.Add) a b
 abbrev pub difference_result : Lengths → AbstractValue → AbstractValue → Result AbstractValue Cause
 difference_result lengths (Record lo hi) (Number c d) =
     record_pointer lengths (pos lo -ℤ greatest_distance (range c d)) (pos hi -ℤ least_distance (range c d))
-difference_result lengths (Stack offset) (Number c d) =
-    stack_result (is_constant (range c d)) (offset -ℤ least_distance (range c d))
+difference_result lengths (Stack frame offset) (Number c d) =
+    stack_result (is_constant (range c d)) frame (offset -ℤ least_distance (range c d))
 difference_result lengths (Table lo hi) (Number c d) =
     table_pointer lengths (pos lo -ℤ greatest_distance (range c d)) (pos hi -ℤ least_distance (range c d))
 difference_result lengths a b = of_numbers (number_result Bits64 operations.Subtract) a b

@@ -83,7 +83,7 @@ fn add(lengths: Lengths, left: AbstractValue, right: AbstractValue) -> Result<Ab
         let range = Range { lo: low, hi: high };
         match left {
             AbstractValue::Record { lo, hi } => return raise_record(lengths, lo, hi, range),
-            AbstractValue::Stack { offset } => return raise_stack(offset, range),
+            AbstractValue::Stack { frame, offset } => return raise_stack(frame, offset, range),
             AbstractValue::Table { lo, hi } => return raise_table(lengths, lo, hi, range),
             AbstractValue::Unset | AbstractValue::Number { .. } => {}
         }
@@ -103,7 +103,7 @@ fn subtract(
         let range = Range { lo: low, hi: high };
         match left {
             AbstractValue::Record { lo, hi } => return lower_record(lengths, lo, hi, range),
-            AbstractValue::Stack { offset } => return lower_stack(offset, range),
+            AbstractValue::Stack { frame, offset } => return lower_stack(frame, offset, range),
             AbstractValue::Table { lo, hi } => return lower_table(lengths, lo, hi, range),
             AbstractValue::Unset | AbstractValue::Number { .. } => {}
         }

@@ -27,8 +27,11 @@ pub fn join(left: AbstractValue, right: AbstractValue) -> AbstractValue
             },
             _ => AbstractValue::Unset,
         },
-        AbstractValue::Stack { offset } => match right {
-            AbstractValue::Stack { offset: other } if offset == other => left,
+        AbstractValue::Stack { frame, offset } => match right {
+            AbstractValue::Stack {
+                frame: same,
+                offset: other,
+            } if frame == same && offset == other => left,
             _ => AbstractValue::Unset,
         },
         AbstractValue::Table { lo, hi } => match right {

@@ -60,11 +60,12 @@ fn point_into_table(lengths: Lengths, lo: i128, hi: i128) -> Result<AbstractValu
 }
 
 /// A pointer into a stack frame, which does not leave it.
-fn point_into_stack(offset: i128) -> Result<AbstractValue, Cause>
-    ensures { result ≡ stack_pointer offset }
+fn point_into_stack(frame: u8, offset: i128) -> Result<AbstractValue, Cause>
+    ensures { result ≡ stack_pointer frame offset }
 {
     if i128::from(FRAME_BOTTOM) <= offset && offset <= 0 {
         Ok(AbstractValue::Stack {
+            frame,
             offset: offset as i16,
         })
     } else {
@@ -129,23 +130,23 @@ pub(crate) fn lower_table(
 }
 
 /// A stack pointer moved up by a number, which must be a constant.
-pub(crate) fn raise_stack(offset: i16, range: Range) -> Result<AbstractValue, Cause>
-    ensures { result ≡ stack_result (is_constant range) (offset +ℤ least_distance range) }
+pub(crate) fn raise_stack(frame: u8, offset: i16, range: Range) -> Result<AbstractValue, Cause>
+    ensures { result ≡ stack_result (is_constant range) frame (offset +ℤ least_distance range) }
 {
     if !is_one_number(range) {
         return Err(Cause::PointerUse);
     }
     let (least, _) = distances(range);
-    point_into_stack(i128::from(offset) + least)
+    point_into_stack(frame, i128::from(offset) + least)
 }
 
 /// A stack pointer moved down by a number, which must be a constant.
-pub(crate) fn lower_stack(offset: i16, range: Range) -> Result<AbstractValue, Cause>
-    ensures { result ≡ stack_result (is_constant range) (offset -ℤ least_distance range) }
+pub(crate) fn lower_stack(frame: u8, offset: i16, range: Range) -> Result<AbstractValue, Cause>
+    ensures { result ≡ stack_result (is_constant range) frame (offset -ℤ least_distance range) }
 {
     if !is_one_number(range) {
         return Err(Cause::PointerUse);
     }
     let (least, _) = distances(range);
-    point_into_stack(i128::from(offset) - least)
+    point_into_stack(frame, i128::from(offset) - least)
 }

@@ -6,7 +6,7 @@ use Rattle.std.specs.Ordering.{int_eq}
 use Rattle.std.proofs.lemmas.Bool.{cases_eq, cases_lt}
 use Rattle.std.proofs.lemmas.List.{get_or_past, length-append, get_or_append_left}
 use Rattle.std.proofs.Math.Seq.{get_or-append_seam}
-use Rattle.abstract_state.specs.declared.state.AbstractState.{AbstractState}
+use Rattle.abstract_state.specs.States.{AbstractState}
 use Rattle.verifier.specs.Rules.{Ways}
 use Rattle.verifier.specs.Described.{IsWay}
 use Rattle.verifier.specs.Equations.{joined_with, joined_ways}

@@ -1,5 +1,5 @@
 -- Where the second pass has no fault, every way leads after its pc, to an instruction inside the code.
-use Rattle.std.proofs.Common.{◌≡◌, ℕ, zero, suc, ◌+◌, ◌-◌, ◌<◌, ◌≤◌, List, [], ◌∷◌, ◌++◌, true, leb, ltb, Option, Some, None, refl, arith, inl, inr, ◌⊎◌}
+use Rattle.std.proofs.Common.{◌≡◌, ◌≢◌, ℕ, zero, suc, ◌+◌, ◌-◌, ◌<◌, ◌≤◌, List, [], ◌∷◌, ◌++◌, true, leb, ltb, Option, Some, None, refl, arith, inl, inr, ◌⊎◌}
 use Rattle.std.specs.Option.{option_or}
 use Rattle.std.specs.Prelude.{ℤ, pos, negsuc, ◌&&◌, is_some}
 use Rattle.std.proofs.lemmas.Bool.{cases_Bool, and_parts, leb-false, ltb-true}
@@ -22,10 +22,11 @@ abbrev some_cause : Cause → Option Cause
 some_cause cause = Some cause
 
 -- a place to which a run may go on from a pc
-pub record Ahead (p : Program) (pc : ℕ) (z : ℤ) : Type 0 where
+pub record Ahead (p : Program) (pc end : ℕ) (z : ℤ) : Type 0 where
   pub place : ℕ
   pub is : z ≡ pos place
   pub behind : pc < place
+  pub under : place < end
   pub instruction : Instruction
   pub found : instruction_at p place ≡ Some instruction
 
@@ -33,26 +34,27 @@ there : (o : Option Instruction) → is_some o ≡ true → (i : Instruction) ×
 there None h = absurd cc
 there (Some i) h = (i, refl)
 
-landing_ahead : (p : Program) (pc : ℕ) (z : ℤ) → landing_cause p pc z ≡ None → Ahead p pc z
+landing_ahead : (p : Program) (pc : ℕ) (z : ℤ) → landing_cause p pc z ≡ None → Ahead p pc (function_end p pc) z
 landing_ahead p pc (pos q) h =
     elim (cases_Bool (is_some (instruction_at p q) && ltb q (function_end p pc))) [
       | inl is ↦
-          let found = there (instruction_at p q) ((and_parts (is_some (instruction_at p q)) (ltb q (function_end p pc)) is).0) in
+          let both = and_parts (is_some (instruction_at p q)) (ltb q (function_end p pc)) is in
+          let found = there (instruction_at p q) both.0 in
           elim (cases_Bool (leb q pc)) [
             | inl back ↦ absurd (let e : some_cause JumpBack ≡ None = (rw (is, back) at h) in cc)
-            | inr behind ↦ record { place = q; is = refl; behind = omega (arith, leb-false q pc behind); instruction = found.0; found = found.1 }
+            | inr behind ↦ record { place = q; is = refl; behind = omega (arith, leb-false q pc behind); under = ltb-true q (function_end p pc) both.1; instruction = found.0; found = found.1 }
           ]
       | inr not_is ↦ absurd (let e : some_cause JumpOut ≡ None = (rw not_is at h) in cc)
     ]
 landing_ahead p pc (negsuc n) h = absurd cc
 
-calling_ahead : (p : Program) (pc : ℕ) (z : ℤ) → calling_cause (start_above p pc z) ≡ None → Ahead p pc z
+calling_ahead : (p : Program) (pc : ℕ) (z : ℤ) → calling_cause (start_above p pc z) ≡ None → Ahead p pc (units p) z
 calling_ahead p pc (pos q) h =
     elim (cases_Bool (is_some (instruction_at p q) && ltb pc q)) [
       | inl is ↦
           let both = and_parts (is_some (instruction_at p q)) (ltb pc q) is in
           let found = there (instruction_at p q) both.0 in
-          record { place = q; is = refl; behind = ltb-true pc q both.1; instruction = found.0; found = found.1 }
+          record { place = q; is = refl; behind = ltb-true pc q both.1; under = inside p q found.0 found.1; instruction = found.0; found = found.1 }
       | inr not_is ↦ absurd (let e : some_cause CallTarget ≡ None = (rw not_is at h) in cc)
     ]
 calling_ahead p pc (negsuc n) h = absurd cc
@@ -70,7 +72,7 @@ pub end_inside : (p : Program) (pc : ℕ) → pc < units p → function_end p pc
 unfolding function_end
 end_inside p pc lt = (let most = entry_most p (units p - (pc + 1)) (pc + 1) in omega (arith, most, lt))
 
-falling_ahead : (p : Program) (pc : ℕ) (i : Instruction) (u : ℕ) → first_fault (decoding_fault p) (units p) ≡ None → instruction_at p pc ≡ Some i → u ≡ units_of i → 1 ≤ u → falling_cause p pc (pc + u) ≡ None → Ahead p pc (pos (pc + u))
+falling_ahead : (p : Program) (pc : ℕ) (i : Instruction) (u : ℕ) → first_fault (decoding_fault p) (units p) ≡ None → instruction_at p pc ≡ Some i → u ≡ units_of i → 1 ≤ u → falling_cause p pc (pc + u) ≡ None → Ahead p pc (function_end p pc) (pos (pc + u))
 falling_ahead p pc i u fine found size some h =
     elim (cases_Bool (leb (function_end p pc) (pc + u))) [
       | inl end ↦ absurd (let e : some_cause FallsOff ≡ None = (rw end at h) in cc)
@@ -79,56 +81,56 @@ falling_ahead p pc i u fine found size some h =
           let end = end_inside p pc (inside p pc i found) in
           let at : start_from p (pc + u) ≡ pc + u = (rw size (next_starts p pc i found)) in
           let found = stands_at p (pc + u) fine at (omega (arith, before, end)) in
-          record { place = pc + u; is = refl; behind = omega (arith, some); instruction = found.0; found = found.1 }
+          record { place = pc + u; is = refl; behind = omega (arith, some); under = before; instruction = found.0; found = found.1 }
     ]
 
 both_none : (a b : Option Cause) → option_or a b ≡ None → (a ≡ None) × (b ≡ None)
 both_none None b h = (refl, h)
 both_none (Some c) b h = absurd cc
 
-one_ahead : (p : Program) (pc : ℕ) (z x : ℤ) → Ahead p pc x → IsOneOf z (x ∷ []) → Ahead p pc z
-one_ahead p pc z x h m = elim m [ inl same ↦ rw same h | inr none ↦ absurd none ]
+pub one_ahead : (p : Program) (pc end : ℕ) (z x : ℤ) → Ahead p pc end x → IsOneOf z (x ∷ []) → Ahead p pc end z
+one_ahead p pc end z x h m = elim m [ inl same ↦ rw same h | inr none ↦ absurd none ]
 
-two_ahead : (p : Program) (pc : ℕ) (z x y : ℤ) → Ahead p pc x → Ahead p pc y → IsOneOf z (x ∷ y ∷ []) → Ahead p pc z
-two_ahead p pc z x y h k m = elim m [ inl same ↦ rw same h | inr rest ↦ one_ahead p pc z y k rest ]
+two_ahead : (p : Program) (pc : ℕ) (z x y : ℤ) → Ahead p pc (function_end p pc) x → Ahead p pc (function_end p pc) y → IsOneOf z (x ∷ y ∷ []) → Ahead p pc (function_end p pc) z
+two_ahead p pc z x y h k m = elim m [ inl same ↦ rw same h | inr rest ↦ one_ahead p pc (function_end p pc) z y k rest ]
 
 -- an instruction is one clause here
-cause_ahead : (p : Program) (pc : ℕ) (i : Instruction) (z : ℤ) → first_fault (decoding_fault p) (units p) ≡ None → instruction_at p pc ≡ Some i → flow_cause p pc i ≡ None → IsOneOf z (next_pcs i pc) → Ahead p pc z
+cause_ahead : (p : Program) (pc : ℕ) (i : Instruction) (z : ℤ) → first_fault (decoding_fault p) (units p) ≡ None → instruction_at p pc ≡ Some i → flow_cause p pc i ≡ None → IsOneOf z (next_pcs i pc) → Ahead p pc (function_end p pc) z
 cause_ahead p pc Exit z fine found h m = absurd m
 cause_ahead p pc (Jump d) z fine found h m =
-    one_ahead p pc z (target pc (units_over d)) (landing_ahead p pc (target pc (units_over d)) h) m
+    one_ahead p pc (function_end p pc) z (target pc (units_over d)) (landing_ahead p pc (target pc (units_over d)) h) m
 cause_ahead p pc (Branch w c l r d) z fine found h m =
     let parts = both_none (landing_cause p pc (target pc d)) (falling_cause p pc (pc + 1)) h in
     two_ahead p pc z (target pc d) (pos (pc + 1)) (landing_ahead p pc (target pc d) parts.0) (falling_ahead p pc (Branch w c l r d) 1 fine found refl (omega arith) parts.1) m
 cause_ahead p pc (Wide d v) z fine found h m =
-    one_ahead p pc z (pos (pc + 2)) (falling_ahead p pc (Wide d v) 2 fine found refl (omega arith) h) m
+    one_ahead p pc (function_end p pc) z (pos (pc + 2)) (falling_ahead p pc (Wide d v) 2 fine found refl (omega arith) h) m
 cause_ahead p pc (Alu w o d x) z fine found h m =
-    one_ahead p pc z (pos (pc + 1)) (falling_ahead p pc (Alu w o d x) 1 fine found refl (omega arith) h) m
+    one_ahead p pc (function_end p pc) z (pos (pc + 1)) (falling_ahead p pc (Alu w o d x) 1 fine found refl (omega arith) h) m
 cause_ahead p pc (MoveSigned e d s) z fine found h m =
-    one_ahead p pc z (pos (pc + 1)) (falling_ahead p pc (MoveSigned e d s) 1 fine found refl (omega arith) h) m
+    one_ahead p pc (function_end p pc) z (pos (pc + 1)) (falling_ahead p pc (MoveSigned e d s) 1 fine found refl (omega arith) h) m
 cause_ahead p pc (Negate w d) z fine found h m =
-    one_ahead p pc z (pos (pc + 1)) (falling_ahead p pc (Negate w d) 1 fine found refl (omega arith) h) m
+    one_ahead p pc (function_end p pc) z (pos (pc + 1)) (falling_ahead p pc (Negate w d) 1 fine found refl (omega arith) h) m
 cause_ahead p pc (Swap o b d) z fine found h m =
-    one_ahead p pc z (pos (pc + 1)) (falling_ahead p pc (Swap o b d) 1 fine found refl (omega arith) h) m
+    one_ahead p pc (function_end p pc) z (pos (pc + 1)) (falling_ahead p pc (Swap o b d) 1 fine found refl (omega arith) h) m
 cause_ahead p pc (CallHelper n) z fine found h m =
-    one_ahead p pc z (pos (pc + 1)) (falling_ahead p pc (CallHelper n) 1 fine found refl (omega arith) h) m
+    one_ahead p pc (function_end p pc) z (pos (pc + 1)) (falling_ahead p pc (CallHelper n) 1 fine found refl (omega arith) h) m
 cause_ahead p pc (CallLocal d) z fine found h m =
     let parts = both_none (calling_cause (start_above p pc (target pc d))) (falling_cause p pc (pc + 1)) h in
-    one_ahead p pc z (pos (pc + 1)) (falling_ahead p pc (CallLocal d) 1 fine found refl (omega arith) parts.1) m
+    one_ahead p pc (function_end p pc) z (pos (pc + 1)) (falling_ahead p pc (CallLocal d) 1 fine found refl (omega arith) parts.1) m
 cause_ahead p pc (Load s d b o) z fine found h m =
-    one_ahead p pc z (pos (pc + 1)) (falling_ahead p pc (Load s d b o) 1 fine found refl (omega arith) h) m
+    one_ahead p pc (function_end p pc) z (pos (pc + 1)) (falling_ahead p pc (Load s d b o) 1 fine found refl (omega arith) h) m
 cause_ahead p pc (LoadSigned s d b o) z fine found h m =
-    one_ahead p pc z (pos (pc + 1)) (falling_ahead p pc (LoadSigned s d b o) 1 fine found refl (omega arith) h) m
+    one_ahead p pc (function_end p pc) z (pos (pc + 1)) (falling_ahead p pc (LoadSigned s d b o) 1 fine found refl (omega arith) h) m
 cause_ahead p pc (Store s b o n) z fine found h m =
-    one_ahead p pc z (pos (pc + 1)) (falling_ahead p pc (Store s b o n) 1 fine found refl (omega arith) h) m
+    one_ahead p pc (function_end p pc) z (pos (pc + 1)) (falling_ahead p pc (Store s b o n) 1 fine found refl (omega arith) h) m
 cause_ahead p pc (StoreRegister s b o r) z fine found h m =
-    one_ahead p pc z (pos (pc + 1)) (falling_ahead p pc (StoreRegister s b o r) 1 fine found refl (omega arith) h) m
+    one_ahead p pc (function_end p pc) z (pos (pc + 1)) (falling_ahead p pc (StoreRegister s b o r) 1 fine found refl (omega arith) h) m
 
 -- what is called lies ahead too
-called_ahead : (p : Program) (pc : ℕ) (i : Instruction) (z : ℤ) → flow_cause p pc i ≡ None → IsOneOf z (called_pcs i pc) → Ahead p pc z
+called_ahead : (p : Program) (pc : ℕ) (i : Instruction) (z : ℤ) → flow_cause p pc i ≡ None → IsOneOf z (called_pcs i pc) → Ahead p pc (units p) z
 called_ahead p pc (CallLocal d) z h m =
     let parts = both_none (calling_cause (start_above p pc (target pc d))) (falling_cause p pc (pc + 1)) h in
-    one_ahead p pc z (target pc d) (calling_ahead p pc (target pc d) parts.0) m
+    one_ahead p pc (units p) z (target pc d) (calling_ahead p pc (target pc d) parts.0) m
 called_ahead p pc _ z h m = absurd m
 
 -- what the first two passes found of a program
@@ -141,12 +143,18 @@ flow_fine p pc i passed found =
     let none : flow_fault p pc ≡ None = NoFault-first (flow_fault p) (units p) passed.flow pc (inside p pc i found) in
     (rw found at none)
 
-pub ahead : (p : Program) (pc : ℕ) (i : Instruction) (z : ℤ) → Flows p → instruction_at p pc ≡ Some i → IsOneOf z (next_pcs i pc) → Ahead p pc z
+pub ahead : (p : Program) (pc : ℕ) (i : Instruction) (z : ℤ) → Flows p → instruction_at p pc ≡ Some i → IsOneOf z (next_pcs i pc) → Ahead p pc (function_end p pc) z
 ahead p pc i z passed found m =
     cause_ahead p pc i z passed.decodes found (flow_fine p pc i passed found) m
 
-pub call_ahead : (p : Program) (pc : ℕ) (i : Instruction) (z : ℤ) → Flows p → instruction_at p pc ≡ Some i → IsOneOf z (called_pcs i pc) → Ahead p pc z
+pub call_ahead : (p : Program) (pc : ℕ) (i : Instruction) (z : ℤ) → Flows p → instruction_at p pc ≡ Some i → IsOneOf z (called_pcs i pc) → Ahead p pc (units p) z
 call_ahead p pc i z passed found m = called_ahead p pc i z (flow_fine p pc i passed found) m
+
+-- where a function is called one begins
+pub call_begins : (p : Program) (pc : ℕ) (z : ℤ) → Flows p → instruction_at p pc ≡ Some (CallLocal z) → start_above p pc (target pc z) ≢ None
+call_begins p pc z passed found none =
+    let parts = both_none (calling_cause (start_above p pc (target pc z))) (falling_cause p pc (pc + 1)) (flow_fine p pc (CallLocal z) passed found) in
+    (let e : some_cause CallTarget ≡ None = (rw none at parts.0) in cc)
 
 pub one_of_two : (z : ℤ) (xs ys : List ℤ) → IsOneOf z (xs ++ ys) → IsOneOf z xs ⊎ IsOneOf z ys
 one_of_two z [] ys m = inr m
@@ -157,9 +165,9 @@ one_of_two z (x ∷ xs) ys m =
     ]
 
 -- where an instruction goes in any way
-pub any_ahead : (p : Program) (pc : ℕ) (i : Instruction) (z : ℤ) → Flows p → instruction_at p pc ≡ Some i → IsOneOf z (called_pcs i pc ++ next_pcs i pc) → Ahead p pc z
+pub any_ahead : (p : Program) (pc : ℕ) (i : Instruction) (z : ℤ) → Flows p → instruction_at p pc ≡ Some i → IsOneOf z (called_pcs i pc ++ next_pcs i pc) → Ahead p pc (units p) z
 any_ahead p pc i z passed found m =
     elim (one_of_two z (called_pcs i pc) (next_pcs i pc) m) [
       | inl called ↦ call_ahead p pc i z passed found called
-      | inr next ↦ ahead p pc i z passed found next
+      | inr next ↦ (let at = ahead p pc i z passed found next in record { place = at.place; is = at.is; behind = at.behind; under = inside p at.place at.instruction at.found; instruction = at.instruction; found = at.found })
     ]

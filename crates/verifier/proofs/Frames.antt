@@ -1,7 +1,7 @@
--- Calls and returns: what is known where a function begins, of a caller that waits, and after the call.
-use Rattle.std.proofs.Common.{◌≡◌, ℕ, zero, suc, ◌+◌, ◌-◌, ◌*◌, ◌^◌, ◌<◌, ◌≤◌, true, false, leb, ltb, Bool, List, [], ◌∷◌, replicate, length, Option, Some, get_or, refl, sym, ap, subst, ◌∙◌, arith, inl}
-use Rattle.std.specs.Prelude.{ℤ, pos, ◌+ℤ◌}
-use Rattle.std.proofs.lemmas.Bool.{lt-leb, lt-ltb, le-leb, le-ltb}
+-- Calls and returns: what is known where a function begins and after its exit describes the run there.
+use Rattle.std.proofs.Common.{◌≡◌, ◌≢◌, ℕ, zero, suc, ◌+◌, ◌-◌, ◌<◌, ◌≤◌, true, false, leb, ltb, List, [], ◌∷◌, length, map, set, Option, Some, None, get_or, refl, sym, ap, subst, ◌∙◌, arith, inl, inr}
+use Rattle.std.specs.Prelude.{ℤ}
+use Rattle.std.proofs.lemmas.Bool.{cases_eq, lt-leb, lt-ltb, le-leb, le-ltb}
 use Rattle.std.proofs.lemmas.Int.{ints}
 use Rattle.bpf_isa.specs.declared.instruction.Instruction.TheVariants.{CallLocal, Exit}
 use Rattle.bpf_image.specs.declared.limits.TheConstants.{MOST_RECORD_LENGTH}
@@ -9,24 +9,19 @@ use Rattle.bpf_image.specs.declared.lengths.Lengths.{Lengths}
 use Rattle.bpf_model.specs.declared.trap.TrapKind.TheVariants.{UnsetResult}
 use Rattle.bpf_model.specs.State.{Partial, Saved, State, without_values, record_base, table_base, frame_top, frame_bytes, live_frames, most_frames}
 use Rattle.bpf_model.specs.Calls.{saved_state, enter, return_to}
-use Rattle.bpf_model.specs.Step.{Goes, number_or_trap, call, leave}
+use Rattle.bpf_model.specs.Step.{number_or_trap, call, leave}
 use Rattle.abstract_values.specs.declared.value.AbstractValue.{AbstractValue}
 use Rattle.abstract_values.specs.declared.value.AbstractValue.TheVariants.{Unset, Number, Record, Stack, Table}
 use Rattle.abstract_values.specs.Described.{Describes}
-use Rattle.abstract_state.specs.declared.state.AbstractState.{AbstractState}
-use Rattle.abstract_state.specs.States.{frame_slots, argument_value, known_of, callee_state, state_behind_call}
-use Rattle.abstract_state.specs.Described.{DescribesFrame}
-use Rattle.abstract_state.proofs.Stores.{number_same}
-use Rattle.verifier.specs.Rules.{Ways, target, call_ways, exit_ways}
-use Rattle.verifier.specs.Described.{top_above, DescribesState, DescribesCaller, KeepsFrames, Follows, enters, returns, exits}
+use Rattle.abstract_state.specs.States.{AbstractState, new_frame, nothing_kept, known_of, frame_of, without_pointers, callee_state, left_state}
+use Rattle.abstract_state.specs.Described.{DescribesLive, DescribesKept}
+use Rattle.abstract_state.proofs.Stores.{set_other}
+use Rattle.abstract_state.proofs.Entered.{set_at, more_live, live_kept, new_described, kept_beside, frame_dropped, dropped_at}
+use Rattle.verifier.specs.Rules.{Ways, exit_ways}
+use Rattle.verifier.specs.Described.{top_above, DescribesState, Follows, enters, returns, exits}
 use Rattle.verifier.specs.RuleLaws.{MayCall}
 use Rattle.verifier.proofs.RuleParts.{ok}
-use Rattle.verifier.proofs.KnownValues.{top}
-
-pub same_everywhere : {A : Type 0} (n k : ℕ) (x : A) → get_or (replicate n x) k x ≡ x
-same_everywhere zero k x = refl
-same_everywhere (suc n) zero x = refl
-same_everywhere (suc n) (suc k) x = same_everywhere n k x
+use Rattle.verifier.proofs.KnownValues.{live}
 
 -- below what is cleared, all stays
 before_cleared : (m : Partial) (from count a : ℕ) → a < from → without_values m from count a ≡ m a
@@ -41,111 +36,126 @@ past_cleared m from count a ge =
     let past : ltb a (from + count) ≡ false = le-ltb _ _ ge in
     rw (above, past) refl
 
--- a frame whose bytes are as before stays described
-pub frame_kept : (l : Lengths) (t : ℕ) (bytes_set : List Bool) (slots : List AbstractValue) (before after : Partial) → ((i : ℕ) → i < frame_bytes → after (t - frame_bytes + i) ≡ before (t - frame_bytes + i)) → DescribesFrame l t bytes_set slots before → DescribesFrame l t bytes_set slots after
-frame_kept l t bytes_set slots before after same d = record {
-  stack_set = λ k lt h. (let b = d.stack_set k lt h in (b.0, same k lt ∙ b.1, b.2));
-  spilled = λ j lt. subst (λ x. Describes l t (get_or slots j Unset) x)
-      (number_same before after (t - frame_bytes + 8 * j) 8 (λ i below. (let place : (t - frame_bytes + 8 * j) + i ≡ t - frame_bytes + (8 * j + i) = omega arith in rw place (sym (same (8 * j + i) (omega (arith, lt, below)))))))
-      (d.spilled j lt);
-}
-
--- of a new frame nothing is known
-pub new_frame : (l : Lengths) (t : ℕ) (memory : Partial) → DescribesFrame l t (replicate frame_bytes false) (replicate frame_slots Unset) memory
-new_frame l t memory = record {
-  stack_set = λ k lt set. absurd (let none : false ≡ true = sym (same_everywhere frame_bytes k false) ∙ set in cc);
-  spilled = λ j lt. (rw (same_everywhere frame_slots j Unset) tt);
-}
-
 -- ---- a function begins
 
-passed_described : (l : Lengths) (t u : ℕ) (v : AbstractValue) (x : Option ℕ) → Describes l t v x → Describes l u (argument_value v) x
-passed_described l t u Unset x d = tt
-passed_described l t u (Number lo hi) x d = d
-passed_described l t u (Record lo hi) x d = d
-passed_described l t u (Stack offset) x d = tt
-passed_described l t u (Table lo hi) x d = d
-
-entered_values : (l : Lengths) (a : AbstractState) (s : State) (z : ℤ) → DescribesState l a s → (r : ℕ) → Describes l (frame_top (live_frames s)) (get_or (callee_state a).registers r Unset) ((enter s z).registers r)
+entered_values : (l : Lengths) (a : AbstractState) (s : State) (z : ℤ) → DescribesState l a s → (r : ℕ) → Describes l (suc (live s)) (known_of (callee_state (length s.callers) a) r) ((enter s z).registers r)
 entered_values l a s z d zero = tt
-entered_values l a s z d (suc zero) = passed_described l (top s) (frame_top (live_frames s)) (known_of a 1) (s.registers 1) (d.parts.values 1)
-entered_values l a s z d (suc (suc zero)) = passed_described l (top s) (frame_top (live_frames s)) (known_of a 2) (s.registers 2) (d.parts.values 2)
-entered_values l a s z d (suc (suc (suc zero))) = passed_described l (top s) (frame_top (live_frames s)) (known_of a 3) (s.registers 3) (d.parts.values 3)
-entered_values l a s z d (suc (suc (suc (suc zero)))) = passed_described l (top s) (frame_top (live_frames s)) (known_of a 4) (s.registers 4) (d.parts.values 4)
-entered_values l a s z d (suc (suc (suc (suc (suc zero))))) = passed_described l (top s) (frame_top (live_frames s)) (known_of a 5) (s.registers 5) (d.parts.values 5)
+entered_values l a s z d (suc zero) = more_live l (live s) (known_of a 1) (s.registers 1) (d.parts.values 1)
+entered_values l a s z d (suc (suc zero)) = more_live l (live s) (known_of a 2) (s.registers 2) (d.parts.values 2)
+entered_values l a s z d (suc (suc (suc zero))) = more_live l (live s) (known_of a 3) (s.registers 3) (d.parts.values 3)
+entered_values l a s z d (suc (suc (suc (suc zero)))) = more_live l (live s) (known_of a 4) (s.registers 4) (d.parts.values 4)
+entered_values l a s z d (suc (suc (suc (suc (suc zero))))) = more_live l (live s) (known_of a 5) (s.registers 5) (d.parts.values 5)
 entered_values l a s z d (suc (suc (suc (suc (suc (suc zero)))))) = tt
 entered_values l a s z d (suc (suc (suc (suc (suc (suc (suc zero))))))) = tt
 entered_values l a s z d (suc (suc (suc (suc (suc (suc (suc (suc zero)))))))) = tt
 entered_values l a s z d (suc (suc (suc (suc (suc (suc (suc (suc (suc zero))))))))) = tt
-entered_values l a s z d (suc (suc (suc (suc (suc (suc (suc (suc (suc (suc zero)))))))))) = (frame_top (live_frames s), refl, omega (arith, ints), omega (arith, ints), omega (arith, ints))
+entered_values l a s z d (suc (suc (suc (suc (suc (suc (suc (suc (suc (suc zero)))))))))) = (frame_top (live s), refl, omega (arith, ints), omega (arith, ints), omega (arith, ints), omega arith)
 entered_values l a s z d (suc (suc (suc (suc (suc (suc (suc (suc (suc (suc (suc r))))))))))) = tt
 
-pub entered_described : (l : Lengths) (a : AbstractState) (s : State) (z : ℤ) → l.record_length ≤ MOST_RECORD_LENGTH → live_frames s < most_frames → DescribesState l a s → DescribesState l (callee_state a) (enter s z)
+-- the bytes of frames that are live are left as they are
+enter_keeps : (s : State) (z : ℤ) (k i : ℕ) → k < live s → i < frame_bytes → (enter s z).memory (frame_top k - frame_bytes + i) ≡ s.memory (frame_top k - frame_bytes + i)
+enter_keeps s z k i low lt =
+    before_cleared s.memory (frame_top (live_frames s) - frame_bytes) frame_bytes (frame_top k - frame_bytes + i) (omega (arith, low, lt))
+
+entered_frames : (l : Lengths) (a : AbstractState) (s : State) (z : ℤ) → DescribesState l a s → (k : ℕ) → k < suc (live s) → DescribesLive l (suc (live s)) (frame_top k) (frame_of (callee_state (length s.callers) a) k) (enter s z).memory
+entered_frames l a s z d k lt =
+    elim (cases_eq k (suc (length s.callers))) [
+      | inl same ↦
+          let here : DescribesLive l (suc (live s)) (frame_top k) (get_or (set a.frames k (Some new_frame)) k None) (enter s z).memory = set_at (λ f. DescribesLive l (suc (live s)) (frame_top k) f (enter s z).memory) a.frames k (Some new_frame) None tt (new_described l (suc (live s)) (frame_top k) (enter s z).memory) in
+          subst (λ j. DescribesLive l (suc (live s)) (frame_top k) (get_or (set a.frames j (Some new_frame)) k None) (enter s z).memory) same here
+      | inr other ↦
+          let below : k < live s = omega (arith, lt, other) in
+          let kept = live_kept l (live s) (frame_top k) (frame_of a k) s.memory (enter s z).memory (λ i inside. enter_keeps s z k i below inside) (d.parts.frames k below) in
+          subst (λ f. DescribesLive l (suc (live s)) (frame_top k) f (enter s z).memory) (sym (set_other a.frames (suc (length s.callers)) k (Some new_frame) None other)) kept
+    ]
+
+-- the caller's R6 to R9, as they are kept
+saved_value : (s : State) (r : ℕ) → 6 ≤ r → r ≤ 9 → (saved_state s).registers r ≡ s.registers r
+saved_value s r low high =
+    let first : leb 6 r ≡ true = le-leb _ _ low in
+    let last : leb r 9 ≡ true = le-leb _ _ high in
+    rw (first, last) refl
+
+kept_values : (l : Lengths) (a : AbstractState) (s : State) → DescribesState l a s → (i : ℕ) → Describes l (live s) (get_or (known_of a 6 ∷ known_of a 7 ∷ known_of a 8 ∷ known_of a 9 ∷ []) i Unset) ((saved_state s).registers (i + 6))
+kept_values l a s d zero = d.parts.values 6
+kept_values l a s d (suc zero) = d.parts.values 7
+kept_values l a s d (suc (suc zero)) = d.parts.values 8
+kept_values l a s d (suc (suc (suc zero))) = d.parts.values 9
+kept_values l a s d (suc (suc (suc (suc i)))) = tt
+
+entered_kept : (l : Lengths) (a : AbstractState) (s : State) (z : ℤ) → DescribesState l a s → DescribesKept l (callee_state (length s.callers) a).kept (enter s z).callers
+entered_kept l a s z d =
+    let mine = known_of a 6 ∷ known_of a 7 ∷ known_of a 8 ∷ known_of a 9 ∷ [] in
+    (λ i. set_at (λ vs. Describes l (live s) (get_or vs i Unset) ((saved_state s).registers (i + 6))) a.kept (length s.callers) (known_of a 6 ∷ known_of a 7 ∷ known_of a 8 ∷ known_of a 9 ∷ []) [] tt (kept_values l a s d i), kept_beside l a.kept (length s.callers) (known_of a 6 ∷ known_of a 7 ∷ known_of a 8 ∷ known_of a 9 ∷ []) s.callers (omega arith) d.kept)
+
+pub entered_described : (l : Lengths) (a : AbstractState) (s : State) (z : ℤ) → l.record_length ≤ MOST_RECORD_LENGTH → live_frames s < most_frames → DescribesState l a s → DescribesState l (callee_state (length s.callers) a) (enter s z)
 entered_described l a s z short few d = record {
   parts = record {
     values = entered_values l a s z d;
     record_set = λ k lt. (let b = d.parts.record_set k lt in (b.0, before_cleared s.memory (frame_top (live_frames s) - frame_bytes) frame_bytes (record_base + k) (omega (arith, lt, short)) ∙ b.1, b.2));
     table_set = λ k lt. (let b = d.parts.table_set k lt in (b.0, past_cleared s.memory (frame_top (live_frames s) - frame_bytes) frame_bytes (table_base + k) (omega (arith, few)) ∙ b.1, b.2));
-    frame = new_frame l (frame_top (live_frames s)) (enter s z).memory;
+    frames = entered_frames l a s z d;
   };
+  kept = entered_kept l a s z d;
   frame_register = refl;
   few_callers = few;
 }
 
--- the frames of all that wait are left as they are
-pub enter_keeps : (s : State) (z : ℤ) → KeepsFrames (live_frames s) s.memory (enter s z).memory
-enter_keeps s z k i low lt =
-    before_cleared s.memory (frame_top (live_frames s) - frame_bytes) frame_bytes (frame_top k - frame_bytes + i) (omega (arith, low, lt))
-
--- and the state that calls waits as it was known
-caller_described : (l : Lengths) (a : AbstractState) (s : State) (z : ℤ) → DescribesState l a s → DescribesCaller l (top s) a (saved_state s).registers (enter s z).memory
-caller_described l a s z d = record {
-  kept = λ r low high. (let first : leb 6 r ≡ true = le-leb _ _ low in let last : leb r 9 ≡ true = le-leb _ _ high in rw (first, last) (d.parts.values r));
-  frame_register = subst (λ x. Describes l (top s) (known_of a 10) x) d.frame_register (d.parts.values 10);
-  frame = frame_kept l (top s) a.bytes_set a.slots s.memory (enter s z).memory (λ i lt. enter_keeps s z (length s.callers) i (omega arith) lt) d.parts.frame;
-}
-
-pub call_follows : (l : Lengths) (pc : ℕ) (z : ℤ) (a : AbstractState) (s : State) (ws : Ways) → l.record_length ≤ MOST_RECORD_LENGTH → s.pc ≡ pos pc → DescribesState l a s → MayCall (CallLocal z) s → call_ways pc z a ≡ ws → Follows l (CallLocal z) a s ws (call s z)
-call_follows l pc z a s ws short at d may ways =
+pub call_follows : (l : Lengths) (z : ℤ) (a : AbstractState) (s : State) (ws : Ways) → l.record_length ≤ MOST_RECORD_LENGTH → DescribesState l a s → MayCall (CallLocal z) s → Follows l (CallLocal z) a s ws (call s z)
+call_follows l z a s ws short d may =
     let few : live_frames s < most_frames = may z refl in
     let room : ltb (live_frames s) most_frames ≡ true = lt-ltb _ _ few in
-    let moved : (s.pc +ℤ pos 1) +ℤ z ≡ target pc z = ap (λ n. (n +ℤ pos 1) +ℤ z) at in
-    rw room (subst (λ t. Follows l (CallLocal z) a s t (Goes (enter s z))) ways
-    (enters z (target pc z, callee_state a) refl (inl refl) moved (entered_described l a s z short few d) (caller_described l a s z d) (enter_keeps s z)))
+    rw room (enters z refl (entered_described l a s z short few d))
 
 -- ---- a function returns
 
-returned_values : (l : Lengths) (b : AbstractState) (s : State) (caller : Saved) (callers : List Saved) (v : ℕ) → v < 2 ^ 64 → DescribesCaller l (top_above callers) b caller.registers s.memory → (r : ℕ) → Describes l (top_above callers) (get_or (state_behind_call b).registers r Unset) ((return_to s caller callers v).registers r)
-returned_values l b s caller callers v lt d zero = (v, refl, omega arith, omega (arith, lt), lt)
-returned_values l b s caller callers v lt d (suc zero) = tt
-returned_values l b s caller callers v lt d (suc (suc zero)) = tt
-returned_values l b s caller callers v lt d (suc (suc (suc zero))) = tt
-returned_values l b s caller callers v lt d (suc (suc (suc (suc zero)))) = tt
-returned_values l b s caller callers v lt d (suc (suc (suc (suc (suc zero))))) = tt
-returned_values l b s caller callers v lt d (suc (suc (suc (suc (suc (suc zero)))))) = d.kept 6 (omega arith) (omega arith)
-returned_values l b s caller callers v lt d (suc (suc (suc (suc (suc (suc (suc zero))))))) = d.kept 7 (omega arith) (omega arith)
-returned_values l b s caller callers v lt d (suc (suc (suc (suc (suc (suc (suc (suc zero)))))))) = d.kept 8 (omega arith) (omega arith)
-returned_values l b s caller callers v lt d (suc (suc (suc (suc (suc (suc (suc (suc (suc zero))))))))) = d.kept 9 (omega arith) (omega arith)
-returned_values l b s caller callers v lt d (suc (suc (suc (suc (suc (suc (suc (suc (suc (suc zero)))))))))) = d.frame_register
-returned_values l b s caller callers v lt d (suc (suc (suc (suc (suc (suc (suc (suc (suc (suc (suc r))))))))))) = tt
+returned_values : (l : Lengths) (a : AbstractState) (s : State) (caller : Saved) (callers : List Saved) (v : ℕ) → Describes l (suc (length callers)) (known_of a 0) (Some v) → DescribesKept l a.kept (caller ∷ callers) → (r : ℕ) → Describes l (suc (length callers)) (known_of (left_state (length callers) a) r) ((return_to s caller callers v).registers r)
+returned_values l a s caller callers v result d zero = result
+returned_values l a s caller callers v result d (suc zero) = tt
+returned_values l a s caller callers v result d (suc (suc zero)) = tt
+returned_values l a s caller callers v result d (suc (suc (suc zero))) = tt
+returned_values l a s caller callers v result d (suc (suc (suc (suc zero)))) = tt
+returned_values l a s caller callers v result d (suc (suc (suc (suc (suc zero))))) = tt
+returned_values l a s caller callers v result d (suc (suc (suc (suc (suc (suc zero)))))) = d.0 0
+returned_values l a s caller callers v result d (suc (suc (suc (suc (suc (suc (suc zero))))))) = d.0 1
+returned_values l a s caller callers v result d (suc (suc (suc (suc (suc (suc (suc (suc zero)))))))) = d.0 2
+returned_values l a s caller callers v result d (suc (suc (suc (suc (suc (suc (suc (suc (suc zero))))))))) = d.0 3
+returned_values l a s caller callers v result d (suc (suc (suc (suc (suc (suc (suc (suc (suc (suc zero)))))))))) = (top_above callers, refl, omega (arith, ints), omega (arith, ints), omega (arith, ints), omega arith)
+returned_values l a s caller callers v result d (suc (suc (suc (suc (suc (suc (suc (suc (suc (suc (suc r))))))))))) = tt
 
-leave_follows : (l : Lengths) (a : AbstractState) (s : State) (ws : Ways) (callers : List Saved) (v : ℕ) → DescribesState l a s → s.callers ≡ callers → v < 2 ^ 64 → Follows l Exit a s ws (leave s callers v)
-leave_follows l a s ws [] v d same lt = exits v refl same
-leave_follows l a s ws (caller ∷ callers) v d same lt =
+-- the frames that stay, without what pointed into the one that is dropped
+returned_frames : (l : Lengths) (n : ℕ) (a : AbstractState) (memory : Partial) → ((k : ℕ) → k < suc n → DescribesLive l (suc n) (frame_top k) (frame_of a k) memory) → (k : ℕ) → k < n → DescribesLive l n (frame_top k) (get_or (map (without_pointers n) (set a.frames n None)) k None) memory
+returned_frames l n a memory all k lt =
+    let other : k ≢ n = (λ e. omega (arith, lt, e)) in
+    let stays = frame_dropped l n (frame_top k) (frame_of a k) memory (all k (omega (arith, lt))) in
+    let same : get_or (map (without_pointers n) (set a.frames n None)) k None ≡ without_pointers n (frame_of a k) = dropped_at n (set a.frames n None) k ∙ ap (without_pointers n) (set_other a.frames n k None None other) in
+    subst (λ f. DescribesLive l n (frame_top k) f memory) (sym same) stays
+
+-- R0 is a number, which points nowhere
+result_described : (l : Lengths) (live less lo hi n : ℕ) → Describes l live (Number lo hi) (Some n) → Describes l less (Number lo hi) (Some n)
+result_described l live less lo hi n d = d
+
+leave_follows : (l : Lengths) (a : AbstractState) (s : State) (ws : Ways) (callers : List Saved) (v : ℕ) → DescribesState l a s → s.callers ≡ callers → ((n : ℕ) → Describes l n (known_of a 0) (Some v)) → Follows l Exit a s ws (leave s callers v)
+leave_follows l a s ws [] v d same result = exits v refl same
+leave_follows l a s ws (caller ∷ callers) v d same result =
     let deeper : length s.callers ≡ suc (length callers) = ap length same in
-    let few : length callers < most_frames = (let all = d.few_callers in omega (arith, deeper, all)) in
-    returns caller callers v refl same (λ b waits. record {
-      parts = record { values = returned_values l b s caller callers v lt waits; record_set = d.parts.record_set; table_set = d.parts.table_set; frame = waits.frame };
+    let all = d.few_callers in
+    let kept : DescribesKept l a.kept (caller ∷ callers) = subst (λ (cs : List Saved). DescribesKept l a.kept cs) same d.kept in
+    let frames : (k : ℕ) → k < suc (suc (length callers)) → DescribesLive l (suc (suc (length callers))) (frame_top k) (frame_of a k) s.memory = subst (λ (cs : List Saved). (k : ℕ) → k < suc (length cs) → DescribesLive l (suc (length cs)) (frame_top k) (frame_of a k) s.memory) same d.parts.frames in
+    returns caller callers v refl same (record {
+      parts = record { values = returned_values l a s caller callers v (result (suc (length callers))) kept; record_set = d.parts.record_set; table_set = d.parts.table_set; frames = returned_frames l (suc (length callers)) a s.memory frames };
+      kept = kept_beside l a.kept (length callers) nothing_kept callers (omega arith) kept.1;
       frame_register = refl;
-      few_callers = few;
+      few_callers = omega (arith, deeper, all);
     })
 
-number_leaves : (l : Lengths) (a : AbstractState) (s : State) (ws : Ways) (v : AbstractValue) (x : Option ℕ) (n : ℕ) → x ≡ Some n → n < 2 ^ 64 → DescribesState l a s → Follows l Exit a s ws (number_or_trap x UnsetResult s.pc (leave s s.callers))
-number_leaves l a s ws v x n is lt d = rw is (leave_follows l a s ws s.callers n d refl lt)
+number_leaves : (l : Lengths) (a : AbstractState) (s : State) (ws : Ways) (x : Option ℕ) (v : ℕ) → x ≡ Some v → ((n : ℕ) → Describes l n (known_of a 0) (Some v)) → DescribesState l a s → Follows l Exit a s ws (number_or_trap x UnsetResult s.pc (leave s s.callers))
+number_leaves l a s ws x v is result d = rw is (leave_follows l a s ws s.callers v d refl result)
 
-pub exit_follows : (l : Lengths) (a : AbstractState) (s : State) (ws : Ways) (v : AbstractValue) (x : Option ℕ) → DescribesState l a s → Describes l (top s) v x → exit_ways v ≡ ok ws → Follows l Exit a s ws (number_or_trap x UnsetResult s.pc (leave s s.callers))
-exit_follows l a s ws Unset x d q h = absurd cc
-exit_follows l a s ws (Number lo hi) x d q h = number_leaves l a s ws (Number lo hi) x q.0 q.1 q.4 d
-exit_follows l a s ws (Record lo hi) x d q h = absurd cc
-exit_follows l a s ws (Stack offset) x d q h = absurd cc
-exit_follows l a s ws (Table lo hi) x d q h = absurd cc
+pub exit_follows : (l : Lengths) (a : AbstractState) (s : State) (ws : Ways) (v : AbstractValue) (x : Option ℕ) → known_of a 0 ≡ v → DescribesState l a s → Describes l (live s) v x → exit_ways v ≡ ok ws → Follows l Exit a s ws (number_or_trap x UnsetResult s.pc (leave s s.callers))
+exit_follows l a s ws Unset x same d q h = absurd cc
+exit_follows l a s ws (Number lo hi) x same d q h =
+    number_leaves l a s ws x q.0 q.1 (λ n. subst (λ u. Describes l n u (Some q.0)) (sym same) (q.0, refl, q.2, q.3, q.4)) d
+exit_follows l a s ws (Record lo hi) x same d q h = absurd cc
+exit_follows l a s ws (Stack frame offset) x same d q h = absurd cc
+exit_follows l a s ws (Table lo hi) x same d q h = absurd cc

@@ -12,7 +12,7 @@ use Rattle.bpf_model.specs.declared.cause.Cause.{Cause}
 use Rattle.bpf_model.specs.declared.cause.Cause.TheVariants.{HelperArgument}
 use Rattle.bpf_model.specs.declared.helper.Helper.{Helper}
 use Rattle.bpf_model.specs.declared.helper.Helper.TheVariants.{Degree, HasEdge, Neighbour, VertexCount, Gather}
-use Rattle.bpf_model.specs.State.{Partial, State, with_value, with_values, without_values, frame_top, frame_bytes}
+use Rattle.bpf_model.specs.State.{Partial, State, with_value, with_values, without_values}
 use Rattle.bpf_model.specs.Helpers.{IsView, no_neighbour, with_answer, is_room, gather, argument, helper_effect}
 use Rattle.bpf_model.specs.Next.{Goes}
 use Rattle.bpf_model.specs.Step.{call_helper}
@@ -20,17 +20,17 @@ use Rattle.bpf_model.specs.declared.limits.TheConstants.{MOST_GATHER_BYTES}
 use Rattle.abstract_values.specs.declared.value.AbstractValue.{AbstractValue}
 use Rattle.abstract_values.specs.declared.value.AbstractValue.TheVariants.{Unset, Number, Record, Stack, Table}
 use Rattle.abstract_values.specs.Described.{Describes}
-use Rattle.abstract_state.specs.declared.state.AbstractState.{AbstractState}
-use Rattle.abstract_state.specs.States.{state_behind_helper}
+use Rattle.abstract_state.specs.States.{AbstractState, state_behind_helper}
 use Rattle.abstract_state.specs.Memory.{gather_result}
-use Rattle.abstract_state.specs.Described.{DescribesParts}
+use Rattle.abstract_state.specs.Described.{DescribesParts, DescribesKept}
+use Rattle.abstract_state.proofs.Entered.{gathered_kept}
 use Rattle.abstract_state.proofs.Gathers.{gather_describes}
 use Rattle.verifier.specs.Rules.{Ways, bind, known_register, is_number, known_room, onward, way_with_answer, one_number_call, two_number_call, gather_ways, gather_call, helper_ways, helper_call_ways}
-use Rattle.verifier.specs.Described.{DescribesState, KeepsFrames, Follows, stays}
+use Rattle.verifier.specs.Described.{DescribesState, Follows, stays}
 use Rattle.verifier.proofs.RuleParts.{ok, failed, bind_ok}
-use Rattle.verifier.proofs.KnownValues.{top, register_read}
+use Rattle.verifier.proofs.KnownValues.{live, few_live, register_read}
 use Rattle.verifier.proofs.Stored.{bytes_written}
-use Rattle.verifier.proofs.Accesses.{allowed, apart_below}
+use Rattle.verifier.proofs.Accesses.{allowed}
 use Rattle.verifier.proofs.HelperAnswers.{degree_most, flag_most, neighbour_most, among_most, bytes_below, written_length}
 
 -- ---- after every helper
@@ -50,22 +50,23 @@ answered_values l t b registers most answer le lt all (suc (suc (suc (suc (suc (
 answered_values l t b registers most answer le lt all (suc (suc (suc (suc (suc (suc (suc (suc (suc (suc (suc r))))))))))) = tt
 
 -- the run goes on, with this memory
-answer_follows : (l : Lengths) (pc : ℕ) (i : Instruction) (a b : AbstractState) (s : State) (memory : Partial) (most answer : ℕ) (ws : Ways) → s.pc ≡ pos pc → DescribesState l a s → DescribesParts l (top s) b s.registers memory → KeepsFrames (length s.callers) s.memory memory → answer ≤ most → most < 2 ^ 64 → ok (way_with_answer pc b most) ≡ ok ws → Follows l i a s ws (Goes (with_answer (record s { memory = memory }) answer))
-answer_follows l pc i a b s memory most answer ws at described parts keeps le lt h =
+answer_follows : (l : Lengths) (pc : ℕ) (i : Instruction) (a b : AbstractState) (s : State) (memory : Partial) (most answer : ℕ) (ws : Ways) → s.pc ≡ pos pc → DescribesState l a s → DescribesParts l (live s) b s.registers memory → b.kept ≡ a.kept → answer ≤ most → most < 2 ^ 64 → ok (way_with_answer pc b most) ≡ ok ws → Follows l i a s ws (Goes (with_answer (record s { memory = memory }) answer))
+answer_follows l pc i a b s memory most answer ws at described parts same le lt h =
     let ways : way_with_answer pc b most ≡ ws = cc in
     let moved : s.pc +ℤ pos 1 ≡ pos (pc + 1) = ap (λ z. z +ℤ pos 1) at in
     let after : State = with_answer (record s { memory = memory }) answer in
     let known : DescribesState l (state_behind_helper b (Number 0 most)) after = record {
-      parts = record { values = answered_values l (top s) b s.registers most answer le lt parts.values; record_set = parts.record_set; table_set = parts.table_set; frame = parts.frame };
+      parts = record { values = answered_values l (live s) b s.registers most answer le lt parts.values; record_set = parts.record_set; table_set = parts.table_set; frames = parts.frames };
       frame_register = described.frame_register;
       few_callers = described.few_callers;
+      kept = subst (λ k. DescribesKept l k s.callers) (sym same) described.kept;
     } in
-    subst (λ u. Follows l i a s u (Goes after)) ways (stays (pos (pc + 1), state_behind_helper b (Number 0 most)) (inl refl) moved known refl keeps)
+    subst (λ u. Follows l i a s u (Goes after)) ways (stays (pos (pc + 1), state_behind_helper b (Number 0 most)) (inl refl) moved known refl)
 
 -- and memory is as it was
 plain_follows : (l : Lengths) (pc : ℕ) (i : Instruction) (a : AbstractState) (s : State) (most answer : ℕ) (ws : Ways) → s.pc ≡ pos pc → DescribesState l a s → answer ≤ most → most < 2 ^ 64 → ok (way_with_answer pc a most) ≡ ok ws → Follows l i a s ws (Goes (with_answer s answer))
 plain_follows l pc i a s most answer ws at described le lt h =
-    answer_follows l pc i a a s s.memory most answer ws at described described.parts (λ k j low below. refl) le lt h
+    answer_follows l pc i a a s s.memory most answer ws at described described.parts refl le lt h
 
 -- arguments are of their kinds where no rule is broken
 of_kind : {A : Type 0} (test : Bool) (r : Result A Cause) (y : A) → cond test r (failed HelperArgument) ≡ ok y → r ≡ ok y
@@ -106,7 +107,7 @@ room_is l t x room (Number lo hi) h d =
       | inr not_is ↦ absurd (let none : Option ℕ = None in let e : none ≡ Some room = (rw not_is at h) in cc)
     ]
 room_is l t x room (Record lo hi) h d = absurd cc
-room_is l t x room (Stack offset) h d = absurd cc
+room_is l t x room (Stack frame offset) h d = absurd cc
 room_is l t x room (Table lo hi) h d = absurd cc
 
 -- an allowed room is whole words
@@ -122,7 +123,7 @@ room_parts room h =
     let whole = eqb-true (room % 4) 0 parts.0 in
     record { some = omega (arith, leb-true 4 room ends.0); few = leb-true room MOST_GATHER_BYTES ends.1; words = omega (arith, whole) }
 
-gathers : (l : Lengths) (pc : ℕ) (i : Instruction) (g : Graph) (a : AbstractState) (s : State) (pointer : AbstractValue) (room v first p : ℕ) (ws : Ways) → l.record_length ≤ MOST_RECORD_LENGTH → s.pc ≡ pos pc → DescribesState l a s → Describes l (top s) pointer (Some p) → is_room room ≡ true → gather_ways l pc a pointer (Some room) ≡ ok ws → Follows l i a s ws (gather l g s v first p room)
+gathers : (l : Lengths) (pc : ℕ) (i : Instruction) (g : Graph) (a : AbstractState) (s : State) (pointer : AbstractValue) (room v first p : ℕ) (ws : Ways) → l.record_length ≤ MOST_RECORD_LENGTH → s.pc ≡ pos pc → DescribesState l a s → Describes l (live s) pointer (Some p) → is_room room ≡ true → gather_ways l pc a pointer (Some room) ≡ ok ws → Follows l i a s ws (gather l g s v first p room)
 gathers l pc i g a s pointer room v first p ws short at described base is h =
     let parts = bind_ok (gather_result l a pointer room) (λ t. ok (way_with_answer pc t (room / 4))) ws h in
     let of_room = room_parts room is in
@@ -130,17 +131,17 @@ gathers l pc i g a s pointer room v first p ws short at described base is h =
     let long : length bytes ≡ room = written_length g v first (room / 4) ∙ of_room.words in
     let memory = with_values s.memory p bytes in
     let written = bytes_written s.memory p bytes room long (λ j. bytes_below (neighbour_words g v first (room / 4)) j) in
-    let left = gather_describes l (top s) a parts.0 s.registers s.memory memory pointer room p (omega (arith, short)) (omega arith) of_room.some parts.1 described.parts base written in
+    let left = gather_describes l (live s) a parts.0 s.registers s.memory memory pointer room p (omega (arith, short)) (few_live l a s described) of_room.some parts.1 described.parts base written in
     let may = allowed l s p room left.0 in
-    let keeps : KeepsFrames (length s.callers) s.memory memory = λ k j low below. written.outside (frame_top k - frame_bytes + j) (apart_below l (length s.callers) p room k j short left.0 low below) in
+    let same : parts.0.kept ≡ a.kept = gathered_kept l a parts.0 pointer room parts.1 in
     let few : room / 4 < 2 ^ 64 = (let most = of_room.few in omega (arith, most)) in
-    rw (is, may) (answer_follows l pc i a parts.0 s memory (room / 4) (neighbours_among g v first (room / 4)) ws at described left.1 keeps (among_most g v first (room / 4)) few parts.2)
+    rw (is, may) (answer_follows l pc i a parts.0 s memory (room / 4) (neighbours_among g v first (room / 4)) ws at described left.1 same (among_most g v first (room / 4)) few parts.2)
 
 -- gather with the room that is known
-room_follows : (l : Lengths) (pc : ℕ) (i : Instruction) (g : Graph) (a : AbstractState) (s : State) (pointer value : AbstractValue) (room : Option ℕ) (v first p x : ℕ) (ws : Ways) → l.record_length ≤ MOST_RECORD_LENGTH → s.pc ≡ pos pc → DescribesState l a s → Describes l (top s) pointer (Some p) → Describes l (top s) value (Some x) → known_room value ≡ room → gather_ways l pc a pointer room ≡ ok ws → Follows l i a s ws (gather l g s v first p x)
+room_follows : (l : Lengths) (pc : ℕ) (i : Instruction) (g : Graph) (a : AbstractState) (s : State) (pointer value : AbstractValue) (room : Option ℕ) (v first p x : ℕ) (ws : Ways) → l.record_length ≤ MOST_RECORD_LENGTH → s.pc ≡ pos pc → DescribesState l a s → Describes l (live s) pointer (Some p) → Describes l (live s) value (Some x) → known_room value ≡ room → gather_ways l pc a pointer room ≡ ok ws → Follows l i a s ws (gather l g s v first p x)
 room_follows l pc i g a s pointer value None v first p x ws short at described base lent known h = absurd cc
 room_follows l pc i g a s pointer value (Some room) v first p x ws short at described base lent known h =
-    let is = room_is l (top s) x room value known lent in
+    let is = room_is l (live s) x room value known lent in
     subst (λ n. Follows l i a s ws (gather l g s v first p n)) (sym is.same) (gathers l pc i g a s pointer room v first p ws short at described base is.allowed h)
 
 -- gather's arguments

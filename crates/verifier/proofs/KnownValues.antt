@@ -12,7 +12,7 @@ use Rattle.bpf_isa.specs.declared.instruction.Operand.TheVariants.{Immediate, So
 use Rattle.bpf_isa.specs.Encoding.{number_of}
 use Rattle.bpf_image.specs.declared.lengths.Lengths.{Lengths}
 use Rattle.bpf_model.specs.Arithmetic.{low, alu_number}
-use Rattle.bpf_model.specs.State.{State, record_base, table_base}
+use Rattle.bpf_model.specs.State.{State, record_base, table_base, frame_top, live_frames, most_frames}
 use Rattle.bpf_model.specs.Step.{immediate_value, operand_of, left_of}
 use Rattle.abstract_values.specs.declared.value.AbstractValue.{AbstractValue}
 use Rattle.abstract_values.specs.declared.value.AbstractValue.TheVariants.{Unset, Number, Record, Stack, Table}
@@ -20,22 +20,18 @@ use Rattle.abstract_values.specs.Values.{alu_result}
 use Rattle.abstract_values.specs.Described.{Describes}
 use Rattle.abstract_values.proofs.Below.{modulus_most, low_below, low_same}
 use Rattle.abstract_values.proofs.Pointers.{alu_describes}
-use Rattle.abstract_state.specs.declared.state.AbstractState.{AbstractState}
-use Rattle.abstract_state.specs.States.{register}
+use Rattle.abstract_state.specs.States.{AbstractState, register}
 use Rattle.verifier.specs.RuleLaws.{AreOfImage}
 use Rattle.verifier.specs.Rules.{known_value, known_register, known_operand, known_left, constant}
-use Rattle.verifier.specs.Described.{top_above, DescribesState}
+use Rattle.verifier.specs.Described.{DescribesState}
 use Rattle.verifier.proofs.RuleParts.{ok}
 
--- the top of the current frame
-abbrev pub top : State → ℕ
-top s = top_above s.callers
+-- how many frames are live
+abbrev pub live : State → ℕ
+live s = live_frames s
 
-pub top_below : (l : Lengths) (a : AbstractState) (s : State) → DescribesState l a s → top s < 2 ^ 64
-top_below l a s d = let few = d.few_callers in omega (arith, few)
-
-pub top_above_record : (l : Lengths) (a : AbstractState) (s : State) → DescribesState l a s → record_base + 2 ^ 17 ≤ top s
-top_above_record l a s d = omega arith
+pub few_live : (l : Lengths) (a : AbstractState) (s : State) → DescribesState l a s → live s ≤ most_frames
+few_live l a s d = let few = d.few_callers in omega (arith, few)
 
 pub record Reads (l : Lengths) (t : ℕ) (x : Option ℕ) (v : AbstractValue) : Type 0 where
   pub number : ℕ
@@ -56,18 +52,18 @@ held l t (Table lo hi) w x h d =
     let same : Table lo hi ≡ w = cc in
     let e : x ≡ Some (table_base + d.0) = d.1 in
     record { number = table_base + d.0; there = e; described = subst (λ v. Describes l t v (Some (table_base + d.0))) same (d.0, refl, d.2, d.3, d.4) }
-held l t (Stack offset) w x h d =
-    let same : Stack offset ≡ w = cc in
+held l t (Stack frame offset) w x h d =
+    let same : Stack frame offset ≡ w = cc in
     let e : x ≡ Some d.0 = d.1 in
-    record { number = d.0; there = e; described = subst (λ v. Describes l t v (Some d.0)) same (d.0, refl, d.2, d.3, d.4) }
+    record { number = d.0; there = e; described = subst (λ v. Describes l t v (Some d.0)) same (d.0, refl, d.2, d.3, d.4, d.5) }
 
 -- a register that is read
-pub register_read : (l : Lengths) (a : AbstractState) (s : State) (r : Register) (v : AbstractValue) → DescribesState l a s → known_register a r ≡ ok v → Reads l (top s) (s.registers (number_of r)) v
+pub register_read : (l : Lengths) (a : AbstractState) (s : State) (r : Register) (v : AbstractValue) → DescribesState l a s → known_register a r ≡ ok v → Reads l (live s) (s.registers (number_of r)) v
 register_read l a s r v d h =
-    held l (top s) (register a r) v (s.registers (number_of r)) h (d.parts.values (number_of r))
+    held l (live s) (register a r) v (s.registers (number_of r)) h (d.parts.values (number_of r))
 
 -- a described number has 64 bits
-pub described_below : (l : Lengths) (t : ℕ) (v : AbstractValue) (n : ℕ) → AreOfImage l → t < 2 ^ 64 → known_value v ≡ ok v → Describes l t v (Some n) → n < 2 ^ 64
+pub described_below : (l : Lengths) (t : ℕ) (v : AbstractValue) (n : ℕ) → AreOfImage l → t ≤ most_frames → known_value v ≡ ok v → Describes l t v (Some n) → n < 2 ^ 64
 described_below l t Unset n short low h d = absurd cc
 described_below l t (Number lo hi) n short low h d =
     let number : n ≡ d.0 = (let e : Some n ≡ Some d.0 = d.1 in cc) in
@@ -78,10 +74,10 @@ described_below l t (Record lo hi) n short low h d =
 described_below l t (Table lo hi) n short low h d =
     let number : n ≡ table_base + d.0 = (let e : Some n ≡ Some (table_base + d.0) = d.1 in cc) in
     omega (arith, number, d.4, short.1)
-described_below l t (Stack offset) n short low h d =
+described_below l t (Stack frame offset) n short low h d =
     let number : n ≡ d.0 = (let e : Some n ≡ Some d.0 = d.1 in cc) in
-    let below : d.0 ≤ t = omega (arith, ints, d.2, d.4) in
-    omega (arith, number, below, low)
+    let below : d.0 ≤ frame_top frame = omega (arith, ints, d.2, d.4) in
+    omega (arith, number, below, low, d.5)
 
 -- what is known is what is known of a value that is set
 pub known_twice : (v w : AbstractValue) → known_value v ≡ ok w → known_value w ≡ ok w
@@ -89,7 +85,7 @@ known_twice Unset w h = absurd cc
 known_twice (Number lo hi) w h = let same : Number lo hi ≡ w = cc in subst (λ u. known_value u ≡ ok u) same refl
 known_twice (Record lo hi) w h = let same : Record lo hi ≡ w = cc in subst (λ u. known_value u ≡ ok u) same refl
 known_twice (Table lo hi) w h = let same : Table lo hi ≡ w = cc in subst (λ u. known_value u ≡ ok u) same refl
-known_twice (Stack offset) w h = let same : Stack offset ≡ w = cc in subst (λ u. known_value u ≡ ok u) same refl
+known_twice (Stack frame offset) w h = let same : Stack frame offset ≡ w = cc in subst (λ u. known_value u ≡ ok u) same refl
 
 -- a number of 64 bits is what its constant describes
 pub constant_described : (l : Lengths) (t n : ℕ) → n < 2 ^ 64 → Describes l t (constant n) (Some n)
@@ -112,14 +108,14 @@ pub record ReadsOperand (l : Lengths) (w : Width) (s : State) (o : Operand) (v :
   pub seen : ℕ
   pub same : low w number ≡ low w seen
   pub is_seen : IsNumber s o seen
-  pub described : Describes l (top s) v (Some seen)
+  pub described : Describes l (live s) v (Some seen)
 
 pub operand_read : (l : Lengths) (w : Width) (a : AbstractState) (s : State) (o : Operand) (v : AbstractValue) → DescribesState l a s → known_operand w a o ≡ ok v → ReadsOperand l w s o v
 operand_read l w a s (Immediate z) v d h =
     let n = low w (immediate_value z) in
     let value : constant n ≡ v = (let e : ok (constant n) ≡ ok v = h in cc) in
     let below : n < 2 ^ 64 = omega (arith, low_below w (immediate_value z), modulus_most w) in
-    record { number = immediate_value z; there = refl; seen = n; same = sym (low_same w n (low_below w (immediate_value z))); is_seen = tt; described = subst (λ u. Describes l (top s) u (Some n)) value (constant_described l (top s) n below) }
+    record { number = immediate_value z; there = refl; seen = n; same = sym (low_same w n (low_below w (immediate_value z))); is_seen = tt; described = subst (λ u. Describes l (live s) u (Some n)) value (constant_described l (live s) n below) }
 operand_read l w a s (Source r) v d h =
     let x = register_read l a s r v d h in
     record { number = x.number; there = x.there; seen = x.number; same = refl; is_seen = x.there; described = x.described }
@@ -130,15 +126,15 @@ pub record ReadsLeft (l : Lengths) (t : ℕ) (operation : Operation) (x : Option
   pub there : left_of operation x ≡ Some number
   pub gives : (w : Width) (b v : AbstractValue) (y : ℕ) → alu_result w operation l u b ≡ ok v → Describes l t b (Some y) → Describes l t v (Some (alu_number w operation number y))
 
-move_read : (l : Lengths) (t : ℕ) (x : Option ℕ) (u : AbstractValue) → AreOfImage l → record_base + 2 ^ 17 ≤ t → t < 2 ^ 64 → ReadsLeft l t Move x u
-move_read l t x u short high low =
-    record { number = 0; there = refl; gives = λ w b v y h q. alu_describes w Move l t (constant 0) b v 0 y (omega (arith, short.0), omega (arith, short.1)) (omega (arith, high)) low h (constant_described l t 0 (omega arith)) q }
+move_read : (l : Lengths) (t : ℕ) (x : Option ℕ) (u : AbstractValue) → AreOfImage l → t ≤ most_frames → ReadsLeft l t Move x u
+move_read l t x u short few =
+    record { number = 0; there = refl; gives = λ w b v y h q. alu_describes w Move l t (constant 0) b v 0 y (omega (arith, short.0), omega (arith, short.1)) few h (constant_described l t 0 (omega arith)) q }
 
-other_read : (l : Lengths) (t : ℕ) (operation : Operation) (x : Option ℕ) (u : AbstractValue) → AreOfImage l → record_base + 2 ^ 17 ≤ t → t < 2 ^ 64 → left_of operation x ≡ x → Reads l t x u → ReadsLeft l t operation x u
-other_read l t operation x u short high low same r =
-    record { number = r.number; there = rw same r.there; gives = λ w b v y h q. alu_describes w operation l t u b v r.number y (omega (arith, short.0), omega (arith, short.1)) (omega (arith, high)) low h r.described q }
+other_read : (l : Lengths) (t : ℕ) (operation : Operation) (x : Option ℕ) (u : AbstractValue) → AreOfImage l → t ≤ most_frames → left_of operation x ≡ x → Reads l t x u → ReadsLeft l t operation x u
+other_read l t operation x u short few same r =
+    record { number = r.number; there = rw same r.there; gives = λ w b v y h q. alu_describes w operation l t u b v r.number y (omega (arith, short.0), omega (arith, short.1)) few h r.described q }
 
-pub left_read : (l : Lengths) (operation : Operation) (a : AbstractState) (s : State) (d : Register) (u : AbstractValue) → AreOfImage l → DescribesState l a s → known_left operation a d ≡ ok u → ReadsLeft l (top s) operation (s.registers (number_of d)) u
-left_read l Move a s d u short described h = move_read l (top s) (s.registers (number_of d)) u short (top_above_record l a s described) (top_below l a s described)
+pub left_read : (l : Lengths) (operation : Operation) (a : AbstractState) (s : State) (d : Register) (u : AbstractValue) → AreOfImage l → DescribesState l a s → known_left operation a d ≡ ok u → ReadsLeft l (live s) operation (s.registers (number_of d)) u
+left_read l Move a s d u short described h = move_read l (live s) (s.registers (number_of d)) u short (few_live l a s described)
 left_read l operation a s d u short described h =
-    other_read l (top s) operation (s.registers (number_of d)) u short (top_above_record l a s described) (top_below l a s described) refl (register_read l a s d u described h)
+    other_read l (live s) operation (s.registers (number_of d)) u short (few_live l a s described) refl (register_read l a s d u described h)

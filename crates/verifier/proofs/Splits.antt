@@ -19,13 +19,12 @@ use Rattle.abstract_values.specs.declared.value.AbstractValue.{AbstractValue}
 use Rattle.abstract_values.specs.Narrowing.{narrowing}
 use Rattle.abstract_values.specs.Described.{Describes, DescribesSide, side_of}
 use Rattle.abstract_values.proofs.Branches.{narrow_describes}
-use Rattle.abstract_state.specs.declared.state.AbstractState.{AbstractState}
-use Rattle.abstract_state.specs.States.{with_register}
-use Rattle.abstract_state.specs.Described.{DescribesParts}
+use Rattle.abstract_state.specs.States.{AbstractState, with_register}
+use Rattle.abstract_state.specs.Described.{DescribesParts, DescribesKept}
 use Rattle.verifier.specs.Rules.{Ways, target, is_same, branch_sides, with_operand, side_way, branch_ways}
 use Rattle.verifier.specs.Described.{DescribesState, IsWay, Follows, stays}
 use Rattle.verifier.proofs.RuleParts.{ok, bind_ok}
-use Rattle.verifier.proofs.KnownValues.{top, Reads, IsNumber, ReadsOperand}
+use Rattle.verifier.proofs.KnownValues.{live, Reads, IsNumber, ReadsOperand}
 use Rattle.verifier.proofs.RegisterWrites.{narrowed_described}
 
 either : (P : Sides → Type 0) (one : Bool) (s t u : Sides) → cond one s t ≡ u → P s → P t → P u
@@ -49,18 +48,23 @@ record GoesBy (l : Lengths) (s : State) (z : ℤ) (ws : Ways) : Type 0 where
   way : ℤ × AbstractState
   is_way : IsWay way ws
   goes_to : z ≡ way.0
-  parts : DescribesParts l (top s) way.1 s.registers s.memory
+  parts : DescribesParts l (live s) way.1 s.registers s.memory
+  kept : DescribesKept l way.1.kept s.callers
 
-operand_narrowed : (l : Lengths) (a : AbstractState) (s : State) (o : Operand) (v : AbstractValue) (y : ℕ) → DescribesParts l (top s) a s.registers s.memory → IsNumber s o y → Describes l (top s) v (Some y) → DescribesParts l (top s) (with_operand a o v) s.registers s.memory
+operand_narrowed : (l : Lengths) (a : AbstractState) (s : State) (o : Operand) (v : AbstractValue) (y : ℕ) → DescribesParts l (live s) a s.registers s.memory → IsNumber s o y → Describes l (live s) v (Some y) → DescribesParts l (live s) (with_operand a o v) s.registers s.memory
 operand_narrowed l a s (Immediate n) v y d is new = d
 operand_narrowed l a s (Source r) v y d is new =
-    narrowed_described l (top s) a s.registers s.memory r v d (subst (λ x. Describes l (top s) v x) (sym is) new)
+    narrowed_described l (live s) a s.registers s.memory r v d (subst (λ x. Describes l (live s) v x) (sym is) new)
 
-side_goes : (l : Lengths) (a : AbstractState) (s : State) (left : Register) (right : Operand) (z : ℤ) (side : Option (AbstractValue × AbstractValue)) (x y : ℕ) → DescribesState l a s → s.registers (number_of left) ≡ Some x → IsNumber s right y → DescribesSide l (top s) side x y → GoesBy l s z (side_way a left right z side)
+operand_keeps : (l : Lengths) (a : AbstractState) (s : State) (o : Operand) (v : AbstractValue) → DescribesKept l a.kept s.callers → DescribesKept l (with_operand a o v).kept s.callers
+operand_keeps l a s (Immediate n) v d = d
+operand_keeps l a s (Source r) v d = d
+
+side_goes : (l : Lengths) (a : AbstractState) (s : State) (left : Register) (right : Operand) (z : ℤ) (side : Option (AbstractValue × AbstractValue)) (x y : ℕ) → DescribesState l a s → s.registers (number_of left) ≡ Some x → IsNumber s right y → DescribesSide l (live s) side x y → GoesBy l s z (side_way a left right z side)
 side_goes l a s left right z None x y described p q d = absurd d
 side_goes l a s left right z (Some values) x y described p q d =
-    let first = narrowed_described l (top s) a s.registers s.memory left values.0 described.parts (subst (λ n. Describes l (top s) values.0 n) (sym p) d.0) in
-    record { way = (z, with_operand (with_register a left values.0) right values.1); is_way = inl refl; goes_to = refl; parts = operand_narrowed l (with_register a left values.0) s right values.1 y first q d.1 }
+    let first = narrowed_described l (live s) a s.registers s.memory left values.0 described.parts (subst (λ n. Describes l (live s) values.0 n) (sym p) d.0) in
+    record { way = (z, with_operand (with_register a left values.0) right values.1); is_way = inl refl; goes_to = refl; parts = operand_narrowed l (with_register a left values.0) s right values.1 y first q d.1; kept = operand_keeps l (with_register a left values.0) s right values.1 described.kept }
 
 in_front : (w : ℤ × AbstractState) (xs ys : Ways) → IsWay w xs → IsWay w (xs ++ ys)
 in_front w [] ys h = absurd h
@@ -71,29 +75,29 @@ behind : (w : ℤ × AbstractState) (xs ys : Ways) → IsWay w ys → IsWay w (x
 behind w [] ys h = h
 behind w (x ∷ xs) ys h = inr (behind w xs ys h)
 
-taken_follows : (l : Lengths) (pc : ℕ) (i : Instruction) (z : ℤ) (a : AbstractState) (s : State) (left : Register) (right : Operand) (sides : Sides) (x y : ℕ) → s.pc ≡ pos pc → DescribesState l a s → s.registers (number_of left) ≡ Some x → IsNumber s right y → DescribesSide l (top s) sides.taken x y → Follows l i a s (branch_ways pc z a left right sides) (jump s z)
+taken_follows : (l : Lengths) (pc : ℕ) (i : Instruction) (z : ℤ) (a : AbstractState) (s : State) (left : Register) (right : Operand) (sides : Sides) (x y : ℕ) → s.pc ≡ pos pc → DescribesState l a s → s.registers (number_of left) ≡ Some x → IsNumber s right y → DescribesSide l (live s) sides.taken x y → Follows l i a s (branch_ways pc z a left right sides) (jump s z)
 taken_follows l pc i z a s left right sides x y at described p q d =
     let g = side_goes l a s left right (target pc z) sides.taken x y described p q d in
     let moved : (s.pc +ℤ pos 1) +ℤ z ≡ target pc z = ap (λ n. (n +ℤ pos 1) +ℤ z) at in
-    stays g.way (in_front g.way _ _ g.is_way) (moved ∙ g.goes_to) (record { parts = g.parts; frame_register = described.frame_register; few_callers = described.few_callers }) refl (λ k j low lt. refl)
+    stays g.way (in_front g.way _ _ g.is_way) (moved ∙ g.goes_to) (record { parts = g.parts; frame_register = described.frame_register; few_callers = described.few_callers; kept = g.kept }) refl
 
-passed_follows : (l : Lengths) (pc : ℕ) (i : Instruction) (z : ℤ) (a : AbstractState) (s : State) (left : Register) (right : Operand) (sides : Sides) (x y : ℕ) → s.pc ≡ pos pc → DescribesState l a s → s.registers (number_of left) ≡ Some x → IsNumber s right y → DescribesSide l (top s) sides.passed x y → Follows l i a s (branch_ways pc z a left right sides) (jump s (pos 0))
+passed_follows : (l : Lengths) (pc : ℕ) (i : Instruction) (z : ℤ) (a : AbstractState) (s : State) (left : Register) (right : Operand) (sides : Sides) (x y : ℕ) → s.pc ≡ pos pc → DescribesState l a s → s.registers (number_of left) ≡ Some x → IsNumber s right y → DescribesSide l (live s) sides.passed x y → Follows l i a s (branch_ways pc z a left right sides) (jump s (pos 0))
 passed_follows l pc i z a s left right sides x y at described p q d =
     let g = side_goes l a s left right (pos (pc + 1)) sides.passed x y described p q d in
     let same : (pos pc +ℤ pos 1) +ℤ pos 0 ≡ pos (pc + 1) = omega (arith, ints) in
     let moved : (s.pc +ℤ pos 1) +ℤ pos 0 ≡ pos (pc + 1) = ap (λ n. (n +ℤ pos 1) +ℤ pos 0) at ∙ same in
-    stays g.way (behind g.way _ _ g.is_way) (moved ∙ g.goes_to) (record { parts = g.parts; frame_register = described.frame_register; few_callers = described.few_callers }) refl (λ k j low lt. refl)
+    stays g.way (behind g.way _ _ g.is_way) (moved ∙ g.goes_to) (record { parts = g.parts; frame_register = described.frame_register; few_callers = described.few_callers; kept = g.kept }) refl
 
 -- a branch, by the comparison that the machine makes
-pub branch_follows : (l : Lengths) (pc : ℕ) (i : Instruction) (w : Width) (c : Comparison) (left : Register) (right : Operand) (z : ℤ) (a : AbstractState) (s : State) (u v : AbstractValue) (sides : Sides) (ws : Ways) → s.pc ≡ pos pc → DescribesState l a s → (x : Reads l (top s) (s.registers (number_of left)) u) → (y : ReadsOperand l w s right v) → branch_sides w c left right u v ≡ ok sides → branch_ways pc z a left right sides ≡ ws → Follows l i a s ws (jump s (cond (holds w c x.number y.number) z (pos 0)))
+pub branch_follows : (l : Lengths) (pc : ℕ) (i : Instruction) (w : Width) (c : Comparison) (left : Register) (right : Operand) (z : ℤ) (a : AbstractState) (s : State) (u v : AbstractValue) (sides : Sides) (ws : Ways) → s.pc ≡ pos pc → DescribesState l a s → (x : Reads l (live s) (s.registers (number_of left)) u) → (y : ReadsOperand l w s right v) → branch_sides w c left right u v ≡ ok sides → branch_ways pc z a left right sides ≡ ws → Follows l i a s ws (jump s (cond (holds w c x.number y.number) z (pos 0)))
 branch_follows l pc i w c left right z a s u v sides ws at described x y h ways =
     let test : holds w c x.number y.number ≡ holds w c x.number y.seen = ap (λ n. comparison_holds w c (low w x.number) n) y.same in
-    let d = sides_describe l (top s) w c left right u v sides x.number y.seen h x.described y.described in
+    let d = sides_describe l (live s) w c left right u v sides x.number y.seen h x.described y.described in
     elim (cases_Bool (holds w c x.number y.number)) [
       | inl is ↦
-          let side : DescribesSide l (top s) sides.taken x.number y.seen = subst (λ t. DescribesSide l (top s) (side_of sides t) x.number y.seen) (sym test ∙ is) d in
+          let side : DescribesSide l (live s) sides.taken x.number y.seen = subst (λ t. DescribesSide l (live s) (side_of sides t) x.number y.seen) (sym test ∙ is) d in
           rw is (subst (λ t. Follows l i a s t (jump s z)) ways (taken_follows l pc i z a s left right sides x.number y.seen at described x.there y.is_seen side))
       | inr not_is ↦
-          let side : DescribesSide l (top s) sides.passed x.number y.seen = subst (λ t. DescribesSide l (top s) (side_of sides t) x.number y.seen) (sym test ∙ not_is) d in
+          let side : DescribesSide l (live s) sides.passed x.number y.seen = subst (λ t. DescribesSide l (live s) (side_of sides t) x.number y.seen) (sym test ∙ not_is) d in
           rw not_is (subst (λ t. Follows l i a s t (jump s (pos 0))) ways (passed_follows l pc i z a s left right sides x.number y.seen at described x.there y.is_seen side))
     ]

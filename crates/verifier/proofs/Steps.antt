@@ -16,14 +16,13 @@ use Rattle.abstract_values.specs.declared.value.AbstractValue.TheVariants.{Unset
 use Rattle.abstract_values.specs.Values.{alu_result, negate_result, move_signed_result, swap_result}
 use Rattle.abstract_values.specs.Described.{Describes}
 use Rattle.abstract_values.proofs.Sound.{negate_describes, move_signed_describes, swap_describes}
-use Rattle.abstract_state.specs.declared.state.AbstractState.{AbstractState}
-use Rattle.abstract_state.specs.States.{register}
+use Rattle.abstract_state.specs.States.{AbstractState, register}
 use Rattle.abstract_state.specs.Memory.{load_result, load_signed_result, store_result}
-use Rattle.verifier.specs.Rules.{Ways, bind, known_register, known_operand, known_left, constant, write_ways, behind_store, target, branch_sides, branch_ways, call_ways, transfer}
+use Rattle.verifier.specs.Rules.{Ways, bind, known_register, known_operand, known_left, constant, write_ways, behind_store, target, branch_sides, branch_ways, transfer}
 use Rattle.verifier.specs.Described.{DescribesState, Follows, stays}
 use Rattle.verifier.specs.RuleLaws.{MayCall, AreOfImage}
 use Rattle.verifier.proofs.RuleParts.{ok, bind_ok}
-use Rattle.verifier.proofs.KnownValues.{top, top_below, register_read, operand_read, left_read, described_below, known_twice, constant_described, extended_below}
+use Rattle.verifier.proofs.KnownValues.{live, few_live, register_read, operand_read, left_read, described_below, known_twice, constant_described, extended_below}
 use Rattle.verifier.proofs.RegisterWrites.{put_follows}
 use Rattle.verifier.proofs.Accesses.{load_follows, load_extended_follows, store_follows}
 use Rattle.verifier.proofs.Splits.{branch_follows}
@@ -48,19 +47,19 @@ step_describes g l pc (Alu w operation d o) a s ws few short fits at described m
 step_describes g l pc (MoveSigned extension d source) a s ws few short fits at described may h =
     let b = bind_ok (known_register a source) (λ b. write_ways (pc + 1) a d (move_signed_result extension b)) ws h in
     let x = register_read l a s source b.0 described b.1 in
-    rw x.there (put_follows l pc 1 (MoveSigned extension d source) a s d (move_signed_result extension b.0) (move_signed_number extension x.number) ws at described b.2 (λ v e. move_signed_describes extension l (top s) b.0 v x.number e x.described))
+    rw x.there (put_follows l pc 1 (MoveSigned extension d source) a s d (move_signed_result extension b.0) (move_signed_number extension x.number) ws at described b.2 (λ v e. move_signed_describes extension l (live s) b.0 v x.number e x.described))
 step_describes g l pc (Negate w d) a s ws few short fits at described may h =
     let b = bind_ok (known_register a d) (λ b. write_ways (pc + 1) a d (negate_result w b)) ws h in
     let x = register_read l a s d b.0 described b.1 in
-    rw x.there (put_follows l pc 1 (Negate w d) a s d (negate_result w b.0) (negate_number w x.number) ws at described b.2 (λ v e. negate_describes w l (top s) b.0 v x.number e x.described))
+    rw x.there (put_follows l pc 1 (Negate w d) a s d (negate_result w b.0) (negate_number w x.number) ws at described b.2 (λ v e. negate_describes w l (live s) b.0 v x.number e x.described))
 step_describes g l pc (Swap order bits d) a s ws few short fits at described may h =
     let b = bind_ok (known_register a d) (λ b. write_ways (pc + 1) a d (swap_result order bits b)) ws h in
     let x = register_read l a s d b.0 described b.1 in
-    rw x.there (put_follows l pc 1 (Swap order bits d) a s d (swap_result order bits b.0) (swap_number order bits x.number) ws at described b.2 (λ v e. swap_describes order bits l (top s) b.0 v x.number e x.described))
+    rw x.there (put_follows l pc 1 (Swap order bits d) a s d (swap_result order bits b.0) (swap_number order bits x.number) ws at described b.2 (λ v e. swap_describes order bits l (live s) b.0 v x.number e x.described))
 step_describes g l pc (Jump distance) a s ws few short fits at described may h =
     let ways : (target pc (units_over distance), a) ∷ [] ≡ ws = (let e : ok ((target pc (units_over distance), a) ∷ []) ≡ ok ws = h in cc) in
     let moved : (s.pc +ℤ pos 1) +ℤ units_over distance ≡ target pc (units_over distance) = ap (λ n. (n +ℤ pos 1) +ℤ units_over distance) at in
-    subst (λ t. Follows l (Jump distance) a s t (jump s (units_over distance))) ways (stays (target pc (units_over distance), a) (inl refl) moved (record { parts = described.parts; frame_register = described.frame_register; few_callers = described.few_callers }) refl (λ k j low lt. refl))
+    subst (λ t. Follows l (Jump distance) a s t (jump s (units_over distance))) ways (stays (target pc (units_over distance), a) (inl refl) moved (record { parts = described.parts; frame_register = described.frame_register; few_callers = described.few_callers; kept = described.kept }) refl)
 step_describes g l pc (Branch w c left right distance) a s ws few short fits at described may h =
     let u = bind_ok (known_register a left) (λ u. bind (known_operand w a right) (λ b. bind (branch_sides w c left right u b) (λ sides. ok (branch_ways pc distance a left right sides)))) ws h in
     let b = bind_ok (known_operand w a right) (λ b. bind (branch_sides w c left right u.0 b) (λ sides. ok (branch_ways pc distance a left right sides))) ws u.2 in
@@ -72,10 +71,9 @@ step_describes g l pc (Branch w c left right distance) a s ws few short fits at 
 step_describes g l pc (CallHelper number) a s ws few short fits at described may h =
     helper_call_follows l pc (CallHelper number) g (helper_of number) a s ws few short.0 at described h
 step_describes g l pc (CallLocal distance) a s ws few short fits at described may h =
-    let ways : call_ways pc distance a ≡ ws = (let e : ok (call_ways pc distance a) ≡ ok ws = h in cc) in
-    call_follows l pc distance a s ws short.0 at described may ways
+    call_follows l distance a s ws short.0 described may
 step_describes g l pc Exit a s ws few short fits at described may h =
-    exit_follows l a s ws (get_or a.registers 0 Unset) (s.registers 0) described (described.parts.values 0) h
+    exit_follows l a s ws (get_or a.registers 0 Unset) (s.registers 0) refl described (described.parts.values 0) h
 step_describes g l pc (Load size d base offset) a s ws few short fits at described may h =
     let b = bind_ok (known_register a base) (λ b. write_ways (pc + 1) a d (load_result l a b offset (size_bytes size))) ws h in
     let x = register_read l a s base b.0 described b.1 in
@@ -89,13 +87,13 @@ step_describes g l pc (Store size base offset immediate) a s ws few short fits a
     let b = bind_ok (known_register a base) (λ b. behind_store (pc + 1) (store_result l a b offset (size_bytes size) (constant n))) ws h in
     let x = register_read l a s base b.0 described b.1 in
     let below = extended_below immediate fits.1 in
-    rw x.there (store_follows l pc (Store size base offset immediate) b.0 (constant n) offset a s size x.number n ws short.0 fits.0 below at described x.described (constant_described l (top s) n below) b.2)
+    rw x.there (store_follows l pc (Store size base offset immediate) b.0 (constant n) offset a s size x.number n ws short.0 fits.0 below at described x.described (constant_described l (live s) n below) b.2)
 step_describes g l pc (StoreRegister size base offset source) a s ws few short fits at described may h =
     let b = bind_ok (known_register a base) (λ b. bind (known_register a source) (λ v. behind_store (pc + 1) (store_result l a b offset (size_bytes size) v))) ws h in
     let v = bind_ok (known_register a source) (λ v. behind_store (pc + 1) (store_result l a b.0 offset (size_bytes size) v)) ws b.2 in
     let x = register_read l a s base b.0 described b.1 in
     let y = register_read l a s source v.0 described v.1 in
-    let below = described_below l (top s) v.0 y.number short (top_below l a s described) (known_twice (register a source) v.0 v.1) y.described in
+    let below = described_below l (live s) v.0 y.number short (few_live l a s described) (known_twice (register a source) v.0 v.1) y.described in
     rw (x.there, y.there) (store_follows l pc (StoreRegister size base offset source) b.0 v.0 offset a s size x.number y.number ws short.0 fits below at described x.described y.described v.2)
 step_describes g l pc (Wide d value) a s ws few short fits at described may h =
-    put_follows l pc 2 (Wide d value) a s d (ok (constant value)) value ws at described h (λ v e. constant_is l (top s) value v fits e)
+    put_follows l pc 2 (Wide d value) a s d (ok (constant value)) value ws at described h (λ v e. constant_is l (live s) value v fits e)

@@ -14,14 +14,13 @@ use Rattle.abstract_values.specs.declared.branch.Sides.{Sides}
 use Rattle.abstract_values.specs.declared.value.AbstractValue.{AbstractValue}
 use Rattle.abstract_values.specs.declared.value.AbstractValue.TheVariants.{Unset, Number, Record, Stack, Table}
 use Rattle.abstract_values.specs.Values.{alu_result, negate_result, move_signed_result, swap_result}
-use Rattle.abstract_state.specs.declared.state.AbstractState.{AbstractState}
-use Rattle.abstract_state.specs.States.{with_register, callee_state, state_behind_call}
+use Rattle.abstract_state.specs.States.{AbstractState, with_register}
 use Rattle.abstract_state.specs.Memory.{load_result, load_signed_result, store_result}
-use Rattle.verifier.specs.Rules.{Ways, bind, constant, known_register, known_operand, known_left, onward, write_ways, behind_store, target, branch_sides, side_way, branch_ways, call_ways, exit_ways, transfer}
+use Rattle.verifier.specs.Rules.{Ways, bind, constant, known_register, known_operand, known_left, onward, write_ways, behind_store, target, branch_sides, side_way, branch_ways, exit_ways, transfer}
 use Rattle.verifier.specs.Described.{IsWay}
 use Rattle.verifier.proofs.HelperCalls.{helper_call_way}
 use Rattle.verifier.proofs.RuleParts.{ok, bind_ok, writes_from}
-use Rattle.verifier.specs.Walks.{next_pcs, called_pcs, IsOneOf}
+use Rattle.verifier.specs.Walks.{next_pcs, IsOneOf}
 
 -- each way leads to one of some pcs
 abbrev pub AllLead : Ways → List ℤ → Type 0
@@ -31,14 +30,6 @@ one_leads : (z : ℤ) (s : AbstractState) (ws : Ways) → (z, s) ∷ [] ≡ ws �
 one_leads z s ws same w m =
     let one : IsWay w ((z, s) ∷ []) = subst (λ (x : Ways). IsWay w x) (sym same) m in
     elim one [ inl is ↦ inl (ap (λ (x : ℤ × AbstractState). x.0) is) | inr none ↦ absurd none ]
-
-two_lead : (x y : ℤ) (s t : AbstractState) (ws : Ways) → (x, s) ∷ (y, t) ∷ [] ≡ ws → AllLead ws (x ∷ y ∷ [])
-two_lead x y s t ws same w m =
-    let both : IsWay w ((x, s) ∷ (y, t) ∷ []) = subst (λ (v : Ways). IsWay w v) (sym same) m in
-    elim both [
-      | inl is ↦ inl (ap (λ (v : ℤ × AbstractState). v.0) is)
-      | inr rest ↦ elim rest [ inl is ↦ inr (inl (ap (λ (v : ℤ × AbstractState). v.0) is)) | inr none ↦ absurd none ]
-    ]
 
 written_leads : (pc : ℕ) (s : AbstractState) (d : Register) (r : Result AbstractValue Cause) (ws : Ways) → write_ways pc s d r ≡ ok ws → AllLead ws (pos pc ∷ [])
 written_leads pc s d r ws h =
@@ -57,7 +48,7 @@ returned_leads (Number lo hi) ws h w m =
     let same : [] ≡ ws = (let e : ok [] ≡ ok ws = h in cc) in
     subst (λ (x : Ways). IsWay w x) (sym same) m
 returned_leads (Record lo hi) ws h w m = absurd cc
-returned_leads (Stack offset) ws h w m = absurd cc
+returned_leads (Stack frame offset) ws h w m = absurd cc
 returned_leads (Table lo hi) ws h w m = absurd cc
 
 side_leads : (s : AbstractState) (left : Register) (right : Operand) (z : ℤ) (values : Option (AbstractValue × AbstractValue)) (w : ℤ × AbstractState) → IsWay w (side_way s left right z values) → w.0 ≡ z
@@ -84,7 +75,7 @@ branch_leads pc z s left right sides ws same w m =
     ]
 
 -- one clause an instruction
-pub ways_lead : (l : Lengths) (pc : ℕ) (i : Instruction) (a : AbstractState) (ws : Ways) → transfer l pc i a ≡ ok ws → AllLead ws (called_pcs i pc ++ next_pcs i pc)
+pub ways_lead : (l : Lengths) (pc : ℕ) (i : Instruction) (a : AbstractState) (ws : Ways) → transfer l pc i a ≡ ok ws → AllLead ws (next_pcs i pc)
 unfolding transfer
 ways_lead l pc (Alu w operation d o) a ws h =
     let u = bind_ok (known_left operation a d) (λ u. bind (known_operand w a o) (λ b. write_ways (pc + 1) a d (alu_result w operation l u b))) ws h in
@@ -111,9 +102,7 @@ ways_lead l pc (Branch w c left right distance) a ws h =
 ways_lead l pc (CallHelper number) a ws h =
     let way = helper_call_way l pc (helper_of number) a ws h in
     one_leads (pos (pc + 1)) way.0 ws way.1
-ways_lead l pc (CallLocal distance) a ws h =
-    let same : call_ways pc distance a ≡ ws = (let e : ok (call_ways pc distance a) ≡ ok ws = h in cc) in
-    two_lead (target pc distance) (pos (pc + 1)) (callee_state a) (state_behind_call a) ws same
+ways_lead l pc (CallLocal distance) a ws h = λ w m. (let same : [] ≡ ws = (let e : ok [] ≡ ok ws = h in cc) in absurd (subst (λ (x : Ways). IsWay w x) (sym same) m))
 ways_lead l pc Exit a ws h = returned_leads (get_or a.registers 0 Unset) ws h
 ways_lead l pc (Load size d base offset) a ws h =
     let b = bind_ok (known_register a base) (λ b. write_ways (pc + 1) a d (load_result l a b offset (size_bytes size))) ws h in

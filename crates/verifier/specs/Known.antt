@@ -1,24 +1,66 @@
--- What is known at each pc, as it is told to a person.
-use Rattle.std.specs.Prelude.{◌≡◌, ℕ, ◌<◌, ◌&&◌, Bool, false, true, List, [], length, Option, None, is_none}
-use Rattle.std.specs.Global.{Box}
+-- What is known at the pcs of a program, as it is told to a person.
+use Rattle.std.specs.Prelude.{◌≡◌, ℕ, ◌+◌, ◌<◌, ◌≤◌, ◌&&◌, ℤ, Bool, false, true, List, [], ◌∷◌, length, Option, Some, None, Err, is_none}
+use Rattle.bpf_isa.specs.declared.instruction.Instruction.TheVariants.{CallLocal}
 use Rattle.bpf_image.specs.Program.{Program, units}
-use Rattle.abstract_state.specs.declared.state.AbstractState.{AbstractState}
-use Rattle.verifier.specs.Equations.{assignment_of}
+use Rattle.abstract_state.specs.States.{AbstractState, most_callers}
+use Rattle.verifier.specs.declared.refusal.Refusal.{Refusal}
+use Rattle.verifier.specs.declared.known.KnownPassage.{KnownPassage}
+use Rattle.verifier.specs.Listing.{instruction_at}
+use Rattle.verifier.specs.Functions.{function_end}
+use Rattle.verifier.specs.Equations.{Passage, main_passage, opening, calls_of, states, refusal_at, first_refusal, outcome}
 use Rattle.verifier.specs.Tables.{state_at}
-use Rattle.verifier.specs.Verdict.{first_fault, decoding_fault, flow_fault, rule_fault}
+use Rattle.verifier.specs.Verdict.{first_fault, decoding_fault, flow_fault, pairs_fault, rule_refusal}
 
--- the code decodes, and its jumps and calls land where they may: so there are ways to walk
+-- the code decodes, and its jumps and calls land where they may: so there are ways to walk; and not too many of them
 abbrev pub is_walkable : Program → Bool
-is_walkable p = is_none (first_fault (decoding_fault p) (units p)) && is_none (first_fault (flow_fault p) (units p))
+is_walkable p = is_none (first_fault (decoding_fault p) (units p)) && is_none (first_fault (flow_fault p) (units p)) && is_none (pairs_fault p)
 
--- a table has what is known at each pc below n
-pub record IsKnownTo (p : Program) (n : ℕ) (states : List (Option (Box AbstractState))) : Type 0 where
-  pub same_length : length states ≡ units p
-  pub known : (q : ℕ) → q < n → state_at states q ≡ assignment_of p q
+-- what is told of a passage: what is known at each of its pcs, up to the last that was gone over
+pub record IsKnownOf (p : Program) (v : Passage) (t : KnownPassage) : Type 0 where
+  pub entry : t.entry ≡ v.entry
+  pub same_length : length t.states.items ≡ units p
+  pub known : (q : ℕ) → v.entry ≤ q → q ≤ t.last → state_at t.states.items q ≡ states p (calls_of p v) v q
 
--- of a program that can be walked a table has what is known at each pc up to the first that breaks a rule, that one
--- included; of any other it has nothing
-pub record IsKnown (p : Program) (states : List (Option (Box AbstractState))) : Type 0 where
-  pub nothing : is_walkable p ≡ false → states ≡ []
-  pub same_length : is_walkable p ≡ true → length states ≡ units p
-  pub known : is_walkable p ≡ true → (q : ℕ) → q < units p → first_fault (rule_fault p) q ≡ None → state_at states q ≡ assignment_of p q
+-- no rule is broken below a pc of a passage, and one is by the instruction there
+pub record IsBrokenAt (p : Program) (v : Passage) (pc : ℕ) (r : Refusal) : Type 0 where
+  pub fine : first_refusal p (calls_of p v) v pc ≡ None
+  pub broken : refusal_at p (calls_of p v) v pc (instruction_at p pc) (states p (calls_of p v) v pc) ≡ Some r
+  pub here : r.pc ≡ pc
+
+-- no rule is broken below a pc of a passage, and the call there opens another one
+pub record IsOpenAt (p : Program) (v : Passage) (pc : ℕ) (w : Passage) : Type 0 where
+  pub fine : first_refusal p (calls_of p v) v pc ≡ None
+  pub distance : ℤ
+  pub found : instruction_at p pc ≡ Some (CallLocal distance)
+  pub state : AbstractState
+  pub walked : states p (calls_of p v) v pc ≡ Some state
+  pub opens : opening v pc (CallLocal distance) state ≡ Some w
+
+-- a passage was gone over up to a pc: its last one, if it breaks no rule, and else the one that breaks the rule
+abbrev pub IsDoneAt : Program → Passage → ℕ → Option Refusal → Type 0
+IsDoneAt p v pc None = (first_refusal p (calls_of p v) v (units p) ≡ None) × (function_end p v.entry ≡ pc + 1)
+IsDoneAt p v pc (Some r) = IsBrokenAt p v pc r
+
+-- of the passages that are open where a rule is broken each is told, each one after that which calls it
+abbrev pub TellsWithin : Program → Passage → ℕ → Option Refusal → List KnownPassage → Type 0
+TellsWithin p v pc r [] = IsDoneAt p v pc r
+TellsWithin p v pc r (t ∷ ts) = (w : Passage) × IsOpenAt p v pc w × IsKnownOf p w t × TellsWithin p w t.last r ts
+
+abbrev pub Tells : Program → Passage → Option Refusal → List KnownPassage → Type 0
+Tells p v r [] = ⊥
+Tells p v r (t ∷ ts) = IsKnownOf p v t × TellsWithin p v t.last r ts
+
+-- of a program that can be walked the main passage is told, and those within it that are open where the first rule is
+-- broken, which breaks it by the instruction at the last pc told; of any other program nothing is told
+pub record IsKnown (p : Program) (told : List KnownPassage) : Type 0 where
+  pub nothing : is_walkable p ≡ false → told ≡ []
+  pub tells : is_walkable p ≡ true → Tells p (main_passage p) (rule_refusal p) told
+
+-- for the code: a function that is called at a pc of a passage breaks a rule
+pub record IsBrokenBy (p : Program) (v : Passage) (pc : ℕ) (w : Passage) : Type 0 where
+  pub opens : IsOpenAt p v pc w
+  pub deep : v.frame < most_callers
+  pub inside : pc < units p
+  pub begins : w.entry < units p
+  pub refusal : Refusal
+  pub breaks : outcome p (calls_of p w) w ≡ Err refusal

@@ -10,6 +10,7 @@ pub mod Verdict
 pub mod VerdictRows
 pub mod HelperVerdicts
 pub mod TableVerdicts
+pub mod LentVerdicts
 pub mod Sound
 pub mod Laws
 pub mod Tables

@@ -9,7 +9,7 @@ use Rattle.graph_model.specs.Graph.{Graph}
 use Rattle.bpf_model.specs.Helpers.{IsView}
 use Rattle.bpf_model.specs.State.{State, live_frames, most_frames}
 use Rattle.bpf_model.specs.Step.{effect}
-use Rattle.abstract_state.specs.declared.state.AbstractState.{AbstractState}
+use Rattle.abstract_state.specs.States.{AbstractState}
 use Rattle.verifier.specs.Rules.{Ways, transfer}
 use Rattle.verifier.specs.Described.{DescribesState, Follows}
 

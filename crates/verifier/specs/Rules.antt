@@ -26,8 +26,7 @@ use Rattle.abstract_values.specs.declared.value.AbstractValue.{AbstractValue}
 use Rattle.abstract_values.specs.declared.value.AbstractValue.TheVariants.{Unset, Number, Record, Stack, Table}
 use Rattle.abstract_values.specs.Values.{alu_result, negate_result, move_signed_result, swap_result}
 use Rattle.abstract_values.specs.Narrowing.{narrowing}
-use Rattle.abstract_state.specs.declared.state.AbstractState.{AbstractState}
-use Rattle.abstract_state.specs.States.{register, with_register, callee_state, state_behind_helper, state_behind_call}
+use Rattle.abstract_state.specs.States.{AbstractState, register, with_register, state_behind_helper}
 use Rattle.abstract_state.specs.Memory.{load_result, load_signed_result, store_result, gather_result}
 
 -- goes on with what was found, or breaks the same rule
@@ -42,7 +41,7 @@ abbrev pub known_value : AbstractValue → Result AbstractValue Cause
 known_value Unset = Err UnsetRegister
 known_value (Number lo hi) = Ok (Number lo hi)
 known_value (Record lo hi) = Ok (Record lo hi)
-known_value (Stack offset) = Ok (Stack offset)
+known_value (Stack frame offset) = Ok (Stack frame offset)
 known_value (Table lo hi) = Ok (Table lo hi)
 
 abbrev pub known_register : AbstractState → Register → Result AbstractValue Cause
@@ -108,19 +107,13 @@ abbrev pub branch_ways : ℕ → ℤ → AbstractState → Register → Operand 
 branch_ways pc distance s left right sides =
     side_way s left right (target pc distance) sides.taken ++ side_way s left right (pos (pc + 1)) sides.passed
 
--- ---- calls of functions
-
--- the way into a function, and the way on after its call
-abbrev pub call_ways : ℕ → ℤ → AbstractState → Ways
-call_ways pc distance s = (target pc distance, callee_state s) ∷ (pos (pc + 1), state_behind_call s) ∷ []
-
 -- ---- helpers
 
 abbrev pub is_number : AbstractValue → Bool
 is_number Unset = false
 is_number (Number lo hi) = true
 is_number (Record lo hi) = false
-is_number (Stack offset) = false
+is_number (Stack frame offset) = false
 is_number (Table lo hi) = false
 
 -- the room that gather is lent, where it is known and allowed
@@ -128,7 +121,7 @@ abbrev pub known_room : AbstractValue → Option ℕ
 known_room Unset = None
 known_room (Number lo hi) = if lo == hi && is_room lo then Some lo else None
 known_room (Record lo hi) = None
-known_room (Stack offset) = None
+known_room (Stack frame offset) = None
 known_room (Table lo hi) = None
 
 -- the run goes on after a helper whose answer is at most this number
@@ -176,10 +169,11 @@ abbrev pub exit_ways : AbstractValue → Result Ways Cause
 exit_ways Unset = Err UnsetRegister
 exit_ways (Number lo hi) = Ok []
 exit_ways (Record lo hi) = Err ResultNotNumber
-exit_ways (Stack offset) = Err ResultNotNumber
+exit_ways (Stack frame offset) = Err ResultNotNumber
 exit_ways (Table lo hi) = Err ResultNotNumber
 
--- the instruction at a pc: the broken rule of the lowest cause, or the ways onward.
+-- the instruction at a pc: the broken rule of the lowest cause, or the ways onward. A call of a function asks nothing
+-- here: what is known after it is what its exits leave.
 unfoldable pub transfer : Lengths → ℕ → Instruction → AbstractState → Result Ways Cause
 transfer lengths pc (Alu width operation destination operand) s =
     bind (known_left operation s destination) (λ a. bind (known_operand width s operand) (λ b.
@@ -195,7 +189,7 @@ transfer lengths pc (Branch width comparison left right distance) s =
     bind (known_register s left) (λ a. bind (known_operand width s right) (λ b.
     bind (branch_sides width comparison left right a b) (λ sides. Ok (branch_ways pc distance s left right sides))))
 transfer lengths pc (CallHelper number) s = helper_call_ways lengths pc (helper_of number) s
-transfer lengths pc (CallLocal distance) s = Ok (call_ways pc distance s)
+transfer lengths pc (CallLocal distance) s = Ok []
 transfer lengths pc Exit s = exit_ways (slice_index_or s.registers 0 Unset)
 transfer lengths pc (Load size destination base offset) s =
     bind (known_register s base) (λ b. write_ways (pc + 1) s destination (load_result lengths s b offset (size_bytes size)))

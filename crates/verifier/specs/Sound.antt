@@ -1,55 +1,62 @@
 -- A program that was accepted never goes wrong, on whatever graph: every state that a run of it reaches is described by
--- what is known at its pc, in whatever frame and with whatever callers, no step traps, and the run exits
--- within the bound.
-use Rattle.std.specs.Prelude.{◌≡◌, ℕ, ◌+◌, ◌<◌, ◌≤◌, ℤ, pos, unsigned_abs, List, [], ◌∷◌, length, Some, slice_index}
+-- what is known at its pc in the passage that the run is in, with all its callers and their frames; no step traps; and the
+-- run exits within the bound.
+use Rattle.std.specs.Prelude.{◌≡◌, ℕ, ◌+◌, ◌<◌, ◌≤◌, ℤ, pos, unsigned_abs, List, [], ◌∷◌, length, Some, None, slice_index}
 use Rattle.bpf_image.specs.Program.{Program, units, IsImage, lengths_of}
 use Rattle.graph_model.specs.Graph.{Graph}
 use Rattle.bpf_model.specs.Helpers.{IsView}
-use Rattle.bpf_model.specs.State.{Partial, Saved, State, start, frame_top, most_frames}
+use Rattle.bpf_model.specs.State.{Saved, State, most_frames, start}
 use Rattle.bpf_model.specs.Step.{Next, Goes, Exits, Traps}
 use Rattle.bpf_model.specs.Run.{after}
 use Rattle.bpf_isa.specs.declared.instruction.Instruction.{Instruction}
 use Rattle.bpf_isa.specs.declared.instruction.Instruction.TheVariants.{CallLocal}
-use Rattle.abstract_state.specs.declared.state.AbstractState.{AbstractState}
-use Rattle.verifier.specs.Described.{DescribesState, DescribesCaller}
+use Rattle.abstract_state.specs.States.{AbstractState}
+use Rattle.verifier.specs.Described.{DescribesState}
 use Rattle.verifier.specs.Listing.{instruction_at}
-use Rattle.verifier.specs.Equations.{assignment_of}
-use Rattle.verifier.specs.Walks.{longest, deepest, count_from, frames_from, IsLongest, IsDeepest}
-use Rattle.verifier.specs.Verdict.{Accepted, verdict, most_counted}
+use Rattle.verifier.specs.Equations.{Passage, main_passage, opening, calls_of, states, first_refusal}
+use Rattle.verifier.specs.Walks.{IsLongest, IsDeepest, longest, deepest, count_from, frames_from}
+use Rattle.verifier.specs.Verdict.{verdict, Accepted, most_counted}
 
--- a caller with so many callers of its own waits after a call: it is described by what is known at the
--- call, and the frames from there on fit
-pub record Waits (p : Program) (depth : ℕ) (caller : Saved) (memory : Partial) : Type 0 where
+-- no rule is broken in a passage
+abbrev pub BreaksNone : Program → Passage → Type 0
+BreaksNone p v = first_refusal p (calls_of p v) v (units p) ≡ None
+
+-- a passage was opened by a call in another one, after which a caller waits; the frames from there on fit
+pub record Opened (p : Program) (v outer : Passage) (caller : Saved) : Type 0 where
   pub place : ℕ
   pub distance : ℤ
   pub found : instruction_at p place ≡ Some (CallLocal distance)
   pub returns : caller.return_pc ≡ pos (place + 1)
   pub abstract_state : AbstractState
-  pub walked : assignment_of p place ≡ Some abstract_state
-  pub described : DescribesCaller (lengths_of p) (frame_top depth) abstract_state caller.registers memory
-  pub frames : depth + frames_from p (place + 1) ≤ deepest p
+  pub walked : states p (calls_of p outer) outer place ≡ Some abstract_state
+  pub opens : opening outer place (CallLocal distance) abstract_state ≡ Some v
+  pub frames : outer.frame + frames_from p (place + 1) ≤ deepest p
 
-abbrev pub AllWait : Program → List Saved → Partial → Type 0
-AllWait p [] memory = Unit {0}
-AllWait p (caller ∷ callers) memory = Waits p (length callers) caller memory × AllWait p callers memory
+-- a run is in a passage, which breaks no rule: that of the whole program where nobody waits, and else one that the last
+-- caller opened, from a passage that the run is in with the callers below
+abbrev pub IsIn : Program → Passage → List Saved → Type 0
+IsIn p v [] = (v ≡ main_passage p) × BreaksNone p v
+IsIn p v (caller ∷ callers) =
+    (outer : Passage) × Opened p v outer caller × (v.frame ≡ length (caller ∷ callers)) × BreaksNone p v × IsIn p outer callers
 
 -- the counts from all the places to which a run will return
 abbrev pub count_behind : Program → List Saved → ℕ
 count_behind p [] = 0
 count_behind p (caller ∷ callers) = count_from p (unsigned_abs caller.return_pc) + count_behind p callers
 
--- after k steps the run stands at an instruction, as known there; all its callers wait; a walk from there,
--- and from each of the places to return to, fits in the bound; and so do its frames
+-- after k steps the run stands at an instruction, as known there in the passage that it is in; a walk from there, and
+-- from each of the places to return to, fits in the bound; and so do its frames
 pub record Stands (p : Program) (k : ℕ) (s : State) : Type 0 where
+  pub passage : Passage
   pub place : ℕ
   pub pc : s.pc ≡ pos place
   pub inside : place < units p
   pub instruction : Instruction
   pub found : instruction_at p place ≡ Some instruction
   pub abstract_state : AbstractState
-  pub walked : assignment_of p place ≡ Some abstract_state
+  pub walked : states p (calls_of p passage) passage place ≡ Some abstract_state
   pub described : DescribesState (lengths_of p) abstract_state s
-  pub callers : AllWait p s.callers s.memory
+  pub within : IsIn p passage s.callers
   pub steps : k + (count_from p place + count_behind p s.callers) ≤ longest p
   pub frames : length s.callers + frames_from p place ≤ deepest p
 

@@ -1,14 +1,12 @@
 -- Worked programs that carry a table of the bytes 10, 0, 0, 0, with records of 16 bytes, and the verdict on each. They
 -- follow from the definitions by computing. And what the rules know of a program without a table.
-use Rattle.std.specs.Prelude.{◌≡◌, ℕ, List, [], ◌∷◌, ◌++◌, pos, replicate, false}
+use Rattle.std.specs.Prelude.{◌≡◌, ℕ, List, [], ◌∷◌, ◌++◌, pos, replicate, Some, None}
 use Rattle.bpf_image.specs.Program.{Program, lengths_of, record_alone}
 use Rattle.bpf_model.specs.CallRows.{code_unit, exit}
 use Rattle.bpf_model.specs.HelperRows.{set_register, call_number}
-use Rattle.bpf_model.specs.State.{frame_bytes}
 use Rattle.bpf_model.specs.declared.cause.Cause.TheVariants.{UnsetRegister, OutOfRange, ReadOnly}
 use Rattle.abstract_values.specs.declared.value.AbstractValue.TheVariants.{Unset, Number, Record, Stack}
-use Rattle.abstract_state.specs.declared.state.AbstractState.{AbstractState}
-use Rattle.abstract_state.specs.States.{entry_state, frame_slots}
+use Rattle.abstract_state.specs.States.{AbstractState, most_callers, new_frame, nothing_kept, entry_state}
 use Rattle.verifier.specs.Verdict.{Verdict, verdict, Accepted}
 use Rattle.verifier.specs.VerdictRows.{of_code, refusal_at}
 
@@ -36,7 +34,7 @@ WorkedTableVerdicts =
 -- what is known at entry of a record alone
 abbrev pub entry_of_record : ℕ → AbstractState
 entry_of_record n =
-    record { registers = Unset ∷ Record 0 0 ∷ Number n n ∷ Unset ∷ Unset ∷ Unset ∷ Unset ∷ Unset ∷ Unset ∷ Unset ∷ Stack (pos 0) ∷ []; bytes_set = replicate frame_bytes false; slots = replicate frame_slots Unset }
+    record { registers = Unset ∷ Record 0 0 ∷ Number n n ∷ Unset ∷ Unset ∷ Unset ∷ Unset ∷ Unset ∷ Unset ∷ Unset ∷ Stack 0 (pos 0) ∷ []; frames = Some new_frame ∷ replicate most_callers None; kept = replicate most_callers nothing_kept }
 
 -- the rules know of a program without a table its record alone
 abbrev pub KnowsRecordAlone : Type 0

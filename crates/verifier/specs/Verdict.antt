@@ -1,23 +1,22 @@
 -- The verifier's answer: the first broken rule by pass, pc and cause, or the bound of a program that
 -- breaks none.
-use Rattle.std.specs.Prelude.{◌≡◌, ℕ, zero, suc, ◌+◌, nat_lt, nat_le, ◌&&◌, if◌then◌else◌, ℤ, pos, negsuc, ◌⊎◌, Option, Some, None, Result, Ok, Err, is_some}
+use Rattle.std.specs.Prelude.{◌≡◌, ℕ, zero, suc, ◌+◌, nat_lt, nat_le, ◌&&◌, if◌then◌else◌, ℤ, pos, negsuc, ◌⊎◌, Option, Some, None, is_some}
 use Rattle.std.specs.Option.{option_or}
 use Rattle.bpf_isa.specs.declared.instruction.Instruction.{Instruction}
 use Rattle.bpf_isa.specs.declared.instruction.Instruction.TheVariants.{Jump, Branch, CallLocal, Exit}
 use Rattle.bpf_isa.specs.Encoding.{units_of}
 use Rattle.bpf_model.specs.State.{most_frames}
 use Rattle.bpf_model.specs.Step.{units_over}
-use Rattle.bpf_image.specs.Program.{Program, units, lengths_of}
+use Rattle.bpf_image.specs.Program.{Program, units}
 use Rattle.bpf_model.specs.declared.cause.Cause.{Cause}
-use Rattle.bpf_model.specs.declared.cause.Cause.TheVariants.{BadInstruction, JumpOut, JumpBack, CallTarget, FallsOff, TooDeep, TooLong, OutOfMemory}
-use Rattle.abstract_state.specs.declared.state.AbstractState.{AbstractState}
-use Rattle.verifier.specs.Rules.{Ways, target, transfer}
+use Rattle.bpf_model.specs.declared.cause.Cause.TheVariants.{BadInstruction, JumpOut, JumpBack, CallTarget, FallsOff, TooDeep, TooLong, TooManyPairs, OutOfMemory}
+use Rattle.verifier.specs.Rules.{target}
 use Rattle.verifier.specs.declared.refusal.Refusal.{Refusal}
 use Rattle.verifier.specs.Listing.{instruction_at, is_start}
-use Rattle.verifier.specs.Equations.{assignment_of}
-use Rattle.verifier.specs.declared.weights.TheConstants.{MOST_COUNTED}
+use Rattle.verifier.specs.Equations.{main_passage, calls_of, first_refusal}
+use Rattle.verifier.specs.declared.weights.TheConstants.{MOST_COUNTED, MOST_PAIRS}
 use Rattle.verifier.specs.Functions.{start_above, function_end}
-use Rattle.verifier.specs.Walks.{longest, deepest}
+use Rattle.verifier.specs.Walks.{longest, deepest, pairs}
 
 -- the least pc below n at which a pass has a fault
 abbrev pub fault_after : Option Refusal → Option Cause → ℕ → Option Refusal
@@ -83,19 +82,21 @@ most_counted = MOST_COUNTED
 abbrev pub length_fault : Program → Option Refusal
 length_fault p = if nat_lt most_counted (longest p) then Some (record { cause = TooLong; pc = 0 }) else None
 
--- ---- fifth pass: at each walked pc the instruction's rules hold of what is known there
+-- ---- fifth pass: there are not too many instructions to verify, each function's once for every call of it. It is
+-- told at pc 0 too.
 
-abbrev pub broken_cause : Result Ways Cause → Option Cause
-broken_cause (Ok ws) = None
-broken_cause (Err cause) = Some cause
+-- the most that are verified
+abbrev pub most_pairs : ℕ
+most_pairs = MOST_PAIRS
 
-abbrev pub rule_cause : Program → ℕ → Option Instruction → Option AbstractState → Option Cause
-rule_cause p pc (Some i) (Some s) = broken_cause (transfer (lengths_of p) pc i s)
-rule_cause p pc None s = None
-rule_cause p pc (Some i) None = None
+abbrev pub pairs_fault : Program → Option Refusal
+pairs_fault p = if nat_lt most_pairs (pairs p) then Some (record { cause = TooManyPairs; pc = 0 }) else None
 
-abbrev pub rule_fault : Program → ℕ → Option Cause
-rule_fault p pc = rule_cause p pc (instruction_at p pc) (assignment_of p pc)
+-- ---- sixth pass: at each walked pc the instruction's rules hold of what is known there, and within each call again of
+-- what is known there by that call
+
+abbrev pub rule_refusal : Program → Option Refusal
+rule_refusal p = first_refusal p (calls_of p (main_passage p)) (main_passage p) (units p)
 
 -- ---- the answer
 
@@ -115,7 +116,8 @@ verdict p =
     (unless_refused (first_fault (flow_fault p) (units p))
     (unless_refused (frames_fault p)
     (unless_refused (length_fault p)
-    (unless_refused (first_fault (rule_fault p) (units p)) (Accepted (longest p) (deepest p))))))
+    (unless_refused (pairs_fault p)
+    (unless_refused (rule_refusal p) (Accepted (longest p) (deepest p)))))))
 
 -- a refusal for lack of memory: no rule gives it
 abbrev pub no_memory : Refusal

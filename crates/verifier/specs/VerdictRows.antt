@@ -4,7 +4,7 @@ use Rattle.std.specs.Prelude.{◌≡◌, ℕ, List, [], ◌∷◌, ◌++◌}
 use Rattle.bpf_image.specs.Program.{without_table}
 use Rattle.bpf_model.specs.CallRows.{code_unit, exit, call_over, set_r0, kept_register, nine_deep}
 use Rattle.bpf_model.specs.declared.cause.Cause.{Cause}
-use Rattle.bpf_model.specs.declared.cause.Cause.TheVariants.{JumpOut, CallTarget, FallsOff, TooDeep, UnsetRegister}
+use Rattle.bpf_model.specs.declared.cause.Cause.TheVariants.{JumpOut, CallTarget, FallsOff, TooDeep, ResultNotNumber}
 use Rattle.verifier.specs.Verdict.{Verdict, Accepted, Refused, verdict}
 
 -- calllocal f; calllocal f; exit; f: mov r0, 7; exit
@@ -46,4 +46,4 @@ WorkedVerdicts =
     × (of_code jumps_over_an_entry ≡ refusal_at JumpOut 1)
     × (of_code falls_into_an_entry ≡ refusal_at FallsOff 1)
     × (of_code nine_deep ≡ refusal_at TooDeep 0)
-    × (of_code stack_is_lent ≡ refusal_at UnsetRegister 3)
+    × (of_code stack_is_lent ≡ refusal_at ResultNotNumber 4)

@@ -1,22 +1,37 @@
-//! What is known at each pc, for a person who wants to see why a program is refused.
-ghost use Rattle.std.specs.Prelude.{◌≡◌, ◌≢◌, ◌<◌, ◌+◌, ℕ, false, None, IfOk, MatchOption, length};
+//! What is known at the pcs of a program, for a person who wants to see why it is refused.
+ghost use Rattle.std.specs.Prelude.{◌≡◌, ◌≢◌, ◌<◌, ◌≤◌, ◌+◌, ℕ, ◌++◌, List, false, None, IfOk, MatchOption, length};
 ghost use Rattle.bpf_image.specs.Program.{units};
+ghost use Rattle.abstract_state.specs.States.{most_callers};
+ghost use Rattle.verifier.specs.declared.known.KnownPassage.{KnownPassage as Told};
 ghost use Rattle.verifier.specs.Listing.{listing_of};
-ghost use Rattle.verifier.specs.Verdict.{first_fault, decoding_fault, flow_fault, no_memory};
-ghost use Rattle.verifier.specs.Tables.{boxed_state, IsWalkedTo};
-ghost use Rattle.verifier.specs.Known.{is_walkable, IsKnown, IsKnownTo};
+ghost use Rattle.verifier.specs.Equations.{passage_at, calls_of, first_refusal};
+ghost use Rattle.verifier.specs.Verdict.{first_fault, decoding_fault, flow_fault, pairs_fault, no_memory};
+ghost use Rattle.verifier.specs.Tables.{boxed_state, HasEnds};
+ghost use Rattle.verifier.specs.Known.{is_walkable, IsKnownOf, IsBrokenBy, IsDoneAt, Tells, IsKnown};
 
 use crate::flow::find_flow_fault;
 use crate::functions::{find_ends, has_calls};
 use crate::listing::list;
 use crate::refusal::Refusal;
 use crate::states::{arrive, no_states};
-use crate::walking::visit;
+use crate::walking::{go_on_after, go_through, visit};
+use crate::weights::check_pairs;
 use abstract_state::AbstractState;
 use bpf_image::Image;
 use bpf_isa::Instruction;
 use bpf_model::Cause;
 use std::alloc::{AllocError, Global};
+
+/// A function as it is gone through once, and what is known at its pcs.
+#[derive(Drop)]
+pub struct KnownPassage {
+    /// The pc at which the function begins.
+    pub entry: usize,
+    /// The last pc that was gone over: the one that breaks a rule, or whose call does, and else the function's last.
+    pub last: usize,
+    /// What is known before each unit from `entry` to `last`: nothing where no run comes.
+    pub states: Vec<Option<Box<AbstractState>>>,
+}
 
 /// A refusal for lack of memory is an error here. Any other is none: it says something of the program.
 fn rule_or_memory(refusal: Refusal) -> Result<(), AllocError>
@@ -28,15 +43,22 @@ fn rule_or_memory(refusal: Refusal) -> Result<(), AllocError>
     }
 }
 
-/// What starts at each pc, if the code decodes and flows.
-fn list_to_walk(
-    alloc: Global,
-    image: &Image,
-) -> Result<Option<Vec<Option<Instruction>>>, AllocError>
+/// What starts at each pc, and where its function ends.
+#[derive(Drop)]
+struct Layout {
+    listing: Vec<Option<Instruction>>,
+    ends: Vec<u16>,
+}
+
+/// What starts at each pc and where its function ends, if the code decodes and flows, and a walk goes through few enough
+/// instructions.
+#[tactic(auto, using(crate::proofs::Verdicts::few_pairs_pass))]
+fn lay_out(alloc: Global, image: &Image) -> Result<Option<Layout>, AllocError>
     ensures { IfOk result (λ found. MatchOption found (is_walkable image.now ≡ false)
-        (λ listing. (listing.items ≡ listing_of image.now (units image.now))
+        (λ layout. (layout.listing.items ≡ listing_of image.now (units image.now))
         × ((first_fault (decoding_fault image.now) (units image.now) ≡ None)
-        × (first_fault (flow_fault image.now) (units image.now) ≡ None)))) }
+        × ((first_fault (flow_fault image.now) (units image.now) ≡ None)
+        × ((pairs_fault image.now ≡ None) × HasEnds image.now layout.ends.items))))) }
 {
     let listing = match list(alloc, image) {
         Ok(listing) => listing,
@@ -52,7 +74,13 @@ fn list_to_walk(
     if find_flow_fault(image, &listing, &ends).is_some() {
         return Ok(None);
     }
-    Ok(Some(listing))
+    match check_pairs(alloc, image, &listing, &ends, calls) {
+        Ok(()) => Ok(Some(Layout { listing, ends })),
+        Err(refusal) => {
+            rule_or_memory(refusal)?;
+            Ok(None)
+        }
+    }
 }
 
 /// A copy of what is known somewhere.
@@ -64,46 +92,139 @@ fn copy_of(
 {
     match state {
         None => Ok(None),
-        Some(state) => Ok(Some(Box::new(alloc, **state)?)),
+        Some(state) => Ok(Some(Box::new(alloc, state.copy(alloc)?)?)),
     }
 }
 
-/// Goes over all pcs as `walk` does, and keeps what is known at each until one breaks a rule.
-fn walk_and_keep(
+/// Goes through a passage as `go_through` does, and keeps what is known at each pc until a rule is broken. Where a call
+/// breaks it, it answers where the called function begins, and what is known there.
+fn go_over(
     alloc: Global,
     image: &Image,
     listing: &[Option<Instruction>],
-) -> Result<Vec<Option<Box<AbstractState>>>, AllocError>
+    ends: &[u16],
+    entry: usize,
+    frame: u8,
+    known: Box<AbstractState>,
+) -> Result<(KnownPassage, Option<(usize, Box<AbstractState>)>), AllocError>
     requires listing { listing.now ≡ listing_of image.now (units image.now) }
     requires decodes { first_fault (decoding_fault image.now) (units image.now) ≡ None }
     requires flow { first_fault (flow_fault image.now) (units image.now) ≡ None }
-    ensures { IfOk result (λ known. IsKnown image.now known.items) }
+    requires ends { HasEnds image.now ends.now }
+    requires inside { entry < units image.now }
+    requires frame { frame ≤ most_callers }
+    ensures known { IfOk result (λ told. IsKnownOf image.now (passage_at entry frame known.value) told.0) }
+    ensures stopped { IfOk result (λ told. MatchOption told.1
+        (IsDoneAt image.now (passage_at entry frame known.value) told.0.last
+        (first_refusal image.now (calls_of image.now (passage_at entry frame known.value)) (passage_at entry frame known.value) (units image.now)))
+        (λ call. IsBrokenBy image.now (passage_at entry frame known.value) told.0.last (passage_at call.0 (frame + 1) call.1.value))) }
 {
-    let mut known = no_states(alloc, image.code().len() / 8)?;
+    let mut kept = no_states(alloc, image.code().len() / 8)?;
     let mut states = no_states(alloc, image.code().len() / 8)?;
-    let entry = Box::new(alloc, AbstractState::entry(image.lengths()))?;
-    arrive(&mut states, 0, entry);
-    for pc in 0..image.code().len() / 8 {
-        known[pc] = copy_of(alloc, &states[pc])?;
-        if let Err(refusal) = visit(alloc, image, listing, &mut states, pc) {
-            rule_or_memory(refusal)?;
-            return Ok(known);
+    let mut exits = None;
+    arrive(&mut states, entry as i64, known);
+    let end = usize::from(ends[entry]);
+    for pc in entry..end {
+        kept[pc] = copy_of(alloc, &states[pc])?;
+        let opened = match visit(alloc, image, listing, &mut states, &mut exits, pc, frame) {
+            Err(refusal) => {
+                rule_or_memory(refusal)?;
+                return Ok((
+                    KnownPassage {
+                        entry,
+                        last: pc,
+                        states: kept,
+                    },
+                    None,
+                ));
+            }
+            Ok(opened) => opened,
+        };
+        if let Some((begins, known)) = opened {
+            let again = Box::new(alloc, known.copy(alloc)?)?;
+            match go_through(
+                alloc,
+                image,
+                listing,
+                ends,
+                &mut states,
+                begins,
+                frame + 1,
+                known,
+            ) {
+                Err(refusal) => {
+                    rule_or_memory(refusal)?;
+                    return Ok((
+                        KnownPassage {
+                            entry,
+                            last: pc,
+                            states: kept,
+                        },
+                        Some((begins, again)),
+                    ));
+                }
+                Ok(left) => go_on_after(&mut states, pc, left),
+            }
         }
     }
-    Ok(known)
+    Ok((
+        KnownPassage {
+            entry,
+            last: end - 1,
+            states: kept,
+        },
+        None,
+    ))
 }
 
-/// What is known before each unit of a program, of every run that comes there: nothing where no run comes. It is for a
-/// person who asks why a program is refused, so a program may break rules: there is no state at all where its code
-/// does not decode or flow, and after the first pc that breaks a rule nothing is said of the states.
-pub fn known_states(
+/// Tells a passage, and those that are open within it where a rule is broken.
+fn tell(
     alloc: Global,
     image: &Image,
-) -> Result<Vec<Option<Box<AbstractState>>>, AllocError>
-    ensures { IfOk result (λ known. IsKnown image.now known.items) }
+    layout: &Layout,
+    passages: &mut Vec<KnownPassage>,
+    entry: usize,
+    frame: u8,
+    known: Box<AbstractState>,
+) -> Result<(), AllocError>
+    requires listing { layout.now.listing.items ≡ listing_of image.now (units image.now) }
+    requires decodes { first_fault (decoding_fault image.now) (units image.now) ≡ None }
+    requires flow { first_fault (flow_fault image.now) (units image.now) ≡ None }
+    requires ends { HasEnds image.now layout.now.ends.items }
+    requires inside { entry < units image.now }
+    requires frame { frame ≤ most_callers }
+    ensures { IfOk result (λ _. (told : List Told) × (passages.new.items ≡ passages.old.items ++ told)
+        × Tells image.now (passage_at entry frame known.value)
+        (first_refusal image.now (calls_of image.now (passage_at entry frame known.value)) (passage_at entry frame known.value) (units image.now)) told) }
 {
-    match list_to_walk(alloc, image)? {
-        None => Ok(Vec::new(alloc)),
-        Some(listing) => walk_and_keep(alloc, image, &listing),
+    let (passage, called) = go_over(
+        alloc,
+        image,
+        &layout.listing,
+        &layout.ends,
+        entry,
+        frame,
+        known,
+    )?;
+    passages.push(passage)?;
+    match called {
+        None => Ok(()),
+        Some((begins, known)) => tell(alloc, image, layout, passages, begins, frame + 1, known),
     }
+}
+
+/// What is known before each unit of a program, of every run that comes there. It is for a person who asks why a program
+/// is refused, so a program may break rules: nothing is told where its code does not decode or flow, or where too many
+/// instructions would be gone through. Else the main passage is told, from the first pc on, and after it each function
+/// that is open where the first rule is broken: the call stands at the last pc of the passage before, and the broken
+/// rule at the last pc of the last passage.
+pub fn known_states(alloc: Global, image: &Image) -> Result<Vec<KnownPassage>, AllocError>
+    ensures { IfOk result (λ told. IsKnown image.now told.items) }
+{
+    let mut passages = Vec::new(alloc);
+    if let Some(layout) = lay_out(alloc, image)? {
+        let entry = Box::new(alloc, AbstractState::entry(image.lengths()))?;
+        tell(alloc, image, &layout, &mut passages, 0, 0, entry)?;
+    }
+    Ok(passages)
 }

@@ -2,9 +2,10 @@
 ghost use Rattle.verifier.specs.Laws.{AssignedSolves, OneSolution};
 ghost use Rattle.verifier.specs.VerdictRows.{WorkedVerdicts};
 ghost use Rattle.verifier.specs.HelperVerdicts.{WorkedHelperVerdicts};
+ghost use Rattle.verifier.specs.LentVerdicts.{WorkedLentVerdicts};
 ghost use Rattle.verifier.specs.TableVerdicts.{WorkedTableVerdicts, KnowsRecordAlone};
 
-/// What is known at each pc solves the equations of the abstract pass.
+/// What is known at each pc of a passage solves its equations.
 pub fn assigned_solves()
     ensures { AssignedSolves }
 {}
@@ -27,6 +28,11 @@ pub fn worked_helper_verdicts()
 /// The verdicts on worked programs that carry a table.
 pub fn worked_table_verdicts()
     ensures { WorkedTableVerdicts }
+{}
+
+/// The verdicts on worked programs that lend stack bytes.
+pub fn worked_lent_verdicts()
+    ensures { WorkedLentVerdicts }
 {}
 
 /// Of a program without a table the rules know its record alone.

@@ -21,8 +21,8 @@ mod writing;
 
 pub use bpf_model::Cause;
 pub use bpf_operations::Action;
-pub use known::known_states;
+pub use known::{KnownPassage, known_states};
 pub use refusal::Refusal;
 pub use rules::{Onward, step_over};
 pub use verified::{Verified, verify};
-pub use weights::MOST_COUNTED;
+pub use weights::{MOST_COUNTED, MOST_PAIRS};

@@ -9,6 +9,7 @@ mod onward;
 mod reading;
 mod writing;
 
+pub(crate) use branches::exit;
 pub use instruction::step_over;
 pub use onward::Onward;
 pub(crate) use writing::take_side;

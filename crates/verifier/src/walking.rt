@@ -1,20 +1,23 @@
-//! The fifth pass: what is known at each walked pc, and whether the instructions' rules hold of it.
-ghost use Rattle.std.specs.Prelude.{◌≡◌, ◌<◌, ◌≤◌, ◌+◌, ℕ, ℤ, pos, None, Some, IfOk, IfErr, MatchResult, length};
+//! The last pass: what is known at each walked pc, and whether the instructions' rules hold of it. A function is gone
+//! through again for each call of it.
+ghost use Rattle.std.specs.Prelude.{◌≡◌, ◌<◌, ◌≤◌, ◌+◌, ℕ, ℤ, pos, None, Some, Ok, Err, IfOk, IfErr, MatchResult, MatchOption, List, Option, length, slice_index_or};
 ghost use Rattle.bpf_isa.specs.declared.limits.TheConstants.{MOST_UNITS};
 ghost use Rattle.bpf_image.specs.Program.{units};
-ghost use Rattle.abstract_state.specs.declared.state.AbstractState.{AbstractState as KnownState};
-ghost use Rattle.verifier.specs.Rules.{Ways, branch_ways, call_ways};
+ghost use Rattle.abstract_state.specs.States.{most_callers, left_state};
+ghost use Rattle.verifier.specs.Rules.{branch_ways};
 ghost use Rattle.verifier.specs.RuleAnswers.{ways_onward};
 ghost use Rattle.verifier.specs.Listing.{listing_of};
-ghost use Rattle.verifier.specs.Equations.{joined_ways};
-ghost use Rattle.verifier.specs.Verdict.{first_fault, decoding_fault, flow_fault, rule_fault, unless_memory};
-ghost use Rattle.verifier.specs.Tables.{state_at, LeadInside, IsWalkedTo};
+ghost use Rattle.verifier.specs.Walks.{next_pcs, IsOneOf};
+ghost use Rattle.verifier.specs.Equations.{Passage, passage_at, joined_with, joined_ways, ways_after, outcome, calls_of};
+ghost use Rattle.verifier.specs.Verdict.{first_fault, decoding_fault, flow_fault, rule_refusal, unless_memory};
+ghost use Rattle.verifier.specs.Known.{IsBrokenAt};
+ghost use Rattle.verifier.specs.Tables.{Table, boxed_state, state_at, HasEnds, LeadInside, IsGoneTo, IsAtCall, Reaches};
 
-use crate::places::{length_of, place_at, starting_at};
+use crate::places::{entry_called_at, length_of, place_at, starting_at};
 use crate::refusal::Refusal;
-use crate::rules::{Onward, step_over};
+use crate::rules::{Onward, exit, step_over};
 use crate::states::{arrive, arrive_by_side, no_states};
-use abstract_state::{AbstractState, enter_call, return_from_call};
+use abstract_state::{AbstractState, Called, MOST_CALLERS, enter_call, join_into, leave_call};
 use abstract_values::Sides;
 use bpf_image::Image;
 use bpf_isa::{Instruction, Operand, Register};
@@ -44,36 +47,14 @@ fn split(
         return Ok(());
     }
     if sides.taken.is_some() {
-        let other = Box::new(alloc, *state)?;
+        let other = Box::new(alloc, state.copy(alloc)?)?;
         arrive_by_side(states, target, compared, sides.taken, other);
     }
     arrive_by_side(states, (pc + 1) as i64, compared, sides.passed, state);
     Ok(())
 }
 
-/// A function is entered, and its caller goes on after the call.
-fn enter(
-    alloc: Global,
-    states: &mut Vec<Option<Box<AbstractState>>>,
-    pc: usize,
-    distance: i32,
-    state: Box<AbstractState>,
-) -> Result<(), AllocError>
-    requires near { pc ≤ MOST_UNITS }
-    requires inside { LeadInside (length states.old.items) (call_ways pc distance state.value) }
-    ensures gone { IfOk result (λ _. (q : ℕ) → state_at states.new.items q
-        ≡ joined_ways (state_at states.old.items q) (call_ways pc distance state.value) q) }
-    ensures same_length { length states.new.items ≡ length states.old.items }
-{
-    let entry = Box::new(alloc, enter_call(&state))?;
-    arrive(states, place_at(pc, distance), entry);
-    let mut state = state;
-    return_from_call(&mut state);
-    arrive(states, (pc + 1) as i64, state);
-    Ok(())
-}
-
-/// A run goes on after an instruction with what is known there.
+/// A run goes on after an instruction with what is known there, in the same function.
 fn go_on(
     alloc: Global,
     states: &mut Vec<Option<Box<AbstractState>>>,
@@ -102,63 +83,176 @@ fn go_on(
                 ..
             },
         ) => return split(alloc, states, pc, (left, right), distance, sides, state),
-        (Onward::Calls, Instruction::CallLocal { distance }) => {
-            return enter(alloc, states, pc, distance, state);
-        }
         _ => {}
     }
     Ok(())
 }
 
-/// Goes over what is at a pc, if that is walked.
+/// One exit more leaves what is known there.
+fn join_exit(exits: &mut Option<Box<AbstractState>>, state: Box<AbstractState>)
+    ensures { boxed_state exits.new ≡ joined_with (boxed_state exits.old) state.value }
+{
+    match exits.take() {
+        None => *exits = Some(state),
+        Some(mut known) => {
+            join_into(&mut known, &state);
+            *exits = Some(known);
+        }
+    }
+}
+
+/// What is known after a call comes to the next instruction, if the function may return.
+pub(crate) fn go_on_after(
+    states: &mut Vec<Option<Box<AbstractState>>>,
+    pc: usize,
+    left: Option<Box<AbstractState>>,
+)
+    requires near { pc ≤ MOST_UNITS }
+    requires inside { pc + 1 < length states.old.items }
+    ensures gone { (q : ℕ) → state_at states.new.items q
+        ≡ joined_ways (state_at states.old.items q) (ways_after pc (Ok (boxed_state left))) q }
+    ensures same_length { length states.new.items ≡ length states.old.items }
+{
+    if let Some(state) = left {
+        arrive(states, (pc + 1) as i64, state);
+    }
+}
+
+/// Goes over what is at a pc of a passage, if that is walked. At a call it answers where the function begins that is called,
+/// and what is known there.
 pub(crate) fn visit(
     alloc: Global,
     image: &Image,
     listing: &[Option<Instruction>],
     states: &mut Vec<Option<Box<AbstractState>>>,
+    exits: &mut Option<Box<AbstractState>>,
     pc: usize,
-) -> Result<(), Refusal>
+    frame: u8,
+) -> Result<Option<(usize, Box<AbstractState>)>, Refusal>
     requires listing { listing.now ≡ listing_of image.now (units image.now) }
     requires decodes { first_fault (decoding_fault image.now) (units image.now) ≡ None }
     requires flow { first_fault (flow_fault image.now) (units image.now) ≡ None }
     requires inside { pc < units image.now }
-    requires walked { IsWalkedTo image.now pc states.old.items }
-    ensures first { MatchResult result (λ _. IsWalkedTo image.now (pc + 1) states.new.items)
-        (λ refusal. unless_memory refusal (first_fault (rule_fault image.now) (units image.now) ≡ Some refusal)) }
-    ensures here { IfErr result (λ refusal. unless_memory refusal (rule_fault image.now pc ≡ Some refusal.cause)) }
+    requires long { length states.old.items ≡ units image.now }
+    requires frame { frame ≤ most_callers }
+    ensures gone { (v : Passage) (old : Table) (last : ℕ) → v.frame ≡ frame → v.entry ≤ pc
+        → IsGoneTo image.now (calls_of image.now v) v old pc last states.old.items exits.old
+        → MatchResult result
+        (λ called. MatchOption called
+        ((further : ℕ) → last ≤ further → Reaches image.now pc further → IsGoneTo image.now (calls_of image.now v) v old (pc + 1) further states.new.items exits.new)
+        (λ call. IsAtCall image.now (calls_of image.now v) v old pc last states.new.items exits.new call.0 call.1.value))
+        (λ refusal. unless_memory refusal (IsBrokenAt image.now v pc refusal)) }
 {
     let Some(mut state) = states[pc].take() else {
-        return Ok(());
+        return Ok(None);
     };
     let Some(instruction) = starting_at(image, listing, pc) else {
-        return Ok(());
+        return Ok(None);
     };
-    match step_over(image.lengths(), instruction, &mut state) {
-        Err(cause) => Err(Refusal { cause, pc }),
-        Ok(onward) => {
-            go_on(alloc, states, pc, instruction, onward, state)?;
-            Ok(())
+    match instruction {
+        Instruction::Exit => {
+            if let Err(cause) = exit(&state) {
+                return Err(Refusal { cause, pc });
+            }
+            if frame == 0 {
+                return Ok(None);
+            }
+            leave_call(&mut state, frame - 1);
+            join_exit(exits, state);
+            Ok(None)
         }
+        Instruction::CallLocal { .. } => {
+            let Some(entry) = entry_called_at(image, listing, pc) else {
+                return Ok(None);
+            };
+            if usize::from(frame) >= MOST_CALLERS {
+                return Ok(None);
+            }
+            let place = Box::new(alloc, Called::new())?;
+            enter_call(&mut state, frame, place);
+            Ok(Some((entry, state)))
+        }
+        _ => match step_over(image.lengths(), instruction, &mut state) {
+            Err(cause) => Err(Refusal { cause, pc }),
+            Ok(onward) => {
+                go_on(alloc, states, pc, instruction, onward, state)?;
+                Ok(None)
+            }
+        },
     }
 }
 
-/// Goes over all walked pcs, and finds the first broken rule.
+/// Goes through a passage: answers what is known after its exits.
+pub(crate) fn go_through(
+    alloc: Global,
+    image: &Image,
+    listing: &[Option<Instruction>],
+    ends: &[u16],
+    states: &mut Vec<Option<Box<AbstractState>>>,
+    entry: usize,
+    frame: u8,
+    known: Box<AbstractState>,
+) -> Result<Option<Box<AbstractState>>, Refusal>
+    requires listing { listing.now ≡ listing_of image.now (units image.now) }
+    requires decodes { first_fault (decoding_fault image.now) (units image.now) ≡ None }
+    requires flow { first_fault (flow_fault image.now) (units image.now) ≡ None }
+    requires few { units image.now ≤ MOST_UNITS }
+    requires ends { HasEnds image.now ends.now }
+    requires inside { entry < units image.now }
+    requires long { length states.old.items ≡ units image.now }
+    requires clear { (q : ℕ) → entry ≤ q → state_at states.old.items q ≡ None }
+    requires frame { frame ≤ most_callers }
+    ensures comes { MatchResult result
+        (λ exits. outcome image.now (calls_of image.now (passage_at entry frame known.value)) (passage_at entry frame known.value) ≡ Ok (boxed_state exits))
+        (λ refusal. unless_memory refusal (outcome image.now (calls_of image.now (passage_at entry frame known.value)) (passage_at entry frame known.value) ≡ Err refusal)) }
+    ensures before { IfOk result (λ _. (q : ℕ) → state_at states.new.items q ≡ state_at states.old.items q) }
+    ensures same_length { IfOk result (λ _. length states.new.items ≡ length states.old.items) }
+{
+    let mut exits = None;
+    arrive(states, entry as i64, known);
+    let end = usize::from(ends[entry]);
+    for pc in entry..end {
+        let opened = match visit(alloc, image, listing, states, &mut exits, pc, frame) {
+            Err(refusal) => return Err(refusal),
+            Ok(opened) => opened,
+        };
+        if let Some((begins, known)) = opened {
+            match go_through(
+                alloc,
+                image,
+                listing,
+                ends,
+                states,
+                begins,
+                frame + 1,
+                known,
+            ) {
+                Err(refusal) => return Err(refusal),
+                Ok(left) => go_on_after(states, pc, left),
+            }
+        }
+    }
+    Ok(exits)
+}
+
+/// Goes through the whole program, and finds the first broken rule.
 pub(crate) fn walk(
     alloc: Global,
     image: &Image,
     listing: &[Option<Instruction>],
+    ends: &[u16],
 ) -> Result<(), Refusal>
     requires listing { listing.now ≡ listing_of image.now (units image.now) }
     requires decodes { first_fault (decoding_fault image.now) (units image.now) ≡ None }
     requires flow { first_fault (flow_fault image.now) (units image.now) ≡ None }
-    ensures { MatchResult result (λ _. first_fault (rule_fault image.now) (units image.now) ≡ None)
-        (λ refusal. unless_memory refusal (first_fault (rule_fault image.now) (units image.now) ≡ Some refusal)) }
+    requires ends { HasEnds image.now ends.now }
+    ensures { MatchResult result (λ _. rule_refusal image.now ≡ None)
+        (λ refusal. unless_memory refusal (rule_refusal image.now ≡ Some refusal)) }
 {
     let mut states = no_states(alloc, image.code().len() / 8)?;
     let entry = Box::new(alloc, AbstractState::entry(image.lengths()))?;
-    arrive(&mut states, 0, entry);
-    for pc in 0..image.code().len() / 8 {
-        visit(alloc, image, listing, &mut states, pc)?;
+    match go_through(alloc, image, listing, ends, &mut states, 0, 0, entry) {
+        Err(refusal) => Err(refusal),
+        Ok(_) => Ok(()),
     }
-    Ok(())
 }

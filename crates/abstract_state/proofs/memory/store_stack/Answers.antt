@@ -1,0 +1,20 @@
+use Rattle.std.proofs.Common.{◌≡◌, rules, w32, to_z, of_z, suc, ◌-◌, Option, None, Some, get_or, sym, ap, ◌∙◌, arith}
+use Rattle.std.proofs.lemmas.Int.{to_z-of_z}
+use Rattle.abstract_state.specs.declared.state.Frame.{Frame}
+use Rattle.abstract_state.specs.States.{frame_of, with_if_live}
+use Rattle.abstract_state.specs.Called.{frame_called}
+use Rattle.abstract_state.specs.Memory.{frame_store_result, store_answer}
+use Rattle.abstract_state.proofs.Places.{above, with_called}
+use Rattle.abstract_state.proofs.memory.store_stack.Goals as goal
+
+pub returns-clause-stored : goal.returns-clause-stored
+returns-clause-stored c =
+    let frame : c.args.frame ≡ suc (c.from.result - 1) = (let some = c.if-frame-eq0.false in let is = c.from.ensures in omega (arith, is, some)) in
+    let main : Option Frame = Some c.state.inside.frame in
+    let there : frame_of c.args.state.now c.args.frame ≡ frame_called (get_or c.state.inside.called (c.from.result - 1) None) =
+    ap (λ s. frame_of s c.args.frame) (sym c.state.view_is) ∙ above main c.state.inside.called c.args.frame (c.from.result - 1) frame in
+    let f : Option Frame = frame_called (get_or c.store_called.new.called (c.from.result - 1) None) in
+    let place : to_z w32 (of_z w32 c.args.place) ≡ c.args.place = to_z-of_z w32 c.args.place (search rules) in
+    let told : frame_store_result c.args.state.now c.args.frame (frame_called (get_or c.state.inside.called (c.from.result - 1) None)) c.args.place c.args.bytes c.args.value ≡ store_answer c.store_called.result (with_if_live c.args.state.now c.args.frame f) = (let raw = c.store_called.ensures.stored c.args.state.now c.args.frame in rw place at raw) in
+    let left = with_called c.state.inside.registers main c.state.inside.called c.store_called.new.called c.args.frame (c.from.result - 1) f frame c.store_called.ensures.frames c.store_called.ensures.kept in
+    rw there (told ∙ ap (store_answer c.store_called.result) (sym (left ∙ ap (λ s. with_if_live s c.args.frame f) c.state.view_is)))
