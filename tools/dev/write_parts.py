@@ -1,0 +1,183 @@
+"""The parts of documents that are written from the sources, between `<!-- made: KIND WORDS -->` and `<!-- end -->`.
+
+    made: calls CRATE        the first sentence of each public call, type and law of a crate, from its `///`
+    made: file PATH [FROM TO]  a file as a block, or of it what stands from the line that begins with FROM up to that with TO
+    made: clauses PATH FUNCTION[.LABEL] ..  the clauses of functions of a source, or those with a label; a clause may have none
+    made: reading            the reading list, of count_reading.py
+    made: follow WORD ..     the files that name the words, with the definitions and functions that do, by crate
+"""
+import re
+import subprocess
+import sys
+import textwrap
+
+MADE = re.compile(r"(<!-- made: (\w+) ?(.*?) -->\n).*?(?=<!-- end -->)", re.S)
+LANGUAGES = {".py": "python", ".c": "c", ".h": "c", ".rs": "rust", ".rt": "rust"}
+COLUMNS = 120
+
+
+def first_sentence(docs):
+    """The first sentence of a text. A full stop inside of backticks, brackets or a name ends none."""
+    found = re.match(r"(?:`[^`]*`|\([^)]*\)|[^`(])*?[.](?=\s|$)", docs)
+    return re.sub(r"\[(`[^`]*`)\]", r"\1", found[0] if found else docs).replace("|", "\\|")
+
+
+def rows(pages, crate):
+    """The rows of a crate's calls, and those of its laws."""
+    calls, laws = [], []
+    for path, item in pages.public_items(crate):
+        if not item.docs:
+            continue
+        row = f"| `{item.name}` | {first_sentence(item.docs)} |"
+        (laws if path.stem == "laws" or path.stem.endswith("_laws") else calls).append(row)
+        calls += [f"| `{item.name}::{part.name}` | {first_sentence(part.docs)} |" for part in item.parts if part.kind == "fn" and part.docs]
+    return calls, laws
+
+
+def calls(pages, crate):
+    lines = [""]
+    for title, table in zip(("Call or type", "Law"), rows(pages, crate)):
+        lines += [f"| {title} | What it is |", "|---|---|", *table, ""] if table else []
+    return [*lines, f"[CONTRACTS.md](../../docs/CONTRACTS.md#{crate}) has each whole, with its errors.", ""]
+
+
+def block(path, text):
+    """A text as a block. Of a script long lines are cut, which have digits of code."""
+    lines = [line if path.suffix != ".script" or len(line) <= COLUMNS else line[:COLUMNS - 3] + ".." for line in text.splitlines()]
+    return [f"```{LANGUAGES.get(path.suffix, '')}", *lines, "```"]
+
+
+def file(pages, words):
+    """A file, or the lines of it from one that begins with a text up to one that does with another."""
+    name, *ends = words.split(" ", 1)
+    path = pages.TOP / name
+    text = path.read_text()
+    if ends:
+        first, last = ends[0].split(" ... ")
+        lines = text.splitlines()
+        begun = next(at for at, line in enumerate(lines) if line.strip().startswith(first))
+        ended = next(at for at, line in enumerate(lines) if at >= begun and line.strip().startswith(last))
+        text = textwrap.dedent("\n".join(lines[begun:ended + 1]))
+    return block(path, text)
+
+
+IMPLEMENTS = re.compile(r"impl(?:<.*?>)? (?:\w+(?:<.*?>)? for )?(\w+)")
+
+
+def clauses_of(lines, name):
+    """The name of a function with its type, and its clauses, each with its label."""
+    begun = next(at for at, line in enumerate(lines) if re.match(rf"\s*pub fn {name}\b", line))
+    owners = [IMPLEMENTS.match(line)[1] for line in lines[:begun] if IMPLEMENTS.match(line)]
+    found, owner = [], owners[-1] + "::" if lines[begun].startswith(" ") else ""
+    for line in lines[begun:]:
+        text = line.strip()
+        clause = re.match(r"(?:requires|ensures) (\w*) ?\{", text)
+        if clause:
+            found.append((clause[1], [text]))
+        elif text == "{":
+            break
+        elif found and text and not text.startswith("//"):
+            found[-1][1].append("    " + text)
+    return owner + name, found
+
+
+def clauses(pages, words):
+    path, *asked = words.split()
+    lines, shown = (pages.TOP / path).read_text().splitlines(), {}
+    for name, _, label in (each.partition(".") for each in asked):
+        whole, every = clauses_of(lines, name)
+        shown.setdefault(whole, []).extend(line for told, text in every if label in ("", told) for line in text)
+    return ["```", *(line for name, texts in shown.items() for line in (f"{name}:", *(f"    {text}" for text in texts))), "```"]
+
+
+def reading(pages, _):
+    run = subprocess.run([sys.executable, pages.TOP / "tools" / "dev" / "count_reading.py"], check=True, capture_output=True, text=True)
+    return ["", *run.stdout.splitlines(), ""]
+
+
+DEFINED = re.compile(r"(?:[a-z]+ )*([^\s(){}]+) :(?: |$)|\s*(?:pub )?(?:const )?fn (\w+)|pub (?:enum|struct|trait) (\w+)")
+NOT_CODE = ("--", "//", "use ", "pub use ", "ghost use ")
+
+
+def definitions_that_name(path, pattern):
+    """Whether a file names a word in its code, and the definitions that do."""
+    found, owner, is_named = {}, None, False
+    for line in path.read_text().splitlines():
+        if line.strip().startswith(NOT_CODE):
+            continue
+        begun = DEFINED.match(line)
+        if begun:
+            owner = next(filter(None, begun.groups()))
+        if pattern.search(line):
+            is_named = True
+            found.update({owner: True} if owner else {})
+    return is_named, list(found)
+
+
+def cells_of(folder, pattern):
+    """What a crate's `specs/`, `src/` and `proofs/` have of the words."""
+    specs, others = [], {"src": [], "proofs": []}
+    for path in sorted(folder.rglob("*")):
+        part, *inner = path.relative_to(folder).parts
+        if part not in ("src", "specs", "proofs") or "tests" in inner or not inner:
+            continue
+        name = "/".join(inner).removesuffix(".antt").removesuffix(".rt")
+        if path.is_dir():
+            others["proofs"] += [name + "/"] if part == "proofs" and pattern.fullmatch(path.name) else []
+        elif path.suffix in (".rt", ".antt") and not (part == "proofs" and len(inner) > 1):
+            is_named, definitions = definitions_that_name(path, pattern)
+            if is_named and part == "specs":
+                specs.append(f"`specs/{name}`" + (f": {', '.join(definitions)}" if definitions else ""))
+            elif is_named:
+                others[part].append(name)
+    return specs + [f"`{part}`: {', '.join(names)}" for part, names in others.items() if names]
+
+
+def follow(pages, words):
+    """The places that name the words, crate by crate, and the files outside of the crates that do."""
+    words, lines = words.split(), []
+    pattern = re.compile(r"\b(?:" + "|".join(map(re.escape, words)) + r")\b")
+    for crate in pages.crates():
+        cells = cells_of(pages.CRATES / crate, pattern)
+        if cells:
+            lines.append(pages.wrapped(f"- `{crate}`: {'; '.join(cells)}", "  "))
+    outside = []
+    for name in sorted(path for folder in ("bindings", "tests", "tools") for path in (pages.TOP / folder).rglob("*")):
+        if name.suffix in (".py", ".c", ".h", ".rs") and name.parent.name != "dev" and "build" not in name.parts and pattern.search(name.read_text()):
+            outside.append(f"`{name.relative_to(pages.TOP)}`")
+    return ["", *lines, *([pages.wrapped(f"- outside: {', '.join(outside)}", "  ")] if outside else []), ""]
+
+
+KINDS = {"calls": calls, "file": file, "clauses": clauses, "reading": reading, "follow": follow}
+
+
+def written(pages, text):
+    """A document with its made parts written again."""
+    return MADE.sub(lambda found: found[1] + "\n".join(KINDS[found[2]](pages, found[3])) + "\n", text)
+
+
+def tracked(pages):
+    """All documents of the repository; in a copy without git, all that are there."""
+    run = subprocess.run(["git", "ls-files", "-co", "--exclude-standard", "*.md"], cwd=pages.TOP, capture_output=True, text=True)
+    names = run.stdout.split() or [str(path.relative_to(pages.TOP)) for path in pages.TOP.rglob("*.md")]
+    return [path for path in map(pages.TOP.joinpath, sorted(names)) if path.exists()]
+
+
+def documents(pages):
+    """The documents that have a made part."""
+    return [path for path in tracked(pages) if MADE.search(path.read_text())]
+
+
+def adopt(pages, crate):
+    """A crate's README with its table of calls, written by hand, replaced by the made part."""
+    path = pages.CRATES / crate / "README.md"
+    text = path.read_text()
+    if "<!-- made: calls" in text:
+        return
+    part = f"<!-- made: calls {crate} -->\n<!-- end -->\n"
+    table = re.search(r"^\| (?:Call|Item|Law|Name)[^\n]*\n\|[-|]+\n(?:\|[^\n]*\n)+", text, re.M)
+    if table:
+        text = text[:table.start()] + part + text[table.end():]
+    else:
+        text = re.sub(r"\A(# .*\n)", lambda found: f"{found[1]}\n{part}", text)
+    path.write_text(text)
