@@ -92,19 +92,16 @@ def zeros():
 
 
 def line_tables():
-    """The tables of lines with what they write: the first example, and the program in text."""
+    """The table of lines with what they write: the first example."""
     for name, text, start, end in (
-        ("table_script", SCRIPT, "`examples/first.script`, and what it writes, `examples/first.output`:", "\nThe program loads"),
-        ("table_text", SCRIPT, "One of them gives an edge as many points as its source has edges:", "\nThe lines between"),
         ("table_readme", README, "pins the version, and sums the program's numbers:", "\nA program that reads past"),
-        ("table_tour", TOUR, "reads the target out of an edge's record, pins the version, and sums the program's numbers:", "\nThe whole output"),
     ):
         lines, said = [], []
         for row in rows(between(text, start, end))[1:]:
             lines += codes(row[0])
             said += codes(row[1])
         script = "\n".join(lines) + "\n"
-        yield name, Case(script if lines[0].startswith("graph") else "graph 4\n" + script, said, said[-1])
+        yield name, Case(script, said, said[-1])
 
 
 def home_moves():
@@ -141,12 +138,9 @@ def readme_lines():
 
 
 def shown_of_examples():
-    """What the tour shows of examples: the example, lines that stand there together, and whether they stand in its output."""
-    shown = [block for language, block in re.findall(r"^```(\w*)\n(.*?)^```$", TOUR, re.M | re.S) if not language]
-    for name, block, is_output in zip(("first", "score", "weights", "weights", "mutual"), shown, (True, False, False, True, False), strict=True):
-        yield name, block, is_output
-    for said in re.findall(r"`(program degree bound .*?|program weights bound .*?|refused careless .*?)`", TOUR):
-        yield "score" if "degree" in said else "weights", said + "\n", True
+    """What the tour says that examples write; their text is written into it from their files."""
+    for said in re.findall(r"`(program degree bound .*?|refused careless .*?)`", TOUR):
+        yield "score" if "degree" in said else "weights", said + "\n"
 
 
 # docs/BPF.md

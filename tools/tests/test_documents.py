@@ -28,7 +28,7 @@ NO_CODE = {
     "no code: a loop": r"programs\.c:[0-9]+: this loop in \w+ is left as a loop",
 }
 # How many cases each part of the documents has: a row or a block that is not found is missed here.
-COUNTS = {"faults": 11, "assembler_faults": 6, "answers_of_code": 2, "zeros": 1, "line_tables": 4, "home_moves": 12, "readme_lines": 5}
+COUNTS = {"faults": 11, "assembler_faults": 6, "answers_of_code": 2, "zeros": 1, "line_tables": 1, "home_moves": 12, "readme_lines": 5}
 COUNTS |= {"helper_programs": 5, "gathering": 3, "causes": 17, "bounds": 1, "narrowing": 4, "assembler_lines": 5}
 
 
@@ -69,9 +69,9 @@ class TheDocuments(unittest.TestCase):
 
     def test_what_is_shown_of_examples_stands_there(self):
         shown = list(documents.shown_of_examples())
-        self.assertEqual(len(shown), 8)
-        for name, text, is_output in shown:
-            self.assertIn(text, (documents.ROOT / "examples" / f"{name}.{'output' if is_output else 'script'}").read_text())
+        self.assertEqual(len(shown), 2)
+        for name, text in shown:
+            self.assertIn(text, (documents.ROOT / "examples" / f"{name}.output").read_text())
 
     def test_examples_of_crates(self):
         """The lines of an example in a crate's README stand in the test or the program that it names, in this order."""
