@@ -1,7 +1,7 @@
 """The parts of documents that are written from the sources, between `<!-- made: KIND WORDS -->` and `<!-- end -->`.
 
     made: calls CRATE        the first sentence of each public call, type and law of a crate, from its `///`
-    made: file PATH [FROM TO]  a file as a block, or of it what stands from the line that begins with FROM up to that with TO
+    made: file PATH [FROM ... TO]  a file as a block, or of it the lines from one that begins with FROM up to the next that begins with TO
     made: clauses PATH FUNCTION[.LABEL] ..  the clauses of functions of a source, or those with a label; a clause may have none
     made: reading            the reading list, of count_reading.py
     made: follow WORD ..     the files that name the words, with the definitions and functions that do, by crate
