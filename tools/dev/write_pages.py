@@ -3,7 +3,7 @@
 
     tools/dev/write_pages.py                 writes them
     tools/dev/write_pages.py --check         writes nothing, and fails if a page would change
-    tools/dev/write_pages.py --adopt CRATE..  puts the made part into the README of a crate, in place of its table of calls
+    tools/dev/write_pages.py --adopt         also puts made parts where tables of calls and of edits are still written by hand
     tools/dev/write_pages.py --by-hand       prints how many bytes of each document are kept by hand
 
 CONTRACTS has each public item of each library, with its `///`. DEFINITIONS has each public definition in `specs/`, with its comment.
@@ -58,6 +58,7 @@ proves the crates above it again, and none beside it.
 PROGRAMS, STORE = "bpf_isa", "past_model"
 TOWERS = {(False, False): "Base", (True, False): "Programs", (False, True): "Store", (True, True): "Both"}
 
+CODE = re.compile(r"^```[^`]*^```$|^    [^\n]*$", re.M)
 ITEM = re.compile(r"pub (?:const )?(struct|enum|trait|fn|const|type) (\w+)")
 METHOD = re.compile(r"    (pub )?(?:const )?fn (\w+)")
 IMPLEMENTS = re.compile(r"(?:unsafe )?impl(?:<.*?>)? (?:(\w+)(?:<.*?>)? for )?(\w+)")
@@ -295,16 +296,16 @@ def by_hand():
     sizes = {path: len(write_parts.MADE.sub(r"\1", path.read_text()).encode()) for path in write_parts.tracked(THIS) if path not in whole}
     for path, size in sorted(sizes.items(), key=lambda row: row[1]):
         print(f"{size:8} {path.relative_to(TOP)}")
-    print(f"{sum(sizes.values()):8} bytes in {len(sizes)} documents are kept by hand")
+    blocks = sum(len(block.encode()) for path in sizes for block in CODE.findall(write_parts.MADE.sub(r"\1", path.read_text())))
+    print(f"{sum(sizes.values()):8} bytes in {len(sizes)} documents are kept by hand, of which {blocks} are blocks of code")
 
 
 def main():
     words = sys.argv[1:]
     if words == ["--by-hand"]:
         return by_hand()
-    if words[:1] == ["--adopt"]:
-        for crate in words[1:]:
-            write_parts.adopt(THIS, crate)
+    if words == ["--adopt"]:
+        write_parts.adopt(THIS)
     pages = {TOP / "docs" / f"{name}.md": text.rstrip() + "\n" for name, text in
              (("CONTRACTS", contracts()), ("DEFINITIONS", definitions()), ("CRATES", towers()))}
     pages |= {path: write_parts.written(THIS, path.read_text()) for path in write_parts.documents(THIS)}

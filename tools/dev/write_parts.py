@@ -3,6 +3,7 @@
     made: calls CRATE        the first sentence of each public call, type and law of a crate, from its `///`
     made: file PATH [FROM ... TO]  a file as a block, or of it the lines from one that begins with FROM up to the next that begins with TO
     made: clauses PATH FUNCTION[.LABEL] ..  the clauses of functions of a source, or those with a label; a clause may have none
+    made: edits              the edits that must fail, by crate, in the words of their names
     made: reading            the reading list, of count_reading.py
     made: follow WORD ..     the files that name the words, with the definitions and functions that do, by crate
 """
@@ -34,11 +35,26 @@ def rows(pages, crate):
     return calls, laws
 
 
+USED = re.compile(r"^ghost use Rattle\.(\w+)\.specs\.(\w+)\.(?:\{([^}]*)\}|(\w+));", re.M)
+
+
+def definitions(pages, crate):
+    """The definitions that the sources of a crate's public calls use, by crate and file, its own first."""
+    found = {}
+    for path in dict.fromkeys(path for path, _ in pages.public_items(crate)):
+        for owner, name, many, one in USED.findall(path.read_text()):
+            words = [word.strip() for word in (many or one).split(",") if re.fullmatch(r"\s*\w+\s*", word)]
+            if owner != "std" and name != "declared":
+                found.setdefault((owner != crate, owner, name), dict.fromkeys(words)).update(dict.fromkeys(words))
+    files = [f"{'' if owner == crate else owner + '/'}specs/{name}.antt` ({', '.join(words)})" for (_, owner, name), words in sorted(found.items())]
+    return [pages.wrapped("Its contracts use the definitions of " + ", ".join(f"`{file}" for file in files) + "."), ""] if files else []
+
+
 def calls(pages, crate):
     lines = [""]
     for title, table in zip(("Call or type", "Law"), rows(pages, crate)):
         lines += [f"| {title} | What it is |", "|---|---|", *table, ""] if table else []
-    return [*lines, f"[CONTRACTS.md](../../docs/CONTRACTS.md#{crate}) has each whole, with its errors.", ""]
+    return [*lines, f"[CONTRACTS.md](../../docs/CONTRACTS.md#{crate}) has each whole, with its errors.", "", *definitions(pages, crate)]
 
 
 def block(path, text):
@@ -88,6 +104,14 @@ def clauses(pages, words):
         whole, every = clauses_of(lines, name)
         shown.setdefault(whole, []).extend(line for told, text in every if label in ("", told) for line in text)
     return ["```", *(line for name, texts in shown.items() for line in (f"{name}:", *(f"    {text}" for text in texts))), "```"]
+
+
+def edits(pages, _):
+    lines = []
+    for crate in pages.crates():
+        names = sorted(path.stem.replace("_", " ") for path in (pages.CRATES / crate / "must-fail").glob("*.edit"))
+        lines += [pages.wrapped(f"- `{crate}`: {'; '.join(names)}", "  ")] if names else []
+    return ["", *lines, ""]
 
 
 def reading(pages, _):
@@ -148,7 +172,7 @@ def follow(pages, words):
     return ["", *lines, *([pages.wrapped(f"- outside: {', '.join(outside)}", "  ")] if outside else []), ""]
 
 
-KINDS = {"calls": calls, "file": file, "clauses": clauses, "reading": reading, "follow": follow}
+KINDS = {"calls": calls, "file": file, "clauses": clauses, "edits": edits, "reading": reading, "follow": follow}
 
 
 def written(pages, text):
@@ -168,16 +192,36 @@ def documents(pages):
     return [path for path in tracked(pages) if MADE.search(path.read_text())]
 
 
-def adopt(pages, crate):
-    """A crate's README with its table of calls, written by hand, replaced by the made part."""
+def adopt_readme(pages, crate):
+    """Puts the made part into a crate's README, in place of its table of calls that is written by hand."""
     path = pages.CRATES / crate / "README.md"
     text = path.read_text()
-    if "<!-- made: calls" in text:
+    if "<!-- made: calls" in text or not (pages.CRATES / crate / "src" / "lib.rt").exists():
         return
     part = f"<!-- made: calls {crate} -->\n<!-- end -->\n"
     table = re.search(r"^\| (?:Call|Item|Law|Name)[^\n]*\n\|[-|]+\n(?:\|[^\n]*\n)+", text, re.M)
     if table:
-        text = text[:table.start()] + part + text[table.end():]
-    else:
-        text = re.sub(r"\A(# .*\n)", lambda found: f"{found[1]}\n{part}", text)
-    path.write_text(text)
+        path.write_text(text[:table.start()] + part + text[table.end():])
+
+
+def adopt_gate(pages):
+    """Puts the list of edits into docs/GATE.md, in place of the rows that name nothing but edits that are there."""
+    path = pages.TOP / "docs" / "GATE.md"
+    head, title, text = path.read_text().partition("## Wrong bodies that stay\n")
+    if not title or "<!-- made: edits" in text:
+        return
+    names = {edit.stem for edit in pages.CRATES.glob("*/must-fail/*.edit")}
+    kept = []
+    for line in text.splitlines():
+        cell = line.rsplit(" | ", 1)[-1].rstrip(" |")
+        if line.startswith("| ") and not re.sub(r"`[^`]*`|[,; ]", "", cell) and all(name.split("/")[-1] in names for name in re.findall(r"`([^`]*)`", cell)):
+            continue
+        kept.append(line)
+    path.write_text(head + title + "\n".join(kept).rstrip() + "\n\n<!-- made: edits -->\n<!-- end -->\n")
+
+
+def adopt(pages):
+    """Puts made parts into documents that still have them written by hand."""
+    for crate in pages.crates():
+        adopt_readme(pages, crate)
+    adopt_gate(pages)
