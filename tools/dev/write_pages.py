@@ -291,12 +291,13 @@ def definitions():
 
 
 def by_hand():
-    """Prints how many bytes of each document are kept by hand: all but the pages that are written whole and the made parts."""
+    """Prints how many bytes of each document are kept by hand: all but the pages that are written whole and the made parts with their marks."""
     whole = [TOP / "docs" / f"{name}.md" for name in ("CONTRACTS", "DEFINITIONS", "CRATES", "TRANSCRIPT")]
-    sizes = {path: len(write_parts.MADE.sub(r"\1", path.read_text()).encode()) for path in write_parts.tracked(THIS) if path not in whole}
+    texts = {path: write_parts.MADE.sub("", path.read_text()).replace("<!-- end -->\n", "") for path in write_parts.tracked(THIS) if path not in whole}
+    sizes = {path: len(text.encode()) for path, text in texts.items()}
     for path, size in sorted(sizes.items(), key=lambda row: row[1]):
         print(f"{size:8} {path.relative_to(TOP)}")
-    blocks = sum(len(block.encode()) for path in sizes for block in CODE.findall(write_parts.MADE.sub(r"\1", path.read_text())))
+    blocks = sum(len(block.encode()) for text in texts.values() for block in CODE.findall(text))
     print(f"{sum(sizes.values()):8} bytes in {len(sizes)} documents are kept by hand, of which {blocks} are blocks of code")
 
 

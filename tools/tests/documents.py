@@ -91,19 +91,6 @@ def zeros():
         yield "zeros", Case(line + "\n", [said], said)
 
 
-def line_tables():
-    """The table of lines with what they write: the first example."""
-    for name, text, start, end in (
-        ("table_readme", README, "pins the version, and sums the program's numbers:", "\nA program that reads past"),
-    ):
-        lines, said = [], []
-        for row in rows(between(text, start, end))[1:]:
-            lines += codes(row[0])
-            said += codes(row[1])
-        script = "\n".join(lines) + "\n"
-        yield name, Case(script, said, said[-1])
-
-
 def home_moves():
     """Each end of each range of the table of homes: a list that is in the row's home before gets so many targets."""
     header, *body = rows(between(SCRIPT, "by their number then:\n", "\nA batch counts"))
@@ -138,7 +125,9 @@ def readme_lines():
 
 
 def shown_of_examples():
-    """What the tour says that examples write; their text is written into it from their files."""
+    """What README and the tour say that examples write; the tour has their text from their files."""
+    for said in re.findall(r"`(run t a edges .*?|row [01] .*?)`", README):
+        yield "first", said + "\n"
     for said in re.findall(r"`(program degree bound .*?|refused careless .*?)`", TOUR):
         yield "score" if "degree" in said else "weights", said + "\n"
 
@@ -235,7 +224,7 @@ def assembler_lines():
 
 def all_cases():
     """The cases of each part of the documents, by their names."""
-    parts = [faults, assembler_faults, answers_of_code, zeros, line_tables, home_moves, readme_lines]
+    parts = [faults, assembler_faults, answers_of_code, zeros, home_moves, readme_lines]
     parts += [helper_programs, gathering, causes, bounds, narrowing, assembler_lines]
     return {part.__name__: dict(part()) for part in parts}
 
