@@ -1,6 +1,7 @@
 """The parts of documents that are written from the sources, between `<!-- made: KIND WORDS -->` and `<!-- end -->`.
 
     made: calls CRATE        the first sentence of each public call, type and law of a crate, from its `///`
+    made: crate CRATE        the same after what the crate says of itself in `//!`
     made: file PATH [FROM ... TO]  a file as a block, or of it the lines from one that begins with FROM up to the next that begins with TO
     made: clauses PATH FUNCTION[.LABEL] ..  the clauses of functions of a source, or those with a label; a clause may have none
     made: edits              the edits that must fail, by crate, in the words of their names
@@ -54,7 +55,20 @@ def calls(pages, crate):
     lines = [""]
     for title, table in zip(("Call or type", "Law"), rows(pages, crate)):
         lines += [f"| {title} | What it is |", "|---|---|", *table, ""] if table else []
-    return [*lines, f"[CONTRACTS.md](../../docs/CONTRACTS.md#{crate}) has each whole, with its errors.", "", *definitions(pages, crate)]
+    lines += [f"[CONTRACTS.md](../../docs/CONTRACTS.md#{crate}) has each whole, with its errors.", ""]
+    return lines + definitions(pages, crate) + neighbours(pages, crate)
+
+
+def crate(pages, name):
+    return ["", pages.wrapped(pages.head_of(pages.CRATES / name / "src" / "lib.rt")), *calls(pages, name)]
+
+
+def neighbours(pages, crate):
+    """The crates that a crate stands on, and those that use it."""
+    uses = pages.uses()
+    below, above = uses[crate], [name for name, used in uses.items() if crate in used]
+    said = [f"{words} {', '.join(f'`{name}`' for name in names)}" for words, names in (("stands on", below), ("is used by", above)) if names]
+    return [pages.wrapped(f"It {' and '.join(said)}."), ""] if said else []
 
 
 def block(path, text):
@@ -172,7 +186,7 @@ def follow(pages, words):
     return ["", *lines, *([pages.wrapped(f"- outside: {', '.join(outside)}", "  ")] if outside else []), ""]
 
 
-KINDS = {"calls": calls, "file": file, "clauses": clauses, "edits": edits, "reading": reading, "follow": follow}
+KINDS = {"calls": calls, "crate": crate, "file": file, "clauses": clauses, "edits": edits, "reading": reading, "follow": follow}
 
 
 def written(pages, text):
@@ -196,7 +210,7 @@ def adopt_readme(pages, crate):
     """Puts the made part into a crate's README, in place of its table of calls that is written by hand."""
     path = pages.CRATES / crate / "README.md"
     text = path.read_text()
-    if "<!-- made: calls" in text or not (pages.CRATES / crate / "src" / "lib.rt").exists():
+    if re.search("<!-- made: (calls|crate)", text) or not (pages.CRATES / crate / "src" / "lib.rt").exists():
         return
     part = f"<!-- made: calls {crate} -->\n<!-- end -->\n"
     table = re.search(r"^\| (?:Call|Item|Law|Name)[^\n]*\n\|[-|]+\n(?:\|[^\n]*\n)+", text, re.M)
