@@ -19,7 +19,7 @@ import numpy as np
 TOP = pathlib.Path(__file__).resolve().parent.parent.parent
 FOLDER = TOP / "examples" / "cookbook"
 sys.path[:0] = [str(FOLDER), str(TOP / "bindings" / "python"), str(TOP / "tools" / "dev")]
-VERTICES, BATCHES, BATCH, BLOCK = 1_000_000, 64, 1_000, 20_000
+VERTICES, BATCHES, BATCH, BLOCK, LIMIT = 1_000_000, 64, 1_000, 20_000, 600
 TABLE = bytes(37 * place % 256 for place in range(240))
 LISTED = np.arange(7, VERTICES, VERTICES // 100)[:100]
 
@@ -220,8 +220,18 @@ def of_sqlite(sources, targets):
                      " where a.source < a.target and b.source < b.target",
         "common": "select count(*) from edge a join edge b on b.source = a.source join edge c on c.source = a.target and c.target = b.target",
     }
-    for name, text in asked.items():
-        measured(name, lambda text=text: base.execute(text).fetchone())
+    def timed(name):
+        """A question, which is given up after LIMIT seconds."""
+        begun = spent()
+        base.set_progress_handler(lambda: spent() - begun > LIMIT, 1_000_000)
+        try:
+            measured(name, lambda: base.execute(asked[name]).fetchone())
+        except sqlite3.OperationalError:
+            tell(name, spent() - begun, "given up")
+        base.set_progress_handler(None, 0)
+
+    for name in ("mutual", "top", "weight", "bloom"):
+        timed(name)
     base.execute("create table before as select a.source as source, count(*) as many " + back + " group by a.source")
 
     def follow():
@@ -250,6 +260,8 @@ def of_sqlite(sources, targets):
         return base.execute("select count(*), max(steps) from reached").fetchone()
 
     measured("bfs", search)
+    timed("triangles")
+    timed("common")
     measured("live", follow)
     measured("snapshots", compared)
 
