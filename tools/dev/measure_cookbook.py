@@ -232,8 +232,6 @@ def of_sqlite(sources, targets):
 
     for name in ("mutual", "top", "weight", "bloom"):
         timed(name)
-    base.execute("create table before as select a.source as source, count(*) as many " + back + " group by a.source")
-
     def follow():
         total = 0
         for some, other in later_batches():
@@ -245,9 +243,11 @@ def of_sqlite(sources, targets):
             base.execute("drop table asked")
         return total
 
+    def rows(table):
+        base.execute(f"create table {table} as select a.source as source, count(*) as many {back} group by a.source")
+
     def compared():
-        base.execute("create table copied as select * from edge")
-        base.execute(f"create table later as select a.source as source, count(*) as many {back} group by a.source")
+        rows("later")
         return base.execute("select count(distinct source) from (select * from later except select * from before)").fetchone()
 
     def search():
@@ -262,8 +262,14 @@ def of_sqlite(sources, targets):
     measured("bfs", search)
     timed("triangles")
     timed("common")
+    # A table is changed in place, so what is compared later is asked before.
+    begun = spent()
+    rows("before")
+    asking = spent() - begun
     measured("live", follow)
-    measured("snapshots", compared)
+    begun = spent()
+    changed = compared()
+    tell("snapshots", asking + spent() - begun, changed)
 
 
 def of_networkx(sources, targets):
@@ -299,14 +305,15 @@ def of_networkx(sources, targets):
         return total
 
     measured("top", first)
+    # A graph is changed in place, so what is compared later is asked before.
+    begun = spent()
     before = rows(graph)
+    asking = spent() - begun
     measured("live", lambda: follow(graph))
-
-    def compared():
-        later = rows(graph)
-        return sum(later[vertex] != before[vertex] for vertex in before)
-
-    measured("snapshots", lambda: compared())
+    begun = spent()
+    later = rows(graph)
+    changed = sum(later[vertex] != before[vertex] for vertex in before)
+    tell("snapshots", asking + spent() - begun, changed)
 
 
 def main():

@@ -5,6 +5,7 @@
     made: file PATH [FROM ... TO]  a file as a block, or of it the lines from one that begins with FROM up to the next that begins with TO
     made: clauses PATH FUNCTION[.LABEL] ..  the clauses of functions of a source, or those with a label; a clause may have none
     made: edits              the edits that must fail, by crate, in the words of their names
+    made: times              the table of the cookbook's times, of what measure_cookbook.py printed
     made: reading            the reading list, of count_reading.py
     made: follow WORD ..     the files that name the words, with the definitions and functions that do, by crate
 """
@@ -128,6 +129,29 @@ def edits(pages, _):
     return ["", *lines, ""]
 
 
+FORMS = ("c", "python", "script", "scipy", "sqlite", "networkx")
+THINGS = {
+    "mutual": "1. edges that have an edge back", "common": "2. neighbours in common", "triangles": "3. triangles",
+    "bfs": "4. breadth first search; in a script three steps", "weight": "5. scores by a table",
+    "bloom": "6. a Bloom filter; by the others an exact set", "live": "7. 64 batches of 1,000 edges, each with a query",
+    "snapshots": "8. two snapshots compared", "top": "9. the ten greatest rows", "parts": "10. over four processes, with loading",
+}
+
+
+def times(pages, _):
+    """A row for each thing. A program of an edge in C takes what its script takes."""
+    text, found = (pages.TOP / "examples" / "cookbook" / "times.txt").read_text(), {}
+    for form, said in re.findall(r"^== (\w+)\n(.*?)(?=^== |\Z)", text, re.M | re.S):
+        found[form] = dict(re.findall(r"^(\w+) +([\d.]+)  ", said, re.M))
+        found[form] |= {name: f"over {second}" for name, second in re.findall(r"^(\w+) +([\d]+)\.\d+  given up", said, re.M)}
+    found["c"] = {**found["script"], **found["c"]}
+    lines = ["", f"| | {' | '.join('C' if form == 'c' else form.capitalize() if form == 'python' else form for form in FORMS)} |", "|---" * 7 + "|"]
+    for name, title in THINGS.items():
+        cells = [found.get(form, {}).get(name, "") for form in FORMS]
+        lines.append(f"| {title} | {' | '.join(cell if cell.startswith('over') or not cell else f'{float(cell):.2g}' for cell in cells)} |")
+    return [*lines, ""]
+
+
 def reading(pages, _):
     run = subprocess.run([sys.executable, pages.TOP / "tools" / "dev" / "count_reading.py"], check=True, capture_output=True, text=True)
     return ["", *run.stdout.splitlines(), ""]
@@ -186,7 +210,7 @@ def follow(pages, words):
     return ["", *lines, *([pages.wrapped(f"- outside: {', '.join(outside)}", "  ")] if outside else []), ""]
 
 
-KINDS = {"calls": calls, "crate": crate, "file": file, "clauses": clauses, "edits": edits, "reading": reading, "follow": follow}
+KINDS = {"calls": calls, "crate": crate, "file": file, "clauses": clauses, "edits": edits, "times": times, "reading": reading, "follow": follow}
 
 
 def written(pages, text):
