@@ -32,7 +32,7 @@ class Parts(unittest.TestCase):
         self.assertEqual(shown, ["```", "batch A", "+ 0 1", "+ 0 2", "```"])
 
     def test_places_that_name_a_word(self):
-        shown = "\n".join(write_parts.follow(write_pages, "MoveSigned"))
+        shown = "\n".join(write_parts.follow(write_pages, "Move" + "Signed"))
         for said in ("- `bpf_model`: `specs/Step`: effect\n", "`specs/Encoding`: fields_of, spelling", "`src`: alu, effect\n"):
             self.assertIn(said, shown)
 
