@@ -26,6 +26,11 @@ def rows(text):
     return [[cell.strip() for cell in line.strip("|").split(" | ")] for line in text.splitlines() if line.startswith("| ")]
 
 
+def on_one_line(text):
+    """A text wherever its lines are broken."""
+    return text.replace("\n", " ")
+
+
 def codes(cell):
     return re.findall(r"`([^`]*)`", cell)
 
@@ -109,16 +114,15 @@ def home_moves():
 
 
 def readme_lines():
-    for place, text in enumerate((README, TOUR)):
+    for place, text in enumerate(map(on_one_line, (README, TOUR))):
         code = re.search(r"`(code u 16 [0-9a-f]+)`", text)[1]
         said = re.search(r"`(refused u cause [0-9]+ pc [0-9]+)`", text)[1]
         yield f"readme_refused_{place}", Case(FIRST + code + "\n", [said], said)
-    part = between(TOUR, "A later batch changes nothing that `pin a` holds: ", ", and the same run")
-    *lines, said = codes(part.replace("\n", " "))
+    *lines, said = codes(between(on_one_line(TOUR), "A later batch changes nothing that `pin a` holds: ", ", and the same run"))
     rows_before = ["run t a edges 3 total 5", "row 0 3", "row 1 2"]
     yield "readme_removal", Case(FIRST + "\n".join(lines) + "\nrun t a sum -\n", [*rows_before, said, *rows_before], rows_before[-1])
     block = re.search(r"^```\n(program degree .*?)^```$", TOUR, re.M | re.S)[1]
-    said = re.search(r"answered with its line, as `(.*?)`", TOUR)[1]
+    said = re.search(r"answered with its line, as `(.*?)`", on_one_line(TOUR))[1]
     yield "readme_faulty_text", Case("graph 4\n" + block.replace("ldxw r0, ", "ldxw ") + "pin a\n", [said, "pin a version 0 edges 0"])
     least = re.search(r"^\| `(edges 0 total [0-9]+)` \| `min` over zero edges", README, re.M)[1]
     yield "readme_least_of_none", Case("graph 4\npin a\ncode t 16 61100400000000009500000000000000\nrun t a min -\n", ["run t a " + least])
@@ -126,9 +130,9 @@ def readme_lines():
 
 def shown_of_examples():
     """What README and the tour say that examples write; the tour has their text from their files."""
-    for said in re.findall(r"`(run t a edges .*?|row [01] .*?)`", README):
+    for said in re.findall(r"`(run t a edges .*?|row [01] .*?)`", on_one_line(README)):
         yield "first", said + "\n"
-    for said in re.findall(r"`(program degree bound .*?|refused careless .*?)`", TOUR):
+    for said in re.findall(r"`(program degree bound .*?|refused careless .*?)`", on_one_line(TOUR)):
         yield "score" if "degree" in said else "weights", said + "\n"
 
 

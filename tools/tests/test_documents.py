@@ -77,7 +77,7 @@ class TheDocuments(unittest.TestCase):
         """The lines of an example in a crate's README stand in the test or the program that it names, in this order."""
         shown = 0
         for path in sorted((documents.ROOT / "crates").glob("*/README.md")):
-            for source, crate, block in re.findall(r"in `(src/[^`]*)` of `(\w+)`:\n\n(?:<!-- made: .* -->\n)?```rust\n(.*?)```", path.read_text(), re.S):
+            for source, crate, block in re.findall(r"in\s+`(src/[^`]*)`\s+of\s+`(\w+)`:\n\n(?:<!-- made: .* -->\n)?```rust\n(.*?)```", path.read_text(), re.S):
                 left = iter(line.strip() for line in (documents.ROOT / "crates" / crate / source).read_text().splitlines())
                 for line in filter(lambda line: line and not line.startswith("//"), map(str.strip, block.splitlines())):
                     self.assertIn(line, left, f"{path.parent.name}: {line}")
