@@ -98,7 +98,7 @@ def zeros():
 
 def home_moves():
     """Each end of each range of the table of homes: a list that is in the row's home before gets so many targets."""
-    header, *body = rows(between(SCRIPT, "by their number then:\n", "\nA batch counts"))
+    header, *body = rows(between(SCRIPT, "and on how many targets it has then:\n", "\nA batch counts"))
     grown = {"block": 0, "gapped": 13, "tree": 1025}
     for before, *cells in body:
         for home, cell in zip(header[1:], cells):
