@@ -6,9 +6,12 @@
     made: clauses PATH FUNCTION[.LABEL] ..  the clauses of functions of a source, or those with a label; a clause may have none
     made: edits              the edits that must fail, by crate, in the words of their names
     made: times              the table of the cookbook's times, of what measure_cookbook.py printed
+    made: programs FOLDER    the first sentence of each program in a folder
+    made: classes PATH       the classes of a file in Python, with what they say
     made: reading            the reading list, of count_reading.py
     made: follow WORD ..     the files that name the words, with the definitions and functions that do, by crate
 """
+import ast
 import re
 import subprocess
 import sys
@@ -129,6 +132,28 @@ def edits(pages, _):
     return ["", *lines, ""]
 
 
+def first_words(path):
+    """The first sentence of a program, of its docstring or its first comment, without how it is called."""
+    text = path.read_text()
+    if path.suffix == ".py":
+        said = (ast.get_docstring(ast.parse(text)) or "").split("\n\n")[0]
+    else:
+        said = re.match(r"/\* (.*?)(?: \*/|\Z)|// (?:Records of \d+ bytes\. )?(.*)", text, re.S)
+        said = (said[1] or said[2].split("\n")[0]) if said else ""
+    said = re.sub(rf": {path.name}.*", ".", " ".join(said.split()))
+    return first_sentence(said)
+
+
+def programs(pages, folder):
+    paths = [path for path in sorted((pages.TOP / folder).iterdir()) if path.suffix in (".py", ".c") and not path.name.startswith(".")]
+    return ["", "| Program | Does |", "|---|---|", *(f"| `{path.name}` | {first_words(path)} |" for path in paths), ""]
+
+
+def classes(pages, name):
+    found = [node for node in ast.parse((pages.TOP / name).read_text()).body if isinstance(node, ast.ClassDef)]
+    return ["", "| Class | What it is |", "|---|---|", *(f"| `{one.name}` | {' '.join((ast.get_docstring(one) or '').split())} |" for one in found), ""]
+
+
 FORMS = ("c", "python", "script", "scipy", "sqlite", "networkx")
 THINGS = {
     "mutual": "1. edges that have an edge back", "common": "2. neighbours in common", "triangles": "3. triangles",
@@ -210,7 +235,7 @@ def follow(pages, words):
     return ["", *lines, *([pages.wrapped(f"- outside: {', '.join(outside)}", "  ")] if outside else []), ""]
 
 
-KINDS = {"calls": calls, "crate": crate, "file": file, "clauses": clauses, "edits": edits, "times": times, "reading": reading, "follow": follow}
+KINDS = {"calls": calls, "crate": crate, "file": file, "clauses": clauses, "edits": edits, "programs": programs, "classes": classes, "times": times, "reading": reading, "follow": follow}
 
 
 def written(pages, text):
