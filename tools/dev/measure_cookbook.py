@@ -9,6 +9,7 @@ Debian's packages: clang-19 llvm-19 python3-pyelftools python3-numpy python3-cff
 import argparse
 import pathlib
 import resource
+import sqlite3
 import subprocess
 import sys
 import tempfile
@@ -16,10 +17,12 @@ import time
 
 import numpy as np
 
+from cookbook_peers import Networkx, Scipy, Sqlite
+
 TOP = pathlib.Path(__file__).resolve().parent.parent.parent
 FOLDER = TOP / "examples" / "cookbook"
 sys.path[:0] = [str(FOLDER), str(TOP / "bindings" / "python"), str(TOP / "tools" / "dev")]
-VERTICES, BATCHES, BATCH, BLOCK, LIMIT = 1_000_000, 64, 1_000, 20_000, 600
+VERTICES, BATCHES, BATCH, LIMIT = 1_000_000, 64, 1_000, 600
 TABLE = bytes(37 * place % 256 for place in range(240))
 LISTED = np.arange(7, VERTICES, VERTICES // 100)[:100]
 
@@ -149,181 +152,45 @@ def of_python(sources, targets):
     tell("parts", spent() + spent(resource.RUSAGE_CHILDREN) - begun, f"{total}, {time.monotonic() - clock:.1f} seconds by the clock, with loading")
 
 
-def of_scipy(sources, targets):
-    import scipy.sparse as sparse
-    from scipy.sparse.csgraph import breadth_first_order
-
-    def matrix(one, other):
-        made = sparse.csr_array((np.ones(len(one), np.int32), (one, other)), shape=(VERTICES, VERTICES))
-        made.data[:] = 1
-        return made
-
-    def in_blocks(left, right, mask):
-        """The sum of the product at the places of a mask, some rows at a time: the whole product does not fit into memory."""
-        return sum(int((left[at:at + BLOCK] @ right).multiply(mask[at:at + BLOCK]).sum()) for at in range(0, VERTICES, BLOCK))
-
-    def search():
-        order, before = breadth_first_order(graph, 0)
-        distance = np.zeros(VERTICES, int)
-        for vertex in order[1:]:
-            distance[vertex] = distance[before[vertex]] + 1
-        return len(order), int(distance[order].max())
-
-    def mutual_rows(of):
-        return of.multiply(of.T.tocsr()).sum(axis=1)
-
-    def follow():
-        now, total = graph, 0
-        for some, other in later_batches():
-            now = now + matrix(some, other)
-            now.data[:] = 1
-            total += int(now[some].multiply(now.T.tocsr()[some]).sum())
-        return total, now
-
-    graph = matrix(sources, targets)
-    rows = np.repeat(np.arange(VERTICES), np.diff(graph.indptr))
-    both = graph + graph.T.tocsr()
-    both.data[:] = 1
-    measured("mutual", lambda: int(mutual_rows(graph).sum()))
-    measured("common", lambda: in_blocks(graph, graph.T.tocsr(), graph))
-    measured("triangles", lambda: in_blocks(sparse.triu(graph, 1).tocsr(), sparse.triu(graph, 1).tocsr(), sparse.triu(graph, 1).tocsr()))
-    measured("bfs", search)
-    weights = np.frombuffer(TABLE, np.uint8).astype(np.int64)
-    measured("weight", lambda: int(np.bincount(rows, weights[graph.indices % 240], VERTICES).sum()))
-    measured("bloom", lambda: int(np.bincount(rows, np.isin(graph.indices, LISTED), VERTICES).sum()))
+def of_peer(peer, sources, targets):
+    """Each thing as a peer does it; a question to a table is given up after LIMIT seconds."""
     begun = spent()
-    total, after = follow()
-    tell("live", spent() - begun, total)
-    measured("snapshots", lambda: int((mutual_rows(graph) != mutual_rows(after)).sum()))
-    measured("top", lambda: (lambda sums: (int(np.argsort(-sums, kind="stable")[0]), int(sums.max())))(mutual_rows(graph)))
-
-
-def of_sqlite(sources, targets):
-    import sqlite3
-
-    base = sqlite3.connect(":memory:")
-    base.execute("create table edge (source integer, target integer, primary key (source, target)) without rowid")
-    base.execute("create table weight (place integer primary key, value integer)")
-    base.execute("create table listed (vertex integer primary key)")
-    begun = spent()
-    base.executemany("insert into edge values (?, ?)", zip(sources.tolist(), targets.tolist()))
+    made = peer(VERTICES, sources, targets, np.frombuffer(TABLE, np.uint8).astype(np.int64), LISTED, later_batches)
     tell("load", spent() - begun, len(sources))
-    base.executemany("insert into weight values (?, ?)", enumerate(TABLE))
-    base.executemany("insert into listed values (?)", [(int(vertex),) for vertex in LISTED])
-    back = "from edge a join edge b on b.source = a.target and b.target = a.source"
-    asked = {
-        "mutual": f"select count(*) {back}",
-        "top": f"select a.source, count(*) {back} group by a.source order by 2 desc, 1 limit 10",
-        "weight": "select sum(value) from edge join weight on place = target % 240",
-        "bloom": "select count(*) from edge where target in (select vertex from listed)",
-        "triangles": "select count(*) from edge a join edge b on b.source = a.target join edge c on c.source = a.source and c.target = b.target"
-                     " where a.source < a.target and b.source < b.target",
-        "common": "select count(*) from edge a join edge b on b.source = a.source join edge c on c.source = a.target and c.target = b.target",
-    }
-    def timed(name):
-        """A question, which is given up after LIMIT seconds."""
+    for name in ("mutual", "top", "weight", "bloom", "bfs", "triangles", "common"):
         begun = spent()
-        base.set_progress_handler(lambda: spent() - begun > LIMIT, 1_000_000)
+        if peer is Sqlite:
+            made.give_up(lambda begun=begun: spent() - begun > LIMIT)
         try:
-            measured(name, lambda: base.execute(asked[name]).fetchone())
+            measured(name, getattr(made, name))
         except sqlite3.OperationalError:
             tell(name, spent() - begun, "given up")
-        base.set_progress_handler(None, 0)
-
-    for name in ("mutual", "top", "weight", "bloom"):
-        timed(name)
-    def follow():
-        total = 0
-        for some, other in later_batches():
-            with base:
-                base.executemany("insert or ignore into edge values (?, ?)", zip(some.tolist(), other.tolist()))
-            base.execute("create temp table asked (vertex integer primary key)")
-            base.executemany("insert into asked values (?)", [(vertex,) for vertex in some.tolist()])
-            total += base.execute(f"select count(*) {back} where a.source in (select vertex from asked)").fetchone()[0]
-            base.execute("drop table asked")
-        return total
-
-    def rows(table):
-        base.execute(f"create table {table} as select a.source as source, count(*) as many {back} group by a.source")
-
-    def compared():
-        rows("later")
-        return base.execute("select count(distinct source) from (select * from later except select * from before)").fetchone()
-
-    def search():
-        # A vertex is taken at its least distance: union keeps pairs apart, so each level is a statement of its own.
-        base.execute("create table reached (vertex integer primary key, steps integer)")
-        base.execute("insert into reached values (0, 0)")
-        steps = 0
-        while base.execute("insert or ignore into reached select target, ? from reached join edge on source = vertex where steps = ?", (steps + 1, steps)).rowcount:
-            steps += 1
-        return base.execute("select count(*), max(steps) from reached").fetchone()
-
-    measured("bfs", search)
-    timed("triangles")
-    timed("common")
-    # A table is changed in place, so what is compared later is asked before.
+    if peer is Sqlite:
+        made.give_up(None)
     begun = spent()
-    rows("before")
+    made.before()
     asking = spent() - begun
-    measured("live", follow)
+    measured("live", made.live)
     begun = spent()
-    changed = compared()
+    changed = made.snapshots()
     tell("snapshots", asking + spent() - begun, changed)
 
 
-def of_networkx(sources, targets):
-    import networkx
-
-    graph = networkx.DiGraph()
-    begun = spent()
-    graph.add_nodes_from(range(VERTICES))
-    graph.add_edges_from(zip(sources.tolist(), targets.tolist()))
-    tell("load", spent() - begun, graph.number_of_edges())
-    measured("mutual", lambda: sum(graph.has_edge(target, source) for source, target in graph.edges()))
-    out = graph._succ
-    measured("common", lambda: sum(len(out[source].keys() & out[target].keys()) for source, target in graph.edges()))
-    measured("triangles", lambda: sum(len([word for word in out[source].keys() & out[target].keys() if word > target]) for source, target in graph.edges() if source < target))
-    measured("bfs", lambda: (lambda found: (len(found), max(found.values())))(networkx.single_source_shortest_path_length(graph, 0)))
-    measured("weight", lambda: sum(TABLE[target % 240] for _, target in graph.edges()))
-    listed = set(LISTED.tolist())
-    measured("bloom", lambda: sum(target in listed for _, target in graph.edges()))
-
-    def rows(of):
-        return {source: sum(source in of._succ[target] for target in there) for source, there in of.adjacency()}
-
-    def first():
-        import heapq
-
-        return heapq.nsmallest(10, rows(graph).items(), key=lambda row: (-row[1], row[0]))[0]
-
-    def follow(of):
-        total = 0
-        for some, other in later_batches():
-            of.add_edges_from(zip(some.tolist(), other.tolist()))
-            total += sum(of.has_edge(target, source) for source in some.tolist() for target in of._succ[source])
-        return total
-
-    measured("top", first)
-    # A graph is changed in place, so what is compared later is asked before.
-    begun = spent()
-    before = rows(graph)
-    asking = spent() - begun
-    measured("live", lambda: follow(graph))
-    begun = spent()
-    later = rows(graph)
-    changed = sum(later[vertex] != before[vertex] for vertex in before)
-    tell("snapshots", asking + spent() - begun, changed)
+FORMS = {"c": of_c, "python": of_python, "script": of_script}
+PEERS = {"scipy": Scipy, "sqlite": Sqlite, "networkx": Networkx}
 
 
 def main():
     parser = argparse.ArgumentParser(description=__doc__, formatter_class=argparse.RawDescriptionHelpFormatter)
-    parser.add_argument("form", choices=["c", "python", "script", "scipy", "sqlite", "networkx"])
+    parser.add_argument("form", choices=[*FORMS, *PEERS])
     parser.add_argument("--edges", type=int, default=5_000_000)
     options = parser.parse_args()
     sources, targets = graph_of(options.edges)
     print(f"{len(sources)} edges, at most {np.bincount(sources).max()} of a vertex", flush=True)
-    globals()[f"of_{options.form}"](sources, targets)
+    if options.form in FORMS:
+        FORMS[options.form](sources, targets)
+    else:
+        of_peer(PEERS[options.form], sources, targets)
 
 
 if __name__ == "__main__":
