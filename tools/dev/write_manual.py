@@ -119,7 +119,8 @@ def block(kind, lines):
 def manual(page, name, section, title, part):
     lines = ["'\\\" t", f".\\\" tools/dev/write_manual.py writes this of docs/{page}.", f'.TH {name.upper()} {section} "" "edgebpf" "{part}"']
     lines += [".ad l", ".SH NAME", f"{escaped(name)} \\- {title}"]
-    for kind, inner in blocks((TOP / "docs" / page).read_text()):
+    text = re.sub(r"^<!-- .* -->\n", "", (TOP / "docs" / page).read_text(), flags=re.M)
+    for kind, inner in blocks(text):
         if kind:
             lines += block(kind, inner)
     return "\n".join(lines + [".SH SEE ALSO", "\\fBedgebpf\\fR(1)"]) + "\n"

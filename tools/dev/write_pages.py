@@ -1,17 +1,23 @@
 #!/usr/bin/env python3
-"""Writes docs/CONTRACTS.md, docs/DEFINITIONS.md and docs/CRATES.md of what stands in the sources.
+"""Writes docs/CONTRACTS.md, docs/DEFINITIONS.md and docs/CRATES.md of what stands in the sources, and the made parts of all documents.
 
-    tools/dev/write_pages.py          writes them
-    tools/dev/write_pages.py --check  writes nothing, and fails if a page would change
+    tools/dev/write_pages.py                 writes them
+    tools/dev/write_pages.py --check         writes nothing, and fails if a page would change
+    tools/dev/write_pages.py --adopt         also puts made parts where tables of calls and of edits are still written by hand
+    tools/dev/write_pages.py --by-hand       prints how many bytes of each document are kept by hand
 
 CONTRACTS has each public item of each library, with its `///`. DEFINITIONS has each public definition in `specs/`, with its comment.
-CRATES has the towers of crates as crates.txt has them, with the `//!` of each.
+CRATES has the towers of crates as crates.txt has them, with the `//!` of each. write_parts.py says what a made part may be.
 """
 import re
 import sys
 import textwrap
 from pathlib import Path
 
+sys.dont_write_bytecode = True
+import write_parts  # noqa: E402
+
+THIS = sys.modules[__name__]
 TOP = Path(__file__).resolve().parent.parent.parent
 CRATES = TOP / "crates"
 COMMAND = "tools/dev/write_pages.py"
@@ -52,6 +58,7 @@ proves the crates above it again, and none beside it.
 PROGRAMS, STORE = "bpf_isa", "past_model"
 TOWERS = {(False, False): "Base", (True, False): "Programs", (False, True): "Store", (True, True): "Both"}
 
+CODE = re.compile(r"^```[^`]*^```$|^    [^\n]*$", re.M)
 ITEM = re.compile(r"pub (?:const )?(struct|enum|trait|fn|const|type) (\w+)")
 METHOD = re.compile(r"    (pub )?(?:const )?fn (\w+)")
 IMPLEMENTS = re.compile(r"(?:unsafe )?impl(?:<.*?>)? (?:(\w+)(?:<.*?>)? for )?(\w+)")
@@ -149,7 +156,7 @@ def public_items(crate):
     for name in re.findall(r"^pub mod (\w+);", text, re.M):
         for path, items in known[name]:
             yield from ((path, item) for item in items.values() if item.kind != "impl")
-    for name, names in re.findall(r"^pub use (\w+)(?:::\w+)*::(\{[^}]*\}|\w+);", text, re.M):
+    for name, names in re.findall(r"^pub use (?:self::)?(\w+)(?:::\w+)*::(\{[^}]*\}|\w+);", text, re.M):
         if name not in known:
             continue
         for wanted in listed(names):
@@ -283,12 +290,28 @@ def definitions():
     return "\n".join(page)
 
 
+def by_hand():
+    """Prints how many bytes of each document are kept by hand: all but the pages that are written whole and the made parts with their marks."""
+    whole = [TOP / "docs" / f"{name}.md" for name in ("CONTRACTS", "DEFINITIONS", "CRATES", "TRANSCRIPT")]
+    texts = {path: write_parts.MADE.sub("", path.read_text()).replace("<!-- end -->\n", "") for path in write_parts.tracked(THIS) if path not in whole}
+    sizes = {path: len(text.encode()) for path, text in texts.items()}
+    for path, size in sorted(sizes.items(), key=lambda row: row[1]):
+        print(f"{size:8} {path.relative_to(TOP)}")
+    blocks = sum(len(block.encode()) for text in texts.values() for block in CODE.findall(text))
+    print(f"{sum(sizes.values()):8} bytes in {len(sizes)} documents are kept by hand, of which {blocks} are blocks of code")
+
+
 def main():
-    pages = {"CONTRACTS": contracts(), "DEFINITIONS": definitions(), "CRATES": towers()}
-    for name, text in pages.items():
-        path = TOP / "docs" / f"{name}.md"
-        text = text.rstrip() + "\n"
-        if "--check" not in sys.argv[1:]:
+    words = sys.argv[1:]
+    if words == ["--by-hand"]:
+        return by_hand()
+    if words == ["--adopt"]:
+        write_parts.adopt(THIS)
+    pages = {TOP / "docs" / f"{name}.md": text.rstrip() + "\n" for name, text in
+             (("CONTRACTS", contracts()), ("DEFINITIONS", definitions()), ("CRATES", towers()))}
+    pages |= {path: write_parts.written(THIS, path.read_text()) for path in write_parts.documents(THIS)}
+    for path, text in pages.items():
+        if words != ["--check"]:
             path.write_text(text)
         elif path.read_text() != text:
             print(f"{path.relative_to(TOP)} is not what the sources say: {COMMAND} writes it", file=sys.stderr)

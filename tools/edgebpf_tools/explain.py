@@ -42,16 +42,15 @@ def explain(length, code=None, text=None, is_asked_for=False, table=None):
 def arguments(words):
     parser = argparse.ArgumentParser(
         prog="edgebpf-explain",
-        description="Tells what is known before each instruction of a program, and why it is refused or how long its runs are. "
-        "Without HEX it reads assembler text from standard input. The status is 1 where the program is refused, and 2 where "
+        description="Prints the verifier's state before each instruction of a program, and why it is refused or how long its runs are. "
+        "Without HEX it reads assembler text from standard input. The status is 1 if the program is refused, and 2 if "
         "there is none.",
     )
     parser.add_argument("length", metavar="LENGTH", help="how many bytes a record has, from 16 to 256; of an edge it is 16 and "
                         "what the run's argument has")
     parser.add_argument("code", metavar="HEX", nargs="?", help="the code in hexadecimal digits, as a script's code line has it")
     parser.add_argument("--table", metavar="HEX", help="the table that the program reads, in hexadecimal digits")
-    parser.add_argument("--html", metavar="FILE", help="write a page, with the ways drawn and what is known at the place under "
-                        "the pointer")
+    parser.add_argument("--html", metavar="FILE", help="write a page, with the paths drawn, and the state at the line under the pointer")
     return parser.parse_args(words)
 
 

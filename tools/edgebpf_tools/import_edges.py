@@ -20,9 +20,9 @@ def arguments(words):
         prog="edgebpf-import",
         description="Turns a list of edges (SNAP, or columns separated by blanks, tabs or commas) or a Matrix Market file into a "
         "script: the graph, and its edges in batches of 65,536, sorted by source. The script goes to standard output.",
-        epilog="Lines that begin with # or % are comments. Columns after the second are not read, which is said on standard "
-        "error. Ids are taken as they are if all are below 1,048,576; else they are renumbered in ascending order, and the "
-        "table of both is kept beside. Needs numpy: apt-get install python3-numpy",
+        epilog="Lines that begin with # or % are comments. Columns after the second are not read, and a warning on standard "
+        "error says so. Ids stay if all are below 1,048,576; else they are renumbered in ascending order, and FILE.ids "
+        "maps them back. Needs numpy: apt-get install python3-numpy",
     )
     parser.add_argument("file", metavar="FILE", help="the edges; - for standard input")
     parser.add_argument("--base", type=int, choices=[0, 1], default=None, help="the least id; else 0, in Matrix Market 1")

@@ -1,4 +1,4 @@
-"""A prompt for scripts: lines are looked at before they are sent, and answers are told in words."""
+"""A prompt for scripts: lines are checked before they are sent, and answers are explained."""
 import argparse
 import contextlib
 import io
@@ -231,11 +231,11 @@ class Shell:
 def arguments(words):
     parser = argparse.ArgumentParser(
         prog="edgebpf-shell",
-        description="A prompt for scripts. Each line is looked at before it is sent, so that a slip ends nothing; refusals are "
-        "told in words; a batch or a program is sent once it has ended. At the prompt, help lists what there is, and Ctrl-C drops a "
+        description="A prompt for scripts. Each line is checked before it is sent, so that a slip ends nothing; refusals are "
+        "explained; a batch or a program is sent once it has ended. At the prompt, help lists what there is, and Ctrl-C drops a "
         "line. If the input is no terminal, a line that is wrong makes the status 1.",
     )
-    parser.add_argument("--journal", metavar="FILE", help="keep what was sent in FILE; where it has lines, take the session up again")
+    parser.add_argument("--journal", metavar="FILE", help="keep what was sent in FILE; if it has lines, resume that session")
     return parser.parse_args(words)
 
 

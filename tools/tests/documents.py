@@ -26,6 +26,11 @@ def rows(text):
     return [[cell.strip() for cell in line.strip("|").split(" | ")] for line in text.splitlines() if line.startswith("| ")]
 
 
+def on_one_line(text):
+    """A text wherever its lines are broken."""
+    return text.replace("\n", " ")
+
+
 def codes(cell):
     return re.findall(r"`([^`]*)`", cell)
 
@@ -91,25 +96,9 @@ def zeros():
         yield "zeros", Case(line + "\n", [said], said)
 
 
-def line_tables():
-    """The tables of lines with what they write: the first example, and the program in text."""
-    for name, text, start, end in (
-        ("table_script", SCRIPT, "`examples/first.script`, and what it writes, `examples/first.output`:", "\nThe program loads"),
-        ("table_text", SCRIPT, "One of them gives an edge as many points as its source has edges:", "\nThe lines between"),
-        ("table_readme", README, "pins the version, and sums the program's numbers:", "\nA program that reads past"),
-        ("table_tour", TOUR, "reads the target out of an edge's record, pins the version, and sums the program's numbers:", "\nThe whole output"),
-    ):
-        lines, said = [], []
-        for row in rows(between(text, start, end))[1:]:
-            lines += codes(row[0])
-            said += codes(row[1])
-        script = "\n".join(lines) + "\n"
-        yield name, Case(script if lines[0].startswith("graph") else "graph 4\n" + script, said, said[-1])
-
-
 def home_moves():
     """Each end of each range of the table of homes: a list that is in the row's home before gets so many targets."""
-    header, *body = rows(between(SCRIPT, "by their number then:\n", "\nA batch counts"))
+    header, *body = rows(between(SCRIPT, "and on how many targets it has then:\n", "\nA batch counts"))
     grown = {"block": 0, "gapped": 13, "tree": 1025}
     for before, *cells in body:
         for home, cell in zip(header[1:], cells):
@@ -125,28 +114,26 @@ def home_moves():
 
 
 def readme_lines():
-    for place, text in enumerate((README, TOUR)):
+    for place, text in enumerate(map(on_one_line, (README, TOUR))):
         code = re.search(r"`(code u 16 [0-9a-f]+)`", text)[1]
         said = re.search(r"`(refused u cause [0-9]+ pc [0-9]+)`", text)[1]
         yield f"readme_refused_{place}", Case(FIRST + code + "\n", [said], said)
-    part = between(TOUR, "A later batch changes nothing that `pin a` holds: ", ", and the same run")
-    *lines, said = codes(part.replace("\n", " "))
+    *lines, said = codes(between(on_one_line(TOUR), "A later batch changes nothing that `pin a` holds: ", ", and the same run"))
     rows_before = ["run t a edges 3 total 5", "row 0 3", "row 1 2"]
     yield "readme_removal", Case(FIRST + "\n".join(lines) + "\nrun t a sum -\n", [*rows_before, said, *rows_before], rows_before[-1])
     block = re.search(r"^```\n(program degree .*?)^```$", TOUR, re.M | re.S)[1]
-    said = re.search(r"answered with its line, as `(.*?)`", TOUR)[1]
+    said = re.search(r"answered with its line, as `(.*?)`", on_one_line(TOUR))[1]
     yield "readme_faulty_text", Case("graph 4\n" + block.replace("ldxw r0, ", "ldxw ") + "pin a\n", [said, "pin a version 0 edges 0"])
     least = re.search(r"^\| `(edges 0 total [0-9]+)` \| `min` over zero edges", README, re.M)[1]
     yield "readme_least_of_none", Case("graph 4\npin a\ncode t 16 61100400000000009500000000000000\nrun t a min -\n", ["run t a " + least])
 
 
 def shown_of_examples():
-    """What the tour shows of examples: the example, lines that stand there together, and whether they stand in its output."""
-    shown = [block for language, block in re.findall(r"^```(\w*)\n(.*?)^```$", TOUR, re.M | re.S) if not language]
-    for name, block, is_output in zip(("first", "score", "weights", "weights", "mutual"), shown, (True, False, False, True, False), strict=True):
-        yield name, block, is_output
-    for said in re.findall(r"`(program degree bound .*?|program weights bound .*?|refused careless .*?)`", TOUR):
-        yield "score" if "degree" in said else "weights", said + "\n", True
+    """What README and the tour say that examples write; the tour has their text from their files."""
+    for said in re.findall(r"`(run t a edges .*?|row [01] .*?)`", on_one_line(README)):
+        yield "first", said + "\n"
+    for said in re.findall(r"`(program degree bound .*?|refused careless .*?)`", on_one_line(TOUR)):
+        yield "score" if "degree" in said else "weights", said + "\n"
 
 
 # docs/BPF.md
@@ -255,7 +242,7 @@ def assembler_lines():
 
 def all_cases():
     """The cases of each part of the documents, by their names."""
-    parts = [faults, assembler_faults, answers_of_code, zeros, line_tables, home_moves, readme_lines]
+    parts = [faults, assembler_faults, answers_of_code, zeros, home_moves, readme_lines]
     parts += [helper_programs, gathering, causes, bounds, narrowing, assembler_lines]
     return {part.__name__: dict(part()) for part in parts}
 

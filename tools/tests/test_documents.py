@@ -28,7 +28,7 @@ NO_CODE = {
     "no code: a loop": r"programs\.c:[0-9]+: this loop in \w+ is left as a loop",
 }
 # How many cases each part of the documents has: a row or a block that is not found is missed here.
-COUNTS = {"faults": 11, "assembler_faults": 6, "answers_of_code": 2, "zeros": 1, "line_tables": 4, "home_moves": 12, "readme_lines": 5}
+COUNTS = {"faults": 11, "assembler_faults": 6, "answers_of_code": 2, "zeros": 1, "home_moves": 12, "readme_lines": 5}
 COUNTS |= {"helper_programs": 5, "gathering": 3, "causes": 19, "bounds": 1, "narrowing": 4, "assembler_lines": 5}
 
 
@@ -69,20 +69,37 @@ class TheDocuments(unittest.TestCase):
 
     def test_what_is_shown_of_examples_stands_there(self):
         shown = list(documents.shown_of_examples())
-        self.assertEqual(len(shown), 8)
-        for name, text, is_output in shown:
-            self.assertIn(text, (documents.ROOT / "examples" / f"{name}.{'output' if is_output else 'script'}").read_text())
+        self.assertEqual(len(shown), 5)
+        for name, text in shown:
+            self.assertIn(text, (documents.ROOT / "examples" / f"{name}.output").read_text())
 
     def test_examples_of_crates(self):
         """The lines of an example in a crate's README stand in the test or the program that it names, in this order."""
         shown = 0
         for path in sorted((documents.ROOT / "crates").glob("*/README.md")):
-            for source, crate, block in re.findall(r"in `(src/[^`]*)` of `(\w+)`:\n\n```rust\n(.*?)```", path.read_text(), re.S):
+            for source, crate, block in re.findall(r"in\s+`(src/[^`]*)`\s+of\s+`(\w+)`:\n\n(?:<!-- made: .* -->\n)?```rust\n(.*?)```", path.read_text(), re.S):
                 left = iter(line.strip() for line in (documents.ROOT / "crates" / crate / source).read_text().splitlines())
                 for line in filter(lambda line: line and not line.startswith("//"), map(str.strip, block.splitlines())):
                     self.assertIn(line, left, f"{path.parent.name}: {line}")
                 shown += 1
-        self.assertGreaterEqual(shown, 11)
+        self.assertGreaterEqual(shown, 10)
+
+    def test_links(self):
+        """Each link of a document leads to a file that is there, and to a heading of it."""
+        def anchors(path):
+            titles = re.findall(r"^#+ (.*)$", path.read_text(), re.M)
+            return {re.sub(r"[^\w\- ]", "", title.lower()).replace(" ", "-") for title in titles}
+
+        run = subprocess.run(["git", "ls-files", "*.md"], cwd=documents.ROOT, capture_output=True, text=True)
+        pages = [documents.ROOT / name for name in run.stdout.split()] or list(documents.ROOT.rglob("*.md"))
+        self.assertGreater(len(pages), 60)
+        for page in pages:
+            for target in re.findall(r"\]\(([^)\s]+)\)", re.sub(r"^```.*?^```", "", page.read_text(), flags=re.M | re.S)):
+                if not target.startswith("http"):
+                    path, _, anchor = target.partition("#")
+                    other = (page.parent / path).resolve() if path else page
+                    self.assertTrue(other.exists(), f"{page}: {target}")
+                    self.assertTrue(not anchor or anchor in anchors(other), f"{page}: {target}")
 
     def test_each_trap(self):
         traps = list(documents.traps())

@@ -38,7 +38,7 @@ TEXT_ERRORS = {
 
 
 class Error(Exception):
-    """What this package raises."""
+    """The base of all errors of this package."""
 
 
 class Refused(Error):
@@ -82,7 +82,7 @@ class TooManyNames(Error):
 
 
 class NoMemory(Error):
-    """The process ran out of memory, or a thread could not be started, and ended."""
+    """A `Store` had no memory, and nothing changed. Or the process of `connect` had none, or could start no thread: it has ended, and the graph is gone."""
 
 
 class Closed(Error):

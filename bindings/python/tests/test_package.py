@@ -49,23 +49,23 @@ class Package(unittest.TestCase):
                 exec(compile(block, "README.md", "exec"), {})
 
     def test_cookbook(self):
-        """Its example in Python runs beside the files of its programs in C."""
-        try:
-            import elftools  # noqa: F401
-        except ImportError:
-            self.skipTest("not there: elftools")
-        page = (TOP / "docs" / "COOKBOOK.md").read_text()
-        before = os.getcwd()
-        with tempfile.TemporaryDirectory() as folder:
-            for block in re.findall(r"^```c\n(.*?)^```", page, re.M | re.S):
-                name = re.findall(r"^u64 (\w+)\(struct edge", block, re.M)[-1]
-                (pathlib.Path(folder) / f"{name}.c").write_text(block)
-            os.chdir(folder)
-            try:
-                for block in python_blocks(TOP / "docs" / "COOKBOOK.md"):
-                    exec(compile(block, "COOKBOOK.md", "exec"), {})
-            finally:
-                os.chdir(before)
+        """Its functions give on a process with two workers what was found by hand."""
+        sys.path.insert(0, str(TOP / "examples" / "cookbook"))
+        from live import follow
+        from mutual import mutual
+        from parts import total
+        from snapshots import changed
+        from top import top
+
+        sources, targets = np.array([0, 1, 0, 2, 1, 2, 2, 3]), np.array([1, 0, 2, 0, 2, 1, 3, 2])
+        store = self.store(4, workers=2)
+        store.batch("A", inserts=(sources, targets))
+        before = store.pin()
+        self.assertEqual((mutual(before), top(before, 2)), (8, [(2, 3), (0, 2)]))
+        store.batch("B", removes=([0], [1]))
+        self.assertEqual(changed(before, store.pin()).tolist(), [0, 1])
+        self.assertEqual(list(follow(self.store(4), [([0, 1], [1, 0]), ([0, 1], [2, 2]), ([2, 3], [0, 2])])), [2, 2, 1])
+        self.assertEqual(total(4, sources, targets, edgebpf.assemble(TARGET), 3), 11)
 
     def test_random_batches(self):
         """After each batch the pinned version has the edges of a set, and an earlier pin those of its own moment."""

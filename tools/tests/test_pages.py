@@ -1,0 +1,48 @@
+"""The parts of documents that are written from the sources (`tools/dev/write_parts.py`)."""
+import sys
+import unittest
+
+from tools_here import TOOLS
+
+sys.path.insert(0, str(TOOLS / "dev"))
+
+import write_pages  # noqa: E402
+import write_parts  # noqa: E402
+
+
+class Parts(unittest.TestCase):
+    def test_first_sentences(self):
+        for docs, first in (
+            ("The empty set.", "The empty set."),
+            ("What is left. It ends `here. not`.", "What is left."),
+            ("A hold (as `Pin.share` makes one. Or two) on `a.b`. More.", "A hold (as `Pin.share` makes one. Or two) on `a.b`."),
+            ("Below 2.5 of it. Then", "Below 2.5 of it."),
+            ("At most [`PLACES`] words | or none. More", "At most `PLACES` words \\| or none."),
+            ("No full stop", "No full stop"),
+        ):
+            self.assertEqual(write_parts.first_sentence(docs), first)
+
+    def test_clauses_stand_under_the_name_of_their_function(self):
+        shown = write_parts.clauses(write_pages, "crates/verifier/src/verified.rt image.sound bound.few")
+        self.assertEqual(shown, ["```", "Verified::image:", "    ensures sound { NeverGoesWrong self.now }", "Verified::bound:",
+                                 "    ensures few { result ≤ most_counted }", "```"])
+
+    def test_a_file_from_a_line_to_another(self):
+        shown = write_parts.file(write_pages, "examples/first.script batch A ... + 0 2")
+        self.assertEqual(shown, ["```", "batch A", "+ 0 1", "+ 0 2", "```"])
+
+    def test_places_that_name_a_word(self):
+        shown = "\n".join(write_parts.follow(write_pages, "Move" + "Signed"))
+        for said in ("- `bpf_model`: `specs/Step`: effect\n", "`specs/Encoding`: fields_of, spelling", "`src`: alu, effect\n"):
+            self.assertIn(said, shown)
+
+    def test_parts_that_are_there_are_written_again(self):
+        text = "before\n<!-- made: file examples/first.output -->\nold\n<!-- end -->\nafter\n"
+        new = write_parts.written(write_pages, text)
+        self.assertTrue(new.startswith("before\n<!-- made: file examples/first.output -->\n```\ngraph 4\n"))
+        self.assertTrue(new.endswith("row 1 2\n```\n<!-- end -->\nafter\n"))
+        self.assertEqual(write_parts.written(write_pages, new), new)
+
+
+if __name__ == "__main__":
+    unittest.main()
