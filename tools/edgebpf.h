@@ -61,9 +61,10 @@ EDGEBPF_HELPER(5, gather, (u64 vertex, u64 first, void *words, u64 bytes));
 #define NO_NEIGHBOUR 0xffffffffffffffffULL
 #define NO_WORD 0xffffffffu
 
-/* A function that is called in a frame of its own, and is not copied to where it is called. */
+/* A function that is called in a frame of its own, and is not copied to where it is called. It may take addresses of the caller's
+   variables. */
 #define FUNCTION static __attribute__((noinline, unused))
-/* A function that is always copied to where it is called: it may take addresses of the caller's variables. */
+/* A function that is always copied to where it is called. */
 #define INLINE static inline __attribute__((always_inline, unused))
 
 /* Before a loop: unroll it. Its number of rounds has to be at most a constant, `rounds`. */

@@ -11,10 +11,10 @@ LENGTHS = {
     "over_stack": 16, "middle": 21, "many_values": 24, "written_record": 20, "nested": 16, "lent": 20, "framed": 16,
     "mutual": 16, "neighbour_score": 20, "walk": 19, "three_steps": 19, "triangles": 16, "gathered_record": 32,
     "far_numbers": 16,
-    "asking": 16,
+    "asking": 16, "lent_stack": 16, "lent_array": 16, "lent_struct": 18, "lent_words": 16,
 }
 REFUSED = {
-    "any_byte": (24, 11, 1), "stack_table": (16, 10, 12), "loop": (20, 3, 10), "lent_stack": (16, 8, 6),
+    "any_byte": (24, 11, 1), "stack_table": (16, 10, 12), "loop": (20, 3, 10), "lent_unset": (16, 12, 7),
     "chosen_room": (16, 13, 9), "pointer_vertex": (16, 13, 0), "wide_gather": (20, 11, 5), "sixth_helper": (16, 14, 1),
 }
 # The section of script_rows that has them, over the graph over which the native code runs.

@@ -392,6 +392,87 @@ u64 sixth_helper(struct edge *e, u64 length)
     return no_helper(e->source);
 }
 
+// A caller lends a place of its stack.
+FUNCTION(lent_stack) u64 lent_stack_read(volatile u64 *place);
+
+PROGRAM(lent_stack) u64 lent_stack(struct edge *e, u64 length)
+{
+    volatile u64 kept = e->source;
+    return lent_stack_read(&kept);
+}
+
+FUNCTION(lent_stack) u64 lent_stack_read(volatile u64 *place)
+{
+    return *place + 1;
+}
+
+// An array of a caller is handed down two levels, and changed there.
+FUNCTION(lent_array) u64 lent_array_sort(u32 *words);
+FUNCTION(lent_array) u64 lent_array_order(u32 *words);
+
+PROGRAM(lent_array) u64 lent_array(struct edge *e, u64 length)
+{
+    u32 words[3] = { e->source, e->target, e->degree };
+    u64 moved = lent_array_sort(words);
+    return (words[0] * 3ULL + words[1]) * 5 + words[2] * 7ULL + moved;
+}
+
+FUNCTION(lent_array) u64 lent_array_sort(u32 *words)
+{
+    return lent_array_order(words) + lent_array_order(words + 1) * 2 + lent_array_order(words) * 4;
+}
+
+FUNCTION(lent_array) u64 lent_array_order(u32 *words)
+{
+    u32 first = words[0], second = words[1];
+    words[0] = first < second ? first : second;
+    words[1] = first < second ? second : first;
+    return first > second;
+}
+
+// A function fills a struct of its caller, with an address of the record in it, and changes it by a function of its own.
+struct kept { struct edge *edge; u64 sum; u32 low, high; };
+FUNCTION(lent_struct) u64 lent_struct_fill(struct kept *kept, struct edge *e);
+FUNCTION(lent_struct) u64 lent_struct_add(u64 *sum, u64 number);
+
+PROGRAM(lent_struct) u64 lent_struct(struct edge *e, u64 length)
+{
+    struct kept kept;
+    u64 added = lent_struct_fill(&kept, e);
+    return kept.edge->place * 1000ULL + kept.sum * 10 + kept.high - kept.low + added + kept.edge->argument[1];
+}
+
+FUNCTION(lent_struct) u64 lent_struct_fill(struct kept *kept, struct edge *e)
+{
+    u64 own = e->degree;
+    kept->edge = e;
+    kept->sum = e->source;
+    kept->low = e->source < e->target ? e->source : e->target;
+    kept->high = e->source < e->target ? e->target : e->source;
+    return lent_struct_add(&kept->sum, e->target) + lent_struct_add(&own, kept->low) + own;
+}
+
+FUNCTION(lent_struct) u64 lent_struct_add(u64 *sum, u64 number)
+{
+    *sum += number * 3;
+    return *sum >> 2;
+}
+
+// The neighbours that a function gathers into its caller's stack.
+FUNCTION(lent_words) u64 lent_words_gather(u32 *words, u64 vertex);
+
+PROGRAM(lent_words) u64 lent_words(struct edge *e, u64 length)
+{
+    u32 words[3];
+    u64 count = lent_words_gather(words, e->target);
+    return count + words[0] * 3ULL + words[1] * 5ULL + words[2] * 7ULL;
+}
+
+FUNCTION(lent_words) u64 lent_words_gather(u32 *words, u64 vertex)
+{
+    return gather(vertex, 0, words, 12);
+}
+
 // The argument byte at the target: it may lie behind the record.
 u64 any_byte(struct edge *e, u64 length)
 {
@@ -417,16 +498,17 @@ u64 loop(struct edge *e, u64 length)
     return sum;
 }
 
-// A caller lends a place of its stack.
-FUNCTION(lent_stack) u64 lent_stack_read(volatile u64 *place);
+// A caller lends bytes of its stack, of which the function reads one that was never set.
+FUNCTION(lent_unset) u64 lent_unset_read(volatile u8 *bytes);
 
-PROGRAM(lent_stack) u64 lent_stack(struct edge *e, u64 length)
+PROGRAM(lent_unset) u64 lent_unset(struct edge *e, u64 length)
 {
-    volatile u64 kept = e->source;
-    return lent_stack_read(&kept);
+    volatile u8 bytes[2];
+    bytes[0] = e->source;
+    return lent_unset_read(bytes);
 }
 
-FUNCTION(lent_stack) u64 lent_stack_read(volatile u64 *place)
+FUNCTION(lent_unset) u64 lent_unset_read(volatile u8 *bytes)
 {
-    return *place + 1;
+    return bytes[0] + bytes[1];
 }

@@ -4,7 +4,7 @@ import struct
 from assembler import KINDS, unit
 from bpf import COMPARISONS, FRAME_BYTES, NoInstruction, decode
 from texts import lines_of
-from verifier import UNSET, Broken, State, ways_from
+from verifier import UNSET, Broken, State, number, ways_from
 
 NUMBERS = [0, 1, 2, 3, 4, 7, 8, 15, 16, 31, 32, 63, 64, 65, 127, 255, 256, 511, 512, -1, -2, -4, -8, -16, 2**31 - 1, -(2**31), 1000]
 WIDE_NUMBERS = [0, 5, 2**31 - 1, 2**31, 2**32 - 1, 2**32, 2**32 + 5, 2**63, 2**64 - 1]
@@ -44,6 +44,9 @@ class Programs:
         offset = self.choice(RECORD_PLACES if state.registers[pointer][0] == "record" else FRAME_PLACES)
         kind = self.choice("mmccaaaaapplllsssskkbbboew")
         width = self.choice([7, 7, 4])
+        lent = [place for place, value in enumerate(state.registers) if value[0] == "stack" and value[1] < len(state.frames) - 1]
+        if lent and self.often(0.3):
+            return self.in_lent_frame(self.choice(lent), target, any_set, value)
         if kind == "m":
             return unit(0xB0 | width, target, immediate=value)
         if kind == "c":
@@ -75,9 +78,15 @@ class Programs:
         low, high = struct.unpack("<ii", struct.pack("<Q", self.choice(WIDE_NUMBERS)))
         return unit(0x18, target, immediate=low) + unit(0, immediate=high)
 
+    def in_lent_frame(self, pointer, target, any_set, value):
+        """An access through a pointer to a frame of a caller."""
+        offset = self.choice([0, 0, 0, 0, 4, 7, 8, -1, -4, -8, -16])
+        load, store = unit(self.choice([0x61, 0x71, 0x79, 0x79]), target, pointer, offset), unit(self.choice([0x62, 0x72, 0x7A]), pointer, 0, offset, value)
+        return self.choice([load, load, store, unit(self.choice([0x63, 0x7B, 0x7B]), pointer, any_set, offset)])
+
     def kept(self, state, target, value):
         """A register is put into a slot of the frame, or taken back from one."""
-        slots = [slot for slot, known in state.spilled.items() if known != UNSET]
+        slots = [slot for slot, known in state.frame.spilled.items() if known != UNSET]
         if slots and self.often(0.6):
             return unit(0x79, target, 10, 8 * self.choice(slots) - FRAME_BYTES)
         return unit(0x7B, 10, value, self.choice([-8, -16, -24, -504, -512, -512]))
@@ -144,17 +153,19 @@ class Programs:
         return items + [unit(0xB7, 0, immediate=count), unit(0x95)]
 
     def with_functions(self, length):
-        """A program and functions behind it, each of which calls some of those behind itself."""
+        """A program and functions behind it, each of which calls some of those behind itself, mostly with a pointer to a frame."""
         count = self.choice([2, 2, 3, 4, 9])
+        # What is known where each function begins, by the first call of it: later calls may know less.
         entries, parts, calls = {0: State.entry(length)}, [], []
         for function in range(count):
             state = entries.get(function) or State.entry(length).entered()
             items, state = self.steps(state, length, self.set_up(state, length), 6)
             for _ in range(self.choice([0, 1, 1, 2, 3]) if function + 1 < count else 0):
                 callee = self.random.randrange(function + 1, count)
+                items, state = self.lending(state, length, items)
                 calls.append((function, len(items), callee))
-                (_, entry), (_, state) = ways_from(state, length, 0, ("local", 0), 1)
-                entries[callee] = entries[callee].joined(entry) if callee in entries else entry
+                entries.setdefault(callee, state.entered())
+                state = self.supposed(state.entered()).left()
                 items, state = self.steps(state, length, items + [unit(0x85, 0, 1)], 6)
             parts.append(self.with_distances(self.ended(items, state)))
         starts = [sum(len(item) for part in parts[:function] for item in part) // 8 for function in range(count)]
@@ -163,6 +174,33 @@ class Programs:
             distance = self.random.randrange(-3, 9) if self.often(0.02) else starts[callee] - pc - 1
             parts[function][place] = unit(0x85, 0, 1, immediate=distance)
         return [item for part in parts for item in part]
+
+    def lending(self, state, length, items):
+        """Mostly a pointer to a frame is put into one of R1 to R5, moved down and perhaps written to."""
+        of_frames = [place for place, value in enumerate(state.registers) if value[0] == "stack"]
+        if not self.often(0.7):
+            return items, state
+        target = self.choice([1, 1, 2, 3, 4, 5])
+        more = [unit(0xBF, target, self.choice(of_frames)), unit(7, target, immediate=self.choice([-8, -8, -16, -4, -1, -512, 0]))]
+        if self.often(0.5):
+            more.append(self.choice([unit(0x7A, target, immediate=7), unit(0x72, target, immediate=1), unit(0x7B, target, 10)]))
+        if self.often(0.3):
+            more.append(unit(0x7B, 10, target, self.choice([-8, -16])))
+        behind = state.copy()
+        try:
+            for item in more:
+                ((_, behind),) = ways_from(behind, length, 0, *decode(item, 0))
+        except (Broken, NoInstruction):
+            return items, state
+        return items + more, behind
+
+    def supposed(self, state):
+        """What a function may leave that is written later: some of the bytes that were lent to it are set, and R0 is a number."""
+        state.registers[0] = number(0, self.choice([7, 255, 2**64 - 1]))
+        for base in state.registers[1:6]:
+            if base[0] == "stack" and base[2] <= -8 and self.often(0.7):
+                state.write(base, FRAME_BYTES + base[2], 8)
+        return state
 
     def set_up(self, state, length):
         """Registers are set, as what is known allows."""

@@ -1,15 +1,16 @@
 """The verifier: the causes by which a program is refused, and the bound and the frames of one that is accepted."""
 from bisect import bisect_right
 from functools import lru_cache
+from typing import NamedTuple
 
 from bpf import ARGUMENTS, BITS_32, BITS_64, FRAME_BYTES, MOST_FRAMES, ROOMS, NoInstruction, calculated, decode, extended, negated, signed, swapped
 
 UNSET = ("unset",)
 BAD_INSTRUCTION, JUMP_OUT, JUMP_BACK, CALL_TARGET, FALLS_OFF, TOO_DEEP, TOO_LONG = 1, 2, 3, 4, 5, 6, 7
-MOST_COUNTED = 1_000_000
+MOST_COUNTED = MOST_PAIRS = 1_000_000
 UNSET_REGISTER, FRAME_REGISTER, POINTER_USE, OUT_OF_RANGE, UNSET_BYTE, NOT_A_NUMBER = 8, 9, 10, 11, 12, 15
 HELPER_ARGUMENT, UNKNOWN_HELPER = 13, 14
-READ_ONLY = 17
+READ_ONLY, TOO_MANY_PAIRS = 17, 18
 OPPOSITES = {"eq": "ne", "gt": "le", "ge": "lt", "sgt": "sle", "sge": "slt"}
 OPPOSITES |= {second: first for first, second in OPPOSITES.items()}
 
@@ -22,6 +23,11 @@ class Refused(Exception):
 
 def number(lo, hi):
     return ("number", lo, hi)
+
+
+def stack(frame, offset):
+    """A place in a frame, counted from its top: the frame of number 0 is that of the function at pc 0."""
+    return ("stack", frame, offset)
 
 
 def is_pointer(value):
@@ -105,36 +111,81 @@ def narrowed(bits, comparison, left, right):
     return None if any(lo > hi for lo, hi in sides) else sides
 
 
-class State:
-    """What is known of registers, of stack bytes and of what was spilled to slots."""
+class Frame(NamedTuple):
+    """What is known of a frame: which of its bytes are set, and what was spilled to its slots. It is never changed."""
 
-    def __init__(self, registers, is_set, spilled):
-        self.registers, self.is_set, self.spilled = registers, is_set, spilled
+    is_set: frozenset = frozenset()
+    spilled: dict = {}
+
+    def joined(self, other):
+        spilled = {slot: joined(value, other.spilled.get(slot, UNSET)) for slot, value in self.spilled.items()}
+        return Frame(self.is_set & other.is_set, {slot: value for slot, value in spilled.items() if value != UNSET})
+
+    def written(self, place, size):
+        """After a write to some of its bytes: the slots that it touches hold nothing that was spilled."""
+        touched = range(place // 8, (place + size - 1) // 8 + 1)
+        spilled = {slot: value for slot, value in self.spilled.items() if slot not in touched}
+        return Frame(self.is_set | set(range(place, place + size)), spilled)
+
+    def spilling(self, slot, value):
+        return Frame(self.is_set, self.spilled | {slot: value})
+
+    def without_pointers(self, dropped):
+        """After a frame was dropped: what was spilled of pointers to it is no longer known, and its bytes stay set."""
+        return Frame(self.is_set, {slot: value for slot, value in self.spilled.items() if value[:2] != ("stack", dropped)})
+
+
+class State:
+    """What is known of the registers, of each live frame, the current one last, and of R6 to R9 of each function that waits."""
+
+    def __init__(self, registers, frames, kept):
+        self.registers, self.frames, self.kept = registers, frames, kept
 
     @staticmethod
     def entry(record_length, table=b""):
         registers = [UNSET] * 11
-        registers[1], registers[2], registers[10] = ("record", 0, 0), number(record_length, record_length), ("stack", 0)
+        registers[1], registers[2], registers[10] = ("record", 0, 0), number(record_length, record_length), stack(0, 0)
         if table:
             registers[3] = ("table", 0, 0)
-        return State(registers, frozenset(), {})
+        return State(registers, [Frame()], [])
+
+    @property
+    def frame(self):
+        """The current frame."""
+        return self.frames[-1]
 
     def copy(self):
-        return State(self.registers[:], self.is_set, dict(self.spilled))
+        return State(self.registers[:], self.frames[:], self.kept)
+
+    def key(self):
+        """A value that is the same for states of which the same is known."""
+        frames = [(frame.is_set, frozenset(frame.spilled.items())) for frame in self.frames]
+        return tuple(self.registers), tuple(frames), tuple(map(tuple, self.kept))
 
     def joined(self, other):
-        registers = [joined(left, right) for left, right in zip(self.registers, other.registers)]
-        spilled = {slot: joined(value, other.spilled.get(slot, UNSET)) for slot, value in self.spilled.items()}
-        return State(registers, self.is_set & other.is_set, {slot: value for slot, value in spilled.items() if value != UNSET})
+        meet = lambda left, right: [joined(*pair) for pair in zip(left, right)]
+        frames = [left.joined(right) for left, right in zip(self.frames, other.frames)]
+        return State(meet(self.registers, other.registers), frames, [meet(*pair) for pair in zip(self.kept, other.kept)])
 
     def entered(self):
         """What is known where a function begins that is called here."""
-        passed = [UNSET if value[0] == "stack" else value for value in self.registers[1:6]]
-        return State([UNSET, *passed, *[UNSET] * 4, ("stack", 0)], frozenset(), {})
+        registers = [UNSET, *self.registers[1:6], *[UNSET] * 4, stack(len(self.frames), 0)]
+        return State(registers, [*self.frames, Frame()], [*self.kept, self.registers[6:10]])
 
-    def returned(self, answer=number(0, BITS_64)):
-        """What is known behind the call of a function or a helper."""
-        return State([answer, *[UNSET] * 5, *self.registers[6:]], self.is_set, dict(self.spilled))
+    def left(self):
+        """What is known behind the call, where the function that was called exits here."""
+        *kept, registers = self.kept
+        *frames, _ = self.frames
+        registers = [self.registers[0], *[UNSET] * 5, *registers, stack(len(frames) - 1, 0)]
+        return State(registers, [frame.without_pointers(len(frames)) for frame in frames], kept)
+
+    def answered(self, answer):
+        """What is known behind the call of a helper."""
+        return State([answer, *[UNSET] * 5, *self.registers[6:]], self.frames[:], self.kept)
+
+    def write(self, base, place, size):
+        """Some bytes of the frame of a pointer are written."""
+        self.frames[base[1]] = self.frames[base[1]].written(place, size)
 
     def operand(self, operand, bits):
         kind, value = operand
@@ -151,10 +202,10 @@ def moved(limits, operation, pointer, known):
     if pointer[0] == "stack":
         if not is_constant(known):
             raise Broken(POINTER_USE)
-        offset = pointer[1] + lo if operation == "add" else pointer[1] - lo
+        offset = pointer[2] + lo if operation == "add" else pointer[2] - lo
         if not -FRAME_BYTES <= offset <= 0:
             raise Broken(OUT_OF_RANGE)
-        return ("stack", offset)
+        return stack(pointer[1], offset)
     lo, hi = (pointer[1] + lo, pointer[2] + hi) if operation == "add" else (pointer[1] - hi, pointer[2] - lo)
     if lo < 0 or hi > limits[pointer[0]]:
         raise Broken(OUT_OF_RANGE)
@@ -184,8 +235,8 @@ def write(state, destination, value):
 
 
 def place_in_frame(base, offset, size):
-    """The lowest byte of an access through a stack pointer; None outside the frame."""
-    place = FRAME_BYTES + base[1] + offset
+    """The lowest byte of an access through a stack pointer, in its frame; None outside of that."""
+    place = FRAME_BYTES + base[2] + offset
     return place if 0 <= place and place + size <= FRAME_BYTES else None
 
 
@@ -205,10 +256,11 @@ def loaded(state, limits, size, extends, base, offset):
     place = place_in_frame(base, offset, size)
     if place is None:
         raise Broken(OUT_OF_RANGE)
-    if not state.is_set.issuperset(range(place, place + size)):
+    frame = state.frames[base[1]]
+    if not frame.is_set.issuperset(range(place, place + size)):
         raise Broken(UNSET_BYTE)
     if size == 8 and place % 8 == 0:
-        return state.spilled.get(place // 8, value)
+        return frame.spilled.get(place // 8, value)
     return value
 
 
@@ -230,11 +282,9 @@ def store(state, limits, size, base, offset, value):
         return
     if place is None:
         raise Broken(OUT_OF_RANGE)
-    state.is_set |= set(range(place, place + size))
-    for slot in (place // 8, (place + size - 1) // 8):
-        state.spilled.pop(slot, None)
+    state.write(base, place, size)
     if is_slot:
-        state.spilled[place // 8] = value
+        state.frames[base[1]] = state.frames[base[1]].spilling(place // 8, value)
 
 
 def ask(state, limits, helper):
@@ -248,23 +298,21 @@ def ask(state, limits, helper):
     if helper == 5:
         return gather(state, limits, *arguments[2:])
     most = {1: BITS_32, 2: 1, 3: BITS_64, 4: BITS_32}[helper]
-    return state.returned(number(0, most))
+    return state.answered(number(0, most))
 
 
 def gather(state, limits, base, room):
     if not is_pointer(base) or room[0] != "number" or not is_constant(room[1:]) or room[1] not in ROOMS:
         raise Broken(HELPER_ARGUMENT)
     size = room[1]
-    behind = state.returned(number(0, size // 4))
+    behind = state.answered(number(0, size // 4))
     if base[0] in limits:
         write_record(limits, base, 0, size)
         return behind
     place = place_in_frame(base, 0, size)
     if place is None:
         raise Broken(OUT_OF_RANGE)
-    behind.is_set |= set(range(place, place + size))
-    for slot in range(place // 8, (place + size - 1) // 8 + 1):
-        behind.spilled.pop(slot, None)
+    behind.write(base, place, size)
     return behind
 
 
@@ -290,7 +338,7 @@ def branch_ways(state, pc, bits, comparison, left, operand, distance):
 
 
 def ways_from(state, record_length, pc, instruction, units, table=b""):
-    """Where a run may go on, and what is known there."""
+    """Where a run may go on, and what is known there. A local call is no matter of one instruction: see `Passing`."""
     kind, *parts = instruction
     limits = {"record": record_length, "table": len(table)}
     registers = state.registers
@@ -303,8 +351,6 @@ def ways_from(state, record_length, pc, instruction, units, table=b""):
         return [(pc + 1 + parts[0], state)]
     if kind == "branch":
         return branch_ways(state, pc, *parts)
-    if kind == "local":
-        return [(pc + 1 + parts[0], state.entered()), (pc + 1, state.returned())]
     if kind == "helper":
         return [(pc + 1, ask(state, limits, parts[0]))]
     if kind == "alu":
@@ -372,9 +418,14 @@ def entry_called(instructions, pc, instruction):
     return entry if entry in instructions and entry > pc else None
 
 
-def test_flow(instructions, units_of_code):
+def function_entries(instructions):
+    """Where the functions begin, ascending: at pc 0, and where calls go."""
     called = {entry_called(instructions, pc, instruction) for pc, (instruction, _) in instructions.items()}
-    entries = sorted(called - {None})
+    return sorted({0} | called - {None})
+
+
+def test_flow(instructions, units_of_code):
+    entries = function_entries(instructions)
     for pc, (instruction, units) in instructions.items():
         place = bisect_right(entries, pc)
         end = entries[place] if place < len(entries) else units_of_code
@@ -390,13 +441,35 @@ def test_flow(instructions, units_of_code):
             raise Refused(FALLS_OFF, pc)
 
 
+def functions_of(instructions):
+    """The instructions of each function by its entry, ascending."""
+    functions, entry = {entry: {} for entry in function_entries(instructions)}, 0
+    for pc, found in instructions.items():
+        entry = pc if pc in functions else entry
+        functions[entry][pc] = found
+    return functions
+
+
+def pairs_of(functions):
+    """For each function its instructions, and once more those of each function that it calls, for each call of it."""
+    pairs = {}
+    for entry, body in reversed(functions.items()):
+        called = [pc + 1 + instruction[1] for pc, (instruction, _) in body.items() if instruction[0] == "local"]
+        pairs[entry] = len(body) + sum(pairs[callee] for callee in called)
+    return pairs
+
+
 def noted(state, instruction, ways):
     """What an instruction that breaks no rule shows of its program: for counting what programs are made of."""
     kind, *parts = instruction
     if kind == "local":
         yield "call functions"
+        if any(value[0] == "stack" for value in state.registers[1:6]):
+            yield "lend a frame to a function"
     elif kind == "helper":
         yield f"call helper {parts[0]}"
+        if parts[0] == 5 and state.registers[3][0] == "stack" and state.registers[3][1] < len(state.frames) - 1:
+            yield "gather into a caller's frame"
     elif kind == "branch":
         yield "branch"
         if len(ways) == 1:
@@ -410,17 +483,77 @@ def noted(state, instruction, ways):
             yield "store to the record" if kind == "store" else "load from the record"
             if base[1] < base[2]:
                 yield "access the record at a range of places"
-        elif kind == "load" and size == 8 and (FRAME_BYTES + base[1] + offset) % 8 == 0:
-            spilled = state.spilled.get((FRAME_BYTES + base[1] + offset) // 8, UNSET)
-            if spilled != UNSET:
-                yield "take back a spilled pointer" if is_pointer(spilled) else "take back a spilled number"
+        else:
+            yield from noted_of_frame(state, kind, size, base, offset)
+
+
+def noted_of_frame(state, kind, size, base, offset):
+    """What an access to a frame shows."""
+    callers = len(state.frames) - 1 - base[1]
+    if callers:
+        yield f"{kind} {'from' if kind == 'load' else 'to'} {'the' if callers == 1 else 'a farther'} caller's frame"
+    place = FRAME_BYTES + base[2] + offset
+    spilled = state.frames[base[1]].spilled.get(place // 8, UNSET) if kind == "load" and size == 8 and place % 8 == 0 else UNSET
+    if spilled != UNSET:
+        yield "take back a spilled pointer" if is_pointer(spilled) else "take back a spilled number"
+
+
+def joined_way(state, other):
+    """What is known where one more way leads, or where no way has led before."""
+    return other if state is None else state.joined(other)
+
+
+class Passing:
+    """The abstract pass over a program that no earlier pass refuses: each call goes through its function in the call's own state."""
+
+    def __init__(self, functions, record_length, table):
+        self.functions, self.record_length, self.table = functions, record_length, table
+        self.notes, self.exits, self.gone = set(), set(), {}
+
+    def called(self, entry, state):
+        """What is known behind a call. A function is gone through once for each state in which it is called."""
+        key = entry, state.key()
+        if key not in self.gone:
+            self.gone[key] = self.through(entry, state)
+        behind = self.gone[key]
+        return behind and behind.copy()
+
+    def through(self, entry, state):
+        """Goes through a function from what is known at its entry. The answer is what is known behind its exits; None where none is walked."""
+        states, behind = {entry: state}, None
+        for pc, (instruction, units) in self.functions[entry].items():
+            state = states.pop(pc, None)
+            if state is None:
+                continue
+            ways = self.ways(state, pc, instruction, units)
+            if instruction[0] == "exit":
+                self.exits.add(pc)
+                behind = joined_way(behind, state.left() if state.kept else state)
+            for target, way in ways:
+                if target in states:
+                    self.notes.add("have two ways that meet")
+                states[target] = joined_way(states.get(target), way)
+        return behind
+
+    def ways(self, state, pc, instruction, units):
+        before = state.copy()
+        if instruction[0] == "local":
+            behind = self.called(pc + 1 + instruction[1], state.entered())
+            ways = [] if behind is None else [(pc + units, behind)]
+        else:
+            try:
+                ways = ways_from(state, self.record_length, pc, instruction, units, self.table)
+            except Broken as broken:
+                raise Refused(broken.args[0], pc) from None
+        self.notes.update(noted(before, instruction, ways))
+        return ways
 
 
 def verify(code, record_length, table=b""):
     """The bound, the frames and what is noted of an accepted program, or the refusal as an exception."""
     instructions = listed(code)
     test_flow(instructions, len(code) // 8)
-    counts, frames, notes = {}, {}, set()
+    counts, frames = {}, {}
     for pc, (instruction, units) in reversed(instructions.items()):
         onward, entry = next_pcs(pc, instruction, units), entry_called(instructions, pc, instruction)
         counts[pc] = 1 + counts.get(entry, 0) + max((counts[target] for target in onward), default=0)
@@ -429,25 +562,14 @@ def verify(code, record_length, table=b""):
         raise Refused(TOO_DEEP, 0)
     if counts[0] > MOST_COUNTED:
         raise Refused(TOO_LONG, 0)
-    states, exits = {0: State.entry(record_length, table)}, 0
-    for pc, (instruction, units) in instructions.items():
-        if pc not in states:
-            continue
-        state = states.pop(pc)
-        before = state.copy()
-        try:
-            ways = ways_from(state, record_length, pc, instruction, units, table)
-        except Broken as broken:
-            raise Refused(broken.args[0], pc) from None
-        notes.update(noted(before, instruction, ways))
-        exits += instruction[0] == "exit"
-        for target, state in ways:
-            if target in states:
-                notes.add("have two ways that meet")
-            states[target] = states[target].joined(state) if target in states else state
-    if exits > 1:
-        notes.add("have several exits")
-    return counts[0], frames[0], frozenset(notes)
+    functions = functions_of(instructions)
+    if pairs_of(functions)[0] > MOST_PAIRS:
+        raise Refused(TOO_MANY_PAIRS, 0)
+    passing = Passing(functions, record_length, table)
+    passing.through(0, State.entry(record_length, table))
+    if len(passing.exits) > 1:
+        passing.notes.add("have several exits")
+    return counts[0], frames[0], frozenset(passing.notes)
 
 
 @lru_cache(1000)

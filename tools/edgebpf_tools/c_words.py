@@ -13,10 +13,6 @@ LOCAL_ARRAY = (
     "a local array cannot be indexed by a variable. Use the end of the record in its place, which may be: give it more bytes, and index "
     "SCRATCH(edge, u8) with an index that was compared with a constant"
 )
-LENT_VARIABLE = (
-    "{function} is handed the address of a local variable, at {place}. Hand it the value and return the new one, or declare it INLINE in "
-    "place of FUNCTION or static"
-)
 UNDEFINED = (
     "set the variable on each way that leads here; clang also leaves out what C does not define, as a shift by more bits than there are"
 )
@@ -73,14 +69,8 @@ class CWords:
 
     def advice(self, cause, pc, known, usual):
         """What helps at a refused instruction. `known` has what was known of the registers that it reads."""
-        function, _ = self.program.places[pc]
         if cause in (POINTER_USE, OUT_OF_RANGE) and any(value.startswith("stack") for value in known.values()) and len(known) > 1:
             return LOCAL_ARRAY
-        lent = self.program.lent.get(function, {})
-        for register, value in known.items():
-            if cause == UNSET_REGISTER and value == "nothing" and int(register[1:]) in lent:
-                place = self.objects.place(*lent[int(register[1:])]).removesuffix(": ")
-                return LENT_VARIABLE.format(function=function.name, place=place)
         if cause == UNSET_REGISTER:
             return UNDEFINED
         if cause == OUT_OF_RANGE and any(" to " in value and not value.startswith("record") for value in known.values()):

@@ -55,6 +55,8 @@ class Instruction:
     text: str
     known: list[tuple[str, str]] | None = None
     is_reached: bool = True
+    # Of a function's first instruction the call that is told.
+    called_at: int | None = None
 
 
 @dataclass
@@ -77,11 +79,11 @@ class Way:
 
 
 def known_things(line):
-    """What is known, as names and values: `  r1 record+0  bytes -8 to -1` and the like."""
+    """What is known, as names and values: `  r1 record+0  bytes[0] -8 to -1` and the like."""
     things = []
     for thing in line.strip().split("  "):
         words = thing.split(" ")
-        count = 2 if words[0] == "slot" else 1
+        count = 2 if words[0].startswith("slot") else 1
         things.append((" ".join(words[:count]), " ".join(words[count:])))
     return things
 
@@ -90,7 +92,7 @@ def read(text):
     """What the text of the program tells."""
     told = Told()
     lines = text.splitlines()
-    told.head = lines[0]
+    told.head, called_at = lines[0], None
     for number, line in enumerate(lines[1:], 1):
         if line.startswith(("accepted", "refused")):
             told.end = lines[number:]
@@ -100,9 +102,12 @@ def read(text):
                 told.listing[-1].is_reached = False
             else:
                 told.listing[-1].known = known_things(line)
+        elif line.startswith("called at "):
+            called_at = int(line.removeprefix("called at "))
         else:
             pc, source_line, statement = INSTRUCTION.fullmatch(line).groups()
-            told.listing.append(Instruction(int(pc), source_line and int(source_line), statement))
+            told.listing.append(Instruction(int(pc), source_line and int(source_line), statement, called_at=called_at))
+            called_at = None
     return told
 
 
@@ -175,6 +180,8 @@ def drawing(found, count):
 def known_text(instruction):
     """What is known before an instruction, as the panel shows it."""
     head = f"<h2>Before {instruction.pc}: <code>{html.escape(instruction.text)}</code></h2>"
+    if instruction.called_at is not None:
+        head += f'<p class="note">A function begins here, called at {instruction.called_at}.</p>'
     if not instruction.is_reached:
         return head + '<p class="note">No run comes here.</p>'
     if instruction.known is None:

@@ -5,7 +5,7 @@ from dataclasses import dataclass, field
 from functools import lru_cache
 
 from edgebpf_tools.blocks import CALL, EXIT, LOCAL_CALL, WIDE, is_branch
-from edgebpf_tools.values import ALL_32, ALL_64, ANYTHING, NUMBER, RECORD, STACK, Value, computed, constant, extended, joined, narrowed, number, settled
+from edgebpf_tools.values import ALL_32, ALL_64, ANYTHING, NUMBER, RECORD, STACK, UNSET, Value, computed, constant, extended, joined, narrowed, number, settled
 
 FRAME_REGISTER = 10
 OPERATIONS = {0: "add", 1: "sub", 2: "mul", 4: "or", 5: "and", 6: "lsh", 7: "rsh", 10: "xor", 11: "mov", 12: "arsh"}
@@ -79,6 +79,19 @@ def access_of(fields):
     return None
 
 
+def copies_frame_register(blocks):
+    """Whether an address in the frame stands in another register or in memory, so that a function that is called may be handed it.
+    An access through the frame register itself makes no such address."""
+    all_fields = [Fields.of(instruction.units) for block in blocks.values() for instruction in block.instructions]
+    read = [fields for fields in all_fields if fields.source == FRAME_REGISTER]
+    return any(fields.is_arithmetic and fields.by_register or fields.opcode in REGISTER_STORES for fields in read)
+
+
+def may_be_handed(state):
+    """Whether a function that is called here may be handed an address in a frame."""
+    return any(value.kind in (STACK, ANYTHING) for value in state.registers[1:6])
+
+
 @dataclass
 class State:
     """What is known of registers, of places of the frame by offset and size, and of values that were tested, by their marks."""
@@ -110,6 +123,7 @@ class Flow:
 
     def __init__(self, blocks, order, entry):
         self.blocks, self.order = blocks, order
+        self.lends_frame = copies_frame_register(blocks)
         # Marks of values: the same for values that are computed alike of the same ones.
         self.marks, self.meetings, self.results = itertools.count(1), {}, {}
         # The mark of the number whose low half a value is.
@@ -117,7 +131,7 @@ class Flow:
         # Of a value that is another one's bits under a mask, the mark of that one and the mask.
         self.masked = {}
         self.before, self.ends, self.starts = {}, {}, {order[0]: entry}
-        # The state at each call of another function, and where the call stands, by the function.
+        # The state at each call of another function, by the function.
         self.calls = {}
         # The sides of branches that no run takes: the block and which of its ways.
         self.dead = []
@@ -252,7 +266,9 @@ class Flow:
     def _call(self, state, instruction, fields):
         answer = number()
         if fields.source == LOCAL_CALL:
-            self.calls.setdefault(instruction.callee, []).append((state.copy(), instruction.place))
+            self.calls.setdefault(instruction.callee, []).append(state.copy())
+            if self.lends_frame and may_be_handed(state):
+                state.places.clear()
         else:
             answer = number(0, HELPER_ANSWERS.get(fields.immediate, ALL_64))
             base = state.registers[3]
@@ -260,7 +276,7 @@ class Flow:
                 self._write(state, base, 0, MOST_ROOM, None)
         state.registers[0] = self.marked(answer)
         for register in range(1, 6):
-            state.registers[register] = self.marked(Value())
+            state.registers[register] = self.marked(Value(UNSET))
 
     def _write(self, state, base, offset, size, value):
         if base.kind == RECORD:
@@ -291,7 +307,8 @@ class Flow:
 
 def entry_state(length=None):
     """What is known where a program begins, perhaps with the length of its records."""
-    registers = [Value(mark=-1 - register) for register in range(11)]
+    # The third argument is the address of the table, if there is one.
+    registers = [Value(ANYTHING if register == 3 else UNSET, mark=-1 - register) for register in range(11)]
     registers[1] = Value(RECORD, mark=-2)
     registers[2] = (number(16, 256) if length is None else constant(length))._replace(mark=-3)
     registers[FRAME_REGISTER] = Value(STACK, mark=-20, offset=0)
@@ -301,11 +318,12 @@ def entry_state(length=None):
 def called_state(states):
     """What is known where a function begins, from the states at all calls of it."""
     arguments = [state.registers[1:6] for state in states]
-    registers = [Value(mark=-1 - register) for register in range(11)]
+    registers = [Value(UNSET, mark=-1 - register) for register in range(11)]
     for place in range(5):
         value = arguments[0][place]
         for other in arguments[1:]:
             value = joined(value, other[place], None)
+        # An address in a caller's frame is none in the function's own.
         registers[1 + place] = value._replace(mark=-2 - place) if value.kind != STACK else Value(mark=-2 - place)
     registers[FRAME_REGISTER] = Value(STACK, mark=-20, offset=0)
     return State(registers)
@@ -359,9 +377,9 @@ def _addressing(instruction, after):
     return kept
 
 
-def backward(blocks, order):
+def backward(blocks, order, answers=True):
     """By block, for each place between its instructions: the registers that are read later, and those that addresses are made
-    from."""
+    from. An exit reads the result, unless the function answers nothing."""
     live, addresses = {}, {}
     for label in reversed(order):
         block = blocks[label]
@@ -369,7 +387,7 @@ def backward(blocks, order):
         address = set().union(*(addresses[way][0] for way in block.ways))
         reads, from_here = [read], [address]
         for instruction in reversed(block.instructions):
-            read = (read - writes_of(instruction)) | reads_of(instruction)
+            read = (read - writes_of(instruction)) | (reads_of(instruction) if answers or instruction.opcode != EXIT else set())
             address = _addressing(instruction, address)
             reads.append(read)
             from_here.append(address)

@@ -8,7 +8,6 @@ from edgebpf_tools.flow import Flow, called_state, entry_state
 from edgebpf_tools.refusal import Refusal, needs_package
 from edgebpf_tools.rewriting import Rewriting
 from edgebpf_tools.tables import SECTION as TABLE_SECTION
-from edgebpf_tools.values import STACK
 
 MOST_UNITS = 4096
 EM_BPF = 247
@@ -260,30 +259,26 @@ def _in_order(objects, entry):
     return [(function, parts[function]) for function in reversed(order)]
 
 
-def _rewritten(parts, length, lent):
-    """The instructions of each function, written so that the verifier follows them. Notes which arguments are addresses of a
-    caller's variables, and where such a call stands."""
-    calls = {}
+def _rewritten(parts, length):
+    """The instructions of each function, written so that the verifier follows them. Each stands behind all that call it."""
+    calls, is_read = {}, {parts[0][0]: True}
     for function, blocks in parts:
-        state = called_state([state for state, _ in calls[function]]) if function in calls else entry_state(length)
-        rewriting = Rewriting(blocks, state)
+        state = called_state(calls[function]) if function in calls else entry_state(length)
+        rewriting = Rewriting(blocks, state, is_read.get(function, False))
+        for callee, reads in rewriting.reads_of_results():
+            is_read[callee] = is_read.get(callee, False) or reads
         if any(instruction.callee for block in rewriting.blocks.values() for instruction in block.body):
             for callee, found in Flow(rewriting.blocks, rewriting.order, state).calls.items():
                 calls.setdefault(callee, []).extend(found)
-                for known, place in found:
-                    handed = [register for register in range(1, 6) if known.registers[register].kind == STACK]
-                    lent.setdefault(callee, {}).update({register: (function, place) for register in handed})
         yield function, joined(*placed(rewriting.blocks, rewriting.order))
 
 
 @dataclasses.dataclass(frozen=True)
 class Program:
-    """The code of a program; the function and offset of the object file from which each instruction comes, by its pc; and by function
-    and register, where it is handed the address of a caller's variable."""
+    """The code of a program, and the function and offset of the object file from which each instruction comes, by its pc."""
 
     code: bytes
     places: dict
-    lent: dict
 
 
 def _refuse_size(objects, entry, parts, size):
@@ -298,8 +293,7 @@ def _refuse_size(objects, entry, parts, size):
 
 def link(objects, entry, length=None):
     """The program that begins with a function: it, and behind it those that it calls. Its records have a length, if that is known."""
-    lent = {}
-    parts = list(_rewritten(_in_order(objects, entry), length, lent))
+    parts = list(_rewritten(_in_order(objects, entry), length))
     starts, size = {}, 0
     for function, instructions in parts:
         starts[function] = size
@@ -316,4 +310,4 @@ def link(objects, entry, length=None):
                 distance = starts[instruction.callee] - at - 1
                 units = bytes([CALL, LOCAL_CALL << 4, 0, 0]) + distance.to_bytes(4, "little", signed=True)
             code += units
-    return Program(bytes(code), places, lent)
+    return Program(bytes(code), places)

@@ -2,14 +2,14 @@
 there makes another one equal, and equal registers are copied after a test of one of them."""
 from dataclasses import replace
 
-from edgebpf_tools.blocks import Block, Instruction, in_order
+from edgebpf_tools.blocks import EXIT, Block, Instruction, in_order
 from edgebpf_tools.flow import DOUBLE_LOAD, DOUBLE_STORE, FRAME_REGISTER, Fields, Flow, backward
 from edgebpf_tools.plain_flow import PlainFlow
 from edgebpf_tools.spills import widen_spills
 from edgebpf_tools.values import RECORD, constant
 
 ADD, SUB, OR, XOR, MOVE, SHIFT_SIGNED, SHIFT = 0x0, 0x1, 0x4, 0xA, 0xB, 0xC, 0x7
-MOVE_64, MOVE_32, AND_32, AND_64 = 0xBF, 0xBC, 0x54, 0x57
+MOVE_64, MOVE_32, MOVE_CONSTANT, AND_32, AND_64 = 0xBF, 0xBC, 0xB7, 0x54, 0x57
 # No record has more bytes, so that a larger index is refused whatever is known of it.
 MOST_INDEX = 255
 LEFT_BY_CONSTANT = 0x67
@@ -175,10 +175,10 @@ def _exchanged(instruction, live):
 
 
 class Rewriting:
-    """One function that is written anew."""
+    """One function that is written anew. It answers something, unless no call of it reads the result."""
 
-    def __init__(self, blocks, entry):
-        self.blocks, self.entry = blocks, entry
+    def __init__(self, blocks, entry, answers=True):
+        self.blocks, self.entry, self.answers = blocks, entry, answers
         for block in blocks.values():
             block.body = list(with_extensions(block.body))
         self._take_stock()
@@ -193,6 +193,8 @@ class Rewriting:
         self._copy_after_tests()
         self._take_stock()
         self._show_indices()
+        if not answers:
+            self._set_results()
 
     def _take_stock(self):
         self.order = in_order(self.blocks)
@@ -207,7 +209,7 @@ class Rewriting:
 
     def _replace(self):
         """Instructions by others that compute the same. Returns whether there were any."""
-        (_, addresses), changed = backward(self.blocks, self.order), False
+        (_, addresses), changed = backward(self.blocks, self.order, self.answers), False
         for label, states in self.flow.before.items():
             block, body = self.blocks[label], []
             for place, instruction in enumerate(block.body):
@@ -234,7 +236,7 @@ class Rewriting:
             for place, instruction in enumerate(self.blocks[label].body)
             if _is_from_the_left(instruction, states[place])
         ]
-        live, _ = backward(self.blocks, self.order) if found else ({}, {})
+        live, _ = backward(self.blocks, self.order, self.answers) if found else ({}, {})
         for label, place in reversed(found):
             body = self.blocks[label].body
             body[place : place + 1] = _exchanged(body[place], live[label][place + 1])
@@ -242,7 +244,7 @@ class Rewriting:
 
     def _copy_after_tests(self):
         """After a test of one register, copies it to equal ones from which an address is made."""
-        flow, (_, addresses) = self.flow, backward(self.blocks, self.order)
+        flow, (_, addresses) = self.flow, backward(self.blocks, self.order, self.answers)
         new = max(self.blocks) + 1
         for label in list(flow.before):
             block = self.blocks[label]
@@ -267,6 +269,21 @@ class Rewriting:
                     body += _shown(instruction, state.registers[fields.source], known.before.get(label), place)
                 body.append(instruction)
             self.blocks[label].body = body
+
+    def _set_results(self):
+        """The verifier wants a number as the result of each function, also of one that answers nothing in C."""
+        for label, state in self.flow.ends.items():
+            block = self.blocks[label]
+            if block.ending and block.ending.opcode == EXIT and not state.registers[0].is_number:
+                block.body.append(Instruction(Fields(MOVE_CONSTANT, 0, 0, 0, 0).units(), block.ending.place))
+
+    def reads_of_results(self):
+        """The functions that are called, and whether the result is read after the call: once for each call."""
+        live, _ = backward(self.blocks, self.order, self.answers)
+        for label in self.order:
+            for place, instruction in enumerate(self.blocks[label].body):
+                if instruction.callee is not None:
+                    yield instruction.callee, 0 in live[label][place + 1]
 
     def _copies(self, flow, block, state, taken, addressing):
         fields = Fields.of(block.ending.units)

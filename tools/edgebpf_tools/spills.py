@@ -2,8 +2,8 @@
 from dataclasses import dataclass, replace
 
 from edgebpf_tools.blocks import CALL, LOCAL_CALL, UNIT, Instruction, is_branch
-from edgebpf_tools.flow import FRAME_REGISTER, GATHER, MOST_ROOM, Fields, State, access_of
-from edgebpf_tools.values import STACK
+from edgebpf_tools.flow import FRAME_REGISTER, GATHER, MOST_ROOM, Fields, State, access_of, may_be_handed
+from edgebpf_tools.values import ANYTHING, STACK
 
 FRAME_BYTES = 512
 WORD = 4
@@ -49,6 +49,14 @@ def _base(fields, state):
     return access_of(fields)
 
 
+def _is_somewhere(fields, access, state):
+    """Whether an instruction of a function that makes addresses in its frame may go to any place there: by an address of which nothing
+    is known, or in a function that is called."""
+    if fields.opcode == CALL and fields.source == LOCAL_CALL:
+        return may_be_handed(state)
+    return access is not None and state.registers[access[0]].kind == ANYTHING
+
+
 def _uses(blocks, flow):
     """The accesses to the frame by first byte and size; None if one is somewhere in it."""
     found = {}
@@ -57,6 +65,8 @@ def _uses(blocks, flow):
             instruction = blocks[label].instructions[index]
             fields = Fields.of(instruction.units)
             access = None if is_branch(instruction.units) else _base(fields, state)
+            if flow.lends_frame and _is_somewhere(fields, access, state):
+                return None
             if access is None or state.registers[access[0]].kind != STACK:
                 continue
             base, offset, size = access

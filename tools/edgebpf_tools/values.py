@@ -2,7 +2,8 @@
 from typing import NamedTuple
 
 ALL_64, ALL_32 = 2**64 - 1, 2**32 - 1
-NUMBER, RECORD, STACK, ANYTHING = "number", "record", "stack", "anything"
+# A register that nothing was written to is no pointer; anything may be one.
+NUMBER, RECORD, STACK, UNSET, ANYTHING = "number", "record", "stack", "unset", "anything"
 
 
 def signed_range(bits):

@@ -33,6 +33,7 @@ HELP = {
     15: "AnswerNumber",
     16: "MoreMemory",
     17: "WriteElsewhere",
+    18: "FewerCalls",
 }
 TEXT_ERRORS = {
     1: "it is no statement and no label, or these are not the arguments of its word",

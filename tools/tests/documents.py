@@ -191,12 +191,26 @@ def causes():
         if cause == 7:
             assert "Eight functions, of which each but the last calls\nthe next ten times, are refused at pc 0" in said
             yield "cause_7", refused(chain(8, 10), 7, 0)
+        if cause == 18:
+            assert "Eight functions, of which each but the last\nhas ten times a branch past a call of the next and an exit, and an exit at its end, are refused at pc 0" in said
+            yield "cause_18", refused(branching(8, 10), 18, 0)
         for place, block in enumerate(shown):
             length = 20 if "With record length 20" in said.split(block)[0] else 16
             yield f"cause_{cause}_{place}", refused(block, cause, re.search(r"; pc ([0-9]+)", block)[1], length)
     assert "Nine functions, each of which calls the next, are refused\nat pc 0; eight are not" in part
     # A call and an exit of each of seven, and the two lines of the last one.
     yield "cause_6_eight", Case("graph 4\n" + program(chain(8, 1)), ["program p bound 16 frames 8"])
+
+
+def branching(count, times):
+    """So many functions, of which each but the last has some times a branch past a call of the next and an exit, and then an exit."""
+    lines = []
+    for function in range(count - 1):
+        lines += [f"f{function}:"]
+        for call in range(times):
+            lines += [f"    jeq r0, 0, n{function}_{call}", f"    calllocal f{function + 1}", "    exit", f"n{function}_{call}:"]
+        lines += ["    exit"]
+    return "\n".join([*lines, f"f{count - 1}:", "    mov r0, 0", "    exit"]) + "\n"
 
 
 def chain(count, times):

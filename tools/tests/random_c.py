@@ -13,7 +13,7 @@ TYPES = ["u64", "u64", "u32", "u32", "u16", "u8"]
 class RandomFunction:
     def __init__(self, seed):
         self.random, self.name = random.Random(f"c {seed}"), f"random_{seed}"
-        self.variables, self.helpers, self.arrays = [], [], 0
+        self.variables, self.helpers, self.lenders = [], [], []
 
     def choice(self, values):
         return self.random.choice(values)
@@ -82,6 +82,23 @@ class RandomFunction:
         first = f"gather({self.expression(1)}, ({self.expression(1)}) & 3, words, sizeof words)"
         return [f"{indent}{{ u32 words[{words}]; u64 found = {first}; {target} += ({sums}) * found; }}"]
 
+    def lending(self, indent):
+        """The address of a local variable, of a struct or of an array is handed to a function, and perhaps on to another one."""
+        name, target = f"{self.name}_lent_{len(self.lenders)}", self.choice(self.variables)
+        kind, count = self.choice(["u64", "u32", "u32", "u16", "u8"]), self.choice([1, 1, 2, 4])
+        first, last = "*place", f"place[{count - 1}]"
+        change = f"{last} = ({kind})({first} {self.choice(['+', '^', '*', '-'])} x); {first} += y;"
+        result = self.choice([f"return {last} ^ y;", "return 0;", ""])
+        on = self.choice(["", f"if (x & {self.choice([1, 2, 4])}) {name}_on(place, x >> 3);"])
+        own = self.choice(["", f"{kind} own = ({kind})(x * 3); {name}_on(&own, y); {first} ^= own;"])
+        self.lenders.append(f"FUNCTION void {name}_on({kind} *place, u64 x) {{ *place = ({kind})(*place * 5 + x); }}")
+        self.lenders.append(f"FUNCTION {'u64' if result else 'void'} {name}({kind} *place, u64 x, u64 y) {{ {change} {on} {own} {result} }}")
+        values = ", ".join(f"({kind})({self.expression(1)})" for _ in range(count))
+        call = f"{name}(kept, {self.expression(1)}, {self.expression(1)})"
+        calls = f"{target} += {call};" if result else f"{call};"
+        sums = " + ".join(f"kept[{place}] * {2 * place + 3}ULL" for place in range(count))
+        return [f"{indent}{{ {kind} kept[{count}] = {{{values}}}; {calls} {target} ^= {sums}; }}"]
+
     def chosen(self, depth, indent):
         count = self.random.randint(2, 9)
         lines = [f"{indent}switch (({self.expression(2)}) % {count}) {{"]
@@ -111,8 +128,10 @@ class RandomFunction:
             return self.chosen(depth, indent)
         if kind < 0.88:
             return [f"{indent}edge->argument[({self.expression(1)}) & {ARGUMENT - 1}] = {self.expression(2)};"]
-        if kind < 0.94:
+        if kind < 0.92:
             return [f"{indent}if ({self.condition()}) return {self.expression(2)};"]
+        if kind < 0.96:
+            return self.lending(indent)
         self.helpers.append(f"{self.name}_{len(self.helpers)}")
         return [f"{indent}{self.choice(self.variables)} += {self.helpers[-1]}({self.expression(1)}, {self.expression(1)});"]
 
@@ -131,7 +150,7 @@ class RandomFunction:
             for place, name in enumerate(self.helpers)
         ]
         head = f"u64 {self.name}(struct edge *edge, u64 length) {{"
-        return "\n".join([*functions, head, *declared, *body, f"    return {result};", "}"]) + "\n"
+        return "\n".join([*functions, *self.lenders, head, *declared, *body, f"    return {result};", "}"]) + "\n"
 
 
 def source(first, end):

@@ -8,7 +8,7 @@ HERE = pathlib.Path(__file__).resolve().parent
 sys.path[:0] = [str(HERE.parent.parent / "tests/second_implementation"), str(HERE.parent)]
 
 from bpf import FRAME_BYTES  # noqa: E402
-from verifier import Broken, Refused, State, UNSET, listed, verify, ways_from  # noqa: E402
+from verifier import Passing, Refused, State, UNSET, functions_of, listed, verify  # noqa: E402
 
 from edgebpf_tools.words import CAUSES  # noqa: E402
 
@@ -20,14 +20,16 @@ def ends(low, high):
 def value_text(value):
     if value[0] == "number":
         return ends(*value[1:])
-    return f"stack{value[1] or '+0'}" if value[0] == "stack" else f"{value[0]}+{ends(*value[1:])}"
+    return f"stack[{value[1]}]{value[2] or '+0'}" if value[0] == "stack" else f"{value[0]}+{ends(*value[1:])}"
 
 
 def state_text(state):
     parts = [f"r{register} {value_text(value)}" for register, value in enumerate(state.registers) if value != UNSET]
-    if state.is_set:
-        parts.append(f"bytes {min(state.is_set) - FRAME_BYTES} to {max(state.is_set) - FRAME_BYTES}")
-    return "  ".join(parts + [f"slot {8 * slot - FRAME_BYTES} {value_text(value)}" for slot, value in sorted(state.spilled.items())])
+    for number, frame in enumerate(state.frames):
+        if frame.is_set:
+            parts.append(f"bytes[{number}] {min(frame.is_set) - FRAME_BYTES} to {max(frame.is_set) - FRAME_BYTES}")
+        parts += [f"slot[{number}] {8 * slot - FRAME_BYTES} {value_text(value)}" for slot, value in sorted(frame.spilled.items())]
+    return "  ".join(parts)
 
 
 def operands(instruction):
@@ -38,24 +40,49 @@ def operands(instruction):
     return [parts[2], parts[3][1]] if kind == "alu" and parts[3][0] == "register" else []
 
 
+class Telling(Passing):
+    """The abstract pass, which notes the states of the calls that are open, by pc; and where each function was called, and the states of
+    the first call of it."""
+
+    def __init__(self, functions, length, table):
+        super().__init__(functions, length, table)
+        self.open, self.first, self.last = [], {}, 0
+
+    def through(self, entry, state):
+        self.open.append((entry, self.last, {}))
+        behind = super().through(entry, state)
+        entry, caller, states = self.open.pop()
+        self.first.setdefault(entry, (entry, caller, states))
+        return behind
+
+    def ways(self, state, pc, instruction, units):
+        self.open[-1][2][pc], self.last = state.copy(), pc
+        return super().ways(state, pc, instruction, units)
+
+    def told(self):
+        """What is told: of a refused program the calls that are open, of an accepted one the first call of each function."""
+        return {entry: (caller, states) for entry, caller, states in self.open or self.first.values()}
+
+
 def walk(code, length, table):
     """Prints each instruction with the state before it, up to one that breaks a rule; returns the state there."""
-    instructions, states = listed(code), {0: State.entry(length, table)}
-    for pc, (instruction, units) in instructions.items():
+    instructions = listed(code)
+    telling, refused = Telling(functions_of(instructions), length, table), None
+    try:
+        telling.through(0, State.entry(length, table))
+    except Refused as broken:
+        refused = broken
+    told, states, end = telling.told(), {}, len(code)
+    for pc, (instruction, _) in instructions.items():
+        if pc in telling.functions:
+            caller, states = told.get(pc, (None, None))
+            end = len(code) if refused is None else max(states, default=0) if states else 0
+            if caller is not None and pc:
+                print(f"called at {caller}")
         print(f"{pc}: {instruction}")
-        state = states.pop(pc, None)
-        if state is None:
-            print("    no run comes here")
-            continue
-        before = state.copy()
-        print("    " + state_text(before))
-        try:
-            ways = ways_from(state, length, pc, instruction, units, table)
-        except Broken:
-            return instruction, before
-        for target, after in ways:
-            states[target] = states[target].joined(after) if target in states else after
-    return None, None
+        if states is not None and pc <= end:
+            print("    " + (state_text(states[pc]) if pc in states else "no run comes here"))
+    return (instructions[refused.pc][0], telling.open[-1][2][refused.pc]) if refused else (None, None)
 
 
 def main(length, code, table=b""):

@@ -16,11 +16,12 @@ from edgebpf_tools.words import CAUSES, HELP, in_words, words_of
 STAND_IN = """#!/bin/sh
 echo "program of 5 units, records of $1 bytes"
 echo "0, line 1: lddw r6, 7"
-echo "    r1 record+0  r10 stack+0"
+echo "    r1 record+0  r10 stack[0]+0"
 echo "2, line 2: calllocal f"
-echo "    r1 record+0  r6 7  r10 stack+0  bytes -8 to -5  byte -1  slot -16 stack-8"
+echo "    r1 record+0  r6 7  r10 stack[0]+0  bytes[0] -8 to -5  byte[0] -1  slot[0] -16 stack[0]-8"
 echo "3, line 4: exit"
 echo "    no run comes here"
+echo "called at 2"
 echo "4, line 6: jlt r1, 2 < 3"
 echo "refused at 2, line 2: calllocal f"
 echo "rule 4: asked with $# words, $2, and the text $(tr '\\n' '/')"
@@ -97,8 +98,9 @@ class Explain(unittest.TestCase):
         told = read(self.told())
         self.assertEqual([one.pc for one in told.listing], [0, 2, 3, 4])
         self.assertEqual([one.line for one in told.listing], [1, 2, 4, 6])
-        known = [("r1", "record+0"), ("r6", "7"), ("r10", "stack+0"), ("bytes", "-8 to -5"), ("byte", "-1"), ("slot -16", "stack-8")]
+        known = [("r1", "record+0"), ("r6", "7"), ("r10", "stack[0]+0"), ("bytes[0]", "-8 to -5"), ("byte[0]", "-1"), ("slot[0] -16", "stack[0]-8")]
         self.assertEqual(told.listing[1].known, known)
+        self.assertEqual([one.called_at for one in told.listing], [None, None, None, 2])
         self.assertFalse(told.listing[2].is_reached)
         self.assertIsNone(told.listing[3].known)
         self.assertEqual(len(told.end), 3)
@@ -126,6 +128,7 @@ class Explain(unittest.TestCase):
         self.assertEqual(sorted(tags.paths), ["call", "head-call", "next", "next"])
         self.assertIn("jlt r1, 2 &lt; 3", written)
         self.assertIn("<p>what helps: a &amp; b</p>", written)
+        self.assertIn("A function begins here, called at 2.", written)
         self.assertIn('<li id="pc-2" data-pc="2" tabindex="0" class="refused">', written)
         self.assertNotRegex(written, r"(src|href)=")
 
@@ -166,8 +169,8 @@ class RealRefusals(unittest.TestCase):
 
 class OneSourceOfWords(unittest.TestCase):
     def test_the_words_are_those_of_the_crate(self):
-        """All seventeen rules are found in the source, in the order of their numbers, and each has words that help."""
-        self.assertEqual(len(CAUSES), 17)
+        """All eighteen rules are found in the source, in the order of their numbers, and each has words that help."""
+        self.assertEqual(len(CAUSES), 18)
         self.assertEqual(CAUSES[11], "bytes may lie outside the record or the frame, or a pointer may leave them")
         self.assertEqual(CAUSES[15], "a function answers a pointer")
         self.assertEqual((sorted(HELP), set(HELP.values()) - set(words_of("Advice"))), (sorted(CAUSES), set()))

@@ -26,7 +26,7 @@ from edgebpf_tools.refusal import Refusal  # noqa: E402
 
 FOLDER = TOOLS.parent / "tests" / "from_c"
 FILES = sorted(path for path in FOLDER.glob("*.c") if path.name != "native.c")
-LEVELS = ["-O1", "-O2", "-Os"]
+LEVELS = ["-O1", "-O2", "-O3", "-Os"]
 NATIVE_FLAGS = ["-fwrapv", "-fno-strict-aliasing", "-ffreestanding", "-fPIC", "-shared", "-w"]
 RECORDS = int(os.environ.get("FROM_C_RECORDS", "2"))
 RANDOM_FUNCTIONS = int(os.environ.get("RANDOM_FUNCTIONS", "150"))

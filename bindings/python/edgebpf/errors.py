@@ -24,6 +24,7 @@ CAUSES = {
     15: "a function may end with a pointer in r0",
     16: "out of memory",
     17: "a store or gather goes to the table, which is only read",
+    18: "more than 1,000,000 instructions are to be verified, a function once for each call of it",
 }
 
 TEXT_ERRORS = {

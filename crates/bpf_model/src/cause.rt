@@ -55,4 +55,7 @@ pub enum Cause {
     /// A store, or gather, goes by a pointer into the table.
     #[error("the table is written")]
     ReadOnly = 17,
+    /// The functions count too many instructions, each function once for every call of it in the code.
+    #[error("there are too many calls to verify one by one")]
+    TooManyPairs = 18,
 }

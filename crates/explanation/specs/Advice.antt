@@ -13,10 +13,9 @@ use Rattle.bpf_model.specs.declared.cause.Cause.{Cause}
 use Rattle.bpf_model.specs.declared.cause.Cause.TheVariants as causes
 use Rattle.abstract_values.specs.declared.value.AbstractValue.{AbstractValue}
 use Rattle.abstract_values.specs.declared.value.AbstractValue.TheVariants.{Unset, Number, Record, Stack, Table}
-use Rattle.abstract_state.specs.declared.state.AbstractState.{AbstractState}
-use Rattle.abstract_state.specs.States.{register, entry_state}
+use Rattle.abstract_state.specs.States.{AbstractState, register, entry_state}
 use Rattle.explanation.specs.declared.advice.Advice.{Advice}
-use Rattle.explanation.specs.declared.advice.Advice.TheVariants.{KnownInstructions, LandInside, Unroll, ForwardCalls, EndFunctions, FewerFrames, ShorterRuns, SetRegister, SetResult, CopyFrameRegister, SwapOperands, MoveByConstants, MovePointers, CompareNumbers, NoTables, SpillWhole, TestFirst, KnowTheReach, SetBytes, HelperArguments, KnownHelpers, AnswerNumber, MoreMemory, WriteElsewhere}
+use Rattle.explanation.specs.declared.advice.Advice.TheVariants.{KnownInstructions, LandInside, Unroll, ForwardCalls, EndFunctions, FewerFrames, ShorterRuns, SetRegister, SetResult, CopyFrameRegister, SwapOperands, MoveByConstants, MovePointers, CompareNumbers, NoTables, SpillWhole, TestFirst, KnowTheReach, SetBytes, HelperArguments, KnownHelpers, AnswerNumber, MoreMemory, WriteElsewhere, FewerCalls}
 
 -- a register is read that is not set
 abbrev pub unset_advice : Instruction → Advice
@@ -26,14 +25,14 @@ unset_advice _ = SetRegister
 -- something is added to a value in 64 bits
 abbrev pub sum_advice : (left : AbstractValue) → Advice
 sum_advice (Number lo hi) = SwapOperands
-sum_advice (Stack offset) = MoveByConstants
+sum_advice (Stack frame offset) = MoveByConstants
 sum_advice (Record lo hi) = MovePointers
 sum_advice (Table lo hi) = MovePointers
 sum_advice Unset = MovePointers
 
 -- something is taken from a value in 64 bits
 abbrev pub difference_advice : (left : AbstractValue) → Advice
-difference_advice (Stack offset) = MoveByConstants
+difference_advice (Stack frame offset) = MoveByConstants
 difference_advice _ = MovePointers
 
 abbrev pub alu_advice : Width → Operation → (left : AbstractValue) → Advice
@@ -95,6 +94,7 @@ advice_at causes.UnknownHelper i s = KnownHelpers
 advice_at causes.ResultNotNumber i s = AnswerNumber
 advice_at causes.OutOfMemory i s = MoreMemory
 advice_at causes.ReadOnly i s = WriteElsewhere
+advice_at causes.TooManyPairs i s = FewerCalls
 
 -- where no instruction stands, or nothing is known before it, an exit and the entry serve: no rule of values asks then
 abbrev pub advice_for : Cause → Option Instruction → Option AbstractState → Advice

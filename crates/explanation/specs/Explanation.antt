@@ -1,6 +1,5 @@
 -- The whole text: a program's instructions with what is known before each, and what is said of it in the end.
-use Rattle.std.specs.Prelude.{◌≡◌, ℕ, if◌then◌else◌, List, [], ◌++◌, codes, Option, Some, None, slice_get}
-use Rattle.std.specs.Global.{Box}
+use Rattle.std.specs.Prelude.{◌≡◌, ℕ, ◌+◌, ◌-◌, ◌==◌, ◌&&◌, nat_le, if◌then◌else◌, Bool, List, [], ◌++◌, length, codes, Option, Some, None, slice_get}
 use Rattle.std.specs.Fmt.{decimal}
 use Rattle.std.specs.List.{list_any}
 use Rattle.bpf_isa.specs.declared.register.Register.TheVariants.{R0, R1, R2, R3, R4}
@@ -19,8 +18,10 @@ use Rattle.bpf_model.specs.declared.helper.Helper.{Helper}
 use Rattle.bpf_model.specs.declared.helper.Helper.TheVariants.{Degree, HasEdge, Neighbour, VertexCount, Gather}
 use Rattle.bpf_model.specs.declared.cause.Cause.{Cause}
 use Rattle.bpf_model.specs.declared.cause.Cause.TheVariants as causes
-use Rattle.abstract_state.specs.declared.state.AbstractState.{AbstractState}
+use Rattle.abstract_state.specs.declared.state.Frame.{Frame}
+use Rattle.abstract_state.specs.States.{AbstractState, frame_of}
 use Rattle.verifier.specs.declared.refusal.Refusal.{Refusal}
+use Rattle.verifier.specs.declared.known.KnownPassage.{KnownPassage}
 use Rattle.verifier.specs.Listing.{decoded_one, is_start}
 use Rattle.verifier.specs.Verdict.{Verdict, verdict}
 use Rattle.verifier.specs.Verdict as verdicts
@@ -37,6 +38,7 @@ use Rattle.explanation.specs.Judging.{is_told, is_of_the_whole}
 use Rattle.explanation.specs.Advice.{advice_for}
 use Rattle.explanation.specs.Pieces.{newline, pieces_to}
 use Rattle.explanation.specs.Values.{state_text, frame_text, register_line}
+use Rattle.bpf_model.specs.State.{most_frames}
 use Rattle.explanation.specs.Words.{cause_number, cause_text, advice_text}
 
 -- ---- an instruction
@@ -66,10 +68,40 @@ abbrev pub state_line : Option AbstractState → List ℕ
 state_line None = codes "    no run comes here\n"
 state_line (Some s) = state_text s
 
+-- a passage comes to a pc
+abbrev pub comes_to : KnownPassage → ℕ → Bool
+comes_to t pc = nat_le t.entry pc && nat_le pc t.last
+
+abbrev pub passage_line : (pc : ℕ) → Option KnownPassage → List ℕ
+passage_line pc None = []
+passage_line pc (Some t) = if comes_to t pc then state_line (state_at t.states.items pc) else []
+
+-- what is known in each passage that comes to a pc
+abbrev pub known_piece : List KnownPassage → (pc k : ℕ) → List ℕ
+known_piece told pc k = passage_line pc (slice_get told k)
+
+abbrev pub known_lines : List KnownPassage → ℕ → List ℕ
+known_lines told pc = pieces_to (known_piece told pc) (length told)
+
+-- where a function begins, the call: it stands at the last pc of the passage before
+abbrev pub call_line : (pc : ℕ) → (before after : Option KnownPassage) → List ℕ
+call_line pc (Some t) (Some u) = if u.entry == pc then label_text labels.Called ++ decimal t.last ++ newline else []
+call_line pc (Some t) None = []
+call_line pc None after = []
+
+abbrev pub call_piece : List KnownPassage → (pc k : ℕ) → List ℕ
+call_piece told pc k = call_line pc (slice_get told k) (slice_get told (k + 1))
+
+abbrev pub call_lines : List KnownPassage → ℕ → List ℕ
+call_lines told pc = pieces_to (call_piece told pc) (length told)
+
+abbrev pub if_told : Bool → List ℕ → List ℕ
+if_told is_told text = if is_told then text else []
+
 -- what is told at a pc: nothing at the second unit of a wide instruction
-abbrev pub pc_text : Program → List SourceLine → Judgement → List (Option (Box AbstractState)) → ℕ → List ℕ
-pc_text p source judgement states pc =
-    if is_start p pc then instruction_line p source pc (starts_below p pc) ++ (if is_told judgement pc then state_line (state_at states pc) else [])
+abbrev pub pc_text : Program → List SourceLine → Judgement → List KnownPassage → ℕ → List ℕ
+pc_text p source judgement told pc =
+    if is_start p pc then if_told (is_told judgement) (call_lines told pc) ++ (instruction_line p source pc (starts_below p pc) ++ if_told (is_told judgement) (known_lines told pc))
     else []
 
 -- ---- what is said of the program
@@ -108,15 +140,19 @@ read_lines s (Store size base offset immediate) = register_line s base
 read_lines s (StoreRegister size base offset source) = register_line s base ++ register_line s source
 read_lines s (Wide destination value) = []
 
--- and of the frame, where it is asked which bytes are set
-abbrev pub set_text : AbstractState → List ℕ
-set_text s = if list_any (λ is_set. is_set) s.bytes_set then frame_text s else label_text labels.NoByte
+-- and of each live frame, where it is asked which bytes are set
+abbrev pub set_text : Frame → (number : ℕ) → List ℕ
+set_text f number = if list_any (λ is_set. is_set) f.bytes_set then frame_text f number else label_text labels.NoByte
 
-abbrev pub set_bytes_line : AbstractState → List ℕ
-set_bytes_line s = label_text labels.Frame ++ set_text s ++ newline
+abbrev pub set_bytes_line : Option Frame → (number : ℕ) → List ℕ
+set_bytes_line None number = []
+set_bytes_line (Some f) number = label_text labels.Frame ++ decimal number ++ codes ":" ++ set_text f number ++ newline
+
+abbrev pub set_bytes_piece : AbstractState → (number : ℕ) → List ℕ
+set_bytes_piece s number = set_bytes_line (frame_of s number) number
 
 abbrev pub frame_lines : Cause → AbstractState → List ℕ
-frame_lines causes.UnsetStackByte s = set_bytes_line s
+frame_lines causes.UnsetStackByte s = pieces_to (set_bytes_piece s) most_frames
 frame_lines _ s = []
 
 abbrev pub broken_lines : Cause → Option Instruction → Option AbstractState → List ℕ
@@ -124,7 +160,7 @@ broken_lines cause (Some i) (Some s) = read_lines s i ++ frame_lines cause s
 broken_lines cause (Some i) None = []
 broken_lines cause None known = []
 
--- where a program is refused: two rules are of it as a whole
+-- where a program is refused: some rules are of it as a whole
 abbrev pub refused_line : Program → List SourceLine → Refusal → List ℕ
 refused_line p source r =
     if is_of_the_whole r.cause then codes "refused as a whole\n" else codes "refused at " ++ instruction_line p source r.pc (starts_below p r.pc)
@@ -135,25 +171,33 @@ rule_line cause = codes "rule " ++ decimal (cause_number cause) ++ codes ": " ++
 abbrev pub advice_line : Advice → List ℕ
 advice_line advice = label_text labels.Help ++ advice_text advice ++ newline
 
-abbrev pub refused_text : Program → List SourceLine → List (Option (Box AbstractState)) → Refusal → List ℕ
-refused_text p source states r =
-    refused_line p source r ++ (rule_line r.cause ++ (broken_lines r.cause (decoded_at p r.pc) (state_at states r.pc) ++ advice_line (advice_for r.cause (decoded_at p r.pc) (state_at states r.pc))))
+-- what is known where the last passage ends: a rule of values is broken there
+abbrev pub end_state : Option KnownPassage → Option AbstractState
+end_state None = None
+end_state (Some t) = state_at t.states.items t.last
+
+abbrev pub broken_state : List KnownPassage → Option AbstractState
+broken_state told = end_state (slice_get told (length told - 1))
+
+abbrev pub refused_text : Program → List SourceLine → List KnownPassage → Refusal → List ℕ
+refused_text p source told r =
+    refused_line p source r ++ (rule_line r.cause ++ (broken_lines r.cause (decoded_at p r.pc) (broken_state told) ++ advice_line (advice_for r.cause (decoded_at p r.pc) (broken_state told))))
 
 abbrev pub accepted_text : (bound frames : ℕ) → List ℕ
 accepted_text bound frames = label_text labels.Accepted ++ decimal bound ++ label_text labels.Frames ++ decimal frames ++ newline
 
-abbrev pub end_text : Program → List SourceLine → List (Option (Box AbstractState)) → Judgement → List ℕ
-end_text p source states (Accepted bound frames) = accepted_text bound frames
-end_text p source states (Refused r) = refused_text p source states r
+abbrev pub end_text : Program → List SourceLine → List KnownPassage → Judgement → List ℕ
+end_text p source told (Accepted bound frames) = accepted_text bound frames
+end_text p source told (Refused r) = refused_text p source told r
 
 -- ---- all of it
 
 abbrev pub head_text : Program → List ℕ
 head_text p = label_text labels.Program ++ decimal (units p) ++ label_text labels.Records ++ decimal p.record_length ++ label_text labels.Bytes
 
-abbrev pub explanation_text : Program → List SourceLine → List (Option (Box AbstractState)) → Judgement → List ℕ
-explanation_text p source states judgement =
-    head_text p ++ (pieces_to (pc_text p source judgement states) (units p) ++ end_text p source states judgement)
+abbrev pub explanation_text : Program → List SourceLine → List KnownPassage → Judgement → List ℕ
+explanation_text p source told judgement =
+    head_text p ++ (pieces_to (pc_text p source judgement told) (units p) ++ end_text p source told judgement)
 
 -- the verdict that a judgement stands for
 abbrev pub verdict_of : Judgement → Verdict
@@ -162,7 +206,7 @@ verdict_of (Refused r) = verdicts.Refused r
 
 -- a text and a judgement explain a program: the judgement is its verdict, and the text tells it with what is known at the pcs
 pub record Explains (p : Program) (source : List SourceLine) (text : List ℕ) (judgement : Judgement) : Type 0 where
-  pub states : List (Option (Box AbstractState))
-  pub is_known : IsKnown p states
+  pub told : List KnownPassage
+  pub is_known : IsKnown p told
   pub is_verdict : verdict p ≡ verdict_of judgement
-  pub is_told_so : text ≡ explanation_text p source states judgement
+  pub is_told_so : text ≡ explanation_text p source told judgement

@@ -1,5 +1,5 @@
 -- Which rules look at what is known, and where it is told.
-use Rattle.std.specs.Prelude.{ℕ, ◌<◌, ◌&&◌, nat_le, Bool, true, false, ⊤}
+use Rattle.std.specs.Prelude.{ℕ, ◌<◌, Bool, true, false, ⊤}
 use Rattle.bpf_model.specs.declared.cause.Cause.{Cause}
 use Rattle.bpf_model.specs.declared.cause.Cause.TheVariants as causes
 use Rattle.explanation.specs.declared.judgement.Judgement.{Judgement}
@@ -24,16 +24,18 @@ judges_values causes.UnknownHelper = true
 judges_values causes.ResultNotNumber = true
 judges_values causes.OutOfMemory = false
 judges_values causes.ReadOnly = true
+judges_values causes.TooManyPairs = false
 
--- what is known is told of all pcs of an accepted program, and of those up to the one that breaks a rule of values
-abbrev pub is_told : Judgement → ℕ → Bool
-is_told (Accepted bound frames) pc = true
-is_told (Refused r) pc = judges_values r.cause && nat_le pc r.pc
+-- what is known is told of an accepted program, and of one that breaks a rule of values
+abbrev pub is_told : Judgement → Bool
+is_told (Accepted bound frames) = true
+is_told (Refused r) = judges_values r.cause
 
 -- a rule of the program as a whole
 abbrev pub is_of_the_whole : Cause → Bool
 is_of_the_whole causes.TooDeep = true
 is_of_the_whole causes.TooLong = true
+is_of_the_whole causes.TooManyPairs = true
 is_of_the_whole _ = false
 
 -- a refusal stands inside a code of so many units

@@ -23,6 +23,7 @@ cause_number causes.UnknownHelper = 14
 cause_number causes.ResultNotNumber = 15
 cause_number causes.OutOfMemory = 16
 cause_number causes.ReadOnly = 17
+cause_number causes.TooManyPairs = 18
 
 abbrev pub cause_text : Cause → List ℕ
 cause_text causes.BadInstruction = codes "no instruction stands there"
@@ -42,6 +43,7 @@ cause_text causes.UnknownHelper = codes "there is no helper of this number"
 cause_text causes.ResultNotNumber = codes "a function answers a pointer"
 cause_text causes.OutOfMemory = codes "there was no memory to verify it"
 cause_text causes.ReadOnly = codes "a store or gather goes to the table, which is only read"
+cause_text causes.TooManyPairs = codes "more than 1,000,000 instructions are to be verified: a function counts once for each call of it in the code"
 
 abbrev pub advice_text : Advice → List ℕ
 advice_text advice.KnownInstructions = codes "use the instructions of RFC 9669, groups base64 and divmul64: there are no atomic ones, and none for the address of a table in .rodata or of other data"
@@ -68,3 +70,4 @@ advice_text advice.KnownHelpers = codes "the helpers are 1 degree, 2 has_edge, 3
 advice_text advice.AnswerNumber = codes "answer a number, such as the one to which the pointer points"
 advice_text advice.MoreMemory = codes "try again with more memory"
 advice_text advice.WriteElsewhere = codes "write to the record or the frame; copy there what is to change"
+advice_text advice.FewerCalls = codes "call functions at fewer places, above all those that call others, and drop functions that no run reaches"

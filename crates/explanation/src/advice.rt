@@ -69,6 +69,8 @@ pub(crate) enum Advice {
     MoreMemory,
     /// The table is written.
     WriteElsewhere,
+    /// Functions are called at too many places.
+    FewerCalls,
 }
 
 fn advice_on_unset(instruction: Instruction) -> Advice
@@ -202,5 +204,6 @@ pub(crate) fn advice_at(cause: Cause, instruction: Instruction, state: &Abstract
         Cause::ResultNotNumber => Advice::AnswerNumber,
         Cause::OutOfMemory => Advice::MoreMemory,
         Cause::ReadOnly => Advice::WriteElsewhere,
+        Cause::TooManyPairs => Advice::FewerCalls,
     }
 }

@@ -1,7 +1,9 @@
 //! What is said of a program in the end: why it is refused, or how long its runs are.
-ghost use Rattle.std.specs.Prelude.{◌≡◌, ◌<◌, ◌++◌, OnOk, string_bytes, option_map};
+ghost use Rattle.std.specs.Prelude.{◌≡◌, ◌<◌, ◌++◌, OnOk, string_bytes, option_map, Some};
 ghost use Rattle.bpf_image.specs.Program.{units};
 ghost use Rattle.std.specs.List.{list_any};
+ghost use Rattle.bpf_model.specs.State.{most_frames};
+ghost use Rattle.explanation.specs.Pieces.{pieces_to};
 ghost use Rattle.explanation.specs.Judging.{StandsInside};
 ghost use Rattle.explanation.specs.Starts.{starts_below};
 ghost use Rattle.explanation.specs.Advice.{advice_for};
@@ -11,6 +13,7 @@ ghost use Rattle.explanation.specs.Explanation.{
   argument_lines,
   read_lines,
   set_bytes_line,
+  set_bytes_piece,
   frame_lines,
   broken_lines,
   refused_line,
@@ -26,16 +29,16 @@ use crate::cursor::Cursor;
 use crate::instructions::{decoded, put_instruction};
 use crate::judgement::{Judgement, is_of_the_whole};
 use crate::labels::{Label, words_of_label};
-use crate::listing::known_at;
+use crate::listing::known_at_end;
 use crate::source::SourceLine;
 use crate::values::{put, put_field, put_frame, put_register_line};
 use crate::words::{words_of_advice, words_of_cause};
-use abstract_state::AbstractState;
+use abstract_state::{AbstractState, Frame};
 use bpf_image::{Image, Lengths};
 use bpf_isa::{Instruction, Operand, Operation, Register};
-use bpf_model::{Cause, Helper};
+use bpf_model::{Cause, Helper, MOST_FRAMES};
 use std::alloc::AllocError;
-use verifier::Refusal;
+use verifier::{KnownPassage, Refusal};
 
 /// Which instruction it is that starts at a pc, from 0.
 #[tactic(auto, using(crate::proofs::Starts::at_first))]
@@ -140,32 +143,59 @@ fn put_read(
     }
 }
 
-/// Whether a byte of the frame is set.
-fn has_set_bytes(state: &AbstractState) -> bool
-    ensures { result ≡ list_any (λ is_set. is_set) state.now.bytes_set }
+/// Whether a byte of a frame is set.
+fn has_set_bytes(frame: &Frame) -> bool
+    ensures { result ≡ list_any (λ is_set. is_set) frame.now.bytes_set }
 {
-    state.bytes_set.iter().any(|is_set| *is_set)
+    frame.bytes_set.iter().any(|is_set| *is_set)
 }
 
-/// Writes which bytes of the frame are set, or that none is.
-fn put_set_bytes(text: &mut String, state: &AbstractState) -> Result<(), AllocError>
-    ensures { OnOk result (string_bytes text.new ≡ string_bytes text.old ++ set_bytes_line state.now) }
+/// Writes which bytes of a frame are set, or that none is.
+fn put_set_bytes(text: &mut String, frame: &Frame, number: u64) -> Result<(), AllocError>
+    ensures { OnOk result (string_bytes text.new ≡ string_bytes text.old ++ set_bytes_line (Some frame.now) number) }
 {
-    put(text, words_of_label(Label::Frame))?;
-    if has_set_bytes(state) {
-        put_frame(text, state)?;
+    put_field(text, words_of_label(Label::Frame), number)?;
+    put(text, ":")?;
+    if has_set_bytes(frame) {
+        put_frame(text, frame, number)?;
     } else {
         put(text, words_of_label(Label::NoByte))?;
     }
     put(text, "\n")
 }
 
-/// Writes what is known of the frame, where it is asked which bytes are set.
-fn put_asked_frame(text: &mut String, state: &AbstractState, cause: Cause) -> Result<(), AllocError>
+/// Writes which bytes are set of the frame of a number, if it is live.
+fn put_set_bytes_of(text: &mut String, state: &AbstractState, number: u8) -> Result<(), AllocError>
+    ensures { OnOk result (string_bytes text.new ≡ string_bytes text.old ++ set_bytes_piece state.now number) }
+{
+    match state.frame(number) {
+        None => Ok(()),
+        Some(frame) => put_set_bytes(text, frame, u64::from(number)),
+    }
+}
+
+/// Writes which bytes are set of each live frame.
+#[tactic(auto, using(crate::proofs::Written::pieces_none, crate::proofs::Written::written_more))]
+fn put_all_set_bytes(text: &mut String, state: &AbstractState) -> Result<(), AllocError>
+    ensures { OnOk result (string_bytes text.new
+        ≡ string_bytes text.old ++ pieces_to (set_bytes_piece state.now) most_frames) }
+{
+    for number in 0..MOST_FRAMES as u8 {
+        put_set_bytes_of(text, state, number)?;
+    }
+    Ok(())
+}
+
+/// Writes what is known of the frames, where it is asked which bytes are set.
+fn put_asked_frames(
+    text: &mut String,
+    state: &AbstractState,
+    cause: Cause,
+) -> Result<(), AllocError>
     ensures { OnOk result (string_bytes text.new ≡ string_bytes text.old ++ frame_lines cause state.now) }
 {
     match cause {
-        Cause::UnsetStackByte => put_set_bytes(text, state),
+        Cause::UnsetStackByte => put_all_set_bytes(text, state),
         _ => Ok(()),
     }
 }
@@ -183,7 +213,7 @@ fn put_broken(
     match (instruction, state) {
         (Some(instruction), Some(state)) => {
             put_read(text, state, instruction)?;
-            put_asked_frame(text, state, cause)
+            put_asked_frames(text, state, cause)
         }
         _ => Ok(()),
     }
@@ -252,15 +282,15 @@ fn put_refusal(
     text: &mut String,
     image: &Image,
     source: &[SourceLine<'_>],
-    states: &[Option<Box<AbstractState>>],
+    told: &[KnownPassage],
     refusal: Refusal,
 ) -> Result<(), AllocError>
     requires { refusal.pc < units image.now }
     ensures { OnOk result (string_bytes text.new
-        ≡ string_bytes text.old ++ refused_text image.now source.now states.now refusal) }
+        ≡ string_bytes text.old ++ refused_text image.now source.now told.now refusal) }
 {
     let instruction = decoded(image, refusal.pc);
-    let state = known_at(states, refusal.pc);
+    let state = known_at_end(told);
     put_refused_place(text, image, source, refusal)?;
     put_rule(text, refusal.cause)?;
     put_broken(text, refusal.cause, instruction, state)?;
@@ -281,15 +311,15 @@ pub(crate) fn put_end(
     text: &mut String,
     image: &Image,
     source: &[SourceLine<'_>],
-    states: &[Option<Box<AbstractState>>],
+    told: &[KnownPassage],
     judgement: Judgement,
 ) -> Result<(), AllocError>
     requires { StandsInside (units image.now) judgement }
     ensures { OnOk result (string_bytes text.new
-        ≡ string_bytes text.old ++ end_text image.now source.now states.now judgement) }
+        ≡ string_bytes text.old ++ end_text image.now source.now told.now judgement) }
 {
     match judgement {
         Judgement::Accepted { bound, frames } => put_accepted(text, bound, frames),
-        Judgement::Refused(refusal) => put_refusal(text, image, source, states, refusal),
+        Judgement::Refused(refusal) => put_refusal(text, image, source, told, refusal),
     }
 }

@@ -11,11 +11,10 @@ use crate::labels::{Label, words_of_label};
 use crate::listing::put_listing;
 use crate::source::SourceLine;
 use crate::values::{put, put_field};
-use abstract_state::AbstractState;
 use bpf_image::Image;
 use bpf_model::Cause;
 use std::alloc::{AllocError, Global};
-use verifier::{Refusal, known_states, verify};
+use verifier::{KnownPassage, Refusal, known_states, verify};
 
 /// A refusal for lack of memory is an error here. Any other is none: it says something of the program.
 fn rule_or_memory(refusal: Refusal) -> Result<(), AllocError>
@@ -52,17 +51,17 @@ fn write_all(
     alloc: Global,
     image: &Image,
     source: &[SourceLine<'_>],
-    states: &[Option<Box<AbstractState>>],
+    told: &[KnownPassage],
     judgement: Judgement,
 ) -> Result<String, AllocError>
     requires { StandsInside (units image.now) judgement }
     ensures { IfOk result (λ text. string_bytes text
-        ≡ explanation_text image.now source.now states.now judgement) }
+        ≡ explanation_text image.now source.now told.now judgement) }
 {
     let mut text = String::new(alloc);
     put_head(&mut text, image)?;
-    put_listing(&mut text, image, source, judgement, states)?;
-    put_end(&mut text, image, source, states, judgement)?;
+    put_listing(&mut text, image, source, judgement, told)?;
+    put_end(&mut text, image, source, told, judgement)?;
     Ok(text)
 }
 
@@ -87,20 +86,20 @@ pub fn explain(
 {
     // An image has code, so that a unit which is refused stands in it.
     let _code = image.code();
-    let states = known_states(alloc, &image)?;
+    let told = known_states(alloc, &image)?;
     match verify(alloc, image) {
         Ok(verified) => {
             let judgement = Judgement::Accepted {
                 bound: verified.bound(),
                 frames: verified.frames(),
             };
-            let text = write_all(alloc, verified.image(), source, &states, judgement)?;
+            let text = write_all(alloc, verified.image(), source, &told, judgement)?;
             Ok(Explanation { text, judgement })
         }
         Err((image, refusal)) => {
             rule_or_memory(refusal)?;
             let judgement = Judgement::Refused(refusal);
-            let text = write_all(alloc, &image, source, &states, judgement)?;
+            let text = write_all(alloc, &image, source, &told, judgement)?;
             Ok(Explanation { text, judgement })
         }
     }

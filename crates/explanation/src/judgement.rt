@@ -26,6 +26,7 @@ pub(crate) fn judges_values(cause: Cause) -> bool
         | Cause::FallsOff
         | Cause::TooDeep
         | Cause::TooLong
+        | Cause::TooManyPairs
         | Cause::OutOfMemory => false,
         Cause::UnsetRegister
         | Cause::FrameRegister
@@ -43,17 +44,17 @@ pub(crate) fn judges_values(cause: Cause) -> bool
 pub(crate) fn is_of_the_whole(cause: Cause) -> bool
     ensures { result ≡ is_of_the_whole_of cause }
 {
-    matches!(cause, Cause::TooDeep | Cause::TooLong)
+    matches!(cause, Cause::TooDeep | Cause::TooLong | Cause::TooManyPairs)
 }
 
 impl Judgement {
-    /// Whether it is told what is known at a pc.
-    pub(crate) fn tells(self, pc: usize) -> bool
-        ensures { result ≡ is_told self pc }
+    /// Whether it is told what is known at the pcs.
+    pub(crate) fn tells(self) -> bool
+        ensures { result ≡ is_told self }
     {
         match self {
             Judgement::Accepted { .. } => true,
-            Judgement::Refused(refusal) => judges_values(refusal.cause) && pc <= refusal.pc,
+            Judgement::Refused(refusal) => judges_values(refusal.cause),
         }
     }
 }

@@ -17,10 +17,12 @@ pub(crate) enum Label {
     Frames,
     /// Before what usually helps.
     Help,
-    /// Before what is known of the frame.
+    /// Before the number of a frame, of which it is told what is known.
     Frame,
     /// Where no byte of it is set.
     NoByte,
+    /// Before the pc from which a function is called.
+    Called,
 }
 
 /// The part itself.
@@ -35,7 +37,8 @@ pub(crate) fn words_of_label(which: Label) -> &'static str
         Label::Accepted => "accepted, bound ",
         Label::Frames => ", frames ",
         Label::Help => "what helps: ",
-        Label::Frame => "known of the frame:",
+        Label::Frame => "known of frame ",
         Label::NoByte => " no byte is set",
+        Label::Called => "called at ",
     }
 }

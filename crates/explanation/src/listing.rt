@@ -1,22 +1,32 @@
 //! The listing: each instruction, and what is known before it.
-ghost use Rattle.std.specs.Prelude.{◌≡◌, ◌++◌, OnOk, string_bytes, option_map};
+ghost use Rattle.std.specs.Prelude.{◌≡◌, ◌++◌, OnOk, string_bytes, option_map, slice_get};
 ghost use Rattle.bpf_image.specs.Program.{units};
 ghost use Rattle.verifier.specs.Tables.{state_at};
 ghost use Rattle.explanation.specs.Pieces.{pieces_to};
-ghost use Rattle.explanation.specs.Explanation.{pc_text, state_line};
+ghost use Rattle.explanation.specs.Explanation.{
+  pc_text,
+  state_line,
+  passage_line,
+  known_lines,
+  call_line,
+  call_lines,
+  broken_state,
+};
 ghost use Rattle.explanation.specs.Starts.{IsAt};
 
 use crate::cursor::Cursor;
 use crate::instructions::put_instruction;
 use crate::judgement::Judgement;
+use crate::labels::{Label, words_of_label};
 use crate::source::SourceLine;
-use crate::values::{put, put_state};
+use crate::values::{put, put_field, put_state};
 use abstract_state::AbstractState;
 use bpf_image::Image;
 use std::alloc::AllocError;
+use verifier::KnownPassage;
 
 /// What is known at a pc, if any run comes there.
-pub(crate) fn known_at(states: &[Option<Box<AbstractState>>], pc: usize) -> Option<&AbstractState>
+fn known_at(states: &[Option<Box<AbstractState>>], pc: usize) -> Option<&AbstractState>
     ensures { option_map (λ s. s.now) result ≡ state_at states.now pc }
 {
     if pc >= states.len() {
@@ -25,6 +35,23 @@ pub(crate) fn known_at(states: &[Option<Box<AbstractState>>], pc: usize) -> Opti
     match &states[pc] {
         None => None,
         Some(state) => Some(state),
+    }
+}
+
+/// The passage of a number, if there is one.
+fn passage_at(told: &[KnownPassage], k: usize) -> Option<&KnownPassage>
+    ensures { option_map (λ t. t.now) result ≡ slice_get told.now k }
+{
+    told.get(k)
+}
+
+/// What is known where the last passage ends.
+pub(crate) fn known_at_end(told: &[KnownPassage]) -> Option<&AbstractState>
+    ensures { option_map (λ s. s.now) result ≡ broken_state told.now }
+{
+    match passage_at(told, told.len().saturating_sub(1)) {
+        None => None,
+        Some(passage) => known_at(&passage.states, passage.last),
     }
 }
 
@@ -39,6 +66,64 @@ fn put_known_line(text: &mut String, state: Option<&AbstractState>) -> Result<()
     }
 }
 
+/// Writes what is known at a pc in a passage, if it comes there.
+fn put_passage_line(
+    text: &mut String,
+    passage: Option<&KnownPassage>,
+    pc: usize,
+) -> Result<(), AllocError>
+    ensures { OnOk result (string_bytes text.new
+        ≡ string_bytes text.old ++ passage_line pc (option_map (λ t. t.now) passage.entry)) }
+{
+    match passage {
+        Some(passage) if passage.entry <= pc && pc <= passage.last => {
+            put_known_line(text, known_at(&passage.states, pc))
+        }
+        _ => Ok(()),
+    }
+}
+
+/// Writes what is known at a pc in each passage that comes there.
+#[tactic(auto, using(crate::proofs::Written::pieces_none, crate::proofs::Written::written_more))]
+fn put_known_lines(text: &mut String, told: &[KnownPassage], pc: usize) -> Result<(), AllocError>
+    ensures { OnOk result (string_bytes text.new ≡ string_bytes text.old ++ known_lines told.now pc) }
+{
+    for k in 0..told.len() {
+        put_passage_line(text, passage_at(told, k), pc)?;
+    }
+    Ok(())
+}
+
+/// Writes from where a passage is called, if it begins at a pc: `before` is the one that calls it.
+fn put_call_line(
+    text: &mut String,
+    before: Option<&KnownPassage>,
+    passage: Option<&KnownPassage>,
+    pc: usize,
+) -> Result<(), AllocError>
+    ensures { OnOk result (string_bytes text.new ≡ string_bytes text.old
+        ++ call_line pc (option_map (λ t. t.now) before.entry) (option_map (λ t. t.now) passage.entry)) }
+{
+    match (before, passage) {
+        (Some(before), Some(passage)) if passage.entry == pc => {
+            put_field(text, words_of_label(Label::Called), before.last as u64)?;
+            put(text, "\n")
+        }
+        _ => Ok(()),
+    }
+}
+
+/// Writes from where the function is called that begins at a pc, if a passage of it is told.
+#[tactic(auto, using(crate::proofs::Written::pieces_none, crate::proofs::Written::written_more))]
+fn put_call_lines(text: &mut String, told: &[KnownPassage], pc: usize) -> Result<(), AllocError>
+    ensures { OnOk result (string_bytes text.new ≡ string_bytes text.old ++ call_lines told.now pc) }
+{
+    for k in 0..told.len() {
+        put_call_line(text, passage_at(told, k), passage_at(told, k + 1), pc)?;
+    }
+    Ok(())
+}
+
 /// Writes the instruction that starts at a pc, and what is known before it; nothing where none starts.
 #[tactic(auto, using(crate::proofs::Starts::starts_here, crate::proofs::Starts::starts_not))]
 fn put_pc(
@@ -46,20 +131,24 @@ fn put_pc(
     image: &Image,
     source: &[SourceLine<'_>],
     judgement: Judgement,
-    states: &[Option<Box<AbstractState>>],
+    told: &[KnownPassage],
     pc: usize,
     cursor: Cursor,
 ) -> Result<(), AllocError>
     requires { IsAt image.now pc cursor }
     ensures { OnOk result (string_bytes text.new
-        ≡ string_bytes text.old ++ pc_text image.now source.now judgement states.now pc) }
+        ≡ string_bytes text.old ++ pc_text image.now source.now judgement told.now pc) }
 {
     if cursor.next != pc {
         return Ok(());
     }
+    let tells = judgement.tells();
+    if tells {
+        put_call_lines(text, told, pc)?;
+    }
     put_instruction(text, image, source, pc, cursor.ordinal)?;
-    if judgement.tells(pc) {
-        put_known_line(text, known_at(states, pc))?;
+    if tells {
+        put_known_lines(text, told, pc)?;
     }
     Ok(())
 }
@@ -71,15 +160,15 @@ pub(crate) fn put_listing(
     image: &Image,
     source: &[SourceLine<'_>],
     judgement: Judgement,
-    states: &[Option<Box<AbstractState>>],
+    told: &[KnownPassage],
 ) -> Result<(), AllocError>
     ensures { OnOk result (string_bytes text.new
         ≡ string_bytes text.old
-        ++ pieces_to (pc_text image.now source.now judgement states.now) (units image.now)) }
+        ++ pieces_to (pc_text image.now source.now judgement told.now) (units image.now)) }
 {
     let mut cursor = Cursor::first();
     for pc in 0..image.code().len() / 8 {
-        put_pc(text, image, source, judgement, states, pc, cursor)?;
+        put_pc(text, image, source, judgement, told, pc, cursor)?;
         cursor = cursor.past(image, pc);
     }
     Ok(())

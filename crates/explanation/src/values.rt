@@ -1,13 +1,13 @@
 //! What is known at a place, as text.
 ghost use Rattle.std.specs.Prelude.{◌≡◌, ◌<◌, ◌++◌, OnOk, string_bytes};
 ghost use Rattle.std.specs.Fmt.{decimal};
+ghost use Rattle.bpf_isa.specs.Encoding.{number_of};
 ghost use Rattle.bpf_asm.specs.Writing.{offset_text};
 ghost use Rattle.explanation.specs.Pieces.{pieces_to};
 ghost use Rattle.explanation.specs.Values.{
   range_text,
   number_text,
   value_text,
-  known_text,
   register_piece,
   registers_text,
   is_known as is_known_value,
@@ -17,14 +17,16 @@ ghost use Rattle.explanation.specs.Values.{
   byte_piece,
   slot_piece,
   frame_text,
+  frame_piece,
+  frames_text,
   state_text,
   register_line,
 };
 
-use abstract_state::AbstractState;
+use abstract_state::{AbstractState, Frame};
 use abstract_values::AbstractValue;
 use bpf_isa::Register;
-use bpf_model::FRAME_BYTES;
+use bpf_model::{FRAME_BYTES, MOST_FRAMES};
 use itoa::Buffer;
 use std::alloc::AllocError;
 
@@ -96,8 +98,9 @@ fn put_value(text: &mut String, value: AbstractValue) -> Result<(), AllocError>
             put(text, "record+")?;
             put_range(text, u64::from(lo), u64::from(hi))
         }
-        AbstractValue::Stack { offset } => {
-            put(text, "stack")?;
+        AbstractValue::Stack { frame, offset } => {
+            put_field(text, "stack[", u64::from(frame))?;
+            put(text, "]")?;
             put_offset(text, offset)
         }
         AbstractValue::Table { lo, hi } => {
@@ -120,31 +123,30 @@ fn is_known(value: AbstractValue) -> bool
     }
 }
 
-/// Writes what is known of a register or of a slot, unless it is nothing.
-fn put_known(
-    text: &mut String,
-    name: &str,
-    number: u64,
-    value: AbstractValue,
-) -> Result<(), AllocError>
+/// Writes what is known of a register, unless it is nothing.
+fn put_known(text: &mut String, state: &AbstractState, register: Register) -> Result<(), AllocError>
     ensures { OnOk result (string_bytes text.new
-        ≡ string_bytes text.old ++ known_text (name.now ++ decimal number) value) }
+        ≡ string_bytes text.old ++ register_piece state.now (number_of register)) }
 {
+    let value = state.register(register);
     if !is_known(value) {
         return Ok(());
     }
     put(text, "  ")?;
-    put_field(text, name, number)?;
+    put_field(text, "r", u64::from(register.number()))?;
     put(text, " ")?;
     put_value(text, value)
 }
 
-/// Writes what is known of a register.
-fn put_register(text: &mut String, state: &AbstractState, register: usize) -> Result<(), AllocError>
-    requires { register < 11 }
-    ensures { OnOk result (string_bytes text.new ≡ string_bytes text.old ++ register_piece state.now register) }
+/// Writes what is known of the register of a number, unless it is nothing.
+fn put_register(text: &mut String, state: &AbstractState, number: u8) -> Result<(), AllocError>
+    requires { number < 11 }
+    ensures { OnOk result (string_bytes text.new ≡ string_bytes text.old ++ register_piece state.now number) }
 {
-    put_known(text, "r", register as u64, state.registers[register])
+    match Register::from_number(number) {
+        None => Ok(()),
+        Some(register) => put_known(text, state, register),
+    }
 }
 
 /// Writes what is known of each register.
@@ -152,93 +154,121 @@ fn put_register(text: &mut String, state: &AbstractState, register: usize) -> Re
 fn put_registers(text: &mut String, state: &AbstractState) -> Result<(), AllocError>
     ensures { OnOk result (string_bytes text.new ≡ string_bytes text.old ++ registers_text state.now) }
 {
-    for register in 0..state.registers.len() {
-        put_register(text, state, register)?;
+    for number in 0..11 {
+        put_register(text, state, number)?;
     }
     Ok(())
 }
 
-/// Whether a byte of the frame is set.
-fn is_set(state: &AbstractState, byte: usize) -> bool
-    ensures { result ≡ is_set_at state.now byte }
+/// Whether a byte of a frame is set.
+fn is_set(frame: &Frame, byte: usize) -> bool
+    ensures { result ≡ is_set_at frame.now byte }
 {
-    byte < FRAME_BYTES && state.bytes_set[byte]
+    byte < FRAME_BYTES && frame.bytes_set[byte]
 }
 
 /// Whether a byte is set, and the byte before it is not.
-fn begins_row(state: &AbstractState, byte: usize) -> bool
-    ensures { result ≡ begins_row_at state.now byte }
+fn begins_row(frame: &Frame, byte: usize) -> bool
+    ensures { result ≡ begins_row_at frame.now byte }
 {
     if byte == 0 {
-        is_set(state, byte)
+        is_set(frame, byte)
     } else {
-        is_set(state, byte) && !is_set(state, byte - 1)
+        is_set(frame, byte) && !is_set(frame, byte - 1)
     }
 }
 
 /// Whether a byte is set, and the byte after it is not.
-fn ends_row(state: &AbstractState, byte: usize) -> bool
+fn ends_row(frame: &Frame, byte: usize) -> bool
     requires { byte < 512 }
-    ensures { result ≡ ends_row_at state.now byte }
+    ensures { result ≡ ends_row_at frame.now byte }
 {
-    is_set(state, byte) && !is_set(state, byte + 1)
+    is_set(frame, byte) && !is_set(frame, byte + 1)
 }
 
-/// Writes a byte of the frame where a row of bytes that are set begins or ends.
-fn put_byte(text: &mut String, state: &AbstractState, byte: usize) -> Result<(), AllocError>
+/// Writes a byte of a frame where a row of bytes that are set begins or ends.
+fn put_byte(text: &mut String, frame: &Frame, number: u64, byte: usize) -> Result<(), AllocError>
     requires { byte < 512 }
-    ensures { OnOk result (string_bytes text.new ≡ string_bytes text.old ++ byte_piece state.now byte) }
+    ensures { OnOk result (string_bytes text.new ≡ string_bytes text.old ++ byte_piece frame.now number byte) }
 {
-    let label = match (begins_row(state, byte), ends_row(state, byte)) {
-        (true, true) => "  byte -",
-        (true, false) => "  bytes -",
-        (false, true) => " to -",
+    let below = (FRAME_BYTES - byte) as u64;
+    let label = match (begins_row(frame, byte), ends_row(frame, byte)) {
+        (true, true) => "  byte[",
+        (true, false) => "  bytes[",
+        (false, true) => return put_field(text, " to -", below),
         (false, false) => return Ok(()),
     };
-    put_field(text, label, (FRAME_BYTES - byte) as u64)
+    put_field(text, label, number)?;
+    put_field(text, "] -", below)
 }
 
-/// Writes which bytes of the frame are set.
+/// Writes which bytes of a frame are set.
 #[tactic(auto, using(crate::proofs::Written::pieces_none, crate::proofs::Written::written_more))]
-fn put_bytes(text: &mut String, state: &AbstractState) -> Result<(), AllocError>
-    ensures { OnOk result (string_bytes text.new ≡ string_bytes text.old ++ pieces_to (byte_piece state.now) 512) }
+fn put_bytes(text: &mut String, frame: &Frame, number: u64) -> Result<(), AllocError>
+    ensures { OnOk result (string_bytes text.new
+        ≡ string_bytes text.old ++ pieces_to (byte_piece frame.now number) 512) }
 {
     for byte in 0..FRAME_BYTES {
-        put_byte(text, state, byte)?;
+        put_byte(text, frame, number, byte)?;
     }
     Ok(())
 }
 
-/// Writes what is known of a slot of the frame.
-fn put_slot(text: &mut String, state: &AbstractState, slot: usize) -> Result<(), AllocError>
+/// Writes what is known of a slot of a frame.
+fn put_slot(text: &mut String, frame: &Frame, number: u64, slot: usize) -> Result<(), AllocError>
     requires { slot < 64 }
-    ensures { OnOk result (string_bytes text.new ≡ string_bytes text.old ++ slot_piece state.now slot) }
+    ensures { OnOk result (string_bytes text.new ≡ string_bytes text.old ++ slot_piece frame.now number slot) }
 {
-    put_known(
-        text,
-        "slot -",
-        (FRAME_BYTES - 8 * slot) as u64,
-        state.slots[slot],
-    )
+    let value = frame.slots[slot];
+    if !is_known(value) {
+        return Ok(());
+    }
+    put(text, "  ")?;
+    put_field(text, "slot[", number)?;
+    put_field(text, "] -", (FRAME_BYTES - 8 * slot) as u64)?;
+    put(text, " ")?;
+    put_value(text, value)
 }
 
-/// Writes what was spilled to the slots of the frame.
+/// Writes what was spilled to the slots of a frame.
 #[tactic(auto, using(crate::proofs::Written::pieces_none, crate::proofs::Written::written_more))]
-fn put_slots(text: &mut String, state: &AbstractState) -> Result<(), AllocError>
-    ensures { OnOk result (string_bytes text.new ≡ string_bytes text.old ++ pieces_to (slot_piece state.now) 64) }
+fn put_slots(text: &mut String, frame: &Frame, number: u64) -> Result<(), AllocError>
+    ensures { OnOk result (string_bytes text.new
+        ≡ string_bytes text.old ++ pieces_to (slot_piece frame.now number) 64) }
 {
-    for slot in 0..state.slots.len() {
-        put_slot(text, state, slot)?;
+    for slot in 0..frame.slots.len() {
+        put_slot(text, frame, number, slot)?;
     }
     Ok(())
 }
 
-/// Writes which bytes of the frame are set, and what was spilled to its slots.
-pub(crate) fn put_frame(text: &mut String, state: &AbstractState) -> Result<(), AllocError>
-    ensures { OnOk result (string_bytes text.new ≡ string_bytes text.old ++ frame_text state.now) }
+/// Writes which bytes of a frame are set, and what was spilled to its slots.
+pub(crate) fn put_frame(text: &mut String, frame: &Frame, number: u64) -> Result<(), AllocError>
+    ensures { OnOk result (string_bytes text.new ≡ string_bytes text.old ++ frame_text frame.now number) }
 {
-    put_bytes(text, state)?;
-    put_slots(text, state)
+    put_bytes(text, frame, number)?;
+    put_slots(text, frame, number)
+}
+
+/// Writes what is known of the frame of a number, if it is live.
+fn put_if_live(text: &mut String, state: &AbstractState, number: u8) -> Result<(), AllocError>
+    ensures { OnOk result (string_bytes text.new ≡ string_bytes text.old ++ frame_piece state.now number) }
+{
+    match state.frame(number) {
+        None => Ok(()),
+        Some(frame) => put_frame(text, frame, u64::from(number)),
+    }
+}
+
+/// Writes what is known of each live frame.
+#[tactic(auto, using(crate::proofs::Written::pieces_none, crate::proofs::Written::written_more))]
+fn put_frames(text: &mut String, state: &AbstractState) -> Result<(), AllocError>
+    ensures { OnOk result (string_bytes text.new ≡ string_bytes text.old ++ frames_text state.now) }
+{
+    for number in 0..MOST_FRAMES as u8 {
+        put_if_live(text, state, number)?;
+    }
+    Ok(())
 }
 
 /// Writes all that is known at a place.
@@ -247,7 +277,7 @@ pub(crate) fn put_state(text: &mut String, state: &AbstractState) -> Result<(), 
 {
     put(text, "  ")?;
     put_registers(text, state)?;
-    put_frame(text, state)?;
+    put_frames(text, state)?;
     put(text, "\n")
 }
 

@@ -31,6 +31,9 @@ pub(crate) fn words_of_cause(cause: Cause) -> &'static str
         Cause::ResultNotNumber => "a function answers a pointer",
         Cause::OutOfMemory => "there was no memory to verify it",
         Cause::ReadOnly => "a store or gather goes to the table, which is only read",
+        Cause::TooManyPairs => {
+            "more than 1,000,000 instructions are to be verified: a function counts once for each call of it in the code"
+        }
     }
 }
 
@@ -89,5 +92,8 @@ pub(crate) fn words_of_advice(advice: Advice) -> &'static str
         Advice::AnswerNumber => "answer a number, such as the one to which the pointer points",
         Advice::MoreMemory => "try again with more memory",
         Advice::WriteElsewhere => "write to the record or the frame; copy there what is to change",
+        Advice::FewerCalls => {
+            "call functions at fewer places, above all those that call others, and drop functions that no run reaches"
+        }
     }
 }

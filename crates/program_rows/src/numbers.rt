@@ -92,6 +92,7 @@ fn causes(alloc: Global) -> Result<String, AllocError> {
         Cause::ResultNotNumber,
         Cause::OutOfMemory,
         Cause::ReadOnly,
+        Cause::TooManyPairs,
     ] {
         write!(text, "{} {cause:?}: {cause}\n", cause as u8)?;
     }

@@ -92,7 +92,7 @@ pub(crate) fn met(alloc: Global, lengths: Lengths, input: &str) -> Result<String
     let (ways, last) = input.split_once("\n=").unwrap_or((input, ""));
     let (one, other) = ways.split_once("\n+").unwrap_or((ways, ""));
     let mut state = AbstractState::entry(lengths);
-    let mut beside = state;
+    let mut beside = AbstractState::entry(lengths);
     go_on(alloc, lengths, &mut state, one)?;
     go_on(alloc, lengths, &mut beside, other)?;
     join_into(&mut state, &beside);

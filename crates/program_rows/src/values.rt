@@ -1,5 +1,5 @@
 //! What may be known of a value, as text: `unset`, `7`, `0 to 9`, `any number`, `record+0 to 4`, `table+8` or
-//! `stack-8`.
+//! `stack[0]-8`.
 use abstract_values::AbstractValue;
 use std::alloc::{AllocError, Global};
 
@@ -33,9 +33,12 @@ pub(crate) fn value_of(text: &str) -> AbstractValue {
             hi: offset(hi),
         };
     }
-    if let Some(place) = text.strip_prefix("stack") {
-        let offset = place.parse::<i16>().unwrap_or(0);
-        return AbstractValue::Stack { offset };
+    if let Some(place) = text.strip_prefix("stack[") {
+        let (frame, offset) = place.split_once(']').unwrap_or((place, ""));
+        return AbstractValue::Stack {
+            frame: frame.parse::<u8>().unwrap_or(0),
+            offset: offset.parse::<i16>().unwrap_or(0),
+        };
     }
     let (lo, hi) = match text {
         "unset" => return AbstractValue::Unset,
@@ -69,7 +72,7 @@ pub(crate) fn value_text(alloc: Global, value: AbstractValue) -> Result<String, 
             let range = range_text(alloc, u64::from(lo), u64::from(hi))?;
             format!(in alloc; "table+{range}")
         }
-        AbstractValue::Stack { offset: 0 } => String::from_str(alloc, "stack+0"),
-        AbstractValue::Stack { offset } => format!(in alloc; "stack{offset}"),
+        AbstractValue::Stack { frame, offset: 0 } => format!(in alloc; "stack[{frame}]+0"),
+        AbstractValue::Stack { frame, offset } => format!(in alloc; "stack[{frame}]{offset}"),
     }
 }

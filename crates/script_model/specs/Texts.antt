@@ -3,7 +3,7 @@ use Rattle.std.specs.Prelude.{ℕ, ◌==◌, if◌then◌else◌, List, [], ◌�
 use Rattle.std.specs.List.{flat_map}
 use Rattle.std.specs.Fmt.{decimal}
 use Rattle.bpf_model.specs.declared.cause.Cause.{Cause}
-use Rattle.bpf_model.specs.declared.cause.Cause.TheVariants.{BadInstruction, JumpOut, JumpBack, CallTarget, FallsOff, TooDeep, TooLong, UnsetRegister, FrameRegister, PointerUse, OutOfRange, UnsetStackByte, HelperArgument, UnknownHelper, ResultNotNumber, OutOfMemory, ReadOnly}
+use Rattle.bpf_model.specs.declared.cause.Cause.TheVariants.{BadInstruction, JumpOut, JumpBack, CallTarget, FallsOff, TooDeep, TooLong, UnsetRegister, FrameRegister, PointerUse, OutOfRange, UnsetStackByte, HelperArgument, UnknownHelper, ResultNotNumber, OutOfMemory, ReadOnly, TooManyPairs}
 use Rattle.bpf_image.specs.declared.image_error.ImageError.{ImageError}
 use Rattle.bpf_image.specs.declared.image_error.ImageError.TheVariants as images
 use Rattle.verifier.specs.declared.refusal.Refusal.{Refusal}
@@ -57,6 +57,7 @@ cause_number UnknownHelper = 14
 cause_number ResultNotNumber = 15
 cause_number OutOfMemory = 16
 cause_number ReadOnly = 17
+cause_number TooManyPairs = 18
 
 -- the number of what is wrong with a program's text
 abbrev pub text_cause_number : TextCause → ℕ

@@ -88,7 +88,7 @@ both_none : (a b : Option Cause) → option_or a b ≡ None → (a ≡ None) × 
 both_none None b h = (refl, h)
 both_none (Some c) b h = absurd cc
 
-one_ahead : (p : Program) (pc end : ℕ) (z x : ℤ) → Ahead p pc end x → IsOneOf z (x ∷ []) → Ahead p pc end z
+pub one_ahead : (p : Program) (pc end : ℕ) (z x : ℤ) → Ahead p pc end x → IsOneOf z (x ∷ []) → Ahead p pc end z
 one_ahead p pc end z x h m = elim m [ inl same ↦ rw same h | inr none ↦ absurd none ]
 
 two_ahead : (p : Program) (pc : ℕ) (z x y : ℤ) → Ahead p pc (function_end p pc) x → Ahead p pc (function_end p pc) y → IsOneOf z (x ∷ y ∷ []) → Ahead p pc (function_end p pc) z

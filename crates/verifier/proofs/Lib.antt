@@ -13,6 +13,7 @@ pub mod Equal
 pub mod Listed
 pub mod Flowing
 pub mod Weighing
+pub mod Pairs
 pub mod Greatest
 pub mod WeightTable
 pub mod EntryTable

@@ -64,7 +64,7 @@ ends_of p ends one is =
 
 -- ---- one frame is enough
 
-no_pcs : (pc : ℕ) (i : Instruction) → is_call i ≡ false → called_pcs i pc ≡ []
+pub no_pcs : (pc : ℕ) (i : Instruction) → is_call i ≡ false → called_pcs i pc ≡ []
 no_pcs pc (CallLocal distance) h = absurd cc
 no_pcs pc _ h = refl
 
@@ -75,20 +75,20 @@ greatest_few f (z ∷ zs) few =
     let rest = greatest_few f zs few in
     omega (arith, here, rest)
 
-frames_at : (p : Program) (n pc : ℕ) (i : Instruction) → HasOneFunction p → instruction_at p pc ≡ Some i → weight_over frame_rule p (suc n) pc ≡ frame_rule 0 (greatest (weight_over frame_rule p n) (next_pcs i pc))
+frames_at : (p : Program) (n pc : ℕ) (i : Instruction) → HasOneFunction p → instruction_at p pc ≡ Some i → weight_over frame_rule next_pcs p (suc n) pc ≡ frame_rule 0 (greatest (weight_over frame_rule next_pcs p n) (next_pcs i pc))
 frames_at p n pc i one found =
     let plain : is_call i ≡ false = (let h = one pc in rw found at h) in
-    weighs_at frame_rule p n pc i found ∙ ap (λ zs. frame_rule (greatest (weight_over frame_rule p n) zs) (greatest (weight_over frame_rule p n) (next_pcs i pc))) (no_pcs pc i plain)
+    weighs_at frame_rule next_pcs p n pc i found ∙ ap (λ zs. frame_rule (greatest (weight_over frame_rule next_pcs p n) zs) (greatest (weight_over frame_rule next_pcs p n) (next_pcs i pc))) (no_pcs pc i plain)
 
-frames_few : (p : Program) (n pc : ℕ) → HasOneFunction p → weight_over frame_rule p n pc ≤ 1
+frames_few : (p : Program) (n pc : ℕ) → HasOneFunction p → weight_over frame_rule next_pcs p n pc ≤ 1
 unfolding weight_over
 frames_few p zero pc one = omega arith
 frames_few p (suc n) pc one =
     elim (standing p pc) [
-      | inl none ↦ (let zero_weight = none_over frame_rule p (suc n) pc none in omega (arith, zero_weight))
+      | inl none ↦ (let zero_weight = none_over frame_rule next_pcs p (suc n) pc none in omega (arith, zero_weight))
       | inr found ↦
           let is = frames_at p n pc found.0 one found.1 in
-          let rest = greatest_few (weight_over frame_rule p n) (next_pcs found.0 pc) (λ q. frames_few p n q one) in
+          let rest = greatest_few (weight_over frame_rule next_pcs p n) (next_pcs found.0 pc) (λ q. frames_few p n q one) in
           omega (arith, is, rest)
     ]
 
@@ -98,5 +98,5 @@ one_frame p one fine some =
     let first = stands_at p 0 fine refl some in
     let left : units p - 0 ≡ suc (units p - 1) = omega (arith, some) in
     let is = frames_at p (units p - 1) 0 first.0 one first.1 in
-    let few = greatest_few (weight_over frame_rule p (units p - 1)) (next_pcs first.0 0) (λ q. frames_few p (units p - 1) q one) in
+    let few = greatest_few (weight_over frame_rule next_pcs p (units p - 1)) (next_pcs first.0 0) (λ q. frames_few p (units p - 1) q one) in
     rw left (omega (arith, is, few))

@@ -9,11 +9,11 @@ use Rattle.verifier.specs.Listing.{instruction_at}
 use Rattle.verifier.specs.Functions.{function_end}
 use Rattle.verifier.specs.Equations.{Passage, main_passage, opening, calls_of, states, refusal_at, first_refusal, outcome}
 use Rattle.verifier.specs.Tables.{state_at}
-use Rattle.verifier.specs.Verdict.{first_fault, decoding_fault, flow_fault, rule_refusal}
+use Rattle.verifier.specs.Verdict.{first_fault, decoding_fault, flow_fault, pairs_fault, rule_refusal}
 
--- the code decodes, and its jumps and calls land where they may: so there are ways to walk
+-- the code decodes, and its jumps and calls land where they may: so there are ways to walk; and not too many of them
 abbrev pub is_walkable : Program → Bool
-is_walkable p = is_none (first_fault (decoding_fault p) (units p)) && is_none (first_fault (flow_fault p) (units p))
+is_walkable p = is_none (first_fault (decoding_fault p) (units p)) && is_none (first_fault (flow_fault p) (units p)) && is_none (pairs_fault p)
 
 -- what is told of a passage: what is known at each of its pcs, up to the last that was gone over
 pub record IsKnownOf (p : Program) (v : Passage) (t : KnownPassage) : Type 0 where

@@ -9,12 +9,12 @@ use Rattle.verifier.specs.Rules.{Ways, target}
 use Rattle.verifier.specs.Described.{IsWay}
 use Rattle.bpf_model.specs.State.{most_frames}
 use Rattle.verifier.specs.declared.weights.Measure.{Measure}
-use Rattle.verifier.specs.declared.weights.Measure.TheVariants.{Instructions, Frames}
+use Rattle.verifier.specs.declared.weights.Measure.TheVariants.{Instructions, Frames, Pairs}
 use Rattle.verifier.specs.Functions.{is_entry, function_end}
 use Rattle.verifier.specs.Listing.{instruction_at}
-use Rattle.verifier.specs.Walks.{IsOneOf, next_pcs, is_call, count_rule, frame_rule, weight_from}
+use Rattle.verifier.specs.Walks.{IsOneOf, Successors, next_pcs, following_below, following, is_call, count_rule, frame_rule, weight_from}
 use Rattle.verifier.specs.Equations.{Passage, Calls, arrivals, first_refusal, exit_state}
-use Rattle.verifier.specs.Verdict.{most_counted}
+use Rattle.verifier.specs.Verdict.{most_counted, most_pairs}
 
 -- what is known at each pc, where it is
 abbrev pub Table : Type 0
@@ -46,19 +46,33 @@ HasEntries p entries =
 abbrev pub HasEnds : Program → List ℕ → Type 0
 HasEnds p ends = (length ends ≡ units p) × ((q : ℕ) → q < units p → slice_index_or ends q 0 ≡ function_end p q)
 
--- what a pass weighs walks by
+-- what a pass weighs instructions by
 abbrev pub rule_of : Measure → ℕ → ℕ → ℕ
 rule_of Instructions = count_rule
 rule_of Frames = frame_rule
+rule_of Pairs = count_rule
+
+-- what comes after an instruction for a pass
+abbrev pub successors : Measure → Program → Successors
+successors Instructions p = next_pcs
+successors Frames p = next_pcs
+successors Pairs p = following p
+
+-- the same in a function that ends at an end
+abbrev pub successors_below : Measure → (end : ℕ) → Successors
+successors_below Instructions end = next_pcs
+successors_below Frames end = next_pcs
+successors_below Pairs end = following_below end
 
 -- weights of so much and more are not told apart
 abbrev pub ceiling : Measure → ℕ
 ceiling Instructions = most_counted + 1
 ceiling Frames = most_frames + 1
+ceiling Pairs = most_pairs + 1
 
 -- what a table of weights has of a pc
 abbrev pub capped_weight : Measure → Program → ℕ → ℕ
-capped_weight m p pc = min (weight_from (rule_of m) p pc) (ceiling m)
+capped_weight m p pc = min (weight_from (rule_of m) (successors m p) p pc) (ceiling m)
 
 -- all ways lead to pcs below an end
 abbrev pub LeadInside : ℕ → Ways → Type 0

@@ -9,14 +9,14 @@ use Rattle.bpf_model.specs.State.{most_frames}
 use Rattle.bpf_model.specs.Step.{units_over}
 use Rattle.bpf_image.specs.Program.{Program, units}
 use Rattle.bpf_model.specs.declared.cause.Cause.{Cause}
-use Rattle.bpf_model.specs.declared.cause.Cause.TheVariants.{BadInstruction, JumpOut, JumpBack, CallTarget, FallsOff, TooDeep, TooLong, OutOfMemory}
+use Rattle.bpf_model.specs.declared.cause.Cause.TheVariants.{BadInstruction, JumpOut, JumpBack, CallTarget, FallsOff, TooDeep, TooLong, TooManyPairs, OutOfMemory}
 use Rattle.verifier.specs.Rules.{target}
 use Rattle.verifier.specs.declared.refusal.Refusal.{Refusal}
 use Rattle.verifier.specs.Listing.{instruction_at, is_start}
 use Rattle.verifier.specs.Equations.{main_passage, calls_of, first_refusal}
-use Rattle.verifier.specs.declared.weights.TheConstants.{MOST_COUNTED}
+use Rattle.verifier.specs.declared.weights.TheConstants.{MOST_COUNTED, MOST_PAIRS}
 use Rattle.verifier.specs.Functions.{start_above, function_end}
-use Rattle.verifier.specs.Walks.{longest, deepest}
+use Rattle.verifier.specs.Walks.{longest, deepest, pairs}
 
 -- the least pc below n at which a pass has a fault
 abbrev pub fault_after : Option Refusal → Option Cause → ℕ → Option Refusal
@@ -82,7 +82,17 @@ most_counted = MOST_COUNTED
 abbrev pub length_fault : Program → Option Refusal
 length_fault p = if nat_lt most_counted (longest p) then Some (record { cause = TooLong; pc = 0 }) else None
 
--- ---- fifth pass: at each walked pc the instruction's rules hold of what is known there, and within each call again of
+-- ---- fifth pass: there are not too many instructions to verify, each function's once for every call of it. It is
+-- told at pc 0 too.
+
+-- the most that are verified
+abbrev pub most_pairs : ℕ
+most_pairs = MOST_PAIRS
+
+abbrev pub pairs_fault : Program → Option Refusal
+pairs_fault p = if nat_lt most_pairs (pairs p) then Some (record { cause = TooManyPairs; pc = 0 }) else None
+
+-- ---- sixth pass: at each walked pc the instruction's rules hold of what is known there, and within each call again of
 -- what is known there by that call
 
 abbrev pub rule_refusal : Program → Option Refusal
@@ -106,7 +116,8 @@ verdict p =
     (unless_refused (first_fault (flow_fault p) (units p))
     (unless_refused (frames_fault p)
     (unless_refused (length_fault p)
-    (unless_refused (rule_refusal p) (Accepted (longest p) (deepest p))))))
+    (unless_refused (pairs_fault p)
+    (unless_refused (rule_refusal p) (Accepted (longest p) (deepest p)))))))
 
 -- a refusal for lack of memory: no rule gives it
 abbrev pub no_memory : Refusal

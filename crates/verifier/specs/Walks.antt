@@ -1,6 +1,6 @@
--- Where a run may go; how many instructions a walk counts, from a pc to its function's exit; and how many
--- frames are live at once on it.
-use Rattle.std.specs.Prelude.{◌≡◌, ℕ, zero, suc, ◌+◌, ◌-◌, ◌≤◌, max, ℤ, pos, unsigned_abs, List, [], ◌∷◌, ◌⊎◌, Bool, true, false, Option, Some, None}
+-- Where a run may go; how many instructions a walk counts, from a pc to its function's exit; how many frames are
+-- live at once on it; and how many instructions are verified, each function's once for every call of it.
+use Rattle.std.specs.Prelude.{◌≡◌, ℕ, zero, suc, ◌+◌, ◌-◌, ◌≤◌, nat_lt, if◌then◌else◌, max, ℤ, pos, unsigned_abs, List, [], ◌∷◌, ◌⊎◌, Bool, true, false, Option, Some, None}
 use Rattle.bpf_isa.specs.declared.instruction.Instruction.{Instruction}
 use Rattle.bpf_isa.specs.declared.instruction.Instruction.TheVariants.{Jump, Branch, CallLocal, Exit}
 use Rattle.bpf_isa.specs.Encoding.{units_of}
@@ -8,6 +8,7 @@ use Rattle.bpf_model.specs.Step.{units_over}
 use Rattle.bpf_image.specs.Program.{Program, units}
 use Rattle.verifier.specs.Rules.{target}
 use Rattle.verifier.specs.Listing.{instruction_at}
+use Rattle.verifier.specs.Functions.{function_end}
 
 -- where a function goes on after an instruction at a pc: nowhere from an exit
 abbrev pub next_pcs : Instruction → ℕ → List ℤ
@@ -20,6 +21,13 @@ next_pcs i pc = pos (pc + units_of i) ∷ []
 abbrev pub called_pcs : Instruction → ℕ → List ℤ
 called_pcs (CallLocal distance) pc = target pc distance ∷ []
 called_pcs _ pc = []
+
+-- the next instruction of a function that ends at an end, whether a run goes on there or not
+abbrev pub following_below : (end : ℕ) → Instruction → ℕ → List ℤ
+following_below end i pc = if nat_lt (pc + units_of i) end then pos (pc + units_of i) ∷ [] else []
+
+abbrev pub following : Program → Instruction → ℕ → List ℤ
+following p i pc = following_below (function_end p pc) i pc
 
 abbrev pub is_call : Instruction → Bool
 is_call (CallLocal distance) = true
@@ -59,26 +67,30 @@ IsLongest p pc m = IsGreatestOf (IsWalk p pc) m
 abbrev pub IsDeepest : Program → ℕ → ℕ → Type 0
 IsDeepest p pc k = IsGreatestOf (IsNest p pc) k
 
--- ---- both as numbers, by one recursion over the code
+-- ---- all of these as numbers, by one recursion over the code
 
 -- the greatest of the weights at some pcs, 0 of none
 abbrev pub greatest : (ℕ → ℕ) → List ℤ → ℕ
 greatest weight [] = 0
 greatest weight (q ∷ qs) = max (weight (unsigned_abs q)) (greatest weight qs)
 
+-- which pcs come after an instruction at a pc
+abbrev pub Successors : Type 0
+Successors = Instruction → ℕ → List ℤ
+
 -- the weight of an instruction at a pc, by the greatest of what it calls and of what comes after it
-abbrev pub weight_by : (ℕ → ℕ → ℕ) → (ℕ → ℕ) → Option Instruction → ℕ → ℕ
-weight_by rule weight None pc = 0
-weight_by rule weight (Some i) pc = rule (greatest weight (called_pcs i pc)) (greatest weight (next_pcs i pc))
+abbrev pub weight_by : (ℕ → ℕ → ℕ) → Successors → (ℕ → ℕ) → Option Instruction → ℕ → ℕ
+weight_by rule after weight None pc = 0
+weight_by rule after weight (Some i) pc = rule (greatest weight (called_pcs i pc)) (greatest weight (after i pc))
 
 -- the greatest weight from a pc on, over at most n instructions in a row
-unfoldable pub weight_over : (ℕ → ℕ → ℕ) → Program → ℕ → ℕ → ℕ
-weight_over rule p zero pc = 0
-weight_over rule p (suc n) pc = weight_by rule (weight_over rule p n) (instruction_at p pc) pc
+unfoldable pub weight_over : (ℕ → ℕ → ℕ) → Successors → Program → ℕ → ℕ → ℕ
+weight_over rule after p zero pc = 0
+weight_over rule after p (suc n) pc = weight_by rule after (weight_over rule after p n) (instruction_at p pc) pc
 
 -- all units after a pc are enough
-unfoldable pub weight_from : (ℕ → ℕ → ℕ) → Program → ℕ → ℕ
-weight_from rule p pc = weight_over rule p (units p - pc) pc
+unfoldable pub weight_from : (ℕ → ℕ → ℕ) → Successors → Program → ℕ → ℕ
+weight_from rule after p pc = weight_over rule after p (units p - pc) pc
 
 -- an instruction counts one more than what it calls and what comes after it
 abbrev pub count_rule : ℕ → ℕ → ℕ
@@ -89,10 +101,10 @@ abbrev pub frame_rule : ℕ → ℕ → ℕ
 frame_rule called next = max (1 + called) next
 
 abbrev pub count_from : Program → ℕ → ℕ
-count_from = weight_from count_rule
+count_from = weight_from count_rule next_pcs
 
 abbrev pub frames_from : Program → ℕ → ℕ
-frames_from = weight_from frame_rule
+frames_from = weight_from frame_rule next_pcs
 
 -- the greatest count of a whole run, and the most frames
 abbrev pub longest : Program → ℕ
@@ -100,3 +112,11 @@ longest p = count_from p 0
 
 abbrev pub deepest : Program → ℕ
 deepest p = frames_from p 0
+
+-- how many instructions are verified from a pc to its function's end: each of them, and for each call among them all
+-- of the function that is called, also where no run comes
+abbrev pub pairs_from : Program → ℕ → ℕ
+pairs_from p = weight_from count_rule (following p) p
+
+abbrev pub pairs : Program → ℕ
+pairs p = pairs_from p 0

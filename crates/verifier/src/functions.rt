@@ -1,11 +1,11 @@
 //! Where the functions of a program begin and end.
-ghost use Rattle.std.specs.Prelude.{◌≡◌, ℕ, ◌<◌, ◌||◌, true, false, None, IfOk, IfSome, MatchResult, slice_index_or, length};
+ghost use Rattle.std.specs.Prelude.{◌≡◌, ℕ, ◌<◌, ◌≤◌, ◌||◌, true, false, None, IfOk, IfSome, MatchResult, slice_index_or, length};
 ghost use Rattle.bpf_image.specs.Program.{units};
 ghost use Rattle.verifier.specs.Listing.{listing_of};
 ghost use Rattle.verifier.specs.Functions.{is_place, is_entry};
 ghost use Rattle.verifier.specs.Listing.{instruction_at};
-ghost use Rattle.verifier.specs.Verdict.{no_memory, first_fault, decoding_fault};
-ghost use Rattle.verifier.specs.Walks.{deepest};
+ghost use Rattle.verifier.specs.Verdict.{no_memory, first_fault, decoding_fault, most_pairs};
+ghost use Rattle.verifier.specs.Walks.{deepest, pairs};
 ghost use Rattle.verifier.specs.Tables.{HasEntries, HasEnds, HasOneFunction, calls_one};
 
 use crate::places::{entry_called_at, starting_at};
@@ -32,6 +32,7 @@ pub(crate) fn has_calls(image: &Image, listing: &[Option<Instruction>]) -> bool
     ensures some { result ≡ true → (pc : ℕ) × (calls_one (instruction_at image.now pc) ≡ true) }
     ensures one { result ≡ false → HasOneFunction image.now }
     ensures frames { result ≡ false → deepest image.now ≡ 1 }
+    ensures pairs { result ≡ false → pairs image.now ≤ most_pairs }
 {
     for pc in 0..image.code().len() / 8 {
         if is_call_at(image, listing, pc) {

@@ -5,7 +5,7 @@ ghost use Rattle.abstract_state.specs.States.{most_callers};
 ghost use Rattle.verifier.specs.declared.known.KnownPassage.{KnownPassage as Told};
 ghost use Rattle.verifier.specs.Listing.{listing_of};
 ghost use Rattle.verifier.specs.Equations.{passage_at, calls_of, first_refusal};
-ghost use Rattle.verifier.specs.Verdict.{first_fault, decoding_fault, flow_fault, no_memory};
+ghost use Rattle.verifier.specs.Verdict.{first_fault, decoding_fault, flow_fault, pairs_fault, no_memory};
 ghost use Rattle.verifier.specs.Tables.{boxed_state, HasEnds};
 ghost use Rattle.verifier.specs.Known.{is_walkable, IsKnownOf, IsBrokenBy, IsDoneAt, Tells, IsKnown};
 
@@ -15,6 +15,7 @@ use crate::listing::list;
 use crate::refusal::Refusal;
 use crate::states::{arrive, no_states};
 use crate::walking::{go_on_after, go_through, visit};
+use crate::weights::check_pairs;
 use abstract_state::AbstractState;
 use bpf_image::Image;
 use bpf_isa::Instruction;
@@ -49,13 +50,15 @@ struct Layout {
     ends: Vec<u16>,
 }
 
-/// What starts at each pc and where its function ends, if the code decodes and flows.
+/// What starts at each pc and where its function ends, if the code decodes and flows, and a walk goes through few enough
+/// instructions.
+#[tactic(auto, using(crate::proofs::Verdicts::few_pairs_pass))]
 fn lay_out(alloc: Global, image: &Image) -> Result<Option<Layout>, AllocError>
     ensures { IfOk result (λ found. MatchOption found (is_walkable image.now ≡ false)
         (λ layout. (layout.listing.items ≡ listing_of image.now (units image.now))
         × ((first_fault (decoding_fault image.now) (units image.now) ≡ None)
         × ((first_fault (flow_fault image.now) (units image.now) ≡ None)
-        × HasEnds image.now layout.ends.items)))) }
+        × ((pairs_fault image.now ≡ None) × HasEnds image.now layout.ends.items))))) }
 {
     let listing = match list(alloc, image) {
         Ok(listing) => listing,
@@ -71,7 +74,13 @@ fn lay_out(alloc: Global, image: &Image) -> Result<Option<Layout>, AllocError>
     if find_flow_fault(image, &listing, &ends).is_some() {
         return Ok(None);
     }
-    Ok(Some(Layout { listing, ends }))
+    match check_pairs(alloc, image, &listing, &ends, calls) {
+        Ok(()) => Ok(Some(Layout { listing, ends })),
+        Err(refusal) => {
+            rule_or_memory(refusal)?;
+            Ok(None)
+        }
+    }
 }
 
 /// A copy of what is known somewhere.
@@ -205,9 +214,10 @@ fn tell(
 }
 
 /// What is known before each unit of a program, of every run that comes there. It is for a person who asks why a program
-/// is refused, so a program may break rules: nothing is told where its code does not decode or flow. Else the main
-/// passage is told, from the first pc on, and after it each function that is open where the first rule is broken: the
-/// call stands at the last pc of the passage before, and the broken rule at the last pc of the last passage.
+/// is refused, so a program may break rules: nothing is told where its code does not decode or flow, or where too many
+/// instructions would be gone through. Else the main passage is told, from the first pc on, and after it each function
+/// that is open where the first rule is broken: the call stands at the last pc of the passage before, and the broken
+/// rule at the last pc of the last passage.
 pub fn known_states(alloc: Global, image: &Image) -> Result<Vec<KnownPassage>, AllocError>
     ensures { IfOk result (λ told. IsKnown image.now told.items) }
 {

@@ -25,4 +25,4 @@ pub use known::{KnownPassage, known_states};
 pub use refusal::Refusal;
 pub use rules::{Onward, step_over};
 pub use verified::{Verified, verify};
-pub use weights::MOST_COUNTED;
+pub use weights::{MOST_COUNTED, MOST_PAIRS};

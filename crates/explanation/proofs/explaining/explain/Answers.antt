@@ -1,8 +1,7 @@
-use Rattle.std.proofs.Common.{◌≡◌, ◌<◌, List, Option, subst, inl, inr, arith}
+use Rattle.std.proofs.Common.{◌≡◌, ◌<◌, List, subst, inl, inr, arith}
 use Rattle.std.specs.Prelude.{string_bytes}
-use Rattle.std.specs.Global.{Box}
 use Rattle.bpf_image.specs.Program.{Program, IsImage, units}
-use Rattle.abstract_state.specs.declared.state.AbstractState.{AbstractState}
+use Rattle.verifier.specs.declared.known.KnownPassage.{KnownPassage}
 use Rattle.verifier.specs.Verdict.{verdict}
 use Rattle.verifier.specs.Verdict as verdicts
 use Rattle.explanation.specs.declared.judgement.Judgement.TheVariants.{Refused}
@@ -28,10 +27,10 @@ returns c =
       | inr rule ↦ rule
     ]) in
     let told : string_bytes c.in_ok-text-in-Err.text ≡ explanation_text c.in-Err.image c.args.source.now c.deref-in-Err.result.now (Refused c.in-Err.refusal) = c.in_ok-text-in-Err.ensures in
-    let of_states : string_bytes c.in_ok-text-in-Err.text ≡ explanation_text c.in-Err.image c.args.source.now c.in_ok-states.states.items (Refused c.in-Err.refusal) = subst (λ (states : List (Option (Box AbstractState))). string_bytes c.in_ok-text-in-Err.text ≡ explanation_text c.in-Err.image c.args.source.now states (Refused c.in-Err.refusal)) c.deref-in-Err.ensures.value told in
+    let of_states : string_bytes c.in_ok-text-in-Err.text ≡ explanation_text c.in-Err.image c.args.source.now c.in_ok-told.told.items (Refused c.in-Err.refusal) = subst (λ (told : List KnownPassage). string_bytes c.in_ok-text-in-Err.text ≡ explanation_text c.in-Err.image c.args.source.now told (Refused c.in-Err.refusal)) c.deref-in-Err.ensures.value told in
     record {
-      states = c.in_ok-states.states.items;
-      is_known = c.in_ok-states.ensures;
+      told = c.in_ok-told.told.items;
+      is_known = c.in_ok-told.ensures;
       is_verdict = refused;
-      is_told_so = subst (λ (p : Program). string_bytes c.in_ok-text-in-Err.text ≡ explanation_text p c.args.source.now c.in_ok-states.states.items (Refused c.in-Err.refusal)) c.in-Err.ensures.back of_states;
+      is_told_so = subst (λ (p : Program). string_bytes c.in_ok-text-in-Err.text ≡ explanation_text p c.args.source.now c.in_ok-told.told.items (Refused c.in-Err.refusal)) c.in-Err.ensures.back of_states;
     }

@@ -4,4 +4,4 @@ use Rattle.explanation.proofs.Written.{written_none}
 use Rattle.explanation.proofs.values.put_bytes.Goals as goal
 
 pub loop-byte-init : goal.loop-byte-init
-loop-byte-init c = written_none (byte_piece c.args.state.now) (string_bytes c.args.text.now)
+loop-byte-init c = written_none (byte_piece c.args.frame.now c.args.number) (string_bytes c.args.text.now)

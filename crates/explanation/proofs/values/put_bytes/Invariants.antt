@@ -5,4 +5,4 @@ use Rattle.explanation.specs.Values.{byte_piece}
 use Rattle.explanation.proofs.values.put_bytes.Given as goal
 
 abbrev pub invariant-loop-byte : goal.invariant-loop-byte
-invariant-loop-byte l = string_bytes l.text ≡ string_bytes l.fn.text ++ pieces_to (byte_piece l.state) l.byte
+invariant-loop-byte l = string_bytes l.text ≡ string_bytes l.fn.text ++ pieces_to (byte_piece l.frame l.number) l.byte

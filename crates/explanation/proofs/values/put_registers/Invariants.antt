@@ -4,5 +4,5 @@ use Rattle.explanation.specs.Pieces.{pieces_to}
 use Rattle.explanation.specs.Values.{register_piece}
 use Rattle.explanation.proofs.values.put_registers.Given as goal
 
-abbrev pub invariant-loop-register : goal.invariant-loop-register
-invariant-loop-register l = string_bytes l.text ≡ string_bytes l.fn.text ++ pieces_to (register_piece l.state) l.register
+abbrev pub invariant-loop-number : goal.invariant-loop-number
+invariant-loop-number l = string_bytes l.text ≡ string_bytes l.fn.text ++ pieces_to (register_piece l.state) l.number

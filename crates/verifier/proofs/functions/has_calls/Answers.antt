@@ -3,6 +3,7 @@ use Rattle.std.proofs.lemmas.Bool.{cases_eq}
 use Rattle.bpf_image.specs.Program.{units, IsImage}
 use Rattle.verifier.specs.Tables.{HasOneFunction}
 use Rattle.verifier.proofs.OneFunction.{no_calls, one_frame}
+use Rattle.verifier.proofs.Pairs.{pairs_of_one}
 use Rattle.verifier.proofs.functions.has_calls.Goals as goal
 
 pub loop-pc-init : goal.loop-pc-init
@@ -27,3 +28,8 @@ pub returns-clause-frames : goal.returns-clause-frames
 returns-clause-frames c = λ is.
     let image : IsImage c.args.image.now = c.code.ensures.image in
     one_frame c.args.image.now (one c) c.requires.decodes (let least = image.code.some in omega (arith, least))
+
+pub returns-clause-pairs : goal.returns-clause-pairs
+returns-clause-pairs c = λ is.
+    let image : IsImage c.args.image.now = c.code.ensures.image in
+    pairs_of_one c.args.image.now (one c) (let most = image.code.most in omega (arith, most))

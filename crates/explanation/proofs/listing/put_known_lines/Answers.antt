@@ -1,0 +1,7 @@
+use Rattle.std.specs.Prelude.{string_bytes}
+use Rattle.explanation.specs.Explanation.{known_piece}
+use Rattle.explanation.proofs.Written.{written_none}
+use Rattle.explanation.proofs.listing.put_known_lines.Goals as goal
+
+pub loop-k-init : goal.loop-k-init
+loop-k-init c = written_none (known_piece c.args.told.now c.args.pc) (string_bytes c.args.text.now)

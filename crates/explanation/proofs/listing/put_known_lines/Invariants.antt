@@ -1,0 +1,8 @@
+use Rattle.std.proofs.Common.{◌≡◌, ◌++◌}
+use Rattle.std.specs.Prelude.{string_bytes}
+use Rattle.explanation.specs.Pieces.{pieces_to}
+use Rattle.explanation.specs.Explanation.{known_piece}
+use Rattle.explanation.proofs.listing.put_known_lines.Given as goal
+
+abbrev pub invariant-loop-k : goal.invariant-loop-k
+invariant-loop-k l = string_bytes l.text ≡ string_bytes l.fn.text ++ pieces_to (known_piece l.told l.pc) l.k
