@@ -1,14 +1,14 @@
 -- The instruction after another in its function lies ahead; and code of one function has no more pairs than units.
-use Rattle.std.proofs.Common.{◌≡◌, ℕ, zero, suc, ◌+◌, ◌-◌, ◌≤◌, List, [], ◌∷◌, true, false, ltb, Some, refl, ap, ◌∙◌, arith, inl, inr}
-use Rattle.std.specs.Prelude.{ℤ, pos}
+use Rattle.std.proofs.Common.{◌≡◌, ℕ, zero, suc, ◌+◌, ◌-◌, ◌≤◌, [], false, ltb, Some, refl, ap, ◌∙◌, arith, inl, inr}
+use Rattle.std.specs.Prelude.{pos}
 use Rattle.std.proofs.lemmas.Bool.{cases_Bool, ltb-true}
 use Rattle.bpf_isa.specs.declared.instruction.Instruction.{Instruction}
 use Rattle.bpf_isa.specs.declared.limits.TheConstants.{MOST_UNITS}
 use Rattle.bpf_isa.specs.Encoding.{units_of}
 use Rattle.bpf_image.specs.Program.{Program, units}
-use Rattle.verifier.specs.Listing.{instruction_at, start_from}
+use Rattle.verifier.specs.Listing.{instruction_at}
 use Rattle.verifier.specs.Functions.{function_end}
-use Rattle.verifier.specs.Walks.{IsOneOf, following_below, following, called_pcs, is_call, greatest, weight_over, weight_from, count_rule, pairs}
+use Rattle.verifier.specs.Walks.{IsOneOf, following_below, following, is_call, greatest, weight_over, weight_from, count_rule, pairs}
 use Rattle.verifier.specs.Tables.{HasOneFunction}
 use Rattle.verifier.specs.Verdict.{most_pairs}
 use Rattle.verifier.proofs.Listed.{inside, next_starts, stands_at, units_some}
