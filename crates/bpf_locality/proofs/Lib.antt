@@ -1,6 +1,6 @@
 mod Places
 mod Asking
 mod Written
-mod Tables
+pub mod Tables
 mod Read
 mod Live

@@ -3,7 +3,7 @@ use crate::blocks::Blocks;
 use crate::worth::is_worth_blocks;
 use verifier::Verified;
 
-/// What runs over edges work on. It is made once for many maps: nothing in it is cleared between them.
+/// What runs over edges work on. It is made once for many maps of a program: nothing in it is cleared between them.
 #[derive(Drop)]
 pub struct Memory {
     pub(crate) run: bpf_runs::Memory,
@@ -11,18 +11,16 @@ pub struct Memory {
 }
 
 impl Memory {
-    /// A memory for any maps.
-    pub fn new() -> Memory {
-        Memory {
-            run: bpf_runs::Memory::new(),
-            blocks: Blocks::new(),
-        }
-    }
+    ghost use Rattle.edge_fold.specs.Kept.{IsFor};
 
-    /// A memory for maps of a program: edges are run in blocks only if that saves time. It serves any other program, too.
-    pub fn for_program(program: &Verified) -> Memory {
-        let mut memory = Memory::new();
-        memory.blocks.is_useful = is_worth_blocks(program);
-        memory
+    /// A memory for maps of a program: it has the program's table. Edges are run in blocks only if that saves time.
+    pub fn for_program(program: &Verified) -> Memory
+        ensures { IsFor program.now result }
+    {
+        let mut run = bpf_runs::Memory::new();
+        run.put_table(program);
+        let mut blocks = Blocks::new();
+        blocks.is_useful = is_worth_blocks(program);
+        Memory { run, blocks }
     }
 }

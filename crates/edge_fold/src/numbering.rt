@@ -6,7 +6,9 @@ ghost use Rattle.past_model.specs.Past.{graph_of};
 ghost use Rattle.map_model.specs.EdgeMap.{exit_numbers, all_numbers};
 ghost use Rattle.map_model.specs.declared.limits.TheConstants.{EDGE_BYTES};
 ghost use Rattle.verifier.specs.Walks.{longest};
+ghost use Rattle.edge_fold.specs.Kept.{IsFor};
 ghost use Rattle.edge_fold.specs.Numbers.{first_numbers, span_numbers};
+ghost use Rattle.bpf_runs.specs.Held.{HoldsTable};
 
 use crate::blocks::{Blocks, fill, targets_from};
 use crate::edge::Edge;
@@ -70,7 +72,9 @@ fn number_singly(
     requires degree { span.degree ≡ degree (graph_of version.now) span.source }
     requires few { span.place + length span.targets.now ≤ MOST_VERTICES }
     requires long { length numbers.old ≡ length span.targets.now }
-    ensures { numbers.new ≡ span_numbers program.now (graph_of version.now) argument.now span.entry }
+    requires table { HoldsTable program.now.table memory.old.bytes }
+    ensures numbers { numbers.new ≡ span_numbers program.now (graph_of version.now) argument.now span.entry }
+    ensures table { HoldsTable program.now.table memory.new.bytes }
 {
     let keeps = !program.writes();
     let mut is_begun = false;
@@ -99,7 +103,9 @@ fn number_span(
     requires degree { span.degree ≡ degree (graph_of version.now) span.source }
     requires few { span.place + length span.targets.now ≤ MOST_VERTICES }
     requires long { length numbers.old ≡ length span.targets.now }
-    ensures { numbers.new ≡ span_numbers program.now (graph_of version.now) argument.now span.entry }
+    requires memory { IsFor program.now memory.old }
+    ensures numbers { numbers.new ≡ span_numbers program.now (graph_of version.now) argument.now span.entry }
+    ensures memory { IsFor program.now memory.new }
 {
     let mut at = 0usize;
     'rounds: while at < span.targets.len() {
@@ -143,8 +149,10 @@ fn number_vertex(
 )
     requires argument { length argument.now + EDGE_BYTES ≡ program.now.record_length }
     requires long { length numbers.old ≡ degree (graph_of version.now) source }
-    ensures { numbers.new
+    requires memory { IsFor program.now memory.old }
+    ensures numbers { numbers.new
         ≡ exit_numbers program.now (longest program.now) (graph_of version.now) argument.now source }
+    ensures memory { IsFor program.now memory.new }
 {
     let degree = version.degree(u64::from(source));
     let mut cursor = version.cursor(source);
@@ -172,8 +180,8 @@ fn number_vertex(
     }
 }
 
-/// Writes the number of each edge of a version: sources ascending, and targets ascending for each. What the memory held before
-/// does not matter. It takes no memory besides.
+/// Writes the number of each edge of a version: sources ascending, and targets ascending for each. The memory is one for this
+/// program; what else it held before does not matter. It takes no memory besides.
 pub fn number_edges(
     version: &Version,
     program: &Verified,
@@ -183,9 +191,11 @@ pub fn number_edges(
 )
     requires argument { length argument.now + EDGE_BYTES ≡ program.now.record_length }
     requires long { length numbers.old ≡ edge_count (graph_of version.now) }
-    ensures { let g = graph_of version.now in
+    requires memory { IsFor program.now memory.old }
+    ensures numbers { let g = graph_of version.now in
         numbers.new
         ≡ all_numbers program.now (longest program.now) g argument.now (numbers_below g.vertex_count) }
+    ensures memory { IsFor program.now memory.new }
 {
     let mut at = 0usize;
     'sources: for source in 0..version.vertex_count() {

@@ -35,7 +35,7 @@ fn fill(
     ensures left { let g = graph_of version.now in listing program.now g argument.now walk.new.edges
         ≡ drop BLOCK_EDGES (listing program.now g argument.now walk.old.edges) }
 {
-    let mut memory = Memory::new();
+    let mut memory = Memory::for_program(program);
     let mut ahead = Ahead::for_program(program);
     'edges: while block.len() < BLOCK_EDGES {
         let Some(edge) = walk.next() else {

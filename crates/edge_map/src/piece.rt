@@ -3,6 +3,7 @@ ghost use Rattle.std.specs.Prelude.{◌≡◌, ◌<◌, ◌≤◌, IfOk};
 ghost use Rattle.past_model.specs.declared.limits.TheConstants.{MOST_VERTICES};
 ghost use Rattle.edge_map.specs.Pieces.{IsPart, piece_count};
 ghost use Rattle.edge_map.specs.Plans.{task_of};
+ghost use Rattle.edge_fold.specs.Kept.{IsFor};
 
 use crate::limits::PIECE_VERTICES;
 use crate::plan::Plan;
@@ -25,15 +26,17 @@ pub(crate) fn count_pieces(plan: &Plan<'_>) -> u64
     plan.frontier.len().div_ceil(PIECE_VERTICES) as u64
 }
 
-/// One piece. What the memory held before does not matter.
+/// One piece, in a memory for the plan's program. What else the memory held before does not matter.
 pub(crate) fn map_piece(
     alloc: Global,
     memory: &mut Memory,
     plan: &Plan<'_>,
     number: u64,
 ) -> Result<MapOutcome, AllocError>
-    requires { number < piece_count plan.now.frontier.now }
-    ensures { IfOk result (λ out. IsPart (task_of plan.now) number out) }
+    requires piece { number < piece_count plan.now.frontier.now }
+    requires memory { IsFor plan.now.program.now memory.old }
+    ensures part { IfOk result (λ out. IsPart (task_of plan.now) number out) }
+    ensures memory { IsFor plan.now.program.now memory.new }
 {
     let from = number as usize * PIECE_VERTICES;
     let until = plan.frontier.len().min(from + PIECE_VERTICES);

@@ -1,6 +1,7 @@
 use Rattle.past_model.specs.Past.{graph_of}
+use Rattle.edge_fold.specs.Kept.{IsFor}
 use Rattle.edge_fold.proofs.Written.{AreWritten}
 use Rattle.edge_fold.proofs.numbering.number_edges.Given as goal
 
 abbrev pub invariant-sources : goal.invariant-sources
-invariant-sources l = AreWritten l.program (graph_of l.version) l.argument l.numbers l.source l.at
+invariant-sources l = AreWritten l.program (graph_of l.version) l.argument l.numbers l.source l.at × IsFor l.program l.memory

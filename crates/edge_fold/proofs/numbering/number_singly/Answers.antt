@@ -6,6 +6,7 @@ use Rattle.edge_fold.proofs.numbering.number_singly.Goals as goal
 pub targets-init : goal.targets-init
 targets-init c = record {
   written = record { within = omega arith; long = c.requires.long; written = refl };
+  table = c.requires.table;
   begun = λ is. absurd cc;
 }
 
@@ -18,10 +19,11 @@ targets-preserved c =
     let s = c.args.span in
     record {
       written = one_written c.args.program.now (graph_of c.args.version.now) c.args.argument.now s.source s.place s.targets.now c.targets.numbers c.targets.at c.run_edge.result c.targets.invariant.written c.targets-test.true c.run_edge.ensures.number;
+      table = c.run_edge.ensures.table;
       begun = λ is. record { edge = _; same_source = refl; same_degree = refl; record_is = c.run_edge.ensures.kept (c.writes-keeps.ensures.keeps (kept _ is)) };
     }
 
-pub returns : goal.returns
-returns c =
+pub returns-clause-numbers : goal.returns-clause-numbers
+returns-clause-numbers c =
     let s = c.args.span in
     all_written c.args.program.now (graph_of c.args.version.now) c.args.argument.now s.source s.place s.targets.now c.targets.numbers c.targets.at c.targets.invariant.written (omega (arith, c.targets-test.false))

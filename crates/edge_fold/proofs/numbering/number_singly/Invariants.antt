@@ -1,5 +1,6 @@
 use Rattle.std.proofs.Common.{◌≡◌, true}
 use Rattle.past_model.specs.Past.{graph_of}
+use Rattle.bpf_runs.specs.Held.{HoldsTable}
 use Rattle.edge_fold.proofs.Numbers.{IsBegun}
 use Rattle.edge_fold.proofs.Written.{IsWritten}
 use Rattle.edge_fold.proofs.numbering.number_singly.Given as goal
@@ -7,5 +8,6 @@ use Rattle.edge_fold.proofs.numbering.number_singly.Given as goal
 abbrev pub invariant-targets : goal.invariant-targets
 invariant-targets l = record {
   written : IsWritten l.program (graph_of l.version) l.argument l.span.source l.span.place l.span.targets.now l.numbers l.at;
+  table : HoldsTable l.program.table l.memory.bytes;
   begun : l.is_begun ≡ true → IsBegun l.span.source l.span.degree l.argument l.memory.bytes;
 }

@@ -13,8 +13,8 @@ rounds-preserved c =
     part_written c.args.program.now (graph_of c.args.version.now) c.args.argument.now s.source s.place s.targets.now c.rounds.numbers c.targets_from.result.now c.number_block-count.new.numbers c.rounds.at c.number_block-count.result
     c.rounds.invariant c.targets_from.ensures c.number_block-count.ensures.count c.number_block-count.auto.numbers c.number_block-count.ensures.numbers
 
-pub returns-then-count-eq0 : goal.returns-then-count-eq0
-returns-then-count-eq0 c =
+pub returns-then-count-eq0-clause-numbers : goal.returns-then-count-eq0-clause-numbers
+returns-then-count-eq0-clause-numbers c =
     let p = c.args.program.now in
     let g = graph_of c.args.version.now in
     let a = c.args.argument.now in
@@ -27,9 +27,9 @@ returns-then-count-eq0 c =
     c.rounds.invariant c.targets_from.ensures c.number_block-count.ensures.count c.number_block-count.auto.numbers c.number_block-count.ensures.numbers in
     let same : at + c.number_block-count.result ≡ at = omega (arith, c.if-count-eq0.true) in
     rest_written p g a s.source s.place s.targets.now block rest c.number_singly.new.numbers at
-    (subst (λ n. IsWritten p g a s.source s.place s.targets.now block n) same tried) c.targets_from.ensures c.number_singly.auto.numbers c.number_singly.ensures
+    (subst (λ n. IsWritten p g a s.source s.place s.targets.now block n) same tried) c.targets_from.ensures c.number_singly.auto.numbers c.number_singly.ensures.numbers
 
-pub returns : goal.returns
-returns c =
+pub returns-clause-numbers : goal.returns-clause-numbers
+returns-clause-numbers c =
     let s = c.args.span in
     all_written c.args.program.now (graph_of c.args.version.now) c.args.argument.now s.source s.place s.targets.now c.rounds.numbers c.rounds.at c.rounds.invariant (omega (arith, c.rounds-test.false))

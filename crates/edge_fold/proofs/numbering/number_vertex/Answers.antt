@@ -10,6 +10,7 @@ use Rattle.edge_fold.proofs.numbering.number_vertex.Goals as goal
 pub slices-init : goal.slices-init
 slices-init c = record {
   rest = sym c.cursor-cursor.ensures;
+  memory = c.requires.memory;
   written = record { within = omega arith; long = c.requires.long; written = refl };
 }
 
@@ -56,16 +57,17 @@ slices-preserved c =
     omega (arith, kept, length-take-le (place + length slice - place) (drop place c.slices.numbers) (omega (arith, whole, row.2, done.long, size)))) in
     let same : take (length slice) (drop place all) ≡ slice = ap (take (length slice)) ahead ∙ take-append_seam slice c.next_slice.new.self in
     let part : c.number_span.new.numbers ≡ found p g c.args.argument.now c.args.source (0 + place) (take (length slice) (drop place all)) ++ [] =
-    c.number_span.ensures
+    c.number_span.ensures.numbers
     ∙ ap (λ xs. found p g c.args.argument.now c.args.source place xs) (sym same)
     ∙ ap (λ n. found p g c.args.argument.now c.args.source n (take (length slice) (drop place all))) (sym (zero-add place))
     ∙ sym (append-nil (found p g c.args.argument.now c.args.source (0 + place) (take (length slice) (drop place all)))) in
     record {
       rest = row.1;
+      memory = c.number_span.ensures.memory;
       written = more_written p g c.args.argument.now c.args.source 0 all c.slices.numbers place (place + length slice - place) (length slice) c.number_span.new.numbers [] done
           (omega (arith, row.2, done.long)) long (omega arith) (omega arith) part;
     }
 
-pub returns : goal.returns
-returns c =
+pub returns-clause-numbers : goal.returns-clause-numbers
+returns-clause-numbers c =
     all_written c.args.program.now (graph_of c.args.version.now) c.args.argument.now c.args.source 0 (neighbours (graph_of c.args.version.now) c.args.source) c.slices.numbers c.slices.place c.slices.invariant.written (omega (arith, c.slices-test.false, c.degree-degree.ensures.value, ap (degree (graph_of c.args.version.now)) c.from.ensures))

@@ -1,12 +1,14 @@
 use Rattle.std.proofs.Common.{◌≡◌, length, drop}
 use Rattle.graph_model.specs.Graph.{neighbours}
 use Rattle.past_model.specs.Past.{graph_of}
+use Rattle.edge_fold.specs.Kept.{IsFor}
 use Rattle.edge_fold.proofs.Written.{IsWritten}
 use Rattle.edge_fold.proofs.numbering.number_vertex.Given as goal
 
 abbrev pub invariant-slices : goal.invariant-slices
 invariant-slices l = record {
   rest : drop l.place (neighbours (graph_of l.version) l.source) ≡ l.cursor;
+  memory : IsFor l.program l.memory;
   written : IsWritten l.program (graph_of l.version) l.argument l.source 0 (neighbours (graph_of l.version) l.source) l.numbers l.place;
 }
 

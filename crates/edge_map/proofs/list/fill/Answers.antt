@@ -17,6 +17,7 @@ edges-init c =
       listed = ap (λ l. l ++ listing c.args.program.now g c.args.argument.now c.args.walk.now.edges) (sym c.requires.empty);
       few = omega (arith, ap length c.requires.empty);
       room = c.requires.room;
+      memory = c.for_program-memory.ensures;
       kept = c.for_program-ahead.ensures c.args.program.now g c.args.argument.now;
     }
 

@@ -4,8 +4,8 @@ use Rattle.edge_map.specs.Plans.{task_of}
 use Rattle.edge_map.proofs.Frontiers.{piece_places, part_short}
 use Rattle.edge_map.proofs.piece.map_piece.Goals as goal
 
-pub returns : goal.returns
-returns c =
+pub returns-clause-part : goal.returns-clause-part
+returns-clause-part c =
     let t = task_of c.args.plan.now in
     let out = c.in_ok-outcome.outcome in
     let from = c.args.number * 64 in
