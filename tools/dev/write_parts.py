@@ -1,4 +1,4 @@
-"""The parts of documents that are written from the sources, between `<!-- made: KIND WORDS -->` and `<!-- end -->`.
+"""Writes the parts of documents that are made of the sources. They stand between two comments, `made: KIND WORDS` and `end`.
 
     made: calls CRATE        the first sentence of each public call, type and law of a crate, from its `///`
     made: crate CRATE        the same after what the crate says of itself in `//!`
@@ -17,7 +17,7 @@ import subprocess
 import sys
 import textwrap
 
-MADE = re.compile(r"(<!-- made: (\w+)(?: ([^\n]*))? -->\n).*?(?=<!-- end -->)", re.S)
+MADE = re.compile(r"(^<!-- made: (\w+)(?: ([^\n]*))? -->\n).*?(?=^<!-- end -->)", re.S | re.M)
 LANGUAGES = {".py": "python", ".c": "c", ".h": "c", ".rs": "rust", ".rt": "rust"}
 COLUMNS = 120
 
