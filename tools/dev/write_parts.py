@@ -1,4 +1,4 @@
-"""The parts of documents that are written from the sources, between `<!-- made: KIND WORDS -->` and `<!-- end -->`.
+"""Writes the parts of documents that are made of the sources. They stand between two comments, `made: KIND WORDS` and `end`.
 
     made: calls CRATE        the first sentence of each public call, type and law of a crate, from its `///`
     made: crate CRATE        the same after what the crate says of itself in `//!`
@@ -17,7 +17,7 @@ import subprocess
 import sys
 import textwrap
 
-MADE = re.compile(r"(<!-- made: (\w+) ?(.*?) -->\n).*?(?=<!-- end -->)", re.S)
+MADE = re.compile(r"(^<!-- made: (\w+)(?: ([^\n]*))? -->\n).*?(?=^<!-- end -->)", re.S | re.M)
 LANGUAGES = {".py": "python", ".c": "c", ".h": "c", ".rs": "rust", ".rt": "rust"}
 COLUMNS = 120
 
@@ -169,12 +169,17 @@ def times(pages, _):
     for form, said in re.findall(r"^== (\w+)\n(.*?)(?=^== |\Z)", text, re.M | re.S):
         found[form] = dict(re.findall(r"^(\w+) +([\d.]+)  ", said, re.M))
         found[form] |= {name: f"over {second}" for name, second in re.findall(r"^(\w+) +([\d]+)\.\d+  given up", said, re.M)}
-    found["c"] = {**found["script"], **found["c"]}
+    found["c"] = {**{name: second for name, second in found["script"].items() if name != "parts"}, **found["c"]}
     lines = ["", f"| | {' | '.join('C' if form == 'c' else form.capitalize() if form == 'python' else form for form in FORMS)} |", "|---" * 7 + "|"]
     for name, title in THINGS.items():
         cells = [found.get(form, {}).get(name, "") for form in FORMS]
-        lines.append(f"| {title} | {' | '.join(cell if cell.startswith('over') or not cell else f'{float(cell):.2g}' for cell in cells)} |")
+        lines.append(f"| {title} | {' | '.join(map(two_digits, cells))} |")
     return [*lines, ""]
+
+
+def two_digits(cell):
+    """A number of seconds as it is read; words stay."""
+    return cell if not cell or cell.startswith("over") else f"{float(cell):.2g}" if float(cell) < 10 else f"{float(cell):.0f}"
 
 
 def reading(pages, _):

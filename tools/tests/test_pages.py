@@ -36,6 +36,10 @@ class Parts(unittest.TestCase):
         for said in ("- `bpf_model`: `specs/Step`: effect\n", "`specs/Encoding`: fields_of, spelling", "`src`: alu, effect\n"):
             self.assertIn(said, shown)
 
+    def test_a_part_without_words_ends_at_its_own_end(self):
+        text = "<!-- made: reading -->\n<!-- end -->\nbetween\n<!-- made: file examples/first.output -->\n<!-- end -->\n"
+        self.assertIn("<!-- end -->\nbetween\n<!-- made: file", write_parts.written(write_pages, text))
+
     def test_parts_that_are_there_are_written_again(self):
         text = "before\n<!-- made: file examples/first.output -->\nold\n<!-- end -->\nafter\n"
         new = write_parts.written(write_pages, text)
