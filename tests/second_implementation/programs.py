@@ -26,6 +26,8 @@ class Programs:
 
     def __init__(self, random):
         self.random = random
+        # What the program that is being written reads besides its record.
+        self.table = b""
 
     def often(self, share):
         return self.random.random() < share
@@ -39,9 +41,10 @@ class Programs:
         """One instruction; a jump and a branch have their distance later."""
         of_kind = lambda *kinds: [place for place, value in enumerate(state.registers) if value[0] in kinds] or [1]
         some = lambda: self.choice(of_kind("number")) if self.often(0.93) else self.choice(range(11))
-        any_set = self.choice(of_kind("number", "record", "stack"))
-        pointer, target, value = self.choice(of_kind("record", "stack")), self.choice(range(10)), self.choice(NUMBERS)
-        offset = self.choice(RECORD_PLACES if state.registers[pointer][0] == "record" else FRAME_PLACES)
+        any_set = self.choice(of_kind("number", "record", "stack", "table"))
+        pointer, target, value = self.choice(of_kind("record", "stack", "table")), self.choice(range(10)), self.choice(NUMBERS)
+        places = {"record": RECORD_PLACES, "table": [0, 0, 1, max(0, len(self.table) - 4), len(self.table)]}
+        offset = self.choice(places.get(state.registers[pointer][0], FRAME_PLACES))
         kind = self.choice("mmccaaaaapplllsssskkbbboew")
         width = self.choice([7, 7, 4])
         lent = [place for place, value in enumerate(state.registers) if value[0] == "stack" and value[1] < len(state.frames) - 1]
@@ -92,10 +95,14 @@ class Programs:
         return unit(0x7B, 10, value, self.choice([-8, -16, -24, -504, -512, -512]))
 
     def indexing(self, state, length):
-        """A place in the record that is known but for a range, mostly one that fits, and an access there."""
-        base = self.choice([place for place, value in enumerate(state.registers) if value[0] == "record"])
-        index, moved = self.random.sample([register for register in (0, 3, 4, 5, 6, 7, 8, 9) if register != base], 2)
-        size, opcode = self.choice([(4, 0x61), (2, 0x69), (1, 0x71), (8, 0x79), (4, 0x81), (2, 0x89), (1, 0x91), (8, 0x7B), (4, 0x63), (1, 0x72)])
+        """A place in the record or the table that is known but for a range, mostly one that fits, and an access there."""
+        base = self.choice([place for place, value in enumerate(state.registers) if value[0] in ("record", "table")])
+        source = self.choice([place for place, value in enumerate(state.registers) if value[0] == "record"] or [base])
+        index, moved = self.random.sample([register for register in (0, 3, 4, 5, 6, 7, 8, 9) if register not in (base, source)], 2)
+        loads = [(4, 0x61), (2, 0x69), (1, 0x71), (8, 0x79), (4, 0x81), (2, 0x89), (1, 0x91)]
+        in_table = state.registers[base][0] == "table"
+        size, opcode = self.choice(loads if in_table and self.often(0.97) else loads + [(8, 0x7B), (4, 0x63), (1, 0x72)])
+        length = len(self.table) if in_table else length
         start, offset = state.registers[base][2], self.choice([0, 0, 1, 8, -1])
         most = max(1, length - size - offset - start + self.choice([0, 0, 0, 0, 1]))
         limit = {
@@ -107,7 +114,7 @@ class Programs:
             "none": [],
         }[self.choice(["and", "and", "mod", "mod32", "jump", "jump32", "none"])]
         access = unit(opcode, moved, index, offset) if opcode & 7 == 3 else unit(opcode, moved, 0 if opcode == 0x72 else moved, offset)
-        return [unit(self.choice([0x61, 0x71, 0x71, 0x69]), index, base), *limit, unit(0xBF, moved, base), unit(0x0F, moved, index), access]
+        return [unit(self.choice([0x61, 0x71, 0x71, 0x69]), index, source, self.choice([0, 4]) if in_table else 0), *limit, unit(0xBF, moved, base), unit(0x0F, moved, index), access]
 
     def asking(self, state):
         """The call of a helper, and the instructions that give it its arguments."""
@@ -127,13 +134,14 @@ class Programs:
             items.pop(self.random.randrange(len(items)))
         return items + [unit(0x85, immediate=helper)]
 
-    def code(self, length):
+    def code(self, length, table=b""):
+        self.table = table
         if self.often(0.03):
             items = self.chain()
         elif self.often(0.3):
             items = self.with_functions(length)
         else:
-            state = State.entry(length)
+            state = State.entry(length, self.table)
             items = self.with_distances(self.ended(*self.steps(state, length, self.set_up(state, length), 40)))
         code = b"".join(items)
         if self.often(0.02):
@@ -156,9 +164,9 @@ class Programs:
         """A program and functions behind it, each of which calls some of those behind itself, mostly with a pointer to a frame."""
         count = self.choice([2, 2, 3, 4, 9])
         # What is known where each function begins, by the first call of it: later calls may know less.
-        entries, parts, calls = {0: State.entry(length)}, [], []
+        entries, parts, calls = {0: State.entry(length, self.table)}, [], []
         for function in range(count):
-            state = entries.get(function) or State.entry(length).entered()
+            state = entries.get(function) or State.entry(length, self.table).entered()
             items, state = self.steps(state, length, self.set_up(state, length), 6)
             for _ in range(self.choice([0, 1, 1, 2, 3]) if function + 1 < count else 0):
                 callee = self.random.randrange(function + 1, count)
@@ -189,7 +197,7 @@ class Programs:
         behind = state.copy()
         try:
             for item in more:
-                ((_, behind),) = ways_from(behind, length, 0, *decode(item, 0))
+                ((_, behind),) = ways_from(behind, length, 0, *decode(item, 0), self.table)
         except (Broken, NoInstruction):
             return items, state
         return items + more, behind
@@ -206,10 +214,13 @@ class Programs:
         """Registers are set, as what is known allows."""
         items = []
         for register in (0, 3, 4, 5, 6, 7, 8, 9) if self.often(0.7) else ():
+            # The table's address mostly stays.
+            if state.registers[register][0] == "table" and self.often(0.9):
+                continue
             items.append(self.choice([unit(0xB7, register, immediate=self.choice(NUMBERS)), unit(0x71, register, 1, 3), unit(0x79, register, 1)]))
             if state.registers[1] != ("record", 0, 0):
                 items[-1] = unit(0xB7, register, immediate=self.choice(NUMBERS))
-            ways_from(state, length, 0, *decode(items[-1], 0))
+            ways_from(state, length, 0, *decode(items[-1], 0), self.table)
         return items
 
     def steps(self, state, length, items, most):
@@ -221,7 +232,7 @@ class Programs:
             for _ in range(8):
                 item = self.instruction(state)
                 try:
-                    ways = ways_from(state.copy(), length, 0, *decode(item, 0))
+                    ways = ways_from(state.copy(), length, 0, *decode(item, 0), self.table)
                 except (Broken, NoInstruction):
                     if self.often(0.004):
                         break
@@ -235,7 +246,7 @@ class Programs:
     def asked(self, state, length, items):
         """The call of a helper or an access at a range, mostly one that is accepted, and what is known behind it."""
         for _ in range(4):
-            is_index = self.often(0.25) and any(value[0] == "record" for value in state.registers)
+            is_index = self.often(0.6 if self.table else 0.25) and any(value[0] in ("record", "table") for value in state.registers)
             more, behind, left = self.indexing(state, length) if is_index else self.asking(state), state.copy(), 0
             try:
                 for item in more:
@@ -243,7 +254,7 @@ class Programs:
                     if left:
                         left -= 1
                         continue
-                    ways = ways_from(behind, length, 0, *decode(item, 0))
+                    ways = ways_from(behind, length, 0, *decode(item, 0), self.table)
                     behind = ways[0][1]
                     left = 2 if is_index and item[0] & 7 in (5, 6) else 0
                 return items + more, behind

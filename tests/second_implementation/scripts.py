@@ -52,9 +52,10 @@ class Writer:
     def vertex(self):
         return self.choice(self.pool)
 
-    def image(self, name, length, code):
+    def image(self, name, length):
         """The bytes of an image, one in ten with a wrong byte in its front."""
-        table = self.random.randbytes(self.choice([0, 0, 1, 4, 16, 300]))
+        table = self.random.randbytes(self.choice([0, 1, 4, 16, 256, 300]))
+        code = self.writing.code(length, table)
         counts = [length, len(code) // 8, *([len(table)] if table else [])]
         data = bytearray((b"BPE2" if table else b"BPE1") + struct.pack(f"<{len(counts)}H", *counts) + code + table)
         if self.often(0.1):
@@ -71,9 +72,9 @@ class Writer:
         if kind == "t":
             return self.text(name, length)
         if kind == "c":
-            code = self.writing.code(length)
             if self.often(0.3):
-                return [f"image {name} {self.image(name, length, code).hex()}"]
+                return [f"image {name} {self.image(name, length).hex()}"]
+            code = self.writing.code(length)
             self.learn(name, length, code)
             return [f"code {name} {length} {code.hex()}"]
         if kind == "p":

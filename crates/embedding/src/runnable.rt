@@ -33,6 +33,7 @@ impl Drop for Runnable {
 impl Model for Runnable {
     ghost use Rattle.std.specs.Arc.{arc_value};
     ghost use Rattle.bpf_image.specs.Program.{Program};
+    ghost use Rattle.std.specs.Prelude.{box_value};
     ghost use Rattle.edge_fold.specs.Kept.{IsFor};
 
     ghost Value = { Program };
@@ -40,7 +41,7 @@ impl Model for Runnable {
     ghost view = { λ r. arc_value r.program };
 
     // The memory is one for this program.
-    ghost invariant = { λ r. IsFor (arc_value r.program) r.memory };
+    ghost invariant = { λ r. IsFor (arc_value r.program) (box_value r.memory) };
 }
 
 impl Runnable {

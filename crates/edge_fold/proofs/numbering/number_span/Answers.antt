@@ -5,13 +5,15 @@ use Rattle.edge_fold.proofs.Written.{IsWritten, part_written, rest_written, all_
 use Rattle.edge_fold.proofs.numbering.number_span.Goals as goal
 
 pub rounds-init : goal.rounds-init
-rounds-init c = record { within = omega arith; long = c.requires.long; written = refl }
+rounds-init c = (record { within = omega arith; long = c.requires.long; written = refl }, c.requires.memory)
 
 pub rounds-preserved : goal.rounds-preserved
 rounds-preserved c =
-    let s = c.args.span in
-    part_written c.args.program.now (graph_of c.args.version.now) c.args.argument.now s.source s.place s.targets.now c.rounds.numbers c.targets_from.result.now c.number_block-count.new.numbers c.rounds.at c.number_block-count.result
-    c.rounds.invariant c.targets_from.ensures c.number_block-count.ensures.count c.number_block-count.auto.numbers c.number_block-count.ensures.numbers
+    let s = c.args.span in (
+      part_written c.args.program.now (graph_of c.args.version.now) c.args.argument.now s.source s.place s.targets.now c.rounds.numbers c.targets_from.result.now c.number_block-count.new.numbers c.rounds.at c.number_block-count.result
+          c.rounds.invariant.0 c.targets_from.ensures c.number_block-count.ensures.count c.number_block-count.auto.numbers c.number_block-count.ensures.numbers,
+      c.rounds.invariant.1,
+    )
 
 pub returns-then-count-eq0-clause-numbers : goal.returns-then-count-eq0-clause-numbers
 returns-then-count-eq0-clause-numbers c =
@@ -24,7 +26,7 @@ returns-then-count-eq0-clause-numbers c =
     let block = put_mid at (length c.rounds.numbers - at) c.rounds.numbers c.number_block-count.new.numbers in
     let tried : IsWritten p g a s.source s.place s.targets.now block (at + c.number_block-count.result) =
     part_written p g a s.source s.place s.targets.now c.rounds.numbers rest c.number_block-count.new.numbers at c.number_block-count.result
-    c.rounds.invariant c.targets_from.ensures c.number_block-count.ensures.count c.number_block-count.auto.numbers c.number_block-count.ensures.numbers in
+    c.rounds.invariant.0 c.targets_from.ensures c.number_block-count.ensures.count c.number_block-count.auto.numbers c.number_block-count.ensures.numbers in
     let same : at + c.number_block-count.result ≡ at = omega (arith, c.if-count-eq0.true) in
     rest_written p g a s.source s.place s.targets.now block rest c.number_singly.new.numbers at
     (subst (λ n. IsWritten p g a s.source s.place s.targets.now block n) same tried) c.targets_from.ensures c.number_singly.auto.numbers c.number_singly.ensures.numbers
@@ -32,4 +34,4 @@ returns-then-count-eq0-clause-numbers c =
 pub returns-clause-numbers : goal.returns-clause-numbers
 returns-clause-numbers c =
     let s = c.args.span in
-    all_written c.args.program.now (graph_of c.args.version.now) c.args.argument.now s.source s.place s.targets.now c.rounds.numbers c.rounds.at c.rounds.invariant (omega (arith, c.rounds-test.false))
+    all_written c.args.program.now (graph_of c.args.version.now) c.args.argument.now s.source s.place s.targets.now c.rounds.numbers c.rounds.at c.rounds.invariant.0 (omega (arith, c.rounds-test.false))

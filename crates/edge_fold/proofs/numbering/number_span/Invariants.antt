@@ -1,10 +1,11 @@
 use Rattle.std.proofs.Common.{length, ◌-◌}
 use Rattle.past_model.specs.Past.{graph_of}
+use Rattle.edge_fold.specs.Kept.{IsFor}
 use Rattle.edge_fold.proofs.Written.{IsWritten}
 use Rattle.edge_fold.proofs.numbering.number_span.Given as goal
 
 abbrev pub invariant-rounds : goal.invariant-rounds
-invariant-rounds l = IsWritten l.program (graph_of l.version) l.argument l.span.source l.span.place l.span.targets.now l.numbers l.at
+invariant-rounds l = IsWritten l.program (graph_of l.version) l.argument l.span.source l.span.place l.span.targets.now l.numbers l.at × IsFor l.program l.memory
 
 abbrev pub decreases-rounds : goal.decreases-rounds
 decreases-rounds l = length l.span.targets.now - l.at
