@@ -28,7 +28,8 @@ enum {
     EDGEBPF_ARGUMENT_LENGTH = 13,
     EDGEBPF_REDUCTION = 14,
     EDGEBPF_WRONG_TEXT = 15,
-    EDGEBPF_NO_NEIGHBOUR = 16
+    EDGEBPF_NO_NEIGHBOUR = 16,
+    EDGEBPF_EPOCHS_FULL = 17
 };
 
 /* The same in words. */
@@ -41,7 +42,7 @@ static inline const char *edgebpf_words(uint32_t status) {
         "the number of vertices is not from 1 to 1048576",
         "an edit names a vertex that the graph does not have",
         "there are more than 65536 edits",
-        "4096 batches were applied, and there is room for no more",
+        "4096 batches were applied, and there is room for no more before a rebase",
         "there is no such feed",
         "the lengths of the arrays do not fit together",
         "the verifier refuses the program",
@@ -51,6 +52,7 @@ static inline const char *edgebpf_words(uint32_t status) {
         "there is no such reduction",
         "the text means no code",
         "the vertex has no neighbour at this place",
+        "1024 rebases were made, and there is room for no more",
     };
     return status < sizeof words / sizeof *words ? words[status] : "there is no such status";
 }
@@ -61,7 +63,8 @@ static inline const char *edgebpf_words(uint32_t status) {
 /* Limits. */
 #define EDGEBPF_MOST_VERTICES 1048576u
 #define EDGEBPF_MOST_EDITS 65536u
-#define EDGEBPF_MOST_BATCHES 4096u
+#define EDGEBPF_MOST_BATCHES 4096u /* between two rebases */
+#define EDGEBPF_MOST_EPOCHS 1024u
 
 /* Handles. {0} is the empty one. A handle is closed once and never copied; whoever has it owns it. */
 typedef struct edgebpf_handle { void *at; } edgebpf_handle;
@@ -69,11 +72,13 @@ typedef struct edgebpf_store { edgebpf_handle handle; } edgebpf_store;
 typedef struct edgebpf_version { edgebpf_handle handle; } edgebpf_version;
 typedef struct edgebpf_program { edgebpf_handle handle; } edgebpf_program;
 
-/* What a batch did: how many edges are new, how many are gone, and the number of the version that it made. */
+/* What a batch did: how many edges are new, how many are gone, and the number of the version that it made: how many batches
+   there were since the last rebase. */
 typedef struct edgebpf_change { uint64_t added, removed, number; } edgebpf_change;
 
-/* What a version is: how many batches made it, how many edges and how many vertices it has. */
-typedef struct edgebpf_info { uint64_t number, edges; uint32_t vertices; } edgebpf_info;
+/* What a version is: how many batches there were since the last rebase, how many edges it has, how many rebases there were
+   before it, and how many vertices it has. */
+typedef struct edgebpf_info { uint64_t number, edges, epoch; uint32_t vertices; } edgebpf_info;
 
 /* Neighbours that lie one after another, ascending. */
 typedef struct edgebpf_slice { const uint32_t *at; size_t count; } edgebpf_slice;
@@ -98,6 +103,12 @@ uint32_t edgebpf_store_new(uint32_t vertices, edgebpf_store *out);
 uint32_t edgebpf_store_apply(edgebpf_store *store, uint8_t feed, const uint32_t *sources, size_t source_count,
                              const uint32_t *targets, size_t target_count, const uint8_t *removes, size_t remove_count,
                              edgebpf_change *change);
+
+/* Forgets the batches that made the last version, whose memory is free once no older version is open: the graph stays as it
+   is, and is version 0 of the next epoch, which has room for 4,096 batches. `epoch` is how many rebases there were with this
+   one. EPOCHS_FULL after 1,024 of them. Where the answer is not 0 the store is as it was; after NO_MEMORY the same call may be
+   made again. */
+uint32_t edgebpf_store_rebase(edgebpf_store *store, uint64_t *epoch);
 
 /* The last version, which stays as it is. */
 uint32_t edgebpf_store_pin(edgebpf_store *store, edgebpf_version *out);

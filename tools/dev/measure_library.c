@@ -63,6 +63,8 @@ int main(void) {
     printf("a batch of 65,536 edits: %.1f ms\n", 1e3 * batch);
     printf("a batch of one edit: %.2f us\n", 1e6 * BEST(60, sources[0] = chance(); targets[0] = chance();
            done(edgebpf_store_apply(&store, 1, sources, 1, targets, 1, removes, 1, &change))));
+    uint64_t epoch;
+    printf("a rebase, without the log's memory: %.2f us\n", 1e6 * BEST(60, done(edgebpf_store_rebase(&store, &epoch))));
     done(edgebpf_store_pin(&store, &version));
     done(edgebpf_version_info(&version, &info));
     printf("share and close a version: %.1f ns\n", 1e9 * BEST(CALLS, done(edgebpf_version_share(&version, &other)); edgebpf_close_version(&other)));

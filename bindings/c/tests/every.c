@@ -141,19 +141,45 @@ static void refuses_batches(void) {
     CHECK(edgebpf_store_apply(&store, 0, many, 0, many, 0, marks, 0, &change) == EDGEBPF_LOG_FULL);
 }
 
+/* After the last batch that a log has room for: the graph is version 0 of the next epoch, and there is room again. */
+static void rebases(void) {
+    const uint32_t one = 1, two = 2;
+    const uint8_t insert = 0;
+    uint64_t epoch = 9;
+    edgebpf_change change;
+    edgebpf_info info;
+    edgebpf_version based = {{0}};
+    CHECK(edgebpf_store_rebase(&store, &epoch) == EDGEBPF_DONE && epoch == 1);
+    CHECK(edgebpf_store_pin(&store, &based) == EDGEBPF_DONE && edgebpf_version_info(&based, &info) == EDGEBPF_DONE);
+    CHECK(info.epoch == 1 && info.number == 0 && info.edges == 5 && info.vertices == 4);
+    CHECK(edgebpf_version_info(&last, &info) == EDGEBPF_DONE && info.epoch == 0 && info.number == 2);
+    CHECK(edgebpf_store_apply(&store, 3, &one, 1, &two, 1, &insert, 1, &change) == EDGEBPF_DONE);
+    CHECK(change.added == 1 && change.removed == 0 && change.number == 1);
+    for (uint64_t number = 2; number <= EDGEBPF_MOST_EPOCHS; number++)
+        CHECK(edgebpf_store_rebase(&store, &epoch) == EDGEBPF_DONE && epoch == number);
+    CHECK(edgebpf_store_rebase(&store, &epoch) == EDGEBPF_EPOCHS_FULL && epoch == EDGEBPF_MOST_EPOCHS);
+    CHECK(edgebpf_store_apply(&store, 3, &one, 1, &two, 1, &insert, 1, &change) == EDGEBPF_DONE);
+    CHECK(change.added == 0 && change.removed == 0 && change.number == 1);
+    CHECK(edgebpf_store_pin(&store, &based) == EDGEBPF_DONE && edgebpf_version_info(&based, &info) == EDGEBPF_DONE);
+    CHECK(info.epoch == EDGEBPF_MOST_EPOCHS && info.number == 1 && info.edges == 6);
+    edgebpf_close_version(&based);
+}
+
 static void tells_what_handles_hold(void) {
     edgebpf_store none = {{0}};
     edgebpf_version out = {{0}};
     edgebpf_info info;
     edgebpf_change change;
     uint32_t one = 0, answer;
-    uint64_t value;
+    uint64_t value, epoch = 9;
     uint8_t mark = 0;
     size_t lent;
     edgebpf_slice slice;
     edgebpf_totals totals;
     CHECK(edgebpf_store_apply(&none, 0, &one, 1, &one, 1, &mark, 1, &change) == EDGEBPF_EMPTY);
     CHECK(edgebpf_store_pin(&none, &out) == EDGEBPF_EMPTY);
+    CHECK(edgebpf_store_rebase(&none, &epoch) == EDGEBPF_EMPTY && epoch == 9);
+    CHECK(edgebpf_store_rebase((edgebpf_store *)&last, &epoch) == EDGEBPF_OTHER_KIND && epoch == 9);
     CHECK(edgebpf_version_info(&out, &info) == EDGEBPF_EMPTY);
     CHECK(edgebpf_version_lend(&out, 0, &slice, 1, &lent) == EDGEBPF_EMPTY);
     CHECK(edgebpf_run(&out, &targets_of, EDGEBPF_NO_BYTES, 0, &one, 1, 0, &value, 1, &totals) == EDGEBPF_EMPTY);
@@ -166,7 +192,8 @@ static void tells_what_handles_hold(void) {
     CHECK(edgebpf_store_new(EDGEBPF_MOST_VERTICES + 1, &none) == EDGEBPF_VERTEX_COUNT && !none.handle.at);
     edgebpf_close_store(&none);
     CHECK(!strcmp(edgebpf_words(EDGEBPF_NO_NEIGHBOUR), "the vertex has no neighbour at this place"));
-    CHECK(!strcmp(edgebpf_words(EDGEBPF_NO_NEIGHBOUR + 1), "there is no such status"));
+    CHECK(!strcmp(edgebpf_words(EDGEBPF_EPOCHS_FULL), "1024 rebases were made, and there is room for no more"));
+    CHECK(!strcmp(edgebpf_words(EDGEBPF_EPOCHS_FULL + 1), "there is no such status"));
 }
 
 int main(void) {
@@ -177,6 +204,7 @@ int main(void) {
     reads_and_writes_texts();
     runs_programs();
     refuses_batches();
+    rebases();
     tells_what_handles_hold();
     edgebpf_close_store(&store);
     lends_and_copies(); /* a version outlives its store */

@@ -51,25 +51,32 @@ static void write_batch(int batch) {
     }
 }
 
-static void check_last(edgebpf_store *store, uint64_t number, uint64_t edges) {
+static void check_last(edgebpf_store *store, uint64_t epoch, uint64_t number, uint64_t edges) {
     edgebpf_version pin = {{0}};
     edgebpf_info info;
     while (again(edgebpf_store_pin(store, &pin))) continue;
     CHECK(edgebpf_version_info(&pin, &info) == EDGEBPF_DONE);
-    CHECK(info.number == number && info.edges == edges);
+    CHECK(info.epoch == epoch && info.number == number && info.edges == edges);
     edgebpf_close_version(&pin);
 }
 
+/* All batches, with a rebase before the last one. */
 static void apply_all(edgebpf_store *store) {
-    uint64_t edges = 0;
+    uint64_t epoch = 0, number = 0, edges = 0;
     edgebpf_change change;
     random_state = 5;
     for (int batch = 0; batch < BATCHES; batch++) {
+        if (batch == BATCHES - 1) {
+            while (again(edgebpf_store_rebase(store, &epoch))) check_last(store, 0, number, edges);
+            CHECK(epoch == 1);
+            number = 0;
+            check_last(store, epoch, number, edges);
+        }
         write_batch(batch);
         while (again(edgebpf_store_apply(store, 0, sources, EDITS, targets, EDITS, removes, EDITS, &change)))
-            check_last(store, batch, edges);
+            check_last(store, epoch, number, edges);
         edges += change.added - change.removed;
-        check_last(store, batch + 1, edges);
+        check_last(store, epoch, ++number, edges);
     }
 }
 

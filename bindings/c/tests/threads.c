@@ -1,4 +1,4 @@
-/* One thread applies batches, and two read: each pins the last version again and again, and reads all its edges from lent slices,
+/* One thread applies batches and rebases, and two read: each pins the last version again and again, and reads all its edges from lent slices,
    which have to be as many as the version says, and ascending. */
 #include "check.h"
 #include <pthread.h>
@@ -69,7 +69,9 @@ int main(void) {
     for (int i = 0; i < READERS; i++) CHECK(!pthread_create(&readers[i], NULL, reads, NULL));
     for (int i = 0; i < BATCHES; i++) {
         edgebpf_version next = {{0}}, before;
+        uint64_t epoch;
         apply_batch(&store);
+        if (i % 7 == 6) CHECK(edgebpf_store_rebase(&store, &epoch) == EDGEBPF_DONE);
         CHECK(edgebpf_store_pin(&store, &next) == EDGEBPF_DONE);
         pthread_mutex_lock(&lock);
         before = latest;

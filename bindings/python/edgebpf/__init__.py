@@ -13,13 +13,13 @@ The graph of a `Store` lives in this process, in the memory of `libedgebpf.so`. 
 starts and `close` ends; batches and runs may have several workers there.
 """
 from edgebpf.errors import (
-    ArgumentLength, Closed, Error, LogFull, NoMemory, Refused, TooManyEdits, TooManyNames, VertexRange, WrongText,
+    ArgumentLength, Closed, EpochsFull, Error, LogFull, NoMemory, Refused, TooManyEdits, TooManyNames, VertexRange, WrongText,
 )
 from edgebpf.native import Store, Version
 from edgebpf.programs import Program, assemble, compile_c
 from edgebpf.store import Counts, Result, connect
 
 __all__ = [
-    "ArgumentLength", "Closed", "Counts", "Error", "LogFull", "NoMemory", "Program", "Refused", "Result", "Store", "TooManyEdits",
-    "TooManyNames", "Version", "VertexRange", "WrongText", "assemble", "compile_c", "connect",
+    "ArgumentLength", "Closed", "Counts", "EpochsFull", "Error", "LogFull", "NoMemory", "Program", "Refused", "Result", "Store",
+    "TooManyEdits", "TooManyNames", "Version", "VertexRange", "WrongText", "assemble", "compile_c", "connect",
 ]

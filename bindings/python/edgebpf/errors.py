@@ -70,7 +70,11 @@ class TooManyEdits(Error):
 
 
 class LogFull(Error):
-    """4,096 batches were published, and the store takes no more."""
+    """4,096 batches were published since the last rebase, and the store takes no more before the next one."""
+
+
+class EpochsFull(Error):
+    """1,024 rebases were made, and the store takes no more."""
 
 
 class ArgumentLength(Error):

@@ -12,7 +12,7 @@ from typing import Any
 
 import numpy.typing as npt
 
-from edgebpf.errors import ArgumentLength, Closed, Error, LogFull, NoMemory, TooManyEdits, VertexRange
+from edgebpf.errors import ArgumentLength, Closed, EpochsFull, Error, LogFull, NoMemory, TooManyEdits, VertexRange
 
 cffi: Any = importlib.import_module("cffi") if importlib.util.find_spec("cffi") else None
 
@@ -21,12 +21,14 @@ DIST = HERE.parents[3] / "dist"
 NAME = "libedgebpf.so"
 DONE, NO_MEMORY, EMPTY = 0, 1, 2
 VERTEX_RANGE, TOO_MANY_EDITS, LOG_FULL, REFUSED, RECORD_LENGTH, CODE_LENGTH, ARGUMENT_LENGTH, WRONG_TEXT = 5, 6, 7, 10, 11, 12, 13, 15
+EPOCHS_FULL = 17
 ERRORS: dict[int, tuple[type[Exception], str]] = {
     NO_MEMORY: (NoMemory, "there is no memory; nothing was changed"),
     EMPTY: (Closed, "it is closed"),
     VERTEX_RANGE: (VertexRange, "a vertex is not in the graph"),
     TOO_MANY_EDITS: (TooManyEdits, "a batch has at most 65,536 edits"),
-    LOG_FULL: (LogFull, "4,096 batches were applied"),
+    LOG_FULL: (LogFull, "4,096 batches were applied since the last rebase"),
+    EPOCHS_FULL: (EpochsFull, "1,024 rebases were made"),
     RECORD_LENGTH: (ValueError, "a record has 16 to 256 bytes"),
     CODE_LENGTH: (ValueError, "code has 1 to 4,096 whole units of 8 bytes"),
     ARGUMENT_LENGTH: (ArgumentLength, "the argument does not have the record's length less 16 bytes"),
@@ -35,13 +37,14 @@ ERRORS: dict[int, tuple[type[Exception], str]] = {
 DECLARATIONS = """
 typedef struct { void *at; } handle;
 typedef struct { uint64_t added, removed, number; } change;
-typedef struct { uint64_t number, edges; uint32_t vertices; } info;
+typedef struct { uint64_t number, edges, epoch; uint32_t vertices; } info;
 typedef struct { uintptr_t at; size_t count; } slice;
 typedef struct { uint32_t bound, frames, cause, pc; } verdict;
 typedef struct { size_t length, line; uint32_t cause; } assembled;
 typedef struct { uint64_t edges, total; } totals;
 uint32_t edgebpf_store_new(uint32_t, handle *);
 uint32_t edgebpf_store_apply(handle *, uint8_t, const uint32_t *, size_t, const uint32_t *, size_t, const uint8_t *, size_t, change *);
+uint32_t edgebpf_store_rebase(handle *, uint64_t *);
 uint32_t edgebpf_store_pin(handle *, handle *);
 uint32_t edgebpf_version_info(handle *, info *);
 uint32_t edgebpf_version_lend(handle *, uint32_t, slice *, size_t, size_t *);

@@ -98,6 +98,15 @@ class Store:
             library.check(library.load().edgebpf_store_apply(handle.at, FEEDS.index(feed), *arrays, change))
         return Counts(change.number, change.added, change.removed)
 
+    def rebase(self) -> int:
+        """Forgets the batches that made the last version, and returns how many rebases there were. The graph stays as it is, and version
+        numbers begin again: there is room for 4,096 batches more. The memory of the forgotten batches is free once no older version is
+        open. Raises `EpochsFull` after 1,024 rebases, and `NoMemory`; then the store is as it was."""
+        handle, epoch = self._open(), library.new("uint64_t *")
+        with handle.lock:
+            library.check(library.load().edgebpf_store_rebase(handle.at, epoch))
+        return int(epoch[0])
+
     def pin(self) -> Version:
         """The last version. It stays as it is while batches come."""
         handle, pin = self._open(), library.Handle()
@@ -117,8 +126,8 @@ class Store:
 
 
 class Version:
-    """A version of a store's graph. `number` is how many batches it has, `vertices` and `edges` how large it is. It is let go where it
-    is closed, or with the last view of it."""
+    """A version of a store's graph. `epoch` is how many rebases there were before it, `number` how many batches there were since then,
+    `vertices` and `edges` how large it is. It is let go where it is closed, or with the last view of it."""
 
     def __init__(self, handle: library.Handle) -> None:
         info = library.new("info *")
@@ -129,7 +138,7 @@ class Version:
         self._room: Room | None = None
         self._memory: memoryview | None = None
         library.check(library.load().edgebpf_version_info(handle.at, info))
-        self.number, self.vertices, self.edges = info.number, info.vertices, info.edges
+        self.epoch, self.number, self.vertices, self.edges = info.epoch, info.number, info.vertices, info.edges
 
     def _open(self) -> library.Handle:
         if self._handle is None:

@@ -13,12 +13,13 @@ from typing import IO, Any, cast
 import numpy as np
 import numpy.typing as npt
 
-from edgebpf.errors import ArgumentLength, Closed, Error, LogFull, NoMemory, TooManyEdits, TooManyNames, VertexRange
+from edgebpf.errors import ArgumentLength, Closed, EpochsFull, Error, LogFull, NoMemory, TooManyEdits, TooManyNames, VertexRange
 from edgebpf.programs import EDGE_BYTES, Program, command
 
 MOST_VERTICES = 1 << 20
 MOST_EDITS = 65_536
 MOST_BATCHES = 4_096
+MOST_EPOCHS = 1_024
 MOST_NAMES = 256
 FEEDS = ("A", "B", "C", "D")
 # A line of a script has at most 80,000 bytes; the vertices of a run get what its other words leave.
@@ -34,7 +35,8 @@ Vertices = npt.NDArray[np.uint32]
 
 @dataclasses.dataclass(frozen=True)
 class Counts:
-    """What a batch did: the number of the version that it made, and how many edges it added and removed."""
+    """What a batch did: the number of the version that it made, which counts batches since the last rebase, and how many edges it added
+    and removed."""
 
     version: int
     added: int
@@ -128,9 +130,13 @@ class Store:
 
     def __init__(self, process: Process, vertices: int) -> None:
         self._process, self.vertices = process, vertices
-        self._batches, self._pins, self._names = 0, 0, itertools.count()
-        # The last pin, and how many batches were published before it.
-        self._last: tuple[int, str, int, int] | None = None
+        # Held while something is published or pinned, so that what is kept here is what the process has.
+        self._turn = threading.Lock()
+        # How many rebases there were, and how many batches since the last one.
+        self._epoch, self._batches = 0, 0
+        self._pins, self._names = 0, itertools.count()
+        # The last pin: its name, epoch, number and edges.
+        self._last: tuple[str, int, int, int] | None = None
         self._programs: dict[Program, str] = {}
         process.ask(f"graph {vertices}\n".encode())
 
@@ -145,24 +151,36 @@ class Store:
         lines = edit_lines("+", inserts, self.vertices) + edit_lines("-", removes, self.vertices)
         if len(lines) > MOST_EDITS:
             raise TooManyEdits(f"{len(lines)} edits; a batch has at most {MOST_EDITS}")
-        if self._batches >= MOST_BATCHES:
-            raise LogFull(f"{MOST_BATCHES} batches were published")
-        words, _ = self._process.ask(f"batch {feed}\n{''.join(lines)}end\n".encode())
-        self._batches += 1
+        with self._turn:
+            if self._batches >= MOST_BATCHES:
+                raise LogFull(f"{MOST_BATCHES} batches were published since the last rebase")
+            words, _ = self._process.ask(f"batch {feed}\n{''.join(lines)}end\n".encode())
+            self._batches += 1
         return Counts(int(words[3]), int(words[5]), int(words[7]))
+
+    def rebase(self) -> int:
+        """Forgets the batches that made the last version, and returns how many rebases there were. The graph stays as it is, and version
+        numbers begin again: there is room for 4,096 batches more. A version that was pinned before keeps its batches until the store is
+        closed. Raises `EpochsFull` after 1,024 rebases; then nothing was changed."""
+        with self._turn:
+            if self._epoch >= MOST_EPOCHS:
+                raise EpochsFull(f"{MOST_EPOCHS} rebases were made")
+            words, _ = self._process.ask(b"rebase\n")
+            self._epoch, self._batches = int(words[2]), 0
+            return self._epoch
 
     def pin(self) -> Version:
         """The last version. It stays as it is while batches come. A process keeps at most 256 versions (`TooManyNames`)."""
-        # Another thread may pin meanwhile: what this call found or made is what it returns.
-        batches, last = self._batches, self._last
-        if last is None or last[0] != batches:
-            if self._pins >= MOST_NAMES:
-                raise TooManyNames(f"the process keeps at most {MOST_NAMES} pinned versions")
-            self._pins += 1
-            name = f"v{next(self._names)}"
-            words, _ = self._process.ask(f"pin {name}\n".encode())
-            self._last = last = batches, name, int(words[3]), int(words[5])
-        return Version(self, *last[1:])
+        with self._turn:
+            last = self._last
+            if last is None or last[1:3] != (self._epoch, self._batches):
+                if self._pins >= MOST_NAMES:
+                    raise TooManyNames(f"the process keeps at most {MOST_NAMES} pinned versions")
+                self._pins += 1
+                name = f"v{next(self._names)}"
+                words, _ = self._process.ask(f"pin {name}\n".encode())
+                self._last = last = name, self._epoch, int(words[3]), int(words[5])
+            return Version(self, *last)
 
     def _name_of(self, program: Program) -> str:
         """The name under which the process has a program; it is loaded at its first use."""
@@ -190,10 +208,11 @@ class Store:
 
 
 class Version:
-    """A version of a store's graph. `number` is how many batches it has, `vertices` and `edges` how large it is."""
+    """A version of a store's graph. `epoch` is how many rebases there were before it, `number` how many batches there were since then,
+    `vertices` and `edges` how large it is."""
 
-    def __init__(self, store: Store, name: str, number: int, edges: int) -> None:
-        self._store, self._name, self.number, self.edges = store, name, number, edges
+    def __init__(self, store: Store, name: str, epoch: int, number: int, edges: int) -> None:
+        self._store, self._name, self.epoch, self.number, self.edges = store, name, epoch, number, edges
         self.vertices = store.vertices
         self._csr: tuple[npt.NDArray[np.int64], Vertices] | None = None
         self._is_closed = False

@@ -3,7 +3,7 @@
 
     random_stores.py [--batches N] [--seed S]
 
-After each batch the counts are those of a set, the arrays those of scipy, and one random program is verified, run and asked for each edge's
+Some batches come after a rebase. After each batch the counts are those of a set, the arrays those of scipy, and one random program is verified, run and asked for each edge's
 number, all as the second implementation has it. It ends with status 1 at the first difference.
 """
 import argparse
@@ -47,7 +47,7 @@ class Trial:
 
     def __init__(self, chance):
         self.chance, self.vertices = chance, chance.choice([1, 2, 5, 20, 60, 300])
-        self.store, self.edges, self.number = edgebpf.Store(self.vertices), set(), 0
+        self.store, self.edges, self.epoch, self.number = edgebpf.Store(self.vertices), set(), 0, 0
         self.programs = Programs(chance)
 
     def some_edges(self):
@@ -55,6 +55,10 @@ class Trial:
         return [(self.chance.randrange(self.vertices), self.chance.randrange(self.vertices)) for _ in range(self.chance.randint(0, most))]
 
     def batch(self):
+        if self.chance.random() < 0.1:
+            self.epoch += 1
+            self.number = 0
+            same("epoch", self.store.rebase(), self.epoch)
         inserts, removes = self.some_edges(), self.some_edges()
         ends = lambda edges: ([one for one, _ in edges], [other for _, other in edges])
         counts = self.store.batch(self.chance.choice("ABCD"), ends(inserts), ends(removes))
@@ -63,6 +67,7 @@ class Trial:
         same("counts", counts, edgebpf.Counts(self.number, len(later - self.edges), len(self.edges - later)))
         self.edges = later
         version = self.store.pin()
+        same("version", (version.epoch, version.number), (self.epoch, self.number))
         self.compare_arrays(version)
         self.compare_program(version)
 

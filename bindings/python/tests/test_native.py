@@ -28,6 +28,7 @@ class Native(test_package.Package):
         with self.assertRaises(edgebpf.LogFull):
             store.batch("A")
         self.assertEqual({store.pin().number for _ in range(300)}, {4_096})
+        self.assertEqual((store.rebase(), store.batch("A").version), (1, 1))
         for vertices in (0, 1 << 20 | 1):
             with self.assertRaises(ValueError):
                 edgebpf.Store(vertices)

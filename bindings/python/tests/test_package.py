@@ -179,6 +179,23 @@ class Package(unittest.TestCase):
         with self.assertRaises(edgebpf.VertexRange):
             version.neighbours(-1)
 
+    def test_rebase(self):
+        """Numbers begin again, the graph stays as it is, and so does a version from before."""
+        store, target = self.store(4), edgebpf.assemble(TARGET)
+        store.batch("A", ([0, 0, 1], [1, 2, 2]))
+        first = store.pin()
+        self.assertEqual(store.rebase(), 1)
+        based = store.pin()
+        self.assertEqual(store.batch("D", removes=([0], [1])), edgebpf.Counts(1, 0, 1))
+        last = store.pin()
+        shapes = [(version.epoch, version.number, version.edges, version.run(target).total) for version in (first, based, last)]
+        self.assertEqual(shapes, [(0, 1, 3, 5), (1, 0, 3, 5), (1, 1, 2, 4)])
+        for number in range(2, 1_025):
+            self.assertEqual(store.rebase(), number)
+        with self.assertRaises(edgebpf.EpochsFull):
+            store.rebase()
+        self.assertEqual(store.batch("C", ([3], [3])), edgebpf.Counts(1, 1, 0))
+
     def test_limits(self):
         store = self.store(1)
         for number in range(4_096):
@@ -187,6 +204,7 @@ class Package(unittest.TestCase):
             store.batch("A")
         # Pins without a batch between them are of one version.
         self.assertEqual({store.pin().number for _ in range(300)}, {4_096})
+        self.assertEqual((store.rebase(), store.batch("A").version), (1, 1))
         store = self.store(1)
         for number in range(256):
             self.assertEqual(store.pin().number, number)

@@ -18,6 +18,7 @@ pub(crate) struct RawChange {
 pub(crate) struct RawInfo {
     pub(crate) number: u64,
     pub(crate) edges: u64,
+    pub(crate) epoch: u64,
     pub(crate) vertices: u32,
 }
 
@@ -65,6 +66,7 @@ extern "C" {
         remove_count: usize,
         change: *mut RawChange,
     ) -> u32;
+    pub(crate) fn edgebpf_store_rebase(store: *mut RawHandle, epoch: *mut u64) -> u32;
     pub(crate) fn edgebpf_store_pin(store: *mut RawHandle, out: *mut RawHandle) -> u32;
     pub(crate) fn edgebpf_version_share(version: *mut RawHandle, out: *mut RawHandle) -> u32;
     pub(crate) fn edgebpf_version_info(version: *mut RawHandle, info: *mut RawInfo) -> u32;

@@ -14,8 +14,10 @@ pub enum Error {
     VertexRange,
     /// A batch has at most 65,536 edits.
     TooManyEdits,
-    /// 4,096 batches were applied, and there is room for no more.
+    /// 4,096 batches were applied, and there is room for no more before a rebase.
     LogFull,
+    /// 1,024 rebases were made, and there is room for no more.
+    EpochsFull,
     /// The lengths of the arrays do not fit together.
     Lengths,
     /// A record has 16 to 256 bytes.
@@ -42,6 +44,7 @@ impl Error {
             5 => Error::VertexRange,
             6 => Error::TooManyEdits,
             7 => Error::LogFull,
+            17 => Error::EpochsFull,
             LENGTHS => Error::Lengths,
             11 => Error::RecordLength,
             12 => Error::CodeLength,
@@ -67,7 +70,8 @@ impl fmt::Display for Error {
             Error::VertexCount => to.write_str("the number of vertices is not from 1 to 1048576"),
             Error::VertexRange => to.write_str("a vertex is not in the graph"),
             Error::TooManyEdits => to.write_str("there are more than 65536 edits"),
-            Error::LogFull => to.write_str("4096 batches were applied, and there is room for no more"),
+            Error::LogFull => to.write_str("4096 batches were applied, and there is room for no more before a rebase"),
+            Error::EpochsFull => to.write_str("1024 rebases were made, and there is room for no more"),
             Error::Lengths => to.write_str("the lengths of the arrays do not fit together"),
             Error::RecordLength => to.write_str("the record length is not from 16 to 256"),
             Error::CodeLength => to.write_str("the code is not 1 to 4096 units of 8 bytes"),

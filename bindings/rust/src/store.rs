@@ -1,6 +1,6 @@
 //! A graph that changes.
 use crate::batch::{Batch, Feed};
-use crate::calls::{edgebpf_store_apply, edgebpf_store_new, edgebpf_store_pin, RawChange};
+use crate::calls::{edgebpf_store_apply, edgebpf_store_new, edgebpf_store_pin, edgebpf_store_rebase, RawChange};
 use crate::error::{done, Error};
 use crate::handle::Handle;
 use crate::version::Version;
@@ -15,7 +15,7 @@ pub struct Change {
     pub added: u64,
     /// The number of edges that are gone.
     pub removed: u64,
-    /// The number of the version that the batch made: how many batches there are.
+    /// The number of the version that the batch made: how many batches there were since the last rebase.
     pub number: u64,
 }
 
@@ -58,6 +58,16 @@ impl Store {
             )
         })?;
         Ok(Change { added: change.added, removed: change.removed, number: change.number })
+    }
+
+    /// Forgets the batches that made the last version, and says how many rebases there were. The graph stays as it is, numbers begin
+    /// again, and there is room for 4,096 batches more. The memory of the forgotten batches is free once no older version is held.
+    /// `EpochsFull` after 1,024 rebases, and `NoMemory`; then the store is as it was.
+    pub fn rebase(&mut self) -> Result<u64, Error> {
+        let mut epoch = 0;
+        // SAFETY: the store's handle was written by the library.
+        done(unsafe { edgebpf_store_rebase(self.0.at(), &mut epoch) })?;
+        Ok(epoch)
     }
 
     /// The last version, which stays as it is while batches are applied. `NoMemory`.

@@ -63,7 +63,12 @@ impl Version {
         info
     }
 
-    /// How many batches made it.
+    /// How many rebases there were before it.
+    pub fn epoch(&self) -> u64 {
+        self.info().epoch
+    }
+
+    /// How many batches there were since the last rebase.
     pub fn number(&self) -> u64 {
         self.info().number
     }

@@ -66,6 +66,26 @@ fn runs_reduce_the_numbers_of_edges() {
 }
 
 #[test]
+fn a_rebase_begins_numbers_again() {
+    let mut store = Store::new(4).unwrap();
+    store.apply(Feed::A, &Batch::from_iter([(0, 1), (0, 2)])).unwrap();
+    let first = store.pin().unwrap();
+    assert_eq!(store.rebase(), Ok(1));
+    let based = store.pin().unwrap();
+    let made = store.apply(Feed::D, Batch::new().remove(0, 1)).unwrap();
+    assert_eq!((made.added, made.removed, made.number), (0, 1, 1));
+    let last = store.pin().unwrap();
+    assert_eq!((first.epoch(), first.number(), edges_of(&first)), (0, 1, BTreeSet::from([(0, 1), (0, 2)])));
+    assert_eq!((based.epoch(), based.number(), edges_of(&based)), (1, 0, BTreeSet::from([(0, 1), (0, 2)])));
+    assert_eq!((last.epoch(), last.number(), edges_of(&last)), (1, 1, BTreeSet::from([(0, 2)])));
+    for number in 2..=1024 {
+        assert_eq!(store.rebase(), Ok(number));
+    }
+    assert_eq!(store.rebase(), Err(Error::EpochsFull));
+    assert_eq!(store.apply(Feed::C, Batch::new().insert(3, 3)).unwrap().number, 1);
+}
+
+#[test]
 fn errors_are_told_and_change_nothing() {
     assert_eq!(Store::new(0).err(), Some(Error::VertexCount));
     assert_eq!(Store::new(MOST_VERTICES + 1).err(), Some(Error::VertexCount));

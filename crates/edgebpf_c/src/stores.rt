@@ -4,9 +4,9 @@ ghost use Rattle.past_model.specs.Past.{opening};
 ghost use Rattle.version.specs.Version.{IsVertexCount};
 ghost use Rattle.embedding.specs.declared.statuses.TheConstants.{DONE, NO_MEMORY, VERTEX_COUNT};
 ghost use Rattle.embedding.specs.Holding.{OnStore, HoldsStore, HoldsVersion};
-ghost use Rattle.embedding.specs.Batches.{IsAppliedTo, IsHandedOut};
+ghost use Rattle.embedding.specs.Batches.{IsAppliedTo, IsRebasedTo, IsHandedOut};
 
-use embedding::{Arrays, Change, EMPTY, Handle, apply_held, new_store, pin_held};
+use embedding::{Arrays, Change, EMPTY, Handle, apply_held, new_store, pin_held, rebase_held};
 use std::alloc::Global;
 
 /// A store of a graph of so many vertices, from 1 to 1,048,576, without an edge.
@@ -43,6 +43,21 @@ pub extern "C" fn edgebpf_store_apply(
         None => EMPTY,
         Some(mut held) => {
             let answer = apply_held(alloc, &mut held, feed, arrays, change);
+            store.put(held);
+            answer
+        }
+    }
+}
+
+/// Makes the graph of the last version the base of a new epoch, whose log is empty, and tells how many epochs ended.
+#[unsafe(no_mangle)]
+pub extern "C" fn edgebpf_store_rebase(alloc: Global, store: &mut Handle, epoch: &mut u64) -> u32
+    ensures { IsRebasedTo store.old.held result store.new.held epoch.old epoch.new }
+{
+    match store.take(alloc) {
+        None => EMPTY,
+        Some(mut held) => {
+            let answer = rebase_held(&mut held, epoch);
             store.put(held);
             answer
         }

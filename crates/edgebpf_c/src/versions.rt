@@ -37,7 +37,7 @@ pub extern "C" fn edgebpf_version_share(
     }
 }
 
-/// Its number, its edges and its vertices.
+/// Its number, its edges, its epoch and its vertices.
 #[unsafe(no_mangle)]
 pub extern "C" fn edgebpf_version_info(alloc: Global, version: &mut Handle, info: &mut Info) -> u32
     ensures kept { version.new.held ≡ version.old.held }

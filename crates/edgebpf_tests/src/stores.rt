@@ -8,6 +8,7 @@ use std::thread::Threads;
 use store::{Batch, Edit, PinError, Reader, SubmitCause};
 use store_model::READERS;
 
+mod epochs;
 mod threads;
 
 // Submits empty batches until one is refused. How many were not, and why that one is.

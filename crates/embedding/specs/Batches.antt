@@ -1,11 +1,11 @@
--- A batch of arrays on a store that a handle holds, and what is handed out.
+-- A batch of arrays on a store that a handle holds, a rebase of it, and what is handed out.
 use Rattle.std.specs.Prelude.{◌≡◌, ◌≢◌, ℕ, List, length, Option, Some, None}
 use Rattle.past_model.specs.Past.{Past}
 use Rattle.embedding.specs.declared.statuses.TheConstants.{DONE, NO_MEMORY, EMPTY, OTHER_KIND, LENGTHS}
 use Rattle.embedding.specs.declared.store.Change.{Change}
 use Rattle.embedding.specs.declared.held.Held.{Held}
 use Rattle.embedding.specs.declared.held.Held.TheVariants as held
-use Rattle.embedding.specs.Applying.{IsApplied}
+use Rattle.embedding.specs.Applying.{IsApplied, IsRebased}
 use Rattle.embedding.specs.Spelled.{spelled_entry}
 
 -- the three arrays are as long as each other
@@ -33,6 +33,13 @@ IsAppliedTo feed sources targets removes (Some (held.Store p)) status next befor
     StoreIs next (λ n. IsAnswered feed sources targets removes p status n before after)
 IsAppliedTo feed sources targets removes (Some (held.Version v)) status next before after = (status ≡ OTHER_KIND) × (next ≡ Some (held.Version v)) × (after ≡ before)
 IsAppliedTo feed sources targets removes (Some (held.Program c)) status next before after = (status ≡ OTHER_KIND) × (next ≡ Some (held.Program c)) × (after ≡ before)
+
+-- a rebase of what a handle holds, before and after: nothing is done where it holds no store
+abbrev pub IsRebasedTo : Option Held → ℕ → Option Held → ℕ → ℕ → Type 0
+IsRebasedTo None status next before after = (status ≡ EMPTY) × (next ≡ None) × (after ≡ before)
+IsRebasedTo (Some (held.Store p)) status next before after = StoreIs next (λ n. IsRebased p status n before after)
+IsRebasedTo (Some (held.Version v)) status next before after = (status ≡ OTHER_KIND) × (next ≡ Some (held.Version v)) × (after ≡ before)
+IsRebasedTo (Some (held.Program c)) status next before after = (status ≡ OTHER_KIND) × (next ≡ Some (held.Program c)) × (after ≡ before)
 
 -- it is made, or there is no memory and what was there is there
 abbrev pub IsHandedOut : ℕ → Type 0 → Type 0 → Type 0

@@ -1,13 +1,13 @@
 -- What is told of a version.
 use Rattle.std.specs.Prelude.{◌≡◌, ℕ, Bool, true, false, Option, Some, None, slice_get}
 use Rattle.graph_model.specs.Graph.{Graph, neighbours, edge_count}
-use Rattle.past_model.specs.Past.{Past, graph_of, number_of}
+use Rattle.past_model.specs.Past.{Past, graph_of, number_of, epoch_of}
 use Rattle.embedding.specs.declared.statuses.TheConstants.{DONE, NO_NEIGHBOUR}
 use Rattle.embedding.specs.declared.questions.Info.{Info}
 
--- its number, its edges and its vertices
+-- its number, its edges, its epoch and its vertices
 abbrev pub info_of : Past → Info
-info_of p = record { number = number_of p; edges = edge_count (graph_of p); vertices = p.vertex_count }
+info_of p = record { number = number_of p; edges = edge_count (graph_of p); epoch = epoch_of p; vertices = p.vertex_count }
 
 -- a yes as a number
 abbrev pub answer_of : Bool → ℕ

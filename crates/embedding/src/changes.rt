@@ -1,11 +1,11 @@
-//! Stores, and the batches that change them.
+//! Stores, and the batches and rebases that change them.
 ghost use Rattle.std.specs.Prelude.{◌≡◌, ◌≢◌, ◌≤◌, ◌<◌, length, Some};
 ghost use Rattle.past_model.specs.declared.limits.TheConstants.{MOST_EDITS};
 ghost use Rattle.past_model.specs.Past.{opening};
 ghost use Rattle.version.specs.Version.{IsVertexCount};
 ghost use Rattle.embedding.specs.declared.statuses.TheConstants.{DONE, NO_MEMORY, LENGTHS, TOO_MANY_EDITS, VERTEX_COUNT};
 ghost use Rattle.embedding.specs.Holding.{OnStore, HoldsStore, HoldsVersion};
-ghost use Rattle.embedding.specs.Batches.{IsAnswered, IsAppliedTo, IsHandedOut};
+ghost use Rattle.embedding.specs.Batches.{IsAnswered, IsAppliedTo, IsRebasedTo, IsHandedOut};
 
 use crate::edits::{Arrays, entry_of};
 use crate::handle::{Handle, hand_out};
@@ -68,6 +68,17 @@ pub fn apply_held(
 {
     match held {
         Held::Store(store) => apply_arrays(alloc, store, feed, arrays, change),
+        Held::Version(_) => OTHER_KIND,
+        Held::Program(_) => OTHER_KIND,
+    }
+}
+
+/// Begins the next epoch of the store that a handle holds, and tells how many ended.
+pub fn rebase_held(held: &mut Held, epoch: &mut u64) -> u32
+    ensures { IsRebasedTo (Some held.old) result (Some held.new) epoch.old epoch.new }
+{
+    match held {
+        Held::Store(store) => store.rebase(epoch),
         Held::Version(_) => OTHER_KIND,
         Held::Program(_) => OTHER_KIND,
     }

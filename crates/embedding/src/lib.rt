@@ -18,7 +18,7 @@ mod statuses;
 mod store;
 mod texts;
 
-pub use changes::{apply_held, new_store, pin_held};
+pub use changes::{apply_held, new_store, pin_held, rebase_held};
 pub use copies::copy_held;
 pub use edits::Arrays;
 pub use handle::{Handle, hand_out};
@@ -32,9 +32,9 @@ pub use runnable::Runnable;
 pub use runs::{Totals, run_held};
 pub use slices::{Slice, lend_held};
 pub use statuses::{
-    ARGUMENT_LENGTH, CODE_LENGTH, DONE, EMPTY, FEED, LENGTHS, LOG_FULL, NO_MEMORY, NO_NEIGHBOUR,
-    OTHER_KIND, RECORD_LENGTH, REDUCTION, REFUSED, TOO_MANY_EDITS, VERTEX_COUNT, VERTEX_RANGE,
-    WRONG_TEXT,
+    ARGUMENT_LENGTH, CODE_LENGTH, DONE, EMPTY, EPOCHS_FULL, FEED, LENGTHS, LOG_FULL, NO_MEMORY,
+    NO_NEIGHBOUR, OTHER_KIND, RECORD_LENGTH, REDUCTION, REFUSED, TOO_MANY_EDITS, VERTEX_COUNT,
+    VERTEX_RANGE, WRONG_TEXT,
 };
 pub use store::{Change, Store};
 pub use texts::{Assembled, assemble_into, explain_into};

@@ -19,10 +19,12 @@ use std::sync::Arc;
 #[repr(C)]
 #[derive(Clone, Copy, Debug, PartialEq, Eq)]
 pub struct Info {
-    /// How many batches were applied before it and with it.
+    /// How many batches of its epoch were applied before it and with it.
     pub number: u64,
     /// How many edges it has.
     pub edges: u64,
+    /// How many epochs ended before it.
+    pub epoch: u64,
     /// How many vertices it has.
     pub vertices: u32,
 }
@@ -52,6 +54,7 @@ pub fn info_held(held: &Held, info: &mut Info) -> u32
             *info = Info {
                 number: version.number(),
                 edges: version.edge_count(),
+                epoch: version.epoch(),
                 vertices: version.vertex_count(),
             };
             DONE

@@ -14,7 +14,7 @@ pub const VERTEX_COUNT: u32 = 4;
 pub const VERTEX_RANGE: u32 = 5;
 /// There are more than 65,536 edits.
 pub const TOO_MANY_EDITS: u32 = 6;
-/// 4,096 batches were applied, and there is room for no more.
+/// 4,096 batches were applied since the store began or was rebased, and there is room for no more.
 pub const LOG_FULL: u32 = 7;
 /// There is no such feed: they are 0 to 3.
 pub const FEED: u32 = 8;
@@ -34,3 +34,5 @@ pub const REDUCTION: u32 = 14;
 pub const WRONG_TEXT: u32 = 15;
 /// The vertex has no neighbour at this place.
 pub const NO_NEIGHBOUR: u32 = 16;
+/// 1,024 rebases were made, and there is room for no more.
+pub const EPOCHS_FULL: u32 = 17;

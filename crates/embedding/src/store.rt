@@ -1,15 +1,16 @@
 //! A graph that changes by batches, in one thread.
 ghost use Rattle.std.specs.Prelude.{◌≡◌, ◌<◌, IfOk};
 ghost use Rattle.std.specs.Arc.{arc_value};
-ghost use Rattle.past_model.specs.declared.limits.TheConstants.{MOST_BATCHES};
+ghost use Rattle.past_model.specs.declared.limits.TheConstants.{MOST_BATCHES, MOST_EPOCHS};
 ghost use Rattle.past_model.specs.Edits.{AreEditsBelow};
-ghost use Rattle.past_model.specs.Past.{number_of, opening, longer};
+ghost use Rattle.past_model.specs.Past.{number_of, epoch_of, opening, longer};
+ghost use Rattle.past_model.specs.Epochs.{rebased};
 ghost use Rattle.version.specs.Version.{IsVertexCount};
 ghost use Rattle.embedding.specs.declared.statuses.TheConstants.{DONE, NO_MEMORY};
-ghost use Rattle.embedding.specs.Applying.{fault_in, change_of, IsApplied};
+ghost use Rattle.embedding.specs.Applying.{fault_in, change_of, IsApplied, IsRebased};
 
-use crate::statuses::{DONE, FEED, LOG_FULL, NO_MEMORY, TOO_MANY_EDITS, VERTEX_RANGE};
-use past_model::{Entry, FEEDS, MOST_BATCHES, MOST_EDITS};
+use crate::statuses::{DONE, EPOCHS_FULL, FEED, LOG_FULL, NO_MEMORY, TOO_MANY_EDITS, VERTEX_RANGE};
+use past_model::{Entry, FEEDS, MOST_BATCHES, MOST_EDITS, MOST_EPOCHS};
 use std::alloc::{AllocError, Global};
 use std::marker::Model;
 use std::sync::Arc;
@@ -23,7 +24,7 @@ pub struct Change {
     pub added: u64,
     /// How many edges there were before that are not there since then.
     pub removed: u64,
-    /// The version's number: how many batches were applied, with this one.
+    /// The version's number: how many batches of its epoch were applied, with this one.
     pub number: u64,
 }
 
@@ -112,7 +113,8 @@ impl Store {
 
     /// Applies a batch: it makes the next version, and tells what the batch did. Else the store is as it was, and nothing is
     /// told. `TOO_MANY_EDITS` exactly above 65,536 edits; else `VERTEX_RANGE` exactly where an edit names a vertex that the
-    /// graph does not have; else `LOG_FULL` exactly after 4,096 batches; else `FEED` exactly where there is no such feed.
+    /// graph does not have; else `LOG_FULL` exactly after 4,096 batches of one epoch; else `FEED` exactly where there is no
+    /// such feed.
     /// `NO_MEMORY` comes only where all tests pass: all that is wanted is taken before the store changes, so that the same
     /// batch may be applied again.
     pub fn apply(&mut self, entry: &Entry, change: &mut Change) -> u32
@@ -127,6 +129,35 @@ impl Store {
             Ok((version, told)) => {
                 self.current = version;
                 *change = told;
+                DONE
+            }
+            Err(_) => NO_MEMORY,
+        }
+    }
+
+    // The first version of the next epoch.
+    fn next_epoch(&self) -> Result<Arc<Version>, AllocError>
+        requires { epoch_of self.now < MOST_EPOCHS }
+        ensures { IfOk result (λ next. arc_value next ≡ rebased self.now) }
+    {
+        let version = self.current.rebased(self.alloc)?;
+        Ok(Arc::new(self.alloc, version)?)
+    }
+
+    /// Makes the graph of the last version the base of a new epoch, whose log is empty, and tells how many epochs ended. Homes
+    /// stay as they are, numbers begin again at 0, and there is room for 4,096 batches more. Else the store is as it was, and
+    /// nothing is told: `EPOCHS_FULL` exactly after 1,024 rebases, and else `NO_MEMORY`.
+    pub fn rebase(&mut self, epoch: &mut u64) -> u32
+        ensures { IsRebased self.old result self.new epoch.old epoch.new }
+    {
+        let ended = self.current.epoch();
+        if ended >= MOST_EPOCHS {
+            return EPOCHS_FULL;
+        }
+        match self.next_epoch() {
+            Ok(next) => {
+                self.current = next;
+                *epoch = ended + 1;
                 DONE
             }
             Err(_) => NO_MEMORY,

@@ -28,9 +28,12 @@ fn batch_of(alloc: Global, edits: &[Edit]) -> Result<Batch, AllocError>
     Batch::new(alloc, Vec::from_slice(alloc, edits)?)
 }
 
-/// Whether a version has this number and number of edges, and vertex 1 these neighbours.
-fn is_such(version: &Version, number: u64, edges: u64, neighbours: &[u32]) -> bool {
-    version.number() == number && version.edge_count() == edges && lists(version, neighbours)
+/// Whether a version has this epoch and number, and vertex 1 these neighbours, which are all edges.
+fn is_such(version: &Version, epoch: u64, number: u64, neighbours: &[u32]) -> bool {
+    version.epoch() == epoch
+        && version.number() == number
+        && version.edge_count() == neighbours.len() as u64
+        && lists(version, neighbours)
 }
 
 /// Whether the neighbours of vertex 1 are these.
@@ -47,21 +50,21 @@ fn lists(version: &Version, neighbours: &[u32]) -> bool {
 }
 
 /// What the first feed submits, and then the second.
-fn batches(alloc: Global) -> Result<(Batch, Batch), AllocError> {
+pub(crate) fn batches(alloc: Global) -> Result<(Batch, Batch), AllocError> {
     let first = batch_of(alloc, &[Edit::Insert(1, 2), Edit::Insert(1, 0)])?;
     let second = batch_of(alloc, &[Edit::Remove(1, 0), Edit::Insert(1, 1)])?;
     Ok((first, second))
 }
 
 /// Whether a step published the next batch, which came by this feed.
-fn is_next(receipt: &Receipt, number: u64, feed: u8) -> bool {
-    receipt.number() == number && receipt.feed() == Some(feed)
+pub(crate) fn is_next(receipt: &Receipt, epoch: u64, number: u64, feed: u8) -> bool {
+    receipt.epoch() == epoch && receipt.number() == number && receipt.feed() == Some(feed)
 }
 
-/// What a reader pins: whether it has this number and number of edges, and vertex 1 these neighbours.
-fn pins_such(reader: &mut Reader, number: u64, neighbours: &[u32]) -> bool {
+/// What a reader pins: whether it has this epoch and number, and vertex 1 these neighbours, which are all edges.
+pub(crate) fn pins_such(reader: &mut Reader, epoch: u64, number: u64, neighbours: &[u32]) -> bool {
     match reader.pin() {
-        Ok(pin) => is_such(pin.version(), number, neighbours.len() as u64, neighbours),
+        Ok(pin) => is_such(pin.version(), epoch, number, neighbours),
         Err(_) => false,
     }
 }
@@ -80,15 +83,15 @@ fn publish<R: Threads + Wait>(
 {
     let number = u64::from(feed);
     match publisher.step(rt, Workers::one(), &OpenGate) {
-        Ok(Some(receipt)) if is_next(&receipt, number + 1, feed) => return Told::Published,
+        Ok(Some(receipt)) if is_next(&receipt, 0, number + 1, feed) => return Told::Published,
         Err(PublishError::OutOfMemory) => {}
         _ => return Told::Changed,
     }
-    if publisher.holds() != Some(feed) || !pins_such(reader, number, old) {
+    if publisher.holds() != Some(feed) || !pins_such(reader, 0, number, old) {
         return Told::Changed;
     }
     match publisher.step(rt, Workers::one(), &OpenGate) {
-        Ok(Some(receipt)) if is_next(&receipt, number + 1, feed) => Told::Unchanged,
+        Ok(Some(receipt)) if is_next(&receipt, 0, number + 1, feed) => Told::Unchanged,
         _ => Told::Changed,
     }
 }
@@ -100,7 +103,7 @@ fn publish_both<R: Threads + Wait>(rt: &R, publisher: &mut Publisher, reader: &m
 {
     let first = publish(rt, publisher, reader, 0, &[]);
     let second = publish(rt, publisher, reader, 1, &[0, 2]);
-    if !pins_such(reader, 2, &[1, 2]) {
+    if !pins_such(reader, 0, 2, &[1, 2]) {
         return Told::Changed;
     }
     match (first, second) {

@@ -19,6 +19,10 @@ pub enum Stop {
     NotVerified,
     /// A step was refused, its batch was held, and the last version was as it was. The next step published the batch.
     NotPublished,
+    /// A rebase was refused, and the last version was as it was. The next rebase was done.
+    NotRebased,
+    /// A step was refused, and its batch was held over a rebase. The next step published it in the new epoch.
+    HeldOver,
     /// `apply_batch` answered so.
     NotApplied,
     /// `run` answered so.
@@ -43,6 +47,8 @@ impl Stop {
             Stop::NotDisassembled => "not disassembled",
             Stop::NotVerified => "not verified",
             Stop::NotPublished => "not published",
+            Stop::NotRebased => "not rebased",
+            Stop::HeldOver => "held over",
             Stop::NotApplied => "not applied",
             Stop::NotRun => "not run",
             Stop::NotMapped => "not mapped",

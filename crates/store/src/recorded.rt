@@ -141,11 +141,7 @@ impl Recorded {
     {
         let known = head.add(&self.known, self.count, entry)?;
         let count = self.count + 1;
-        Some(Owners {
-            shown: Recorded::of(shown, known.again(), count),
-            kept: Recorded::of(kept, known.again(), count),
-            told: Recorded::of(told, known, count),
-        })
+        Some(three_owners(known, count, shown, kept, told))
     }
 
     /// Adds a rebase to the history, whose version these three own. `None`, and the history is as it was, where it is
@@ -166,10 +162,28 @@ impl Recorded {
     {
         let known = head.rebase(&self.known, self.count)?;
         let count = self.count + 1;
-        Some(Owners {
-            shown: Recorded::of(shown, known.again(), count),
-            kept: Recorded::of(kept, known.again(), count),
-            told: Recorded::of(told, known, count),
-        })
+        Some(three_owners(known, count, shown, kept, told))
+    }
+}
+
+// The owners of a version, with the history's word for it, to which so many publications led.
+fn three_owners(
+    known: Known,
+    count: u64,
+    shown: Arc<Version>,
+    kept: Arc<Version>,
+    told: Arc<Version>,
+) -> Owners
+    requires known { moment_of (arc_value shown).vertex_count known ≡ moment_in (arc_value shown) known }
+    requires count { count ≡ count_of known }
+    requires few { AreFew (arc_value shown) count }
+    requires kept { arc_value kept ≡ arc_value shown }
+    requires told { arc_value told ≡ arc_value shown }
+    ensures { AreOwnersOf (moment_in (arc_value shown) known) result }
+{
+    Owners {
+        shown: Recorded::of(shown, known.again(), count),
+        kept: Recorded::of(kept, known.again(), count),
+        told: Recorded::of(told, known, count),
     }
 }

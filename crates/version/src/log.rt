@@ -6,7 +6,7 @@ ghost use Rattle.past_model.specs.Epochs.{mark_of, marked};
 ghost use Rattle.past_model.specs.Shared.{shared_items};
 ghost use Rattle.version.specs.Log.{entries_in};
 
-use past_model::Entry;
+use past_model::{Entry, FEEDS};
 use std::alloc::{AllocError, Global};
 use std::marker::Model;
 use std::sync::Arc;
@@ -15,7 +15,7 @@ use std::sync::Arc;
 const CHUNK: usize = 32;
 
 /// Of each feed, from A on, how many batches came by it.
-pub type Mark = [u64; 4];
+pub type Mark = [u64; FEEDS as usize];
 
 /// The entries of a version, in order. Logs share the chunks that they have in common, and the list of
 /// them: a longer log copies less than one chunk, and the list where a chunk becomes full.
@@ -54,7 +54,7 @@ impl Log {
             full: None,
             last: Vec::new(alloc),
             len: 0,
-            mark: [0, 0, 0, 0],
+            mark: [0; FEEDS as usize],
         }
     }
 

@@ -20,16 +20,16 @@ const EACH: u32 = 100;
 // How many batches all feeds submit.
 const ALL: u64 = EACH as u64 * FEEDS as u64;
 
-// The batch of a number. Where there is no memory for it, it is empty.
-fn numbered(alloc: Global, number: u32) -> Batch {
-    match batch_of(alloc, &[Edit::Insert(0, number)]) {
+/// The batch of a number, of an edge from this vertex. Where there is no memory for it, it is empty.
+pub(super) fn numbered(alloc: Global, source: u32, number: u32) -> Batch {
+    match batch_of(alloc, &[Edit::Insert(source, number)]) {
         Ok(batch) => batch,
         Err(_) => Batch::empty(),
     }
 }
 
-// Submits a batch as soon as there is room.
-fn submit<R: Wait>(rt: &R, feed: &mut Feed, batch: Batch) -> Option<SubmitCause>
+/// Submits a batch as soon as there is room.
+pub(super) fn submit<R: Wait>(rt: &R, feed: &mut Feed, batch: Batch) -> Option<SubmitCause>
     ensures { IsFeedOf feed.old.vertex_count feed.old.queue feed.old.feed feed.new }
 {
     let mut next = batch;
@@ -53,12 +53,12 @@ fn submit_all<R: Wait>(rt: &R, alloc: Global, feed: &mut Feed)
     ensures { IsFeedOf feed.old.vertex_count feed.old.queue feed.old.feed feed.new }
 {
     'numbers: for number in 0..EACH {
-        submit(rt, feed, numbered(alloc, number));
+        submit(rt, feed, numbered(alloc, 0, number));
     }
 }
 
-// The number of a batch.
-fn number_of(batch: &Batch) -> Option<u32> {
+/// The number of a batch.
+pub(super) fn number_of(batch: &Batch) -> Option<u32> {
     match batch.edits().first() {
         Some(edit) => Some(edit.target()),
         None => None,

@@ -16,35 +16,13 @@ overflow_add-count c =
     let few = room_for_batch (arc_value c.self.inside.version) c.self.inside.count c.self.invariant.2 room in
     omega (arith, few)
 
-pub of-requires-clause-known : goal.of-requires-clause-known
-of-requires-clause-known c =
-    batch_known (arc_value c.self.inside.version) (arc_value c.args.shown) c.args.entry.now c.self.inside.known c.again.result c.self.invariant.0 (c.again.ensures ∙ c.in_ok-known.ensures)
+pub three_owners-requires-clause-known : goal.three_owners-requires-clause-known
+three_owners-requires-clause-known c =
+    batch_known (arc_value c.self.inside.version) (arc_value c.args.shown) c.args.entry.now c.self.inside.known c.in_ok-known.known c.self.invariant.0 (c.in_ok-known.ensures)
     (c.requires.shown ∙ ap (λ (m : Moment). longer m.past c.args.entry.now) (sym c.self.view_is))
 
-pub of-requires-clause-few : goal.of-requires-clause-few
-of-requires-clause-few c =
+pub three_owners-requires-clause-few : goal.three_owners-requires-clause-few
+three_owners-requires-clause-few c =
     let room : number_of (arc_value c.self.inside.version) < 4096 = subst (λ (m : Moment). number_of m.past < 4096) (sym c.self.view_is) c.requires.room in
     few_longer (arc_value c.self.inside.version) (arc_value c.args.shown) c.args.entry.now c.self.inside.count
     (c.requires.shown ∙ ap (λ (m : Moment). longer m.past c.args.entry.now) (sym c.self.view_is)) c.self.invariant.2 room
-
-pub of-requires-2-clause-known : goal.of-requires-2-clause-known
-of-requires-2-clause-known c =
-    batch_known (arc_value c.self.inside.version) (arc_value c.args.kept) c.args.entry.now c.self.inside.known c.again-2.result c.self.invariant.0 (c.again-2.ensures ∙ c.in_ok-known.ensures)
-    (c.requires.kept ∙ ap (λ (m : Moment). longer m.past c.args.entry.now) (sym c.self.view_is))
-
-pub of-requires-2-clause-few : goal.of-requires-2-clause-few
-of-requires-2-clause-few c =
-    let room : number_of (arc_value c.self.inside.version) < 4096 = subst (λ (m : Moment). number_of m.past < 4096) (sym c.self.view_is) c.requires.room in
-    few_longer (arc_value c.self.inside.version) (arc_value c.args.kept) c.args.entry.now c.self.inside.count
-    (c.requires.kept ∙ ap (λ (m : Moment). longer m.past c.args.entry.now) (sym c.self.view_is)) c.self.invariant.2 room
-
-pub of-requires-3-clause-known : goal.of-requires-3-clause-known
-of-requires-3-clause-known c =
-    batch_known (arc_value c.self.inside.version) (arc_value c.args.told) c.args.entry.now c.self.inside.known c.in_ok-known.known c.self.invariant.0 (c.in_ok-known.ensures)
-    (c.requires.told ∙ ap (λ (m : Moment). longer m.past c.args.entry.now) (sym c.self.view_is))
-
-pub of-requires-3-clause-few : goal.of-requires-3-clause-few
-of-requires-3-clause-few c =
-    let room : number_of (arc_value c.self.inside.version) < 4096 = subst (λ (m : Moment). number_of m.past < 4096) (sym c.self.view_is) c.requires.room in
-    few_longer (arc_value c.self.inside.version) (arc_value c.args.told) c.args.entry.now c.self.inside.count
-    (c.requires.told ∙ ap (λ (m : Moment). longer m.past c.args.entry.now) (sym c.self.view_is)) c.self.invariant.2 room

@@ -17,35 +17,13 @@ overflow_add-count c =
     let few = room_for_rebase (arc_value c.self.inside.version) c.self.inside.count c.self.invariant.2 room in
     omega (arith, few)
 
-pub of-requires-clause-known : goal.of-requires-clause-known
-of-requires-clause-known c =
-    rebase_known (arc_value c.self.inside.version) (arc_value c.args.shown) c.self.inside.known c.again.result c.self.invariant.0 (c.again.ensures ∙ c.in_ok-known.ensures)
+pub three_owners-requires-clause-known : goal.three_owners-requires-clause-known
+three_owners-requires-clause-known c =
+    rebase_known (arc_value c.self.inside.version) (arc_value c.args.shown) c.self.inside.known c.in_ok-known.known c.self.invariant.0 (c.in_ok-known.ensures)
     (c.requires.shown ∙ ap (λ (m : Moment). rebased m.past) (sym c.self.view_is))
 
-pub of-requires-clause-few : goal.of-requires-clause-few
-of-requires-clause-few c =
+pub three_owners-requires-clause-few : goal.three_owners-requires-clause-few
+three_owners-requires-clause-few c =
     let room : epoch_of (arc_value c.self.inside.version) < 1024 = subst (λ (m : Moment). epoch_of m.past < 1024) (sym c.self.view_is) c.requires.room in
     few_rebased (arc_value c.self.inside.version) (arc_value c.args.shown) c.self.inside.count
     (c.requires.shown ∙ ap (λ (m : Moment). rebased m.past) (sym c.self.view_is)) c.self.invariant.2 room
-
-pub of-requires-2-clause-known : goal.of-requires-2-clause-known
-of-requires-2-clause-known c =
-    rebase_known (arc_value c.self.inside.version) (arc_value c.args.kept) c.self.inside.known c.again-2.result c.self.invariant.0 (c.again-2.ensures ∙ c.in_ok-known.ensures)
-    (c.requires.kept ∙ ap (λ (m : Moment). rebased m.past) (sym c.self.view_is))
-
-pub of-requires-2-clause-few : goal.of-requires-2-clause-few
-of-requires-2-clause-few c =
-    let room : epoch_of (arc_value c.self.inside.version) < 1024 = subst (λ (m : Moment). epoch_of m.past < 1024) (sym c.self.view_is) c.requires.room in
-    few_rebased (arc_value c.self.inside.version) (arc_value c.args.kept) c.self.inside.count
-    (c.requires.kept ∙ ap (λ (m : Moment). rebased m.past) (sym c.self.view_is)) c.self.invariant.2 room
-
-pub of-requires-3-clause-known : goal.of-requires-3-clause-known
-of-requires-3-clause-known c =
-    rebase_known (arc_value c.self.inside.version) (arc_value c.args.told) c.self.inside.known c.in_ok-known.known c.self.invariant.0 (c.in_ok-known.ensures)
-    (c.requires.told ∙ ap (λ (m : Moment). rebased m.past) (sym c.self.view_is))
-
-pub of-requires-3-clause-few : goal.of-requires-3-clause-few
-of-requires-3-clause-few c =
-    let room : epoch_of (arc_value c.self.inside.version) < 1024 = subst (λ (m : Moment). epoch_of m.past < 1024) (sym c.self.view_is) c.requires.room in
-    few_rebased (arc_value c.self.inside.version) (arc_value c.args.told) c.self.inside.count
-    (c.requires.told ∙ ap (λ (m : Moment). rebased m.past) (sym c.self.view_is)) c.self.invariant.2 room
