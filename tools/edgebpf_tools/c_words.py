@@ -83,12 +83,17 @@ class CWords:
         head = re.match(r"refused at (\d+)", end[0])
         pc = int(head[1]) if head else 0
         rule = re.match(r"rule (\d+): (.*)", end[1])
-        known = dict(re.fullmatch(r"known of (r\d+): (.*)", line).groups() for line in end[2:] if line.startswith("known of"))
+        known = dict(re.fullmatch(r"known of (r\d+): (.*)", line).groups() for line in end[2:] if line.startswith("known of r"))
+        frames = [line.removeprefix("known of ") for line in end[2:] if line.startswith("known of frame")]
         usual = end[-1].removeprefix("what helps: ")
         lines = [f"{self.place(pc)}{rule[2]}"]
         if line := self.line(pc):
             lines.append(f"    {self.source(*line).strip()}")
+        # Of the calls that are open the last one first.
+        calls = [instruction.called_at for instruction in read(told).listing if instruction.called_at is not None]
+        lines += [f"    called at {self.place(call).removesuffix(': ')}" for call in reversed(calls)]
         lines += [f"    {self.named(register, pc)}: {value}" for register, value in known.items()]
+        lines += [f"    {frame}" for frame in frames]
         lines.append(f"    what helps: {self.advice(int(rule[1]), pc, known, usual)}")
         return lines
 

@@ -43,6 +43,9 @@ u64 local_array(struct edge *edge, u64 length) { u8 bytes[8];
 u64 from_the_left(struct edge *edge, u64 length) { return edge->argument[length - 17]; }
 u64 signed_place(struct edge *edge, u64 length) { int place = edge->place; return place < 0 || place >= 8 ? 1 : edge->argument[place]; }
 u64 flagged_place(struct edge *edge, u64 length) { u8 place = sub_saturated(7, edge->degree); return place < 8 ? edge->argument[place] : 0; }
+FUNCTION u64 summed(u64 *words) { words[0] += words[1]; return words[0]; }
+u64 unset_word(struct edge *edge, u64 length) { u64 words[2]; words[0] = edge->source;
+    return summed(words); }
 __attribute__((naked, section("nothing_here"))) u64 bare(struct edge *edge, u64 length) {}
 """
 

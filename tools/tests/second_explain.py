@@ -8,7 +8,7 @@ HERE = pathlib.Path(__file__).resolve().parent
 sys.path[:0] = [str(HERE.parent.parent / "tests/second_implementation"), str(HERE.parent)]
 
 from bpf import FRAME_BYTES  # noqa: E402
-from verifier import Passing, Refused, State, UNSET, functions_of, listed, verify  # noqa: E402
+from verifier import Passing, Refused, State, UNSET, UNSET_BYTE, functions_of, listed, verify  # noqa: E402
 
 from edgebpf_tools.words import CAUSES  # noqa: E402
 
@@ -25,11 +25,12 @@ def value_text(value):
 
 def state_text(state):
     parts = [f"r{register} {value_text(value)}" for register, value in enumerate(state.registers) if value != UNSET]
-    for number, frame in enumerate(state.frames):
-        if frame.is_set:
-            parts.append(f"bytes[{number}] {min(frame.is_set) - FRAME_BYTES} to {max(frame.is_set) - FRAME_BYTES}")
-        parts += [f"slot[{number}] {8 * slot - FRAME_BYTES} {value_text(value)}" for slot, value in sorted(frame.spilled.items())]
-    return "  ".join(parts)
+    return "  ".join(parts + [text for number, frame in enumerate(state.frames) if (text := frame_text(number, frame))])
+
+
+def frame_text(number, frame):
+    parts = [f"bytes[{number}] {min(frame.is_set) - FRAME_BYTES} to {max(frame.is_set) - FRAME_BYTES}"] if frame.is_set else []
+    return "  ".join(parts + [f"slot[{number}] {8 * slot - FRAME_BYTES} {value_text(value)}" for slot, value in sorted(frame.spilled.items())])
 
 
 def operands(instruction):
@@ -95,6 +96,9 @@ def main(length, code, table=b""):
         for register in operands(instruction) if instruction else ():
             value = state.registers[register]
             print(f"known of r{register}: {'nothing' if value == UNSET else value_text(value)}")
+        for number, frame in enumerate(state.frames if state and refused.cause == UNSET_BYTE else ()):
+            text = frame_text(number, frame)
+            print(f"known of frame {number}:  {text}" if text else f"known of frame {number}: no byte is set")
         print("what helps: see docs/BPF.md")
         return 1
     walk(code, length, table)

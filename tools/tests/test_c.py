@@ -180,6 +180,10 @@ class WordsAtTheLine(unittest.TestCase):
         array = self.refusal("local_array")
         self.assertRegex(array, r"programs\.c:39: a pointer stands")
         self.assertIn("what helps: a local array cannot be indexed by a variable", array)
+        unset = self.refusal("unset_word")
+        self.assertRegex(unset, r"programs\.c:43: bytes of the frame are read that may be unset")
+        self.assertRegex(unset, r"\n    called at .*programs\.c:45\n    words \(r1\): stack\[0\]-16\n    frame 0:  bytes\[0\] -16 to -9  slot")
+        self.assertIn("\n    frame 1: no byte is set\n", unset)
 
     def test_without_the_program_that_explains(self):
         os.environ["EDGEBPF_EXPLAIN"] = f"{self.folder}/nothing"
