@@ -14,7 +14,7 @@ use verifier::Verified;
 use version::Version;
 
 /// A verified program, and the memory in which the runs by one handle work. The memory is made once: a run over few edges costs less
-/// than making it. Contracts see the program alone, since no run depends on what the memory held before.
+/// than making it. Contracts see the program alone: the memory has its table, and no run depends on what else it held before.
 pub struct Runnable {
     program: Arc<Verified>,
     memory: Box<Memory>,
