@@ -3,6 +3,7 @@
     made: calls CRATE        the first sentence of each public call, type and law of a crate, from its `///`
     made: crate CRATE        the same after what the crate says of itself in `//!`
     made: file PATH [FROM ... TO]  a file as a block, or of it the lines from one that begins with FROM up to the next that begins with TO
+    made: part PATH NAME     the lines of a file after the line `// [NAME]`, up to the next such line
     made: clauses PATH FUNCTION[.LABEL] ..  the clauses of functions of a source, or those with a label; a clause may have none
     made: edits              the edits that must fail, by crate, in the words of their names
     made: times              the table of the cookbook's times, of what measure_cookbook.py printed
@@ -93,6 +94,14 @@ def file(pages, words):
         ended = next(at for at, line in enumerate(lines) if at >= begun and line.strip().startswith(last))
         text = textwrap.dedent("\n".join(lines[begun:ended + 1]))
     return block(path, text)
+
+
+def part(pages, words):
+    """The lines of a file that stand under a name in brackets."""
+    name, title = words.split()
+    path = pages.TOP / name
+    parts = dict(re.findall(r"^// \[(\w+)\]\n(.*?)(?=^// \[|\Z)", path.read_text(), re.M | re.S))
+    return block(path, parts[title].strip())
 
 
 IMPLEMENTS = re.compile(r"impl(?:<.*?>)? (?:\w+(?:<.*?>)? for )?(\w+)")
@@ -240,7 +249,7 @@ def follow(pages, words):
     return ["", *lines, *([pages.wrapped(f"- outside: {', '.join(outside)}", "  ")] if outside else []), ""]
 
 
-KINDS = {"calls": calls, "crate": crate, "file": file, "clauses": clauses, "edits": edits, "programs": programs, "classes": classes, "times": times, "reading": reading, "follow": follow}
+KINDS = {"calls": calls, "crate": crate, "file": file, "part": part, "clauses": clauses, "edits": edits, "programs": programs, "classes": classes, "times": times, "reading": reading, "follow": follow}
 
 
 def written(pages, text):

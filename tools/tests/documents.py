@@ -12,6 +12,7 @@ GRAPH = "graph 4\nbatch A\n+ 0 1\n+ 0 2\n+ 1 2\nend\npin a\n"
 # A script, and lines of its output: `said` stand in it in this order, and `last`, where it is given, is the last one.
 Case = namedtuple("Case", "script said last", defaults=[None])
 
+
 def between(text, start, end):
     """The part of a document behind the one place where `start` stands, up to `end`."""
     assert text.count(start) == 1, f"{start!r} stands {text.count(start)} times in a document"
@@ -19,32 +20,41 @@ def between(text, start, end):
     assert end in part, f"{end!r} does not stand behind {start!r}"
     return part.split(end)[0]
 
+
 def rows(text):
     """The cells of each row of a table."""
     return [[cell.strip() for cell in line.strip("|").split(" | ")] for line in text.splitlines() if line.startswith("| ")]
+
 
 def on_one_line(text):
     """A text wherever its lines are broken."""
     return text.replace("\n", " ")
 
+
 def codes(cell):
     return re.findall(r"`([^`]*)`", cell)
+
 
 def blocks(text):
     """The indented blocks of a text."""
     found = re.findall(r"(?:^(?:    .*)?\n)*^    .*\n", text, re.M)
     return [block.strip("\n") + "\n" for block in found]
 
+
 def number(text):
     return int(text.replace(",", ""))
+
 
 def program(lines, length=16, name="p"):
     return f"program {name} {length}\n{lines.rstrip()}\nend\n"
 
+
 def refused(lines, cause, pc, length=16):
     return Case("graph 4\n" + program(lines, length), [f"refused p cause {cause} pc {pc}"])
 
+
 # docs/SCRIPT.md
+
 
 def faulty_script(cell):
     """The script of a row of the faults, by the words of its cell."""
@@ -60,9 +70,11 @@ def faulty_script(cell):
     assert len(said) == 1 and cell == f"`{said[0]}`", f"no script: {cell}"
     return said[0].replace("; ", "\n") + "\n"
 
+
 def faults():
     for row in rows(between(SCRIPT, "| C | Means | Script", "\nA vertex of `run`")):
         yield f"fault_{row[0]}", Case(faulty_script(row[2]), [], codes(row[3])[0])
+
 
 def assembler_faults():
     for row in rows(between(SCRIPT, "| E | Means | Lines", "\nA program has at most")):
@@ -72,14 +84,17 @@ def assembler_faults():
             lines = codes(row[2])[0].replace("; ", "\n")
         yield f"assembler_{row[0]}", Case("graph 4\n" + program(lines), codes(row[3]))
 
+
 def answers_of_code():
     part = between(SCRIPT, "`code` writes one of three lines:", "\nThe edits of a batch")
     for said, code in re.findall(r"^- `(.*)`, as for `(.*)`:", part, re.M):
         yield f"code_{said.split()[0]}", Case("graph 4\n" + code + "\n", [said])
 
+
 def zeros():
     for line, said in re.findall(r"Leading zeros are allowed: `(.*?)` writes `(.*?)`", SCRIPT):
         yield "zeros", Case(line + "\n", [said], said)
+
 
 def home_moves():
     """Each end of each range of the table of homes: a list that is in the row's home before gets so many targets."""
@@ -94,7 +109,9 @@ def home_moves():
                 said = [f"home 0 {before} degree {grown[before]}", f"home 0 {home} degree {degree}"]
                 yield f"home_{before}_{degree}", Case("\n".join(lines) + "\n", said, said[1])
 
+
 # README.md and docs/TOUR.md
+
 
 def readme_lines():
     for place, text in enumerate(map(on_one_line, (README, TOUR))):
@@ -110,6 +127,7 @@ def readme_lines():
     least = re.search(r"^\| `(edges 0 total [0-9]+)` \| `min` over zero edges", README, re.M)[1]
     yield "readme_least_of_none", Case("graph 4\npin a\ncode t 16 61100400000000009500000000000000\nrun t a min -\n", ["run t a " + least])
 
+
 def shown_of_examples():
     """What README and the tour say that examples write; the tour has their text from their files."""
     for said in re.findall(r"`(run t a edges .*?|row [01] .*?)`", on_one_line(README)):
@@ -117,7 +135,9 @@ def shown_of_examples():
     for said in re.findall(r"`(program degree bound .*?|refused careless .*?)`", on_one_line(TOUR)):
         yield "score" if "degree" in said else "weights", said + "\n"
 
+
 # docs/BPF.md
+
 
 def helper_programs():
     part = between(BPF, "exit with the number that stands beside `exit`. They\nare tests.\n", "\nThis one gathers")
@@ -127,9 +147,11 @@ def helper_programs():
         said = [f"program p bound {bound} frames 1", f"run p a edges 2 total {result}", f"row 0 {result}"]
         yield f"helper_{place + 1}", Case(GRAPH + program(block) + "run p a min - 0\n", said, said[-1])
 
+
 def blocks_apart(text):
     """The indented blocks, where a blank line ends one."""
     return [part + "\n" for part in re.split(r"\n\n+", text.strip("\n")) if part.startswith("    ")]
+
 
 def gathering():
     part = between(BPF, "\nThis one gathers", "\n`examples/mutual.script`")
@@ -143,6 +165,7 @@ def gathering():
     yield "gather_count", Case(graph + program(early) + "run p a min -\n", [f"run p a edges 3 total {answered}"])
     wrong = block.replace("mov r4, 16", codes(between(BPF, "So is the program above that gathers, at its `call 5`, with ", "\n"))[0])
     yield "gather_room", refused(wrong, 13, [line.strip() for line in block.splitlines()].index("call 5"))
+
 
 def causes():
     part = between(BPF, "### Each cause, and a program that meets it\n", "\n### What is known after")
@@ -167,6 +190,7 @@ def causes():
     # A call and an exit of each of seven, and the two lines of the last one.
     yield "cause_6_eight", Case("graph 4\n" + program(chain(8, 1)), ["program p bound 16 frames 8"])
 
+
 def branching(count, times):
     """So many functions, of which each but the last has some times a branch past a call of the next and an exit, and then an exit."""
     lines = []
@@ -177,6 +201,7 @@ def branching(count, times):
         lines += ["    exit"]
     return "\n".join([*lines, f"f{count - 1}:", "    mov r0, 0", "    exit"]) + "\n"
 
+
 def chain(count, times):
     """Functions of which each but the last calls the next so many times."""
     lines = []
@@ -184,11 +209,13 @@ def chain(count, times):
         lines += [f"f{function}:", *[f"    calllocal f{function + 1}"] * times, "    exit"]
     return "\n".join([*lines, f"f{count - 1}:", "    mov r0, 0", "    exit"]) + "\n"
 
+
 def bounds():
     part = between(BPF, "This program has\nbound ", "\nAn accepted program never traps")
     bound, frames, result = re.match(r"([0-9]+) and frames ([0-9]+), and exits with ([0-9]+):", part).groups()
     said = [f"program p bound {bound} frames {frames}", f"run p a edges 2 total {result}"]
     yield "bound", Case(GRAPH + program(blocks_apart(part)[0]) + "run p a min - 0\n", said)
+
 
 def narrowing():
     part = between(BPF, "With record length 20 this loads one of the four bytes", "\n## Programs from C")
@@ -205,6 +232,7 @@ def narrowing():
     cut = short.replace(f"    {jump}", f"    {line}\n        {jump}")
     yield "narrowed_again", Case("graph 4\n" + program(cut, 20), [f"program p bound {int(bound) + 1} frames 1"])
 
+
 def assembler_lines():
     part = between(BPF, "The first fault is reported with its line", "\nOnly when all lines are well")
     listed = between(BPF, "and `NumberRange`, where it is too far away. The causes have the numbers ", "`OutOfMemory`.")
@@ -213,11 +241,13 @@ def assembler_lines():
         for place, line in enumerate(codes(rest.split(": ", 1)[1])):
             yield f"line_{name}_{place}_{line.split()[0].strip(':')}", Case("graph 4\n" + program(line), [f"assembler p error {numbers[name]} line 1"])
 
+
 def all_cases():
     """The cases of each part of the documents, by their names."""
     parts = [faults, assembler_faults, answers_of_code, zeros, home_moves, readme_lines]
     parts += [helper_programs, gathering, causes, bounds, narrowing, assembler_lines]
     return {part.__name__: dict(part()) for part in parts}
+
 
 def traps():
     """The number and name of each trap, the bytes of its program and of its table, and the pc where it stops."""
@@ -227,14 +257,17 @@ def traps():
         code, table = (*codes(row[2]), "")[:2]
         yield int(kind), name, bytes.fromhex(code), bytes.fromhex(table), int(pc[1]) if pc else 0
 
+
 def disassembly():
     """A code, and the text of it."""
     part = between(BPF, "`Lk:`. So\n", "\nIt refuses code")
     return bytes.fromhex(codes(part)[0]), re.sub("^    ", "", blocks_apart(part)[0], flags=re.M)
 
+
 def long_text():
     """The text by which the grammar is shown."""
     return blocks_apart(between(BPF, "are such a text. Each line says one thing:\n", "\nA line is one of these"))[0]
+
 
 def words():
     """The words of statements; those of some rows, and the branches, may have 32 behind them."""
@@ -243,10 +276,12 @@ def words():
     branches = next(row for row in of_rows if "jeq" in row)
     return {word for row in of_rows for word in row} | {word + "32" for row in (*of_rows[:2], branches) for word in row}
 
+
 def c_program():
     """The C of the first program in C, and the words of the command below it."""
     source, command = blocks_apart(between(BPF, "makes the `code` line of a function in C:\n", "\n`tools/edgebpf.h` has"))
     return re.sub("^    ", "", source, flags=re.M), command.split()
+
 
 def is_said(case, output):
     """Whether an output has what the document says."""

@@ -31,6 +31,7 @@ NO_CODE = {
 COUNTS = {"faults": 11, "assembler_faults": 6, "answers_of_code": 2, "zeros": 1, "home_moves": 12, "readme_lines": 5}
 COUNTS |= {"helper_programs": 3, "gathering": 3, "causes": 18, "bounds": 1, "narrowing": 4, "assembler_lines": 5}
 
+
 def stop_of(code, table):
     """Why the machine stops that runs a code with a table on a record of 16 bytes, and where."""
     machine = Machine(bytes(16), Graph(4, {}, 0), table)
@@ -45,6 +46,7 @@ def stop_of(code, table):
             return str(trap), pc
         if result is not None:
             return "exit", pc
+
 
 class TheDocuments(unittest.TestCase):
     def test_each_script_and_program(self):
@@ -111,6 +113,7 @@ class TheDocuments(unittest.TestCase):
         # Four statements of one unit.
         self.assertEqual(len(assemble(documents.long_text())), 32)
         self.assertEqual(documents.words(), set(KINDS))
+
 
 @unittest.skipIf(MISSING, f"not there: {MISSING}")
 class ProgramsOfTheDocuments(unittest.TestCase):
