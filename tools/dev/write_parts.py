@@ -8,6 +8,7 @@
     made: edits              the edits that must fail, by crate, in the words of their names
     made: times              the table of the cookbook's times, of what measure_cookbook.py printed
     made: programs FOLDER    the first sentence of each program in a folder
+    made: modules CRATE      the first sentence of each module of a crate, from its `//!`
     made: classes PATH       the classes of a file in Python, with what they say
     made: reading            the reading list, of count_reading.py
     made: follow WORD ..     the files that name the words, with the definitions and functions that do, by crate
@@ -158,6 +159,11 @@ def programs(pages, folder):
     return ["", "| Program | Does |", "|---|---|", *(f"| `{path.name}` | {first_words(path)} |" for path in paths), ""]
 
 
+def modules(pages, name):
+    paths = [path for path in sorted((pages.CRATES / name / "src").glob("*.rt")) if path.stem not in ("lib", "main")]
+    return ["", "| Module | What it is |", "|---|---|", *(f"| `{path.stem}` | {first_sentence(' '.join(pages.head_of(path).split()))} |" for path in paths), ""]
+
+
 def classes(pages, name):
     found = [node for node in ast.parse((pages.TOP / name).read_text()).body if isinstance(node, ast.ClassDef)]
     return ["", "| Class | What it is |", "|---|---|", *(f"| `{one.name}` | {' '.join((ast.get_docstring(one) or '').split())} |" for one in found), ""]
@@ -249,7 +255,7 @@ def follow(pages, words):
     return ["", *lines, *([pages.wrapped(f"- outside: {', '.join(outside)}", "  ")] if outside else []), ""]
 
 
-KINDS = {"calls": calls, "crate": crate, "file": file, "part": part, "clauses": clauses, "edits": edits, "programs": programs, "classes": classes, "times": times, "reading": reading, "follow": follow}
+KINDS = {"calls": calls, "crate": crate, "file": file, "part": part, "clauses": clauses, "edits": edits, "programs": programs, "modules": modules, "classes": classes, "times": times, "reading": reading, "follow": follow}
 
 
 def written(pages, text):
