@@ -3,10 +3,12 @@
     made: calls CRATE        the first sentence of each public call, type and law of a crate, from its `///`
     made: crate CRATE        the same after what the crate says of itself in `//!`
     made: file PATH [FROM ... TO]  a file as a block, or of it the lines from one that begins with FROM up to the next that begins with TO
+    made: part PATH NAME     the lines of a file after the line `// [NAME]`, up to the next such line
     made: clauses PATH FUNCTION[.LABEL] ..  the clauses of functions of a source, or those with a label; a clause may have none
     made: edits              the edits that must fail, by crate, in the words of their names
     made: times              the table of the cookbook's times, of what measure_cookbook.py printed
     made: programs FOLDER    the first sentence of each program in a folder
+    made: modules CRATE      the first sentence of each module of a crate, from its `//!`
     made: classes PATH       the classes of a file in Python, with what they say
     made: reading            the reading list, of count_reading.py
     made: follow WORD ..     the files that name the words, with the definitions and functions that do, by crate
@@ -95,6 +97,14 @@ def file(pages, words):
     return block(path, text)
 
 
+def part(pages, words):
+    """The lines of a file that stand under a name in brackets."""
+    name, title = words.split()
+    path = pages.TOP / name
+    parts = dict(re.findall(r"^// \[(\w+)\]\n(.*?)(?=^// \[|\Z)", path.read_text(), re.M | re.S))
+    return block(path, parts[title].strip())
+
+
 IMPLEMENTS = re.compile(r"impl(?:<.*?>)? (?:\w+(?:<.*?>)? for )?(\w+)")
 
 
@@ -147,6 +157,11 @@ def first_words(path):
 def programs(pages, folder):
     paths = [path for path in sorted((pages.TOP / folder).iterdir()) if path.suffix in (".py", ".c") and not path.name.startswith(".")]
     return ["", "| Program | Does |", "|---|---|", *(f"| `{path.name}` | {first_words(path)} |" for path in paths), ""]
+
+
+def modules(pages, name):
+    paths = [path for path in sorted((pages.CRATES / name / "src").glob("*.rt")) if path.stem not in ("lib", "main")]
+    return ["", "| Module | What it is |", "|---|---|", *(f"| `{path.stem}` | {first_sentence(' '.join(pages.head_of(path).split()))} |" for path in paths), ""]
 
 
 def classes(pages, name):
@@ -240,7 +255,7 @@ def follow(pages, words):
     return ["", *lines, *([pages.wrapped(f"- outside: {', '.join(outside)}", "  ")] if outside else []), ""]
 
 
-KINDS = {"calls": calls, "crate": crate, "file": file, "clauses": clauses, "edits": edits, "programs": programs, "classes": classes, "times": times, "reading": reading, "follow": follow}
+KINDS = {"calls": calls, "crate": crate, "file": file, "part": part, "clauses": clauses, "edits": edits, "programs": programs, "modules": modules, "classes": classes, "times": times, "reading": reading, "follow": follow}
 
 
 def written(pages, text):

@@ -175,6 +175,9 @@ def causes():
         if cause == 1:
             code = re.search(r"refused at pc 0 since no\ninstruction .*: `([0-9a-f]+)`", said)[1]
             yield "cause_1", Case(f"graph 4\ncode p 16 {code}\n", ["refused p cause 1 pc 0"])
+        if cause == 6:
+            assert "Nine functions, each of which calls the next, are refused\nat pc 0; eight are not" in said
+            yield "cause_6", refused(chain(9, 1), 6, 0)
         if cause == 7:
             assert "Eight functions, of which each but the last calls\nthe next ten times, are refused at pc 0" in said
             yield "cause_7", refused(chain(8, 10), 7, 0)
@@ -184,7 +187,6 @@ def causes():
         for place, block in enumerate(shown):
             length = 20 if "With record length 20" in said.split(block)[0] else 16
             yield f"cause_{cause}_{place}", refused(block, cause, re.search(r"; pc ([0-9]+)", block)[1], length)
-    assert "Nine functions, each of which calls the next, are refused\nat pc 0; eight are not" in part
     # A call and an exit of each of seven, and the two lines of the last one.
     yield "cause_6_eight", Case("graph 4\n" + program(chain(8, 1)), ["program p bound 16 frames 8"])
 

@@ -31,6 +31,11 @@ class Parts(unittest.TestCase):
         shown = write_parts.file(write_pages, "examples/first.script batch A ... + 0 2")
         self.assertEqual(shown, ["```", "batch A", "+ 0 1", "+ 0 2", "```"])
 
+    def test_a_part_of_a_file_by_its_name(self):
+        shown = write_parts.part(write_pages, "examples/refused.c data")
+        self.assertEqual((shown[0], shown[1], shown[-1]), ("```c", "// no code: data", "```"))
+        self.assertNotIn("// [", "\n".join(write_parts.part(write_pages, "examples/refused.c loops")))
+
     def test_places_that_name_a_word(self):
         shown = "\n".join(write_parts.follow(write_pages, "Move" + "Signed"))
         for said in ("- `bpf_model`: `specs/Step`: effect\n", "`specs/Encoding`: fields_of, spelling", "`src`: alu, effect\n"):
