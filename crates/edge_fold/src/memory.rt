@@ -17,10 +17,13 @@ impl Memory {
     pub fn for_program(program: &Verified) -> Memory
         ensures { IsFor program.now result }
     {
-        let mut run = bpf_runs::Memory::new();
-        run.put_table(program);
-        let mut blocks = Blocks::new();
-        blocks.is_useful = is_worth_blocks(program);
-        Memory { run, blocks }
+        // Made in one place, so that none of it is moved.
+        let mut memory = Memory {
+            run: bpf_runs::Memory::new(),
+            blocks: Blocks::new(),
+        };
+        memory.run.put_table(program);
+        memory.blocks.is_useful = is_worth_blocks(program);
+        memory
     }
 }
