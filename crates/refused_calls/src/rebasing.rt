@@ -11,17 +11,28 @@ use store::{
     Ends, Finished, OpenGate, PublishError, Publisher, Reader, RebaseError, Receipt, Store, Workers,
 };
 
-/// What came of the first two calls.
+/// What came of a call, or of some.
 #[derive(Clone, Copy, PartialEq, Eq)]
 enum Told {
-    /// A batch was published, and then a rebase.
-    Rebased,
-    /// The rebase was refused, the last version was as it was, and the next rebase was published.
+    /// It was done.
+    Done,
+    /// A step was refused, its batch was held, and a later step published it.
+    Held,
+    /// A rebase was refused, the last version was as it was, and the next rebase was published.
     Unchanged,
-    /// The step was refused, and its batch was held over the rebase.
+    /// A step was refused, and its batch was held over the rebase.
     HeldOver,
     /// Something is not as it should be.
     Changed,
+}
+
+/// What came of two calls, of which one at most was refused.
+fn both(first: Told, second: Told) -> Told {
+    match (first, second) {
+        (Told::Done, told) => told,
+        (told, Told::Done) => told,
+        _ => Told::Changed,
+    }
 }
 
 /// What a publisher and a reader have to say of their store.
@@ -61,7 +72,7 @@ fn rebase<R: Threads + Wait>(
     ensures store { OneStore publisher.old.moment publisher.new.moment }
 {
     match publisher.rebase(rt) {
-        Ok(receipt) if is_rebase(&receipt) => return Told::Rebased,
+        Ok(receipt) if is_rebase(&receipt) => return Told::Done,
         Err(RebaseError::OutOfMemory) => {}
         _ => return Told::Changed,
     }
@@ -74,18 +85,38 @@ fn rebase<R: Threads + Wait>(
     }
 }
 
-/// Whether a step publishes the next batch of the epoch that the rebase began, which came by this feed.
-fn steps_to<R: Threads + Wait>(rt: &R, publisher: &mut Publisher, number: u64, feed: u8) -> bool
+/// Publishes the next batch of a store that is at this state, which came by this feed. If the step is refused, the batch is held,
+/// and the next step publishes it.
+fn publish<R: Threads + Wait>(
+    rt: &R,
+    publisher: &mut Publisher,
+    reader: &mut Reader,
+    state: State<'_>,
+    feed: u8,
+) -> Told
     ensures queue { publisher.new.queue ≡ publisher.old.queue }
     ensures store { OneStore publisher.old.moment publisher.new.moment }
 {
+    let number = state.number.saturating_add(1);
     match publisher.step(rt, Workers::one(), &OpenGate) {
-        Ok(Some(receipt)) => is_next(&receipt, 1, number, feed),
-        _ => false,
+        Ok(Some(receipt)) if is_next(&receipt, state.epoch, number, feed) => return Told::Done,
+        Err(PublishError::OutOfMemory) => {}
+        _ => return Told::Changed,
+    }
+    let held = State {
+        held: Some(feed),
+        ..state
+    };
+    if !is_at(publisher, reader, held) {
+        return Told::Changed;
+    }
+    match publisher.step(rt, Workers::one(), &OpenGate) {
+        Ok(Some(receipt)) if is_next(&receipt, state.epoch, number, feed) => Told::Held,
+        _ => Told::Changed,
     }
 }
 
-/// After the first batch was published.
+/// Rebases after the first batch was published, and publishes the second.
 fn rebase_after<R: Threads + Wait>(rt: &R, publisher: &mut Publisher, reader: &mut Reader) -> Told
     ensures queue { publisher.new.queue ≡ publisher.old.queue }
     ensures store { OneStore publisher.old.moment publisher.new.moment }
@@ -102,14 +133,14 @@ fn rebase_after<R: Threads + Wait>(rt: &R, publisher: &mut Publisher, reader: &m
         number: 0,
         ..state
     };
-    if is_at(publisher, reader, rebased) && steps_to(rt, publisher, 1, 1) {
-        told
-    } else {
-        Told::Changed
+    if !is_at(publisher, reader, rebased) {
+        return Told::Changed;
     }
+    both(told, publish(rt, publisher, reader, rebased, 1))
 }
 
-/// After the step of the first batch was refused.
+/// After the step of the first batch was refused. A batch that the history has already comes before a rebase, which is then refused
+/// too.
 fn rebase_while_held<R: Threads + Wait>(
     rt: &R,
     publisher: &mut Publisher,
@@ -124,15 +155,47 @@ fn rebase_while_held<R: Threads + Wait>(
         neighbours: &[],
         held: Some(0),
     };
-    let is_rebased = is_at(publisher, reader, state)
-        && rebase(rt, publisher, reader, state) == Told::Rebased;
-    let rebased = State { epoch: 1, ..state };
-    let is_held_over = is_at(publisher, reader, rebased) && steps_to(rt, publisher, 1, 0);
-    if is_rebased && is_held_over && steps_to(rt, publisher, 2, 1) {
-        Told::HeldOver
-    } else {
-        Told::Changed
+    if !is_at(publisher, reader, state) {
+        return Told::Changed;
     }
+    match publisher.rebase(rt) {
+        Ok(receipt) if is_rebase(&receipt) => publish_in_turn(rt, publisher, reader),
+        Err(RebaseError::OutOfMemory) if is_at(publisher, reader, state) => {
+            let first = publish(rt, publisher, reader, state, 0);
+            let rest = rebase_after(rt, publisher, reader);
+            both(both(first, rest), Told::Held)
+        }
+        _ => Told::Changed,
+    }
+}
+
+/// Publishes the batch that was held over the rebase, and the second one.
+fn publish_in_turn<R: Threads + Wait>(
+    rt: &R,
+    publisher: &mut Publisher,
+    reader: &mut Reader,
+) -> Told
+    ensures queue { publisher.new.queue ≡ publisher.old.queue }
+    ensures store { OneStore publisher.old.moment publisher.new.moment }
+{
+    let rebased = State {
+        epoch: 1,
+        number: 0,
+        neighbours: &[],
+        held: Some(0),
+    };
+    if !is_at(publisher, reader, rebased) {
+        return Told::Changed;
+    }
+    let first = publish(rt, publisher, reader, rebased, 0);
+    let next = State {
+        epoch: 1,
+        number: 1,
+        neighbours: &[0, 2],
+        held: None,
+    };
+    let second = publish(rt, publisher, reader, next, 1);
+    both(both(first, second), Told::HeldOver)
 }
 
 /// Publishes the first batch and rebases, or the other way round.
@@ -186,7 +249,8 @@ pub(crate) fn rebase_between<R: Threads + Wait>(rt: &R, alloc: Global) -> Result
         return Err(Stop::Wrong);
     }
     match told {
-        Told::Rebased => Ok(()),
+        Told::Done => Ok(()),
+        Told::Held => Err(Stop::NotPublished),
         Told::Unchanged => Err(Stop::NotRebased),
         Told::HeldOver => Err(Stop::HeldOver),
         Told::Changed => Err(Stop::Wrong),
