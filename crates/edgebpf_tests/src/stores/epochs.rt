@@ -233,24 +233,38 @@ fn publish_and_read<R: Threads + Wait + Sync>(
     in_order
 }
 
+// Submits, publishes and reads, all at once. Whether all was published in order, and whether all that readers pinned was right.
+fn share<R: Threads + Wait + Sync>(
+    rt: &R,
+    alloc: Global,
+    publisher: &mut Publisher,
+    feeds: &mut [Feed],
+    reader: &mut Reader,
+) -> (bool, bool)
+    ensures queue { publisher.new.queue ≡ publisher.old.queue }
+    ensures store { OneStore publisher.old.moment publisher.new.moment }
+    ensures feeds { map as_new feeds.new ≡ map as_new feeds.old }
+{
+    let mut watches = watches(alloc, reader).unwrap_or(Vec::new(alloc));
+    let ((), in_order) = join_mut(
+        rt,
+        &mut || submit_by_halves(rt, alloc, feeds),
+        &mut || publish_and_read(rt, publisher, &mut watches),
+    );
+    let is_right = watches.iter().all(|watch| watch.is_right);
+    (in_order, is_right && watches.len() == READING)
+}
+
 #[test]
 fn seven_threads_share_a_store_that_is_rebased(rt: HostRuntime) -> Result<(), Fail> {
-    let alloc = rt.alloc();
     let Shop {
         mut publisher,
         mut feeds,
         mut reader,
-    } = Shop::open(&rt, alloc, EACH)?;
-    let mut watches = watches(alloc, &mut reader).unwrap_or(Vec::new(alloc));
-    let ((), in_order) = join_mut(
-        &rt,
-        &mut || submit_by_halves(&rt, alloc, &mut feeds),
-        &mut || publish_and_read(&rt, &mut publisher, &mut watches),
-    );
+    } = Shop::open(&rt, rt.alloc(), EACH)?;
+    let shared = share(&rt, rt.alloc(), &mut publisher, &mut feeds, &mut reader);
     let finished = publisher.finish(feeds, &rt);
-    assert!(rt; in_order);
-    assert_eq!(rt; watches.len(), READING);
-    assert!(rt; watches.iter().all(|watch| watch.is_right));
+    assert_eq!(rt; shared, (true, true));
     assert!(rt; finished.held.is_none() && finished.left.is_empty());
     assert_eq!(rt;
         (finished.last.epoch(), finished.last.number()),
