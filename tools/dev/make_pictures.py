@@ -1,5 +1,10 @@
 #!/usr/bin/env python3
-"""Draws the pictures of docs/ by headless Chromium: `edgebpf-explain --html` of a program that is refused, and the page of examples/service."""
+"""Draws the pictures of docs/ by headless Chromium: `edgebpf-explain --html` of a program that is refused, and the page of examples/service.
+
+    tools/dev/make_pictures.py             draws them
+    tools/dev/make_pictures.py --compare   draws them elsewhere, and compares: the same size, and few other points, since fonts differ
+"""
+import contextlib
 import json
 import pathlib
 import random
@@ -9,10 +14,14 @@ import subprocess
 import sys
 import tempfile
 import time
+import urllib.error
 import urllib.request
 
 TOP = pathlib.Path(__file__).resolve().parent.parent.parent
 LENGTH, PORT = "20", 8099
+SECONDS = 20
+# A point differs where one of its colours does by more than so much, and so many points of a picture may.
+OTHER_COLOUR, OTHER_POINTS = 48, 0.05
 PROGRAM = """\
     ldxw r3, [r1+4]         ; the target
     mod r3, 4               ; its kind, 0 to 3
@@ -29,16 +38,16 @@ done:
 """
 
 
-def screenshot(browser, page, name, size):
+def screenshot(browser, page, picture, size):
     flags = ["--headless", "--no-sandbox", "--disable-gpu", "--virtual-time-budget=3000", f"--window-size={size}"]
-    subprocess.run([browser, *flags, f"--screenshot={TOP / 'docs' / name}", page], check=True, stderr=subprocess.DEVNULL)
+    subprocess.run([browser, *flags, f"--screenshot={picture}", page], check=True, stderr=subprocess.DEVNULL)
 
 
-def explained(browser):
+def explained(browser, picture):
     with tempfile.TemporaryDirectory() as folder:
         page = f"{folder}/page.html"
         subprocess.run([TOP / "tools" / "edgebpf-explain", LENGTH, "--html", page], input=PROGRAM, text=True, stdout=subprocess.DEVNULL)
-        screenshot(browser, page, "explain.png", "1000,520")
+        screenshot(browser, page, picture, "1000,520")
 
 
 def post(path, body):
@@ -46,21 +55,51 @@ def post(path, body):
     urllib.request.urlopen(request).read()
 
 
-def served(browser):
+def wait_for(server):
+    """Waits until the server answers."""
+    for _ in range(10 * SECONDS):
+        with contextlib.suppress(urllib.error.URLError):
+            return urllib.request.urlopen(f"http://127.0.0.1:{PORT}/").read()
+        if server.poll() is not None:
+            break
+        time.sleep(0.1)
+    sys.exit("make_pictures: the service does not answer")
+
+
+def served(browser, picture):
     words = [sys.executable, TOP / "examples" / "service" / "server.py", "--vertices", "200", "--port", str(PORT)]
     with subprocess.Popen(words) as server:
-        time.sleep(3)
+        wait_for(server)
         chance = random.Random(3)
         post("/programs", {"name": "degree", "text": "mov r0, 1; exit"})
         post("/batches", {"inserts": [[int(200 * chance.random() ** 3), chance.randrange(200)] for _ in range(2500)]})
-        screenshot(browser, f"http://127.0.0.1:{PORT}/", "service.png", "900,640")
+        screenshot(browser, f"http://127.0.0.1:{PORT}/", picture, "900,640")
         server.send_signal(signal.SIGINT)
+
+
+def is_like(picture, kept):
+    """Whether two pictures show the same, but for fonts."""
+    from PIL import Image, ImageChops
+
+    drawn, known = (Image.open(path).convert("RGB") for path in (picture, kept))
+    if drawn.size != known.size:
+        return False
+    others = sum(max(point) > OTHER_COLOUR for point in ImageChops.difference(drawn, known).getdata())
+    print(f"make_pictures: {kept.name}: {others / len(drawn.getdata()):.1%} of the points differ")
+    return others <= OTHER_POINTS * len(drawn.getdata())
 
 
 def main():
     browser = shutil.which("chromium") or sys.exit("make_pictures: chromium is needed: apt-get install chromium")
-    explained(browser)
-    served(browser)
+    draws = {"explain.png": explained, "service.png": served}
+    if sys.argv[1:] != ["--compare"]:
+        for name, draw in draws.items():
+            draw(browser, TOP / "docs" / name)
+        return
+    with tempfile.TemporaryDirectory() as folder:
+        for name, draw in draws.items():
+            draw(browser, pathlib.Path(folder) / name)
+            is_like(pathlib.Path(folder) / name, TOP / "docs" / name) or sys.exit(f"make_pictures: docs/{name} shows something else: draw it again")
 
 
 if __name__ == "__main__":
