@@ -9,6 +9,7 @@ import sys
 import tempfile
 import threading
 import unittest
+import unittest.mock
 
 FOLDER = pathlib.Path(__file__).resolve().parent.parent
 TOP = FOLDER.parent.parent
@@ -158,6 +159,23 @@ class Package(unittest.TestCase):
             with self.assertRaises(ValueError):
                 edgebpf.assemble(TARGET, record)
 
+    def test_numbers_of_errors(self):
+        """Each cause and each error of a text has words, and the library's statuses are those of the header."""
+        self.assertEqual((sorted(edgebpf.errors.CAUSES), sorted(edgebpf.errors.TEXT_ERRORS)), (list(range(1, 19)), list(range(1, 7))))
+        statuses = re.findall(r"^    EDGEBPF_(\w+) = (\d+)", (TOP / "bindings/c/edgebpf.h").read_text(), re.M)
+        named = {name: int(number) for name, number in statuses if hasattr(edgebpf.library, name)}
+        self.assertEqual({name: getattr(edgebpf.library, name) for name in named}, named)
+        self.assertGreater(len(named), 10)
+
+    def test_without_the_library(self):
+        """A program is verified by a process, with the same answers."""
+        with unittest.mock.patch("edgebpf.library.path", return_value=None):
+            for program in (edgebpf.assemble(TARGET), edgebpf.Program(bytes.fromhex("61100400000000009500000000000000"))):
+                self.assertEqual((program.bound, program.frames), (2, 1))
+            self.test_refused()
+        with self.assertRaises(TypeError):
+            self.store(1).pin().run(TARGET)
+
     def test_wrong_batches(self):
         """After each error nothing was published, and the store goes on."""
         store = self.store(4)
@@ -211,6 +229,14 @@ class Package(unittest.TestCase):
             store.batch("B")
         with self.assertRaises(edgebpf.TooManyNames):
             store.pin()
+        # After so many programs one more is refused, and the process goes on.
+        store = self.store(1)
+        version, programs = store.pin(), [edgebpf.assemble(f"mov r0, {number}; exit") for number in range(257)]
+        for program in programs[:256]:
+            version.run(program)
+        with self.assertRaises(edgebpf.TooManyNames):
+            version.run(programs[256])
+        self.assertEqual(version.run(programs[255]).total, 0)
 
     def test_closed(self):
         store = self.store(2)
