@@ -4,3 +4,4 @@ pub mod Plans
 pub mod Refused
 pub mod Listing
 pub mod Ahead
+pub mod Workspaces

@@ -1,42 +1,80 @@
 //! All edges of a version with their numbers, block by block.
-ghost use Rattle.std.specs.Prelude.{◌≡◌, ◌≤◌, [], take, drop, OnOk, OnErr};
+ghost use Rattle.std.specs.Prelude.{◌≡◌, ◌≤◌, ℕ, List, [], take, drop, IfOk, IfSome, OnOk, OnErr};
 ghost use Rattle.std.specs.Vec.{vec_capacity};
+ghost use Rattle.graph_model.specs.Graph.{Graph};
 ghost use Rattle.past_model.specs.Past.{graph_of};
 ghost use Rattle.edge_map.specs.declared.limits.TheConstants.{BLOCK_EDGES};
 ghost use Rattle.edge_map.specs.Listing.{listing, IsListed};
 ghost use Rattle.edge_map.specs.Maps.{FitsRecord};
+ghost use Rattle.edge_map.specs.Workspaces.{IsWorkspace};
 
 use crate::errors::MapError;
 use crate::limits::BLOCK_EDGES;
 use crate::walk::Walk;
 use edge_fold::{Ahead, Memory, number_ahead};
 use map_model::{EDGE_BYTES, ListedEdge};
-use std::alloc::AllocError;
+use std::alloc::{AllocError, Global};
 use std::marker::Model;
 use store::Pin;
 use verifier::Verified;
 use version::Version;
 
+/// What the blocks of a list are run in. It is made for the first one and serves the others.
+#[derive(Drop)]
+pub(crate) struct Workspace {
+    pub(crate) memory: Memory,
+    pub(crate) ahead: Ahead,
+}
+
+impl Workspace {
+    /// A workspace for a program, of which no run has begun.
+    fn for_program(alloc: Global, program: &Verified) -> Result<Box<Workspace>, AllocError>
+        ensures { (g : Graph) (argument : List ℕ) → IfOk result (λ workspace. IsWorkspace program.now g argument workspace.value) }
+    {
+        let workspace = Workspace {
+            memory: Memory::for_program(program),
+            ahead: Ahead::for_program(program),
+        };
+        Ok(Box::new(alloc, workspace)?)
+    }
+
+    /// The one that is kept, or else a new one.
+    fn kept_or_new(
+        alloc: Global,
+        kept: Option<Box<Workspace>>,
+        program: &Verified,
+    ) -> Result<Box<Workspace>, AllocError>
+        ensures { (g : Graph) (argument : List ℕ)
+            → IfSome kept (λ workspace. IsWorkspace program.now g argument workspace.value)
+            → IfOk result (λ workspace. IsWorkspace program.now g argument workspace.value) }
+    {
+        match kept {
+            Some(workspace) => Ok(workspace),
+            None => Workspace::for_program(alloc, program),
+        }
+    }
+}
+
 /// Fills a block, which has room for all of it, with the next edges of a walk and their numbers.
 fn fill(
     block: &mut Vec<ListedEdge>,
     walk: &mut Walk<'_>,
-    version: &Version,
+    workspace: &mut Workspace,
     program: &Verified,
     argument: &[u8],
 )
-    requires past { walk.old.past ≡ version.now }
     requires fits { FitsRecord program.now argument.now }
     requires empty { block.old.items ≡ [] }
     requires room { BLOCK_EDGES ≤ vec_capacity block.old }
+    requires workspace { IsWorkspace program.now (graph_of walk.old.past) argument.now workspace.old }
     ensures past { walk.new.past ≡ walk.old.past }
-    ensures block { let g = graph_of version.now in
+    ensures block { let g = graph_of walk.old.past in
         block.new.items ≡ take BLOCK_EDGES (listing program.now g argument.now walk.old.edges) }
-    ensures left { let g = graph_of version.now in listing program.now g argument.now walk.new.edges
+    ensures left { let g = graph_of walk.old.past in listing program.now g argument.now walk.new.edges
         ≡ drop BLOCK_EDGES (listing program.now g argument.now walk.old.edges) }
+    ensures workspace { IsWorkspace program.now (graph_of walk.old.past) argument.now workspace.new }
 {
-    let mut memory = Memory::for_program(program);
-    let mut ahead = Ahead::for_program(program);
+    let version = walk.version();
     'edges: while block.len() < BLOCK_EDGES {
         let Some(edge) = walk.next() else {
             return;
@@ -45,8 +83,8 @@ fn fill(
             version,
             program,
             argument,
-            &mut memory,
-            &mut ahead,
+            &mut workspace.memory,
+            &mut workspace.ahead,
             edge,
             walk.later(),
         );
@@ -66,43 +104,53 @@ fn fill(
 #[derive(Drop)]
 pub struct EdgeList<'a> {
     walk: Walk<'a>,
-    version: &'a Version,
     program: &'a Verified,
     argument: &'a [u8],
+    // None before the first block.
+    workspace: Option<Box<Workspace>>,
 }
 
 impl<'a> Model for EdgeList<'a> {
-    ghost use Rattle.std.specs.Prelude.{◌≡◌, List};
+    ghost use Rattle.std.specs.Prelude.{List, IfSome};
     ghost use Rattle.past_model.specs.Past.{graph_of};
     ghost use Rattle.map_model.specs.declared.listed_edge.ListedEdge.{ListedEdge};
     ghost use Rattle.edge_map.specs.Listing.{listing};
     ghost use Rattle.edge_map.specs.Maps.{FitsRecord};
+    ghost use Rattle.edge_map.specs.Workspaces.{IsWorkspace};
 
     ghost Value = { List ListedEdge };
 
-    ghost view = { λ l. listing l.program.now (graph_of l.version.now) l.argument.now l.walk.edges };
+    ghost view = { λ l. listing l.program.now (graph_of l.walk.past) l.argument.now l.walk.edges };
 
-    ghost invariant = { λ l. (l.walk.past ≡ l.version.now) × FitsRecord l.program.now l.argument.now };
+    ghost invariant = { λ l. FitsRecord l.program.now l.argument.now
+        × IfSome l.workspace (λ workspace. IsWorkspace l.program.now (graph_of l.walk.past) l.argument.now workspace.value) };
 }
 
 impl<'a> EdgeList<'a> {
     /// Puts the next 4,096 edges into a block in place of what it held, or as many as are left: an empty block is the
-    /// end of the list. All memory that is taken is the block's, before the first edge is run; where there is
-    /// none, the list is as it was.
-    pub fn next_block(&mut self, block: &mut Vec<ListedEdge>) -> Result<(), AllocError>
+    /// end of the list. All memory is taken before the first edge is run: the block's, and with the list's first block
+    /// what its runs work on, which the next blocks use again. If an allocation is refused, the list is as it was.
+    pub fn next_block(
+        &mut self,
+        alloc: Global,
+        block: &mut Vec<ListedEdge>,
+    ) -> Result<(), AllocError>
         ensures block { OnOk result (block.new.items ≡ take BLOCK_EDGES self.old) }
         ensures left { OnOk result (self.new ≡ drop BLOCK_EDGES self.old) }
         ensures err { OnErr result (self.new ≡ self.old) }
     {
         block.clear();
         block.reserve(BLOCK_EDGES)?;
+        let kept = self.workspace.take();
+        let mut workspace = Workspace::kept_or_new(alloc, kept, self.program)?;
         fill(
             block,
             &mut self.walk,
-            self.version,
+            &mut workspace,
             self.program,
             self.argument,
         );
+        self.workspace = Some(workspace);
         Ok(())
     }
 }
@@ -121,9 +169,9 @@ pub(crate) fn list_version<'a>(
     }
     Ok(EdgeList {
         walk: Walk::over(version),
-        version,
         program,
         argument,
+        workspace: None,
     })
 }
 

@@ -98,6 +98,13 @@ impl<'a> Walk<'a> {
         })
     }
 
+    /// The version whose edges they are.
+    pub(crate) fn version(&self) -> &'a Version
+        ensures { result.now ≡ self.now.past }
+    {
+        self.version
+    }
+
     /// Some targets that follow in one row. What they are is only for saving time.
     pub(crate) fn later(&self) -> &'a [u32] {
         self.targets.later()

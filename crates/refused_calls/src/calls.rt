@@ -138,10 +138,10 @@ fn list(alloc: Global, pin: &Pin, program: &Verified) -> Result<(), Stop> {
         return Err(Stop::Wrong);
     };
     let mut block = Vec::new(alloc);
-    let stop = match edges.next_block(&mut block) {
+    let stop = match edges.next_block(alloc, &mut block) {
         Ok(()) => Ok(()),
         Err(AllocError) => {
-            if edges.next_block(&mut block).is_err() {
+            if edges.next_block(alloc, &mut block).is_err() {
                 return Err(Stop::Wrong);
             }
             Err(Stop::NotListed)

@@ -37,13 +37,13 @@ impl<'a> EdgeLines<'a> {
     }
 
     /// Writes the lines of the next edges at the end of a text, and says whether there were any.
-    pub fn put_block(&mut self, text: &mut Vec<u8>) -> Result<bool, AllocError>
+    pub fn put_block(&mut self, alloc: Global, text: &mut Vec<u8>) -> Result<bool, AllocError>
         ensures text { OnOk result (text.new.items ++ flat_map edge_text self.new
             ≡ text.old.items ++ flat_map edge_text self.old) }
         ensures some { IfOk result (λ more. more ≡ true → length self.new < length self.old) }
         ensures none { IfOk result (λ more. more ≡ false → self.old ≡ []) }
     {
-        self.edges.next_block(&mut self.block)?;
+        self.edges.next_block(alloc, &mut self.block)?;
         let block = self.block.as_slice();
         put_edges(text, block)?;
         Ok(!block.is_empty())

@@ -68,7 +68,7 @@ pub(crate) fn write_edges<O: Output>(
     let mut lines = EdgeLines::of(alloc, listing);
     loop {
         write_text(output, text)?;
-        if !lines.put_block(text)? {
+        if !lines.put_block(alloc, text)? {
             return Ok(());
         }
     }
