@@ -1,8 +1,8 @@
 -- Edits that lie one after another, in runs.
-use Rattle.std.proofs.Common.{◌≡◌, ℕ, ◌+◌, ◌-◌, ◌≤◌, List, [], ◌∷◌, ◌++◌, length, map, take, drop, All, refl, ap, ◌∙◌, arith}
+use Rattle.std.proofs.Common.{◌≡◌, ℕ, ◌+◌, ◌-◌, ◌<◌, ◌≤◌, List, [], ◌∷◌, ◌++◌, length, get_or, map, take, drop, All, refl, sym, ap, ◌∙◌, arith}
 use Rattle.std.specs.List.{AllByRecursion}
 use Rattle.std.proofs.Math.Seq.{drop-append_seam, take-length}
-use Rattle.std.proofs.lemmas.List.{take-append-le, drop-append-le, length-drop, map-append}
+use Rattle.std.proofs.lemmas.List.{take-append-le, take_more, drop-append-le, length-drop, map-append}
 use Rattle.std.proofs.lemmas.List.Elements.{All-weaker, recursion_from_All}
 use Rattle.past_model.specs.declared.edit.Edit.{Edit}
 use Rattle.batch_apply.specs.declared.pieces.Run.{Run}
@@ -38,3 +38,11 @@ one_piece_more es fs runs run within start end =
 
 pub still_within : (m n : ℕ) (runs : List Run) → m ≤ n → All (IsWithin m) runs → All (IsWithin n) runs
 still_within m n runs more = All-weaker (IsWithin m) (IsWithin n) (λ run within. (within.0, (let high = within.1 in omega (arith, more)))) runs
+
+-- the piece of one range more
+pub next_piece : {A : Type 0} (f : ℕ → A) (ranges : List ℕ) (place range : ℕ) → place < length ranges → range ≡ get_or ranges place 0
+    → map f (take place ranges) ++ f range ∷ [] ≡ map f (take (place + 1) ranges)
+next_piece f ranges place range inside own =
+    ap (λ r. map f (take place ranges) ++ f r ∷ []) own
+    ∙ sym (map-append f (take place ranges) (get_or ranges place 0 ∷ []))
+    ∙ ap (map f) (sym (take_more ranges place 0 inside))

@@ -7,17 +7,17 @@ ghost use Rattle.migration.specs.Table.{IsEditable, AreAfter, AreMoved};
 ghost use Rattle.workers.specs.declared.work_error.WorkError.TheVariants.{OutOfMemory};
 ghost use Rattle.batch_apply.specs.Dealt.{IsReady, AreDealt, pieces_of};
 
-use crate::hands::{spread, work_alone};
+use crate::hands::{spread, work};
 use crate::pieces::Pieces;
 use migration::{Counts, EditedShard, Grouping, Groups, Table};
 use past_model::Edit;
 use std::alloc::{AllocError, Global};
 use std::sync::Wait;
-use std::thread;
 use std::thread::Threads;
+use std::{slice, thread};
 use workers::{Gate, OpenGate, WorkError, Workers};
 
-/// The edited shards of all workers. With one worker no thread is started.
+/// The edited shards of all workers, each in a thread of its own.
 fn made_by<Ga: Gate, R: Threads + Wait>(
     rt: &R,
     alloc: Global,
@@ -32,12 +32,7 @@ fn made_by<Ga: Gate, R: Threads + Wait>(
     requires hands { hands ≤ MOST_WORKERS }
     ensures dealt { IfOk result (λ lists. AreDealt table.now pieces.now hands lists.items) }
     ensures all { IfOk result (λ lists. length lists.items ≡ hands) }
-    ensures alone { hands ≡ 1 → IfErr result (λ e. e ≡ OutOfMemory) }
 {
-    if hands == 1 {
-        let lists = work_alone(alloc, table, pieces, gate, hands)?;
-        return Ok(lists);
-    }
     thread::scope(
         thread::scope_env(),
         rt,
@@ -77,6 +72,25 @@ fn put_in(
     table.with(alloc, groups, &made)
 }
 
+/// The table with what one worker makes, who has the caller's thread, put in.
+fn edit_alone<Ga: Gate>(
+    alloc: Global,
+    table: &Table,
+    groups: &Groups<'_>,
+    pieces: &Pieces,
+    gate: &Ga,
+) -> Result<(Table, Counts), AllocError>
+    requires batch { IsBatch groups.now table.now }
+    requires pieces { pieces.now ≡ pieces_of groups.now }
+    requires ready { All (IsReady table.now) pieces.now }
+    requires few { length pieces.now ≤ MOST_RANGES }
+    ensures after { IfOk result (λ next. AreAfter groups.now.edits table.now next.0 next.1) }
+    ensures homes { IfOk result (λ next. AreMoved table.now next.0) }
+{
+    let own = work(alloc, table, pieces, gate, 0, 1)?;
+    put_in(alloc, table, groups, pieces, slice::from_ref(&own))
+}
+
 /// The table after a batch, and what the batch did: the batch's own answer, whatever the number of workers, the
 /// gate and the order in which they come. The old table stays. The edited ranges, ascending, are dealt in turn: the
 /// j-th, from 0, to worker j modulo their number. A range's number is a piece of the gate's. `OutOfMemory` where there
@@ -97,6 +111,10 @@ pub fn edit_table<Ga: Gate, R: Threads + Wait>(
     let groups = Groups::of(alloc, Grouping::ByRange, table.count(), edits)?;
     let pieces = Pieces::of(alloc, &groups, edits.len())?;
     let hands = usize::from(workers.count()).min(pieces.len()).max(1);
+    if hands == 1 {
+        let next = edit_alone(alloc, table, &groups, &pieces, gate)?;
+        return Ok(next);
+    }
     let lists = made_by(rt, alloc, table, &pieces, gate, hands)?;
     let next = put_in(alloc, table, &groups, &pieces, &lists)?;
     Ok(next)
@@ -115,6 +133,5 @@ pub fn edit_table_alone(
 {
     let groups = Groups::of(alloc, Grouping::ByRange, table.count(), edits)?;
     let pieces = Pieces::of(alloc, &groups, edits.len())?;
-    let lists = work_alone(alloc, table, &pieces, &OpenGate, 1)?;
-    put_in(alloc, table, &groups, &pieces, &lists)
+    edit_alone(alloc, table, &groups, &pieces, &OpenGate)
 }

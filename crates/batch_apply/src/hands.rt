@@ -54,26 +54,6 @@ pub(crate) fn work<Ga: Gate>(
     Ok(made)
 }
 
-/// The edited shards of the one worker that there is, who has the caller's thread.
-pub(crate) fn work_alone<Ga: Gate>(
-    alloc: Global,
-    table: &Table,
-    pieces: &Pieces,
-    gate: &Ga,
-    step: usize,
-) -> Result<Vec<Vec<EditedShard>>, AllocError>
-    requires ready { All (IsReady table.now) pieces.now }
-    requires few { length pieces.now ≤ MOST_RANGES }
-    requires some { 0 < step }
-    requires step { step ≤ MOST_WORKERS }
-    ensures dealt { IfOk result (λ lists. AreDealt table.now pieces.now step lists.items) }
-    ensures one { IfOk result (λ lists. length lists.items ≡ 1) }
-{
-    let mut lists = Vec::new(alloc);
-    lists.push(work(alloc, table, pieces, gate, 0, step)?)?;
-    Ok(lists)
-}
-
 /// The edited shards of the workers below a number, each in a thread of its own. All threads that were started have ended.
 // The caller's thread makes none: a system that starts a thread where its maker runs would have both in turn on one processor,
 // and another idle.

@@ -1,5 +1,5 @@
 //! The edits of a batch in the order of their ranges.
-ghost use Rattle.std.specs.Prelude.{◌≡◌, ◌<◌, ◌≤◌, ◌++◌, ◌∷◌, [], length, slice_index_or, IfOk};
+ghost use Rattle.std.specs.Prelude.{◌≡◌, ◌<◌, ◌≤◌, length, slice_index_or, IfOk};
 ghost use Rattle.past_model.specs.declared.limits.TheConstants.{MOST_RANGES};
 ghost use Rattle.batch_apply.specs.Dealt.{Piece, pieces_of};
 
@@ -36,41 +36,22 @@ impl Model for Pieces {
 }
 
 impl Pieces {
-    /// No piece, with room for so many edits and pieces.
-    fn with_capacity(alloc: Global, edits: usize, pieces: usize) -> Result<Pieces, AllocError>
-        ensures { IfOk result (λ made. made ≡ []) }
-    {
-        Ok(Pieces {
-            edits: Vec::with_capacity(alloc, edits)?,
-            runs: Vec::with_capacity(alloc, pieces)?,
-        })
-    }
-
-    /// Puts a range with these edits after the others.
-    fn push(&mut self, range: u32, edits: &[Edit]) -> Result<(), AllocError>
-        ensures { IfOk result (λ _. self.new ≡ self.old ++ (range, edits.now) ∷ []) }
-    {
-        let start = self.edits.len();
-        self.edits.extend_from_slice(edits)?;
-        let end = self.edits.len();
-        self.runs.push(Run { range, start, end })?;
-        Ok(())
-    }
-
     /// Each range that has an edit, ascending, with its edits in their order. There are so many edits in all.
     pub(crate) fn of(alloc: Global, groups: &Groups<'_>, edits: usize) -> Result<Pieces, AllocError>
         requires { groups.now.count ≤ MOST_RANGES }
         ensures { IfOk result (λ pieces. pieces ≡ pieces_of groups.now) }
     {
         let ranges = groups.filled(alloc)?;
-        let mut pieces = Pieces::with_capacity(alloc, edits, ranges.len())?;
-        let mut own = Vec::new(alloc);
+        let mut all = Vec::with_capacity(alloc, edits)?;
+        let mut runs = Vec::with_capacity(alloc, ranges.len())?;
         for place in 0..ranges.len() {
             let range = ranges[place];
-            groups.read(range as usize, &mut own)?;
-            pieces.push(range, &own)?;
+            let start = all.len();
+            groups.push(range as usize, &mut all)?;
+            let end = all.len();
+            runs.push(Run { range, start, end })?;
         }
-        Ok(pieces)
+        Ok(Pieces { edits: all, runs })
     }
 
     /// How many there are.

@@ -60,6 +60,8 @@ impl Block {
 
     /// The block with edited shards put in, where its first shard is of this range, and what the edits did to its
     /// shards. A shard that no edit is of is shared. `next` counts the edited shards that were put in.
+    // A function of its own: as part of the long function that makes a version each shard takes half as much again.
+    #[inline(never)]
     pub(crate) fn with(
         &self,
         alloc: Global,

@@ -35,7 +35,7 @@ pub(crate) fn copied_page(
     let end = first + page.count();
     let mut vertex = groups.next_filled(first, end);
     while vertex < end {
-        groups.read_vertex(vertex, &mut scratch.own)?;
+        groups.read(vertex, &mut scratch.own)?;
         let Some(more) = edit_in_place(alloc, &mut lists, vertex - first, scratch)? else {
             return Ok(None);
         };

@@ -45,12 +45,16 @@ pub(crate) fn edited_page(
     // Few edits are of few vertices, which need no count.
     let edits = groups.edit_count();
     if edits <= MOST_CHANGED
-        || edits <= MOST_EDITS && groups.count_edited(first, first + page.count()) <= MOST_CHANGED
+        || edits <= MOST_EDITS && groups.count_filled(first, first + page.count()) <= MOST_CHANGED
     {
         if let Some(next) = copied_page(alloc, page, first, groups, counts, scratch)? {
             return Ok(next);
         }
     }
-    let next = rebuilt_page(alloc, page, first, groups, counts, scratch)?;
-    Ok(next)
+    if let Some(linked) = groups.linked() {
+        return rebuilt_page(alloc, page, first, &linked, counts, scratch);
+    }
+    let links = groups.link(alloc)?;
+    let linked = groups.linked_by(&links);
+    rebuilt_page(alloc, page, first, &linked, counts, scratch)
 }

@@ -15,6 +15,7 @@ mod edited_vertex;
 mod groups;
 mod in_place;
 mod letting_go;
+mod linked;
 mod lists;
 mod lists_changed;
 mod merge;

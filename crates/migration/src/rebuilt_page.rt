@@ -8,7 +8,7 @@ ghost use Rattle.migration.specs.Part.{Part};
 
 use crate::counts::Counts;
 use crate::edited_vertex::push_edited;
-use crate::groups::Groups;
+use crate::linked::Linked;
 use crate::lists::Lists;
 use crate::scratch::Scratch;
 use std::alloc::{AllocError, Global};
@@ -19,7 +19,7 @@ pub(crate) fn rebuilt_page(
     alloc: Global,
     page: &Lists,
     first: usize,
-    groups: &Groups<'_>,
+    groups: &Linked<'_>,
     counts: Counts,
     scratch: &mut Scratch,
 ) -> Result<(Lists, Counts), AllocError>
@@ -42,7 +42,7 @@ pub(crate) fn rebuilt_page(
             scratch.lists.push_kept(page, place)?;
             continue;
         }
-        groups.read_vertex(vertex, &mut scratch.own)?;
+        groups.read(vertex, &mut scratch.own)?;
         let more = push_edited(alloc, page, place, scratch)?;
         counts = counts.plus(more);
     }

@@ -1,10 +1,9 @@
 -- Epochs: pasts in their order, and what a rebase keeps.
-use Rattle.std.proofs.Common.{◌≡◌, ℕ, zero, suc, ◌+◌, ◌<◌, ◌≤◌, List, [], ◌∷◌, ◌++◌, length, refl, sym, ap, subst, ◌∙◌, inl, inr, append_assoc, length-append, le_trans, arith}
+use Rattle.std.proofs.Common.{◌≡◌, ◌≢◌, ℕ, ◌+◌, ◌<◌, ◌≤◌, List, [], ◌∷◌, ◌++◌, length, refl, sym, ap, subst, ◌∙◌, inl, inr, append_assoc, length-append, le_trans, arith}
 use mathlib.Core.List.{IsPrefix}
 use Rattle.std.proofs.lemmas.List.Elements.{filter-append}
 use Rattle.std.specs.Prelude.{◌==◌, Bool, true, false, slice_set}
 use Rattle.std.proofs.Common.{cond}
-use Rattle.past_model.specs.declared.edit.Edit.{Edit}
 use Rattle.past_model.specs.declared.limits.TheConstants.{FEEDS}
 use Rattle.past_model.specs.declared.entry.Entry.{Entry}
 use Rattle.graph_model.specs.Graph.{Graph, IsGraph}
@@ -21,20 +20,25 @@ use Rattle.graph_model.specs.Graph.{neighbours, numbers_below}
 use Rattle.past_model.specs.declared.home.Home.TheVariants.{Block}
 use Rattle.std.specs.List.{list_any}
 use Rattle.std.specs.Prelude.{map, slice_index_or}
-use Rattle.std.proofs.lemmas.Bool.{cases_lt, false_from_ne_true}
+use Rattle.std.proofs.lemmas.Bool.{cases_eq, cases_lt, false_from_ne_true, ne_eqb}
+use Rattle.std.proofs.lemmas.Grind.{get_or-set_at}
 use Rattle.std.proofs.Common.{eqb-true, eq-eqb}
 use Rattle.std.specs.Cmp.{IsEquivalence}
-use Rattle.std.proofs.lemmas.List.{get_or-map, get_or_past, length-map}
+use Rattle.std.proofs.lemmas.List.{ext_get_or, get_or-map, get_or-set_other, get_or_past, length-map, length-set}
 use Rattle.std.proofs.lemmas.Map.Views.{list_any-from_Contains, Contains-from_any}
 use Rattle.std.proofs.Math.Path.{fun_ext}
 
+-- how many of a log's batches came by a feed
+abbrev count_of_feed : List Entry → ℕ → ℕ
+count_of_feed log feed = length (of_feed feed log)
+
+length-mark_of : (log : List Entry) → length (mark_of log) ≡ FEEDS
+length-mark_of log = length-map (numbers_below FEEDS) (count_of_feed log) ∙ length-numbers_below FEEDS
+
 -- what the mark of a log has for a feed
 pub marked-mark_of : (log : List Entry) (feed : ℕ) → feed < FEEDS → marked (mark_of log) feed ≡ length (of_feed feed log)
-marked-mark_of log zero lt = refl
-marked-mark_of log (suc zero) lt = refl
-marked-mark_of log (suc (suc zero)) lt = refl
-marked-mark_of log (suc (suc (suc zero))) lt = refl
-marked-mark_of log (suc (suc (suc (suc feed)))) lt = absurd (omega arith)
+marked-mark_of log feed lt =
+    get_or-map (count_of_feed log) (numbers_below FEEDS) feed 0 0 (omega (arith, length-numbers_below FEEDS)) ∙ ap (count_of_feed log) (get_or-numbers_below FEEDS feed lt)
 
 -- a beginning of a log has no more batches of a feed
 pub fewer_of_feed : (feed : ℕ) (xs ys : List Entry) → IsPrefix xs ys → length (of_feed feed xs) ≤ length (of_feed feed ys)
@@ -221,24 +225,32 @@ length-of_feed-le feed [] = omega arith
 length-of_feed-le feed (e ∷ log) =
     elim (e.feed == feed) as (λ b. length (cond b (e ∷ of_feed feed log) (of_feed feed log)) ≤ length (e ∷ log)) [ true ↦ omega (arith, length-of_feed-le feed log) | false ↦ omega (arith, length-of_feed-le feed log) ]
 
-four : {a b c d a' b' c' d' : ℕ} → a ≡ a' → b ≡ b' → c ≡ c' → d ≡ d' → (a ∷ b ∷ c ∷ d ∷ []) ≡ (a' ∷ b' ∷ c' ∷ d' ∷ [])
-four p q r s = λ i. p i ∷ q i ∷ r i ∷ s i ∷ []
+-- a batch of another feed is not counted
+other_of_feed : (k : ℕ) (e : Entry) → k ≢ e.feed → length (of_feed k (e ∷ [])) ≡ 0
+other_of_feed k e other = rw (ne_eqb e.feed k (λ is. other (sym is))) refl
 
-mark_push : (feed : ℕ) (batch : List Edit) (log : List Entry) → feed < FEEDS → let e : Entry = record { feed = feed; batch = batch } in mark_of (log ++ e ∷ []) ≡ slice_set (mark_of log) feed (marked (mark_of log) feed + 1)
-mark_push zero batch log lt =
-    let e : Entry = record { feed = 0; batch = batch } in
-    four (length-of_feed-append 0 log (e ∷ [])) (omega (arith, length-of_feed-append 1 log (e ∷ []))) (omega (arith, length-of_feed-append 2 log (e ∷ []))) (omega (arith, length-of_feed-append 3 log (e ∷ [])))
-mark_push (suc zero) batch log lt =
-    let e : Entry = record { feed = 1; batch = batch } in
-    four (omega (arith, length-of_feed-append 0 log (e ∷ []))) (length-of_feed-append 1 log (e ∷ [])) (omega (arith, length-of_feed-append 2 log (e ∷ []))) (omega (arith, length-of_feed-append 3 log (e ∷ [])))
-mark_push (suc (suc zero)) batch log lt =
-    let e : Entry = record { feed = 2; batch = batch } in
-    four (omega (arith, length-of_feed-append 0 log (e ∷ []))) (omega (arith, length-of_feed-append 1 log (e ∷ []))) (length-of_feed-append 2 log (e ∷ [])) (omega (arith, length-of_feed-append 3 log (e ∷ [])))
-mark_push (suc (suc (suc zero))) batch log lt =
-    let e : Entry = record { feed = 3; batch = batch } in
-    four (omega (arith, length-of_feed-append 0 log (e ∷ []))) (omega (arith, length-of_feed-append 1 log (e ∷ []))) (omega (arith, length-of_feed-append 2 log (e ∷ []))) (length-of_feed-append 3 log (e ∷ []))
-mark_push (suc (suc (suc (suc feed)))) batch log lt = absurd (omega arith)
+-- and one of the feed is
+own_of_feed : (k : ℕ) (e : Entry) → k ≡ e.feed → length (of_feed k (e ∷ [])) ≡ 1
+own_of_feed k e is = rw (eq-eqb e.feed k (sym is)) refl
 
 -- one batch more is counted for its feed
 pub mark_of-push : (log : List Entry) (e : Entry) → e.feed < FEEDS → mark_of (log ++ e ∷ []) ≡ slice_set (mark_of log) e.feed (marked (mark_of log) e.feed + 1)
-mark_of-push log e lt = mark_push e.feed e.batch log lt
+mark_of-push log e lt =
+    let more : ℕ = marked (mark_of log) e.feed + 1 in
+    let long : length (mark_of (log ++ e ∷ [])) ≡ length (slice_set (mark_of log) e.feed more) =
+    length-mark_of (log ++ e ∷ []) ∙ sym (length-mark_of log) ∙ sym (length-set (mark_of log) e.feed more) in
+    ext_get_or 0 (mark_of (log ++ e ∷ [])) (slice_set (mark_of log) e.feed more) long (λ k within.
+    let few : k < FEEDS = omega (arith, length-mark_of (log ++ e ∷ [])) in
+    let now = marked-mark_of (log ++ e ∷ []) k few in
+    let before = marked-mark_of log k few in
+    let both = length-of_feed-append k log (e ∷ []) in
+    elim (cases_eq k e.feed) [
+      | inl is ↦ (
+          let mine = own_of_feed k e is in
+          let there = get_or-set_at (mark_of log) e.feed k more 0 is (omega (arith, length-mark_of log)) in
+          omega (arith, now, both, before, mine, there, ap (marked (mark_of log)) is))
+      | inr other ↦ (
+          let none = other_of_feed k e other in
+          let there = get_or-set_other (mark_of log) e.feed k more 0 other in
+          omega (arith, now, both, before, none, there))
+    ])

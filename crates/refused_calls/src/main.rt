@@ -13,7 +13,7 @@ use calls::{apply, list_and_map, run_events};
 use editing::edit_lists;
 use homes::change_homes;
 use publishing::publish_twice;
-use rebasing::rebase_between;
+use rebasing::{rebase_before, rebase_between};
 use std::alloc::Global;
 use std::io;
 use std::sync::Wait;
@@ -26,6 +26,7 @@ fn call_all<R: Threads + Wait>(rt: &R, alloc: Global) -> Result<(), Stop> {
     edit_lists(rt, alloc)?;
     assemble_and_verify(alloc)?;
     publish_twice(rt, alloc)?;
+    rebase_before(rt, alloc)?;
     rebase_between(rt, alloc)?;
     run_events(alloc)?;
 

@@ -139,8 +139,7 @@ fn rebase_after<R: Threads + Wait>(rt: &R, publisher: &mut Publisher, reader: &m
     both(told, publish(rt, publisher, reader, rebased, 1))
 }
 
-/// After the step of the first batch was refused. A batch that the history has already comes before a rebase, which is then refused
-/// too.
+/// After the step of the first batch was refused, whose batch is held. The rebase gets all memory that it asks for, so it is done.
 fn rebase_while_held<R: Threads + Wait>(
     rt: &R,
     publisher: &mut Publisher,
@@ -160,11 +159,6 @@ fn rebase_while_held<R: Threads + Wait>(
     }
     match publisher.rebase(rt) {
         Ok(receipt) if is_rebase(&receipt) => publish_in_turn(rt, publisher, reader),
-        Err(RebaseError::OutOfMemory) if is_at(publisher, reader, state) => {
-            let first = publish(rt, publisher, reader, state, 0);
-            let rest = rebase_after(rt, publisher, reader);
-            both(both(first, rest), Told::Held)
-        }
         _ => Told::Changed,
     }
 }
@@ -211,6 +205,62 @@ fn rebase_and_publish<R: Threads + Wait>(
         Ok(Some(receipt)) if is_next(&receipt, 0, 1, 0) => rebase_after(rt, publisher, reader),
         Err(PublishError::OutOfMemory) => rebase_while_held(rt, publisher, reader),
         _ => Told::Changed,
+    }
+}
+
+/// Rebases a store that published nothing yet, and publishes the batch that waits. If the rebase is refused, the batch is published
+/// without it.
+fn rebase_at_first<R: Threads + Wait>(
+    rt: &R,
+    publisher: &mut Publisher,
+    reader: &mut Reader,
+) -> Told
+    ensures queue { publisher.new.queue ≡ publisher.old.queue }
+    ensures store { OneStore publisher.old.moment publisher.new.moment }
+{
+    let state = State {
+        epoch: 0,
+        number: 0,
+        neighbours: &[],
+        held: None,
+    };
+    match publisher.rebase(rt) {
+        Ok(receipt) if is_rebase(&receipt) => {
+            let rebased = State { epoch: 1, ..state };
+            publish(rt, publisher, reader, rebased, 0)
+        }
+        Err(RebaseError::OutOfMemory) if is_at(publisher, reader, state) => {
+            both(publish(rt, publisher, reader, state, 0), Told::Unchanged)
+        }
+        _ => Told::Changed,
+    }
+}
+
+/// A feed submits a batch, and the store is rebased before it is published.
+pub(crate) fn rebase_before<R: Threads + Wait>(rt: &R, alloc: Global) -> Result<(), Stop> {
+    let Ok((batch, _)) = batches(alloc) else {
+        return Err(Stop::NotBegun);
+    };
+    let Ok(ends) = Store::new(3, rt, alloc) else {
+        return Err(Stop::NotBegun);
+    };
+    let Ends {
+        mut publisher,
+        mut feeds,
+        mut reader,
+    } = ends;
+    let submitted = feeds[0].submit(batch, rt).is_ok();
+    let told = rebase_at_first(rt, &mut publisher, &mut reader);
+    let finished = publisher.finish(feeds, rt);
+    let is_done = finished.held.is_none()
+        && finished.left.is_empty()
+        && finished.last.number() == 1
+        && finished.last.edge_count() == 2;
+    match told {
+        Told::Done if submitted && is_done => Ok(()),
+        Told::Held if submitted && is_done => Err(Stop::NotPublished),
+        Told::Unchanged if submitted && is_done => Err(Stop::NotRebased),
+        _ => Err(Stop::Wrong),
     }
 }
 

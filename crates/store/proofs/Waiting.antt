@@ -38,6 +38,12 @@ ok_appends now shown old new m (Ok u) R eq free is =
     λ i. record { shown = ap (λ (s : Showing). s.shown) eq i; waiting = first i }
 ok_appends now shown old new m (Err e) R eq free is = tt
 
+-- where only what is shown already is handed in, it is shown still
+pub shows_same : (shown : Moment) (old new : List Moment) (answer : Result (Unit {0}) Moment) → old ≡ []
+    → MatchResult answer (λ _. new ≡ old ++ shown ∷ []) (λ back. (back ≡ shown) × (new ≡ old)) → fold (λ _ m. m) shown new ≡ shown
+shows_same shown old new (Ok u) none is = ap (fold (λ _ m. m) shown) (is ∙ ap (λ (l : List Moment). l ++ shown ∷ []) none)
+shows_same shown old new (Err back) none is = ap (fold (λ _ m. m) shown) (is.1 ∙ none)
+
 -- what comes to be shown is what waited, and continues what was shown
 pub shows_later : (shown : Moment) (g : BoardView) (all : List Moment) → IsBoard shown all g → Begins shown (fold (λ _ m. m) shown all)
 shows_later shown g [] board = begins_itself shown

@@ -205,7 +205,8 @@ fn begun(
         None => match held {
             None => committer.begin_turn(),
             Some(Held::Taken(_)) => committer.begin_turn(),
-            // A batch that the history has comes first. No refused allocation leads there.
+            // A batch that the history has comes first. No refused allocation leads there: its version is made with all its owners before
+            // the history has it, and the board has room for it.
             Some(Held::Added(_, _)) => Err(AllocError),
             Some(Held::Ready(_, _, _)) => Err(AllocError),
         },

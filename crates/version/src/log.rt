@@ -12,7 +12,7 @@ use std::marker::Model;
 use std::sync::Arc;
 
 // How many entries a full chunk has.
-const CHUNK: usize = 32;
+const CHUNK: usize = 16;
 
 /// Of each feed, from A on, how many batches came by it.
 pub type Mark = [u64; FEEDS as usize];
@@ -158,6 +158,8 @@ fn shared_chunks(
 }
 
 // Entries of the same batches, in a list with room for one more.
+// A function of its own: as part of the long function that makes a version each entry takes half as much again.
+#[inline(never)]
 fn shared_entries(alloc: Global, entries: &[Entry]) -> Result<Vec<Entry>, AllocError>
     ensures { IfOk result (λ copy. copy.items ≡ entries.now) }
 {

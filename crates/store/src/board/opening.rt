@@ -1,7 +1,8 @@
 //! How a board begins, with its first reader.
-ghost use Rattle.std.specs.Prelude.{◌≡◌, true, IfOk};
+ghost use Rattle.std.specs.Prelude.{◌≡◌, true, [], drop, IfOk};
 ghost use Rattle.left_right.specs.Sides.{view as board_view_of};
 ghost use Rattle.crossbeam_queue.specs.Passes.{view as member_of, IsPassOf};
+ghost use Rattle.store.specs.BoardViews.{board_view};
 ghost use Rattle.store.specs.Pool.{member, maker};
 ghost use Rattle.store.specs.Showing.{showing};
 
@@ -24,22 +25,11 @@ pub(crate) fn open_board<R: Wait>(
     ensures board { IfOk result (λ ends. ends.0 ≡ showing version.now) }
     ensures reader { IfOk result (λ ends. ends.1 ≡ version.now) }
 {
-    let first = Shown {
-        version: version.share()?,
-    };
-    let second = Shown {
-        version: version.share()?,
-    };
     let (pool, mut membership) = Pool::ruled(alloc, usize::from(READERS))?;
     let pool = Arc::new(alloc, pool)?;
-    let writer = Writer::new(alloc, first, second, usize::from(READERS))?;
-    let (mut writer, shown) = writer.publish_as::<Look, R>(rt);
-    let seated = match shown {
-        Ok(()) => seat_all(&mut writer, &pool, &mut membership),
-        Err(full) => Err(full),
-    };
+    let mut writer = open_writer(alloc, version, rt)?;
     let (known, count) = version.known();
-    match seated {
+    match seat_all(&mut writer, &pool, &mut membership) {
         Ok(inner) => Ok((
             Board {
                 writer: Some(writer),
@@ -56,6 +46,31 @@ pub(crate) fn open_board<R: Wait>(
         Err(full) => {
             let _ = writer.take(rt);
             Err(full)
+        }
+    }
+}
+
+// A writer that shows this version. One version has waited and was shown, so that it has room for each that is to wait later.
+fn open_writer<R: Wait>(alloc: Global, version: &Recorded, rt: &R) -> Result<Writer, AllocError>
+    ensures shown { IfOk result (λ w. w.desk.shown.value.version ≡ version.now) }
+    ensures none { IfOk result (λ w. drop w.behind w.log.items ≡ []) }
+    ensures known { IfOk result (λ w. board_view_of w.desk.place ≡ board_view version.now) }
+{
+    let first = Shown {
+        version: version.share()?,
+    };
+    let second = Shown {
+        version: version.share()?,
+    };
+    let waiting = version.share()?;
+    let mut writer = Writer::new(alloc, first, second, usize::from(READERS))?;
+    let room = writer.append(waiting);
+    let (writer, shown) = writer.publish_as::<Look, R>(rt);
+    match (room, shown) {
+        (Ok(()), Ok(())) => Ok(writer),
+        _ => {
+            let _ = writer.take(rt);
+            Err(AllocError)
         }
     }
 }

@@ -16,6 +16,32 @@ of-requires g c =
 pub of-requires-2 : goal.of-requires-2
 of-requires-2 g c = omega (arith, ap (λ (g : Grouped). g.count) c.in_ok-groups.ensures, c.count.ensures, few_parts c.requires.graph c.args.table.now c.requires.table c.requires.small)
 
+pub edit_alone-requires-clause-batch : goal.edit_alone-requires-clause-batch
+edit_alone-requires-clause-batch g c κs within =
+    let is = c.in_ok-groups.ensures in
+    record {
+      by_range = ap (λ (g : Grouped). g.grouping) is;
+      count = ap (λ (g : Grouped). g.count) is ∙ c.count.ensures;
+      editable = subst (IsEditable c.args.table.now) (sym (ap (λ (g : Grouped). g.edits) is)) c.requires;
+    }
+
+pub edit_alone-requires-clause-ready : goal.edit_alone-requires-clause-ready
+edit_alone-requires-clause-ready g c κs within =
+    let parts = c.args.table.now in
+    let groups = c.in_ok-groups.groups in
+    let is = c.in_ok-groups.ensures in
+    let batch : IsBatch groups parts = record {
+      by_range = ap (λ (g : Grouped). g.grouping) is;
+      count = ap (λ (g : Grouped). g.count) is ∙ c.count.ensures;
+      editable = subst (IsEditable parts) (sym (ap (λ (g : Grouped). g.edits) is)) c.requires;
+    } in
+    all_ready groups parts c.in_ok-pieces.pieces batch c.in_ok-pieces.ensures
+
+pub edit_alone-requires-clause-few : goal.edit_alone-requires-clause-few
+edit_alone-requires-clause-few g c κs within =
+    few_pieces c.in_ok-groups.groups c.in_ok-pieces.pieces c.in_ok-pieces.ensures
+    (omega (arith, ap (λ (g : Grouped). g.count) c.in_ok-groups.ensures, c.count.ensures, few_parts c.requires.graph c.args.table.now c.requires.table c.requires.small))
+
 pub made_by-requires-clause-ready : goal.made_by-requires-clause-ready
 made_by-requires-clause-ready g c κs within =
     let parts = c.args.table.now in

@@ -16,8 +16,17 @@ of-requires c =
 pub of-requires-2 : goal.of-requires-2
 of-requires-2 c = omega (arith, ap (λ (g : Grouped). g.count) c.in_ok-groups.ensures, c.count.ensures, few_parts c.requires.graph c.args.table.now c.requires.table c.requires.small)
 
-pub work_alone-requires-clause-ready : goal.work_alone-requires-clause-ready
-work_alone-requires-clause-ready c κs =
+pub edit_alone-requires-clause-batch : goal.edit_alone-requires-clause-batch
+edit_alone-requires-clause-batch c κs =
+    let is = c.in_ok-groups.ensures in
+    record {
+      by_range = ap (λ (g : Grouped). g.grouping) is;
+      count = ap (λ (g : Grouped). g.count) is ∙ c.count.ensures;
+      editable = subst (IsEditable c.args.table.now) (sym (ap (λ (g : Grouped). g.edits) is)) c.requires;
+    }
+
+pub edit_alone-requires-clause-ready : goal.edit_alone-requires-clause-ready
+edit_alone-requires-clause-ready c κs =
     let parts = c.args.table.now in
     let groups = c.in_ok-groups.groups in
     let is = c.in_ok-groups.ensures in
@@ -28,12 +37,7 @@ work_alone-requires-clause-ready c κs =
     } in
     all_ready groups parts c.in_ok-pieces.pieces batch c.in_ok-pieces.ensures
 
-pub work_alone-requires-clause-few : goal.work_alone-requires-clause-few
-work_alone-requires-clause-few c κs =
-    few_pieces c.in_ok-groups.groups c.in_ok-pieces.pieces c.in_ok-pieces.ensures
-    (omega (arith, ap (λ (g : Grouped). g.count) c.in_ok-groups.ensures, c.count.ensures, few_parts c.requires.graph c.args.table.now c.requires.table c.requires.small))
-
-pub put_in-requires-clause-few : goal.put_in-requires-clause-few
-put_in-requires-clause-few c =
+pub edit_alone-requires-clause-few : goal.edit_alone-requires-clause-few
+edit_alone-requires-clause-few c κs =
     few_pieces c.in_ok-groups.groups c.in_ok-pieces.pieces c.in_ok-pieces.ensures
     (omega (arith, ap (λ (g : Grouped). g.count) c.in_ok-groups.ensures, c.count.ensures, few_parts c.requires.graph c.args.table.now c.requires.table c.requires.small))

@@ -48,7 +48,7 @@ loop-place-preserved-then-is_unedited c =
 pub push_edited-requires-clause-edits : goal.push_edited-requires-clause-edits
 push_edited-requires-clause-edits c =
     let inside : c.loop-place.place < length (rows_of c.args.page.now) = (let count = c.count-place-end.ensures.rows in let test = c.loop-place-test.true in omega arith) in
-    own_of_page c.args.groups.now c.requires.next.part c.args.page.now c.args.first c.loop-place.place c.read_vertex.new.edits.items c.requires.vertices c.requires.next.its inside c.in_ok-read_vertex.ensures
+    own_of_page c.args.groups.now c.requires.next.part c.args.page.now c.args.first c.loop-place.place c.read.new.edits.items c.requires.vertices c.requires.next.its inside c.in_ok-read.ensures
 
 -- the counts fit
 few : (c : In_ok-more) → (c.loop-place.counts.added + c.in_ok-more.more.added < 2 ^ 64) × (c.loop-place.counts.removed + c.in_ok-more.more.removed < 2 ^ 64)
@@ -63,7 +63,7 @@ few c =
     let inside : place < length (rows_of c.args.page.now) = (let count = c.count-place-end.ensures.rows in let test = c.loop-place-test.true in omega arith) in
     few_more groups.edits next.part (next.rows ++ rows_of lists) edited.after c.loop-place.counts c.in_ok-more.more (c.args.first + place) its.shard its.own (made next.rows (rows_of lists) c.args.first place next.start c.loop-place.invariant.count) (omega arith)
     (c.loop-place.invariant.begun next.part next.rows next.homes its next.start next.begun).done
-    (merged_of_page groups next.part c.args.page.now c.args.first place c.read_vertex.new.edits.items edited.after c.in_ok-more.more c.requires.vertices its inside c.in_ok-read_vertex.ensures edited.merged)
+    (merged_of_page groups next.part c.args.page.now c.args.first place c.read.new.edits.items edited.after c.in_ok-more.more c.requires.vertices its inside c.in_ok-read.ensures edited.merged)
 
 pub plus-counts-requires-clause-added : goal.plus-counts-requires-clause-added
 plus-counts-requires-clause-added c = (few c).0
@@ -93,7 +93,7 @@ loop-place-preserved c =
           (subst₂ (λ l h. AreBegun groups.edits p l h record { added = c.loop-place.counts.added + more.added; removed = c.loop-place.counts.removed + more.removed })
           (sym (ap (λ l. rows ++ l) pushed.rows ∙ behind rows (rows_of lists) row)) (sym (ap (λ h. homes ++ h) pushed.homes ∙ behind homes (homes_of lists) edited.to))
           (one_edited groups.edits p (rows ++ rows_of lists) (homes ++ homes_of lists) c.loop-place.counts more row edited.to (c.args.first + place) its.shard its.own (made rows (rows_of lists) c.args.first place start c.loop-place.invariant.count) (omega arith) home
-          (merged_of_page groups p page c.args.first place c.read_vertex.new.edits.items row more c.requires.vertices its inside c.in_ok-read_vertex.ensures edited.merged)
+          (merged_of_page groups p page c.args.first place c.read.new.edits.items row more c.requires.vertices its inside c.in_ok-read.ensures edited.merged)
           (c.loop-place.invariant.begun p rows homes its start begun))));
     }
 
