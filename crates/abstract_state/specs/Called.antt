@@ -3,6 +3,7 @@ use Rattle.std.specs.Prelude.{List, Option, Some, None, replicate}
 use Rattle.std.specs.Global.{Box}
 use Rattle.abstract_values.specs.declared.value.AbstractValue.{AbstractValue}
 use Rattle.abstract_state.specs.declared.state.Called.{Called}
+use Rattle.abstract_state.specs.declared.state.Callees.{Callees}
 use Rattle.abstract_state.specs.declared.state.Frame.{Frame}
 use Rattle.abstract_state.specs.States.{most_callers, nothing_kept}
 
@@ -16,7 +17,7 @@ abbrev pub kept_by : Option (Box Called) → List AbstractValue
 kept_by None = nothing_kept
 kept_by (Some b) = b.value.kept
 
--- the frames of called functions; there is no table of them where none is called
-abbrev pub places_of : Option (Box (List (Option (Box Called)))) → List (Option (Box Called))
+-- the frames of called functions; there is no table of them before the first call
+abbrev pub places_of : Option (Box Callees) → List (Option (Box Called))
 places_of None = replicate most_callers None
-places_of (Some b) = b.value
+places_of (Some b) = b.value.places

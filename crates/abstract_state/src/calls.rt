@@ -5,7 +5,9 @@ ghost use Rattle.abstract_state.specs.States.{new_frame, nothing_kept, most_call
 ghost use Rattle.abstract_state.specs.Called.{frame_called, kept_by, places_of};
 ghost use Rattle.abstract_state.specs.declared.state.TheConstants.{MOST_CALLERS};
 
-use crate::state::{AbstractState, Called, FRAME_SLOTS, Frame, MOST_CALLERS, NO_PLACES, Places};
+use crate::state::{
+    AbstractState, Called, Callees, FRAME_SLOTS, Frame, MOST_CALLERS, NO_PLACES, Places,
+};
 use abstract_values::AbstractValue;
 use bpf_model::FRAME_BYTES;
 use std::alloc::{AllocError, Global};
@@ -19,24 +21,45 @@ static BEGUN: Called = Called {
     kept: [AbstractValue::Unset; 4],
 };
 
-/// A frame of which no byte is set, and what is kept for its caller.
-fn begin_frame(alloc: Global, kept: [AbstractValue; 4]) -> Result<Box<Called>, AllocError>
+/// A frame of which no byte is set, and what is kept for its caller. It lies in the memory of one that was dropped, if
+/// there is any.
+fn begin_frame(
+    alloc: Global,
+    spare: Option<Box<Called>>,
+    kept: [AbstractValue; 4],
+) -> Result<Box<Called>, AllocError>
     ensures frame { IfOk result (λ place. place.value.frame ≡ new_frame) }
     ensures kept { IfOk result (λ place. place.value.kept ≡ kept) }
 {
-    let mut place = Box::new(alloc, BEGUN)?;
-    place.kept = kept;
-    Ok(place)
+    match spare {
+        None => {
+            let mut place = Box::new(alloc, BEGUN)?;
+            place.kept = kept;
+            Ok(place)
+        }
+        Some(spare) => {
+            let mut place = spare;
+            *place = BEGUN;
+            place.kept = kept;
+            Ok(place)
+        }
+    }
 }
 
 /// The frames of called functions, where there is a table of them or one is made.
-fn open_places(alloc: Global, called: Option<Box<Places>>) -> Result<Box<Places>, AllocError>
-    ensures opened { IfOk result (λ places. places.value ≡ places_of called) }
+fn open_callees(alloc: Global, called: Option<Box<Callees>>) -> Result<Box<Callees>, AllocError>
+    ensures opened { IfOk result (λ callees. callees.value.places ≡ places_of called) }
     ensures none { OnErr result (called ≡ None) }
 {
     match called {
-        None => Ok(Box::new(alloc, NO_PLACES)?),
-        Some(places) => Ok(places),
+        None => {
+            let callees = Callees {
+                places: NO_PLACES,
+                spare: None,
+            };
+            Ok(Box::new(alloc, callees)?)
+        }
+        Some(callees) => Ok(callees),
     }
 }
 
@@ -63,13 +86,21 @@ pub fn enter_call(alloc: Global, state: &mut AbstractState, caller: u8) -> Resul
     ensures entered { OnOk result (state.new ≡ callee_state caller state.old) }
     ensures unchanged { OnErr result (state.new ≡ state.old) }
 {
+    let mut callees = open_callees(alloc, state.called.take())?;
+    let spare = callees.spare.take();
     let known = state.own.registers;
-    let place = begin_frame(alloc, [known[6], known[7], known[8], known[9]])?;
-    let mut places = open_places(alloc, state.called.take())?;
-    places[usize::from(caller)] = Some(place);
-    state.called = Some(places);
-    begin_registers(&mut state.own.registers, caller + 1);
-    Ok(())
+    match begin_frame(alloc, spare, [known[6], known[7], known[8], known[9]]) {
+        Err(error) => {
+            state.called = Some(callees);
+            Err(error)
+        }
+        Ok(place) => {
+            callees.places[usize::from(caller)] = Some(place);
+            state.called = Some(callees);
+            begin_registers(&mut state.own.registers, caller + 1);
+            Ok(())
+        }
+    }
 }
 
 /// Whether a value points into a frame. No other is changed where the frame is dropped.
@@ -118,21 +149,21 @@ fn forget_in_frames(called: &mut Places, dropped: u8)
 }
 
 /// R6 to R9 of a caller, as they were kept.
-fn kept_for(called: &Option<Box<Places>>, at: usize) -> [AbstractValue; 4]
+fn kept_for(called: &Option<Box<Callees>>, at: usize) -> [AbstractValue; 4]
     requires inside { at < MOST_CALLERS }
     ensures { (i : ℕ) → slice_index_or result i Unset ≡ kept_of (map kept_by (places_of called.now)) at i }
 {
-    let Some(places) = called else {
+    let Some(callees) = called else {
         return [AbstractValue::Unset; 4];
     };
-    match &places[at] {
+    match &callees.places[at] {
         None => [AbstractValue::Unset; 4],
         Some(called) => called.kept,
     }
 }
 
 /// Whether no function is called.
-fn are_none(places: &Places) -> bool
+pub(crate) fn are_none(places: &Places) -> bool
     ensures { IsTrue result → places.now ≡ replicate most_callers None }
 {
     for i in 0..MOST_CALLERS {
@@ -144,21 +175,22 @@ fn are_none(places: &Places) -> bool
 }
 
 /// The frames of called functions, after one is dropped.
-fn leave_place(called: Option<Box<Places>>, at: usize) -> Option<Box<Places>>
+fn leave_place(called: Option<Box<Callees>>, at: usize) -> Option<Box<Callees>>
     requires inside { at < MOST_CALLERS }
     ensures frames { map frame_called (places_of result)
         ≡ map (without_pointers (at + 1)) (slice_set (map frame_called (places_of called)) at None) }
     ensures kept { map kept_by (places_of result) ≡ slice_set (map kept_by (places_of called)) at nothing_kept }
 {
-    let Some(mut places) = called else {
+    let Some(mut callees) = called else {
         return None;
     };
-    places[at] = None;
-    if are_none(&places) {
-        return None;
+    let dropped = callees.places[at].take();
+    callees.spare = dropped;
+    if are_none(&callees.places) {
+        return Some(callees);
     }
-    forget_in_frames(&mut places, (at + 1) as u8);
-    Some(places)
+    forget_in_frames(&mut callees.places, (at + 1) as u8);
+    Some(callees)
 }
 
 /// The registers after the exit to a function whose frame has a number and for which R6 to R9 were kept: R0 stays, and

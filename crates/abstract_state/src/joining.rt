@@ -4,7 +4,7 @@ ghost use Rattle.abstract_values.specs.Values.{join_of};
 ghost use Rattle.abstract_state.specs.States.{most_callers, elementwise, join_of_frames, join_if_live, join_of_states};
 ghost use Rattle.abstract_state.specs.Called.{frame_called, kept_by, places_of};
 
-use crate::state::{AbstractState, Called, Frame, MOST_CALLERS, Places};
+use crate::state::{AbstractState, Called, Callees, Frame, MOST_CALLERS, Places};
 use abstract_values::{AbstractValue, join};
 
 /// Whether it is seen at once that a join with the other changes nothing, as with most: neither an unset value nor
@@ -108,7 +108,7 @@ fn has_all(places: &Places)
 {}
 
 /// The same, where any function is called.
-fn join_called(called: Option<Box<Places>>, other: &Option<Box<Places>>) -> Option<Box<Places>>
+fn join_called(called: Option<Box<Callees>>, other: &Option<Box<Callees>>) -> Option<Box<Callees>>
     ensures frames { map frame_called (places_of result)
         ≡ elementwise join_if_live (map frame_called (places_of called)) (map frame_called (places_of other.now)) }
     ensures kept { map kept_by (places_of result)
@@ -117,16 +117,16 @@ fn join_called(called: Option<Box<Places>>, other: &Option<Box<Places>>) -> Opti
     match (called, other) {
         (None, None) => None,
         (None, Some(others)) => {
-            has_all(others);
+            has_all(&others.places);
             None
         }
-        (Some(places), None) => {
-            has_all(&places);
+        (Some(callees), None) => {
+            has_all(&callees.places);
             None
         }
-        (Some(mut places), Some(others)) => {
-            join_places(&mut places, others);
-            Some(places)
+        (Some(mut callees), Some(others)) => {
+            join_places(&mut callees.places, &others.places);
+            Some(callees)
         }
     }
 }

@@ -154,7 +154,13 @@ fn store_stack(
     let Some(mut called) = state.called.take() else {
         return Err(Cause::OutOfRange);
     };
-    let answer = store_called(&mut called, usize::from(frame) - 1, place, bytes, value);
+    let answer = store_called(
+        &mut called.places,
+        usize::from(frame) - 1,
+        place,
+        bytes,
+        value,
+    );
     state.called = Some(called);
     answer
 }
@@ -195,7 +201,7 @@ fn fill_stack(state: &mut AbstractState, frame: u8, place: i32, room: usize) -> 
     let Some(mut called) = state.called.take() else {
         return Err(Cause::OutOfRange);
     };
-    let answer = fill_called(&mut called, usize::from(frame) - 1, place, room);
+    let answer = fill_called(&mut called.places, usize::from(frame) - 1, place, room);
     state.called = Some(called);
     answer
 }

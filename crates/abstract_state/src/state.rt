@@ -25,8 +25,8 @@ pub struct Frame {
 }
 
 /// What is known of the frame of a function that is called, and what is kept for its caller.
-#[derive(Clone, Copy, Debug, PartialEq, Eq)]
-pub struct Called {
+#[derive(Clone, Copy)]
+pub(crate) struct Called {
     pub(crate) frame: Frame,
     /// R6 to R9 of the function that called it.
     pub(crate) kept: [AbstractValue; 4],
@@ -35,12 +35,20 @@ pub struct Called {
 /// Frames 1 to 7, each there while its function runs or waits.
 pub(crate) type Places = [Option<Box<Called>>; MOST_CALLERS];
 
+/// The frames of called functions.
+#[derive(Drop)]
+pub(crate) struct Callees {
+    pub(crate) places: Places,
+    /// The memory of a frame that was dropped, for the next call.
+    pub(crate) spare: Option<Box<Called>>,
+}
+
 /// No frame of a called function.
 pub(crate) const NO_PLACES: Places = [None, None, None, None, None, None, None];
 
 /// What is known of all registers and of frame 0, that of the program itself. It is plain memory, so that a copy is
 /// one move.
-#[derive(Clone, Copy, Debug, PartialEq, Eq)]
+#[derive(Clone, Copy)]
 pub(crate) struct Own {
     /// R0 to R10, by number.
     pub(crate) registers: [AbstractValue; 11],
@@ -50,11 +58,20 @@ pub(crate) struct Own {
 
 /// What is known of all registers and of the stacks of all live frames at a place. The frame of the program itself is a
 /// part of it; each function that is called has a frame of its own.
-#[derive(Drop)]
 pub struct AbstractState {
     pub(crate) own: Box<Own>,
-    /// The frames of called functions; none where no function is called.
-    pub(crate) called: Option<Box<Places>>,
+    /// The frames of called functions; none before the first call.
+    pub(crate) called: Option<Box<Callees>>,
+}
+
+impl Drop for AbstractState {
+    // Written out, so that crates above prove a call here, and not the drop of each part.
+    fn drop(self) {
+        let AbstractState {
+            own: _own,
+            called: _called,
+        } = self;
+    }
 }
 
 impl Model for AbstractState {
@@ -134,10 +151,10 @@ impl AbstractState {
         if number == 0 {
             return Some(&self.own.frame);
         }
-        let Some(places) = &self.called else {
+        let Some(callees) = &self.called else {
             return None;
         };
-        let called: &[Option<Box<Called>>] = &**places;
+        let called: &[Option<Box<Called>>] = &callees.places;
         let at = usize::from(number) - 1;
         if at >= called.len() {
             return None;

@@ -1,5 +1,6 @@
 use Rattle.std.proofs.Common.{◌≡◌, ◌<◌, length, map, sym, ap, subst, ◌∙◌, arith}
 use Rattle.std.proofs.lemmas.List.{length-set}
+use Rattle.abstract_state.specs.declared.state.Callees.{Callees}
 use Rattle.abstract_state.specs.Called.{frame_called, kept_by}
 use Rattle.abstract_state.proofs.Places.{SameBelow, same_more, both_same}
 use Rattle.abstract_state.proofs.copying.copy_places.Goals as goal
@@ -19,4 +20,4 @@ pub returns : goal.returns
 returns c =
     let end : c.loop-i.i ≡ 7 = (let most = c.loop-i.auto.i-end in let least = c.loop-i-test.false in omega (arith, most, least)) in
     let same = both_same c.loop-i.copy c.args.places.now 7 c.loop-i.invariant.0 c.loop-i.invariant.1 (subst (SameBelow c.loop-i.copy c.args.places.now) end c.loop-i.invariant.2) in
-    record { frames = ap (map frame_called) c.in_ok-new.ensures.ok ∙ same.0; kept = ap (map kept_by) c.in_ok-new.ensures.ok ∙ same.1 }
+    record { frames = ap (λ (v : Callees). map frame_called v.places) c.in_ok-new.ensures.ok ∙ same.0; kept = ap (λ (v : Callees). map kept_by v.places) c.in_ok-new.ensures.ok ∙ same.1 }

@@ -1,6 +1,7 @@
 use Rattle.std.proofs.Common.{◌≡◌, rules, w32, to_z, of_z, suc, ◌-◌, List, Option, None, Some, get_or, sym, ap, ◌∙◌, arith}
 use Rattle.std.proofs.lemmas.Int.{to_z-of_z}
 use Rattle.abstract_values.specs.declared.value.AbstractValue.{AbstractValue}
+use Rattle.abstract_state.specs.declared.state.Callees.{Callees}
 use Rattle.abstract_state.specs.declared.state.Frame.{Frame}
 use Rattle.abstract_state.specs.States.{frame_of, with_if_live}
 use Rattle.abstract_state.specs.Called.{frame_called, places_of}
@@ -13,9 +14,9 @@ returns-clause-stored c =
     let frame : c.args.frame ≡ suc (c.from.result - 1) = (let some = c.if-frame-eq0.false in let is = c.from.ensures in omega (arith, is, some)) in
     let registers : List AbstractValue = c.state.inside.own.value.registers in
     let main : Option Frame = Some c.state.inside.own.value.frame in
-    let before : Boxes = c.deref_mut-2.result.now in
+    let before : Boxes = c.deref_mut-2.result.now.places in
     let after : Boxes = c.store_called-answer.new.called in
-    let opened : places_of c.state.inside.called ≡ before = ap places_of (sym c.take.ensures.value ∙ c.in-Some.is) ∙ sym c.deref_mut-2.ensures.value in
+    let opened : places_of c.state.inside.called ≡ before = ap places_of (sym c.take.ensures.value ∙ c.in-Some.is) ∙ sym (ap (λ (v : Callees). v.places) c.deref_mut-2.ensures.value) in
     let was = told_of registers main (places_of c.state.inside.called) before opened c.args.state.now c.state.view_is in
     let there : frame_of c.args.state.now c.args.frame ≡ frame_called (get_or before (c.from.result - 1) None) =
     ap (λ s. frame_of s c.args.frame) (sym was) ∙ above main before c.args.frame (c.from.result - 1) frame in
