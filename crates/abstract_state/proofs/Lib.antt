@@ -7,3 +7,4 @@ pub mod JoinOrder
 pub mod Joined
 pub mod Entered
 pub mod Places
+pub mod Registers

@@ -1,7 +1,8 @@
 -- Frames of called functions, as the code keeps them.
-use Rattle.std.proofs.Common.{◌≡◌, ℕ, zero, suc, ◌+◌, ◌<◌, ◌≤◌, List, [], ◌∷◌, ◌++◌, length, map, take, drop, Option, Some, None, Result, Ok, Err, get_or, set, refl, sym, ap, ap₂, ◌∙◌, inl, inr, get_or-set_same, get_or-set_other, arith}
+use Rattle.std.proofs.Common.{◌≡◌, ℕ, zero, suc, ◌+◌, ◌<◌, ◌≤◌, List, [], ◌∷◌, ◌++◌, length, map, take, drop, replicate, Option, Some, None, Result, Ok, Err, get_or, set, refl, sym, ap, ap₂, ◌∙◌, inl, inr, get_or-set_same, get_or-set_other, arith}
 use Rattle.std.proofs.lemmas.Bool.{cases_eq}
-use Rattle.std.specs.Prelude.{IfErr, pos}
+use Rattle.std.specs.Prelude.{IfErr, pos, false}
+use Rattle.std.specs.Option.{is_some}
 use Rattle.std.specs.Global.{Box}
 use Rattle.bpf_model.specs.declared.cause.Cause.{Cause}
 use Rattle.std.proofs.lemmas.List.{get_or_past}
@@ -9,8 +10,10 @@ use Rattle.abstract_values.specs.declared.value.AbstractValue.{AbstractValue}
 use Rattle.abstract_state.specs.declared.state.Called.{Called}
 use Rattle.abstract_values.specs.declared.value.AbstractValue.TheVariants.{Unset, Stack}
 use Rattle.abstract_state.specs.declared.state.Frame.{Frame}
-use Rattle.abstract_state.specs.States.{AbstractState, new_frame, nothing_kept, without_pointer, without_pointers, callee_state, left_state}
+use Rattle.abstract_values.specs.Values.{join_of}
+use Rattle.abstract_state.specs.States.{AbstractState, elementwise, join_if_live, new_frame, nothing_kept, without_pointer, without_pointers, kept_of, most_callers, callee_state, left_state}
 use Rattle.abstract_state.specs.Called.{frame_called, kept_by}
+use Rattle.abstract_state.proofs.Zipped.{with_none}
 
 abbrev pub Boxes : Type 0
 Boxes = List (Option (Box Called))
@@ -73,6 +76,11 @@ with_called registers main called after frame at f same frames kept = rw (same, 
 
 pub as_it_was : (registers : List AbstractValue) (main : Option Frame) (called after : Boxes) → map frame_called after ≡ map frame_called called → map kept_by after ≡ map kept_by called → known registers (main ∷ map frame_called after) (map kept_by after) ≡ known registers (main ∷ map frame_called called) (map kept_by called)
 as_it_was registers main called after frames kept = rw (frames, kept) refl
+
+-- a state whose frames are in a table
+pub told_of : (registers : List AbstractValue) (main : Option Frame) (called before : Boxes) → called ≡ before → (s : AbstractState) → known registers (main ∷ map frame_called called) (map kept_by called) ≡ s → known registers (main ∷ map frame_called before) (map kept_by before) ≡ s
+told_of registers main called before same s is =
+    ap (λ (l : Boxes). known registers (main ∷ map frame_called l) (map kept_by l)) (sym same) ∙ is
 
 -- ---- for the code's answers, where a frame was taken, written and put back
 
@@ -146,20 +154,23 @@ entered registers main called k caller x same frame kept =
     let more : caller + 1 ≡ suc caller = omega arith in
     rw (same, more, map_put frame_called called caller x, map_put kept_by called caller x, frame, kept) refl
 
-pub left : (registers : List AbstractValue) (f : Frame) (called after : Boxes) (k caller : ℕ) (kept : List AbstractValue) (cleared : List AbstractValue) → k ≡ caller → caller < length called
-    → ((i : ℕ) → get_or kept i Unset ≡ get_or (kept_by (get_or called k None)) i Unset)
+pub left : (registers : List AbstractValue) (f : Frame) (called after : Boxes) (k caller : ℕ) (kept : List AbstractValue) (cleared : List AbstractValue) → k ≡ caller
+    → ((i : ℕ) → get_or kept i Unset ≡ kept_of (map kept_by called) k i)
     → cleared ≡ map (without_pointer (caller + 1)) f.slots
-    → map frame_called after ≡ map (without_pointers (caller + 1)) (map frame_called (set called k None))
-    → map kept_by after ≡ map kept_by (set called k None)
+    → map frame_called after ≡ map (without_pointers (k + 1)) (set (map frame_called called) k None)
+    → map kept_by after ≡ set (map kept_by called) k nothing_kept
     → known (get_or registers 0 Unset ∷ Unset ∷ Unset ∷ Unset ∷ Unset ∷ Unset ∷ get_or kept 0 Unset ∷ get_or kept 1 Unset ∷ get_or kept 2 Unset ∷ get_or kept 3 Unset ∷ Stack caller (pos 0) ∷ []) (Some (record f { slots = cleared }) ∷ map frame_called after) (map kept_by after)
     ≡ left_state caller (known registers (Some f ∷ map frame_called called) (map kept_by called))
-left registers f called after k caller kept cleared same lt is clears frames keeps =
+left registers f called after k caller kept cleared same is clears frames keeps =
     let more : caller + 1 ≡ suc caller = omega arith in
-    let mine : get_or (map kept_by called) caller [] ≡ kept_by (get_or called k None) = mapped_inside kept_by None [] called caller lt ∙ ap (λ j. kept_by (get_or called j None)) (sym same) in
-    let frames_are : map frame_called after ≡ map (without_pointers (suc caller)) (set (map frame_called called) caller None) = (rw (same, more, map_put frame_called called caller None) at frames) in
-    let kept_are : map kept_by after ≡ set (map kept_by called) caller nothing_kept = (rw (same, map_put kept_by called caller None) at keeps) in
+    let frames_are : map frame_called after ≡ map (without_pointers (suc caller)) (set (map frame_called called) caller None) = (rw (same, more) at frames) in
+    let kept_are : map kept_by after ≡ set (map kept_by called) caller nothing_kept = (rw same at keeps) in
     let cleared_are : cleared ≡ map (without_pointer (suc caller)) f.slots = (rw more at clears) in
-    rw (mine, is 0, is 1, is 2, is 3, frames_are, kept_are, cleared_are) refl
+    let e0 : get_or kept 0 Unset ≡ kept_of (map kept_by called) caller 0 = (rw same at (is 0)) in
+    let e1 : get_or kept 1 Unset ≡ kept_of (map kept_by called) caller 1 = (rw same at (is 1)) in
+    let e2 : get_or kept 2 Unset ≡ kept_of (map kept_by called) caller 2 = (rw same at (is 2)) in
+    let e3 : get_or kept 3 Unset ≡ kept_of (map kept_by called) caller 3 = (rw same at (is 3)) in
+    rw (e0, e1, e2, e3, frames_are, kept_are, cleared_are) refl
 
 pub mapped_long : {A B : Type 0} (f : A → B) (xs : List A) (k : ℕ) → k < length xs → k < length (map f xs)
 mapped_long f [] k lt = absurd (omega (arith, lt))
@@ -209,8 +220,45 @@ maps_same f (x ∷ xs) (y ∷ ys) same h =
     let rest = maps_same f xs ys (omega (arith, same)) (λ j lt. h (suc j) (omega (arith, lt))) in
     ap₂ (λ a b. a ∷ b) head rest
 
-pub copied : (registers : List AbstractValue) (main : Option Frame) (xs ys : Boxes) (n : ℕ) → length xs ≡ n → length ys ≡ n → SameBelow xs ys n → known registers (main ∷ map frame_called xs) (map kept_by xs) ≡ known registers (main ∷ map frame_called ys) (map kept_by ys)
-copied registers main xs ys n long other same =
-    let frames = maps_same frame_called xs ys (long ∙ sym other) (λ j lt. (same j (omega (arith, lt, long))).0) in
-    let kept = maps_same kept_by xs ys (long ∙ sym other) (λ j lt. (same j (omega (arith, lt, long))).1) in
-    as_it_was registers main ys xs frames kept
+pub both_same : (xs ys : Boxes) (n : ℕ) → length xs ≡ n → length ys ≡ n → SameBelow xs ys n → (map frame_called xs ≡ map frame_called ys) × (map kept_by xs ≡ map kept_by ys)
+both_same xs ys n long other same =
+    (maps_same frame_called xs ys (long ∙ sym other) (λ j lt. (same j (omega (arith, lt, long))).0), maps_same kept_by xs ys (long ∙ sym other) (λ j lt. (same j (omega (arith, lt, long))).1))
+
+-- ---- no function is called
+
+pub none_there : (xs : Boxes) (n : ℕ) → length xs ≡ n → ((j : ℕ) → j < n → get_or xs j None ≡ None) → xs ≡ replicate n None
+none_there [] zero long h = refl
+none_there [] (suc n) long h = absurd (omega (arith, long))
+none_there (x ∷ xs) zero long h = absurd (omega (arith, long))
+none_there (x ∷ xs) (suc n) long h =
+    ap₂ (λ a b. a ∷ b) (h 0 (omega arith)) (none_there xs n (omega (arith, long)) (λ j lt. h (suc j) (omega (arith, lt))))
+
+none_put : {A : Type 0} (n k : ℕ) (z : A) → set (replicate n z) k z ≡ replicate n z
+none_put zero k z = refl
+none_put (suc n) zero z = refl
+none_put (suc n) (suc k) z = ap (λ rest. z ∷ rest) (none_put n k z)
+
+pub none_dropped : (k d : ℕ) → map (without_pointers d) (set (replicate most_callers None) k None) ≡ replicate most_callers None
+none_dropped k d = ap (map (without_pointers d)) (none_put most_callers k None)
+
+pub none_kept : (k : ℕ) → set (replicate most_callers nothing_kept) k nothing_kept ≡ replicate most_callers nothing_kept
+none_kept k = none_put most_callers k nothing_kept
+
+-- nothing comes of a join with nothing
+pub none_live : (called : Boxes) (n : ℕ) → length called ≡ n → elementwise join_if_live (map frame_called called) (replicate n None) ≡ replicate n None
+none_live [] zero long = refl
+none_live [] (suc n) long = absurd (omega (arith, long))
+none_live (x ∷ xs) zero long = absurd (omega (arith, long))
+none_live (None ∷ xs) (suc n) long = ap (λ rest. None ∷ rest) (none_live xs n (omega (arith, long)))
+none_live (Some b ∷ xs) (suc n) long = ap (λ rest. None ∷ rest) (none_live xs n (omega (arith, long)))
+
+pub nothing_joined : (called : Boxes) (n : ℕ) → length called ≡ n → elementwise (elementwise join_of) (map kept_by called) (replicate n nothing_kept) ≡ replicate n nothing_kept
+nothing_joined [] zero long = refl
+nothing_joined [] (suc n) long = absurd (omega (arith, long))
+nothing_joined (x ∷ xs) zero long = absurd (omega (arith, long))
+nothing_joined (x ∷ xs) (suc n) long =
+    ap₂ (λ a b. a ∷ b) (with_none join_of (kept_by x)) (nothing_joined xs n (omega (arith, long)))
+
+pub not_some : (o : Option (Box Called)) → is_some o ≡ false → o ≡ None
+not_some None none = refl
+not_some (Some b) none = absurd (cc none)

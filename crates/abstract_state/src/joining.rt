@@ -1,10 +1,10 @@
 //! What is known where two ways meet, of all registers and the stacks.
 ghost use Rattle.std.specs.Prelude.{◌≡◌, ◌&&◌, IsTrue, length, map};
 ghost use Rattle.abstract_values.specs.Values.{join_of};
-ghost use Rattle.abstract_state.specs.States.{elementwise, join_of_frames, join_if_live, join_of_states};
-ghost use Rattle.abstract_state.specs.Called.{frame_called, kept_by};
+ghost use Rattle.abstract_state.specs.States.{most_callers, elementwise, join_of_frames, join_if_live, join_of_states};
+ghost use Rattle.abstract_state.specs.Called.{frame_called, kept_by, places_of};
 
-use crate::state::{AbstractState, Called, Frame, MOST_CALLERS};
+use crate::state::{AbstractState, Called, Callees, Frame, MOST_CALLERS, Places};
 use abstract_values::{AbstractValue, join};
 
 /// Whether it is seen at once that a join with the other changes nothing, as with most: neither an unset value nor
@@ -26,6 +26,14 @@ fn stays(value: AbstractValue, other: AbstractValue) -> bool
     }
 }
 
+/// A join that changes something, as with few. It is a call, so that the others take few instructions.
+#[inline(never)]
+fn join_one(value: &mut AbstractValue, other: &AbstractValue)
+    ensures { value.new ≡ join_of value.old other.now }
+{
+    *value = join(*value, *other);
+}
+
 /// Joins each value with the other's.
 fn join_values(values: &mut [AbstractValue], others: &[AbstractValue])
     requires { length values.old ≡ length others.now }
@@ -35,7 +43,7 @@ fn join_values(values: &mut [AbstractValue], others: &[AbstractValue])
         if stays(values[i], others[i]) {
             continue;
         }
-        values[i] = join(values[i], others[i]);
+        join_one(&mut values[i], &others[i]);
     }
 }
 
@@ -82,10 +90,7 @@ fn join_if_called(called: Option<Box<Called>>, other: &Option<Box<Called>>) -> O
 }
 
 /// Joins the frames of called functions.
-fn join_called(
-    called: &mut [Option<Box<Called>>; MOST_CALLERS],
-    others: &[Option<Box<Called>>; MOST_CALLERS],
-)
+fn join_places(called: &mut Places, others: &Places)
     ensures frames { map frame_called called.new
         ≡ elementwise join_if_live (map frame_called called.old) (map frame_called others.now) }
     ensures kept { map kept_by called.new
@@ -97,11 +102,42 @@ fn join_called(
     }
 }
 
+/// There is a place for each function that may wait. It only carries the proof.
+fn has_all(places: &Places)
+    ensures { length places.now ≡ most_callers }
+{}
+
+/// The same, where any function is called.
+fn join_called(called: Option<Box<Callees>>, other: &Option<Box<Callees>>) -> Option<Box<Callees>>
+    ensures frames { map frame_called (places_of result)
+        ≡ elementwise join_if_live (map frame_called (places_of called)) (map frame_called (places_of other.now)) }
+    ensures kept { map kept_by (places_of result)
+        ≡ elementwise (elementwise join_of) (map kept_by (places_of called)) (map kept_by (places_of other.now)) }
+{
+    match (called, other) {
+        (None, None) => None,
+        (None, Some(others)) => {
+            has_all(&others.places);
+            None
+        }
+        (Some(callees), None) => {
+            has_all(&callees.places);
+            None
+        }
+        (Some(mut callees), Some(others)) => {
+            join_places(&mut callees.places, &others.places);
+            Some(callees)
+        }
+    }
+}
+
 /// What is known where one way more comes in. A place with one way needs no join: its state is moved.
+#[inline(never)]
 pub fn join_into(state: &mut AbstractState, other: &AbstractState)
     ensures { state.new ≡ join_of_states state.old other.now }
 {
-    join_values(&mut state.registers, &other.registers);
-    join_frame(&mut state.frame, &other.frame);
-    join_called(&mut state.called, &other.called);
+    join_values(&mut state.own.registers, &other.own.registers);
+    join_frame(&mut state.own.frame, &other.own.frame);
+    let called = state.called.take();
+    state.called = join_called(called, &other.called);
 }

@@ -6,7 +6,7 @@ ghost use Rattle.abstract_state.specs.Called.{frame_called, kept_by};
 ghost use Rattle.abstract_state.specs.Memory.{is_within, load_result, load_signed_result, frame_load_result, frame_store_result, store_result, frame_gather_result, gather_result, table_write_cause, store_answer, any_of_size};
 
 use crate::stack::{any_number, fill_live, is_address, load_live, store_live};
-use crate::state::{AbstractState, Called, MOST_CALLERS};
+use crate::state::{AbstractState, MOST_CALLERS, Places};
 use abstract_values::AbstractValue;
 use bpf_image::Lengths;
 use bpf_isa::{SignedSize, Size};
@@ -107,7 +107,7 @@ pub fn load_signed(
 
 /// Stores a value in the frame of a called function, if that is live and the value may stand there.
 fn store_called(
-    called: &mut [Option<Box<Called>>; MOST_CALLERS],
+    called: &mut Places,
     at: usize,
     place: i32,
     bytes: usize,
@@ -149,24 +149,24 @@ fn store_stack(
     ensures unchanged { IfErr result (λ cause. state.new ≡ state.old) }
 {
     if frame == 0 {
-        return store_live(&mut state.frame, place, bytes, value);
+        return store_live(&mut state.own.frame, place, bytes, value);
     }
-    store_called(
-        &mut state.called,
+    let Some(mut called) = state.called.take() else {
+        return Err(Cause::OutOfRange);
+    };
+    let answer = store_called(
+        &mut called.places,
         usize::from(frame) - 1,
         place,
         bytes,
         value,
-    )
+    );
+    state.called = Some(called);
+    answer
 }
 
 /// Fills bytes of the frame of a called function, if that is live and they lie in it.
-fn fill_called(
-    called: &mut [Option<Box<Called>>; MOST_CALLERS],
-    at: usize,
-    place: i32,
-    room: usize,
-) -> Result<(), Cause>
+fn fill_called(called: &mut Places, at: usize, place: i32, room: usize) -> Result<(), Cause>
     requires some { 1 ≤ room }
     requires few { room ≤ FRAME_BYTES }
     ensures filled { (s : Known) (frame : ℕ)
@@ -196,9 +196,14 @@ fn fill_stack(state: &mut AbstractState, frame: u8, place: i32, room: usize) -> 
     ensures unchanged { IfErr result (λ cause. state.new ≡ state.old) }
 {
     if frame == 0 {
-        return fill_live(&mut state.frame, place, room);
+        return fill_live(&mut state.own.frame, place, room);
     }
-    fill_called(&mut state.called, usize::from(frame) - 1, place, room)
+    let Some(mut called) = state.called.take() else {
+        return Err(Cause::OutOfRange);
+    };
+    let answer = fill_called(&mut called.places, usize::from(frame) - 1, place, room);
+    state.called = Some(called);
+    answer
 }
 
 /// The broken rule where bytes would be written through a pointer into the table.

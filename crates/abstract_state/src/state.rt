@@ -6,6 +6,7 @@ use abstract_values::AbstractValue;
 use bpf_image::Lengths;
 use bpf_isa::Register;
 use bpf_model::{FRAME_BYTES, MOST_FRAMES};
+use std::alloc::{AllocError, Global};
 use std::marker::Model;
 
 /// How many aligned slots of eight bytes a frame has.
@@ -24,36 +25,66 @@ pub struct Frame {
 }
 
 /// What is known of the frame of a function that is called, and what is kept for its caller.
-#[derive(Clone, Copy, Debug, PartialEq, Eq)]
-pub struct Called {
+#[derive(Clone, Copy)]
+pub(crate) struct Called {
     pub(crate) frame: Frame,
     /// R6 to R9 of the function that called it.
     pub(crate) kept: [AbstractValue; 4],
 }
 
-/// What is known of all registers and of the stacks of all live frames at a place. The frame of the program itself is a
-/// part of it; each function that is called brings a frame of its own.
+/// Frames 1 to 7, each there while its function runs or waits.
+pub(crate) type Places = [Option<Box<Called>>; MOST_CALLERS];
+
+/// The frames of called functions.
 #[derive(Drop)]
-pub struct AbstractState {
+pub(crate) struct Callees {
+    pub(crate) places: Places,
+    /// The memory of a frame that was dropped, for the next call.
+    pub(crate) spare: Option<Box<Called>>,
+}
+
+/// No frame of a called function.
+pub(crate) const NO_PLACES: Places = [None, None, None, None, None, None, None];
+
+/// What is known of all registers and of frame 0, that of the program itself. It is plain memory, so that a copy is
+/// one move.
+#[derive(Clone, Copy)]
+pub(crate) struct Own {
     /// R0 to R10, by number.
     pub(crate) registers: [AbstractValue; 11],
     /// Frame 0.
     pub(crate) frame: Frame,
-    /// Frames 1 to 7, each there while its function runs or waits.
-    pub(crate) called: [Option<Box<Called>>; MOST_CALLERS],
+}
+
+/// What is known of all registers and of the stacks of all live frames at a place. The frame of the program itself is a
+/// part of it; each function that is called has a frame of its own.
+pub struct AbstractState {
+    pub(crate) own: Box<Own>,
+    /// The frames of called functions; none before the first call.
+    pub(crate) called: Option<Box<Callees>>,
+}
+
+impl Drop for AbstractState {
+    // Written out, so that crates above prove a call here, and not the drop of each part.
+    fn drop(self) {
+        let AbstractState {
+            own: _own,
+            called: _called,
+        } = self;
+    }
 }
 
 impl Model for AbstractState {
     ghost use Rattle.std.specs.Prelude.{◌∷◌, Some, map};
     ghost use Rattle.abstract_state.specs.States.{AbstractState as Known};
-    ghost use Rattle.abstract_state.specs.Called.{frame_called, kept_by};
+    ghost use Rattle.abstract_state.specs.Called.{frame_called, kept_by, places_of};
 
     ghost Value = { Known };
 
     ghost view = { λ v. record {
-      registers = v.registers;
-      frames = Some v.frame ∷ map frame_called v.called;
-      kept = map kept_by v.called;
+      registers = v.own.value.registers;
+      frames = Some v.own.value.frame ∷ map frame_called (places_of v.called);
+      kept = map kept_by (places_of v.called);
     } };
 }
 
@@ -83,12 +114,12 @@ impl Frame {
 }
 
 impl AbstractState {
-    ghost use Rattle.std.specs.Prelude.{Some, None, MatchOption};
+    ghost use Rattle.std.specs.Prelude.{Some, None, IfOk, MatchOption};
     ghost use Rattle.abstract_state.specs.States.{register, with_register, entry_state, frame_of};
 
     /// What is known where a program begins, of a record and a table of so many bytes.
-    pub fn entry(lengths: Lengths) -> AbstractState
-        ensures { result ≡ entry_state lengths }
+    pub fn entry(alloc: Global, lengths: Lengths) -> Result<AbstractState, AllocError>
+        ensures { IfOk result (λ state. state ≡ entry_state lengths) }
     {
         let unset = AbstractValue::Unset;
         let record = AbstractValue::Record { lo: 0, hi: 0 };
@@ -101,13 +132,16 @@ impl AbstractState {
             frame: 0,
             offset: 0,
         };
-        AbstractState {
+        let own = Own {
             registers: [
                 unset, record, length, table, unset, unset, unset, unset, unset, unset, stack,
             ],
             frame: Frame::new(),
-            called: [None, None, None, None, None, None, None],
-        }
+        };
+        Ok(AbstractState {
+            own: Box::new(alloc, own)?,
+            called: None,
+        })
     }
 
     /// What is known of the bytes of a frame, if it is live. Frame 0 is the program's own.
@@ -115,9 +149,12 @@ impl AbstractState {
         ensures { MatchOption result (frame_of self.now number ≡ None) (λ frame. frame_of self.now number ≡ Some frame.now) }
     {
         if number == 0 {
-            return Some(&self.frame);
+            return Some(&self.own.frame);
         }
-        let called: &[Option<Box<Called>>] = &self.called;
+        let Some(callees) = &self.called else {
+            return None;
+        };
+        let called: &[Option<Box<Called>>] = &callees.places;
         let at = usize::from(number) - 1;
         if at >= called.len() {
             return None;
@@ -132,13 +169,13 @@ impl AbstractState {
     pub fn register(&self, name: Register) -> AbstractValue
         ensures { result ≡ register self.now name }
     {
-        self.registers[name.number() as usize]
+        self.own.registers[name.number() as usize]
     }
 
     /// Sets what is known of a register.
     pub fn set_register(&mut self, name: Register, value: AbstractValue)
         ensures { self.new ≡ with_register self.old name value }
     {
-        self.registers[name.number() as usize] = value;
+        self.own.registers[name.number() as usize] = value;
     }
 }

@@ -1,5 +1,5 @@
 //! What is said of a program in the end: why it is refused, or how long its runs are.
-ghost use Rattle.std.specs.Prelude.{◌≡◌, ◌<◌, ◌++◌, OnOk, string_bytes, option_map, Some};
+ghost use Rattle.std.specs.Prelude.{◌≡◌, ◌<◌, ◌++◌, OnOk, IfOk, string_bytes, option_map, Some};
 ghost use Rattle.bpf_image.specs.Program.{units};
 ghost use Rattle.std.specs.List.{list_any};
 ghost use Rattle.bpf_model.specs.State.{most_frames};
@@ -37,7 +37,7 @@ use abstract_state::{AbstractState, Frame};
 use bpf_image::{Image, Lengths};
 use bpf_isa::{Instruction, Operand, Operation, Register};
 use bpf_model::{Cause, Helper, MOST_FRAMES};
-use std::alloc::AllocError;
+use std::alloc::{AllocError, Global};
 use verifier::{KnownPassage, Refusal};
 
 /// Which instruction it is that starts at a pc, from 0.
@@ -220,17 +220,28 @@ fn put_broken(
 }
 
 /// What usually helps, where an instruction may be missing or nothing be known of its values.
-fn advice(cause: Cause, instruction: Option<Instruction>, state: Option<&AbstractState>) -> Advice
-    ensures { result ≡ advice_for cause instruction (option_map (λ s. s.now) state.entry) }
+fn advice(
+    alloc: Global,
+    cause: Cause,
+    instruction: Option<Instruction>,
+    state: Option<&AbstractState>,
+) -> Result<Advice, AllocError>
+    ensures { IfOk result (λ advice. advice ≡ advice_for cause instruction (option_map (λ s. s.now) state.entry)) }
 {
     let lengths = Lengths {
         record_length: 16,
         table_length: 0,
     };
     match (instruction, state) {
-        (Some(instruction), Some(state)) => advice_at(cause, instruction, state),
-        (Some(instruction), None) => advice_at(cause, instruction, &AbstractState::entry(lengths)),
-        (None, _) => advice_at(cause, Instruction::Exit, &AbstractState::entry(lengths)),
+        (Some(instruction), Some(state)) => Ok(advice_at(cause, instruction, state)),
+        (Some(instruction), None) => {
+            let entry = AbstractState::entry(alloc, lengths)?;
+            Ok(advice_at(cause, instruction, &entry))
+        }
+        (None, _) => {
+            let entry = AbstractState::entry(alloc, lengths)?;
+            Ok(advice_at(cause, Instruction::Exit, &entry))
+        }
     }
 }
 
@@ -294,7 +305,8 @@ fn put_refusal(
     put_refused_place(text, image, source, refusal)?;
     put_rule(text, refusal.cause)?;
     put_broken(text, refusal.cause, instruction, state)?;
-    put_advice(text, advice(refusal.cause, instruction, state))
+    let alloc = *text.allocator();
+    put_advice(text, advice(alloc, refusal.cause, instruction, state)?)
 }
 
 /// Writes that a program is accepted.

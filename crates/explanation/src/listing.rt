@@ -26,7 +26,7 @@ use std::alloc::AllocError;
 use verifier::KnownPassage;
 
 /// What is known at a pc, if any run comes there.
-fn known_at(states: &[Option<Box<AbstractState>>], pc: usize) -> Option<&AbstractState>
+fn known_at(states: &[Option<AbstractState>], pc: usize) -> Option<&AbstractState>
     ensures { option_map (λ s. s.now) result ≡ state_at states.now pc }
 {
     if pc >= states.len() {

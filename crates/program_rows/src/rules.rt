@@ -83,7 +83,7 @@ fn go_on(
 
 /// What comes of instructions where that is known which the entry of a program knows, and what stands after them.
 pub(crate) fn stepped(alloc: Global, lengths: Lengths, input: &str) -> Result<String> {
-    let mut state = AbstractState::entry(lengths);
+    let mut state = AbstractState::entry(alloc, lengths)?;
     go_on(alloc, lengths, &mut state, input)
 }
 
@@ -91,8 +91,8 @@ pub(crate) fn stepped(alloc: Global, lengths: Lengths, input: &str) -> Result<St
 pub(crate) fn met(alloc: Global, lengths: Lengths, input: &str) -> Result<String> {
     let (ways, last) = input.split_once("\n=").unwrap_or((input, ""));
     let (one, other) = ways.split_once("\n+").unwrap_or((ways, ""));
-    let mut state = AbstractState::entry(lengths);
-    let mut beside = AbstractState::entry(lengths);
+    let mut state = AbstractState::entry(alloc, lengths)?;
+    let mut beside = AbstractState::entry(alloc, lengths)?;
     go_on(alloc, lengths, &mut state, one)?;
     go_on(alloc, lengths, &mut beside, other)?;
     join_into(&mut state, &beside);

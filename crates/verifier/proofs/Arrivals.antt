@@ -1,7 +1,6 @@
 -- The table of states, as ways come to it.
 use Rattle.std.proofs.Common.{◌≡◌, ℕ, List, [], ◌∷◌, ◌++◌, length, get_or, cond, Option, None, refl, ◌∙◌, arith, inl, inr}
 use Rattle.std.specs.Prelude.{ℤ, pos}
-use Rattle.std.specs.Global.{Box}
 use Rattle.std.specs.Ordering.{int_eq}
 use Rattle.std.proofs.lemmas.Bool.{cases_eq, cases_lt}
 use Rattle.std.proofs.lemmas.List.{get_or_past, length-append, get_or_append_left}
@@ -13,7 +12,7 @@ use Rattle.verifier.specs.Equations.{joined_with, joined_ways}
 use Rattle.verifier.specs.Tables.{LeadInside}
 
 abbrev pub States : Type 0
-States = List (Option (Box AbstractState))
+States = List (Option AbstractState)
 
 abbrev pub HasNone : States → Type 0
 HasNone states = (q : ℕ) → get_or states q None ≡ None

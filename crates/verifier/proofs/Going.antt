@@ -1,7 +1,6 @@
 -- A passage whose calls are gone through in turn.
 use Rattle.std.proofs.Common.{◌≡◌, ◌≢◌, ℕ, zero, suc, ◌+◌, ◌-◌, ◌<◌, ◌≤◌, length, Option, Some, None, Ok, Err, refl, sym, ap, ◌∙◌, inl, inr, arith}
 use Rattle.std.specs.Prelude.{ℤ, pos, unsigned_abs}
-use Rattle.std.specs.Global.{Box}
 use Rattle.std.proofs.lemmas.Bool.{cases_Bool}
 use Rattle.std.proofs.lemmas.Int.{ints}
 use Rattle.std.proofs.lemmas.List.{get_or-set_other}
@@ -13,7 +12,7 @@ use Rattle.verifier.specs.Rules.{target}
 use Rattle.verifier.specs.Listing.{instruction_at}
 use Rattle.verifier.specs.Functions.{entry_called, is_entry, entry_from, function_end}
 use Rattle.verifier.specs.Equations.{Passage, passage_at, Calls, Outcome, joined_ways, first_refusal, unless_refused_within, ways_after, opening, outcome_at, outcome, calls_of}
-use Rattle.verifier.specs.Tables.{Table, boxed_state, state_at, Reaches, IsGoneTo, IsAtCall}
+use Rattle.verifier.specs.Tables.{Table, state_at, Reaches, IsGoneTo, IsAtCall}
 use Rattle.verifier.proofs.Listed.{inside}
 use Rattle.verifier.proofs.Flowing.{Flows, ahead, call_ahead, end_inside}
 use Rattle.verifier.proofs.Ends.{same_end, ends_below, called_begins, deeper}
@@ -32,7 +31,7 @@ pub end_behind : (p : Program) (pc : ℕ) → pc < function_end p pc
 unfolding function_end
 end_behind p pc = (let least = least_entry p (units p - (pc + 1)) (pc + 1) in omega (arith, least))
 
-pub later : (p : Program) (calls : Calls) (v : Passage) (old now : Table) (n last further : ℕ) (exits : Option (Box AbstractState)) → IsGoneTo p calls v old n last now exits → last ≤ further → IsGoneTo p calls v old n further now exits
+pub later : (p : Program) (calls : Calls) (v : Passage) (old now : Table) (n last further : ℕ) (exits : Option AbstractState) → IsGoneTo p calls v old n last now exits → last ≤ further → IsGoneTo p calls v old n further now exits
 later p calls v old now n last further exits h le = record {
   fine = h.fine;
   same_length = h.same_length;
@@ -66,14 +65,14 @@ one_called p n begins z passed found at =
     some_called (Some q) h = (q, refl)
 
 -- of the pcs from a called function's entry on nothing is pending
-pub callee_begins : (p : Program) (calls : Calls) (v : Passage) (old now : Table) (n begins : ℕ) (exits : Option (Box AbstractState)) (known : AbstractState) → Flows p → v.entry < units p → v.entry ≤ n → n < function_end p v.entry
+pub callee_begins : (p : Program) (calls : Calls) (v : Passage) (old now : Table) (n begins : ℕ) (exits : Option AbstractState) (known : AbstractState) → Flows p → v.entry < units p → v.entry ≤ n → n < function_end p v.entry
     → IsAtCall p calls v old n (function_end p v.entry - 1) now exits begins known → (begins < units p) × ((q : ℕ) → begins ≤ q → state_at now q ≡ None)
 callee_begins p calls v old now n begins exits known passed first le lt h =
     let called = one_called p n begins h.distance passed h.found h.begins in
     let end = end_inside p v.entry first in
     let one_end = same_end p v.entry n le (omega (arith, lt, end)) lt in
     let above = ends_below p n begins (called_begins p n begins (omega (arith, lt, end)) called.0) called.2 called.1 in
-    (called.1, λ q from. h.taken q ∙ ap boxed_state (get_or-set_other h.before n q None None (λ e. omega (arith, e, from, called.2))) ∙ h.gone_to.nothing_behind q (omega (arith, above, one_end, from, lt)))
+    (called.1, λ q from. h.taken q ∙ (get_or-set_other h.before n q None None (λ e. omega (arith, e, from, called.2))) ∙ h.gone_to.nothing_behind q (omega (arith, above, one_end, from, lt)))
 
 pub same_passage : (a b f g : ℕ) (s t : AbstractState) → a ≡ b → f ≡ g → s ≡ t → passage_at a f s ≡ passage_at b g t
 same_passage a b f g s t one two three = rw (one, two, three) refl
@@ -81,7 +80,7 @@ same_passage a b f g s t one two three = rw (one, two, three) refl
 some_passage : Passage → Option Passage
 some_passage w = Some w
 
-comes : (p : Program) (v : Passage) (old now : Table) (n last begins frame : ℕ) (exits : Option (Box AbstractState)) (known : AbstractState) (h : IsAtCall p (calls_of p v) v old n last now exits begins known) (o : Outcome) → frame ≡ v.frame + 1
+comes : (p : Program) (v : Passage) (old now : Table) (n last begins frame : ℕ) (exits : Option AbstractState) (known : AbstractState) (h : IsAtCall p (calls_of p v) v old n last now exits begins known) (o : Outcome) → frame ≡ v.frame + 1
     → outcome p (calls_of p (passage_at begins frame known)) (passage_at begins frame known) ≡ o → outcome_at (calls_of p v) (opening v n (CallLocal h.distance) h.state) ≡ o
 comes p v old now n last begins frame exits known h o next is =
     let w : Passage = passage_at begins frame known in
@@ -90,7 +89,7 @@ comes p v old now n last begins frame exits known h o next is =
     ap (calls_of p v) (sym same) ∙ deeper p v w h.deep one_more ∙ is
 
 -- a call has come back
-pub returned : (p : Program) (v : Passage) (old now back after : Table) (n begins frame : ℕ) (exits : Option (Box AbstractState)) (known : AbstractState) (o : Option AbstractState) → Flows p → v.entry < units p → v.entry ≤ n → n < function_end p v.entry
+pub returned : (p : Program) (v : Passage) (old now back after : Table) (n begins frame : ℕ) (exits : Option AbstractState) (known : AbstractState) (o : Option AbstractState) → Flows p → v.entry < units p → v.entry ≤ n → n < function_end p v.entry
     → IsAtCall p (calls_of p v) v old n (function_end p v.entry - 1) now exits begins known → frame ≡ v.frame + 1
     → outcome p (calls_of p (passage_at begins frame known)) (passage_at begins frame known) ≡ Ok o
     → length back ≡ length now → ((q : ℕ) → state_at back q ≡ state_at now q)
@@ -103,7 +102,7 @@ returned p v old now back after n begins frame exits known o passed first le lt 
     (longer ∙ long ∙ h.long) (λ q. came q ∙ ap (λ s. joined_ways s (ways_after n (Ok o)) q) (same q ∙ h.taken q))
 
 -- a rule was broken in it
-pub broken : (p : Program) (v : Passage) (old now : Table) (n last begins frame : ℕ) (exits : Option (Box AbstractState)) (known : AbstractState) (r : Refusal) → n < units p
+pub broken : (p : Program) (v : Passage) (old now : Table) (n last begins frame : ℕ) (exits : Option AbstractState) (known : AbstractState) (r : Refusal) → n < units p
     → IsAtCall p (calls_of p v) v old n last now exits begins known → frame ≡ v.frame + 1
     → outcome p (calls_of p (passage_at begins frame known)) (passage_at begins frame known) ≡ Err r → outcome p (calls_of p v) v ≡ Err r
 broken p v old now n last begins frame exits known r lt h next is =

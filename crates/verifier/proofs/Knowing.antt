@@ -3,7 +3,6 @@ use Rattle.std.proofs.Common.{◌≡◌, ℕ, suc, ◌+◌, ◌<◌, ◌≤◌, 
 use Rattle.std.specs.Prelude.{ℤ, unsigned_abs, Result, IfOk}
 use Rattle.std.specs.declared.alloc.AllocError.{AllocError}
 use Rattle.bpf_isa.specs.declared.instruction.Instruction.TheVariants.{CallLocal}
-use Rattle.std.specs.Global.{Box}
 use Rattle.std.proofs.lemmas.Bool.{cases_eq}
 use Rattle.std.proofs.lemmas.List.{append_assoc, length-set, get_or-set_other, get_or-set_same}
 use Rattle.bpf_image.specs.Program.{Program, units}
@@ -11,7 +10,7 @@ use Rattle.abstract_state.specs.States.{AbstractState, callee_state}
 use Rattle.verifier.specs.declared.refusal.Refusal.{Refusal}
 use Rattle.verifier.specs.Rules.{target}
 use Rattle.verifier.specs.Equations.{Passage, passage_at, opening, outcome_at, calls_of, states, first_refusal, outcome}
-use Rattle.verifier.specs.Tables.{Table, state_at, boxed_state, IsGoneTo, IsAtCall}
+use Rattle.verifier.specs.Tables.{Table, state_at, IsGoneTo, IsAtCall}
 use Rattle.verifier.specs.declared.known.KnownPassage.{KnownPassage}
 use Rattle.verifier.specs.Functions.{function_end}
 use Rattle.verifier.specs.Known.{IsKnownOf, IsBrokenAt, IsOpenAt, IsBrokenBy, IsDoneAt, TellsWithin, Tells}
@@ -27,7 +26,7 @@ pub record IsKeptTo (p : Program) (v : Passage) (n : ℕ) (kept : Table) : Type 
   pub known : (q : ℕ) → v.entry ≤ q → q < n → state_at kept q ≡ states p (calls_of p v) v q
 
 -- a copy of what the walk has at a pc is what is known there
-pub kept_more : (p : Program) (v : Passage) (n last : ℕ) (old now kept : States) (exits copy : Option (Box AbstractState)) → n < units p → IsGoneTo p (calls_of p v) v old n last now exits → IsKeptTo p v n kept → boxed_state copy ≡ state_at now n → IsKeptTo p v (n + 1) (set kept n copy)
+pub kept_more : (p : Program) (v : Passage) (n last : ℕ) (old now kept : States) (exits copy : Option AbstractState) → n < units p → IsGoneTo p (calls_of p v) v old n last now exits → IsKeptTo p v n kept → copy ≡ state_at now n → IsKeptTo p v (n + 1) (set kept n copy)
 kept_more p v n last old now kept exits copy lt gone before is =
     record {
       same_length = length-set kept n copy ∙ before.same_length;
@@ -35,11 +34,11 @@ kept_more p v n last old now kept exits copy lt gone before is =
           elim (cases_eq q n) [
             | inl same ↦
                 let there : get_or (set kept n copy) n None ≡ copy = get_or-set_same kept n copy None (let size = before.same_length in omega (arith, size, lt)) in
-                let here : state_at (set kept n copy) n ≡ states p (calls_of p v) v n = ap boxed_state there ∙ is ∙ gone.come_to n (omega arith) lt in
+                let here : state_at (set kept n copy) n ≡ states p (calls_of p v) v n = there ∙ is ∙ gone.come_to n (omega arith) lt in
                 rw same here
             | inr other ↦
                 let apart : get_or (set kept n copy) q None ≡ get_or kept q None = get_or-set_other kept n q copy None (λ same. absurd (omega (arith, same, other))) in
-                ap boxed_state apart ∙ before.known q from (omega (arith, below, other))
+                apart ∙ before.known q from (omega (arith, below, other))
           ]);
     }
 
@@ -48,7 +47,7 @@ pub done_broken : (p : Program) (v : Passage) (n : ℕ) (r : Refusal) → n < un
 done_broken p v n r lt h = rw (refused_here p (calls_of p v) v n r lt h.fine h.broken) h
 
 -- a call in a passage
-pub opened : (p : Program) (v : Passage) (old now : Table) (n last begins frame : ℕ) (exits : Option (Box AbstractState)) (known : AbstractState) → IsAtCall p (calls_of p v) v old n last now exits begins known → frame ≡ v.frame + 1 → IsOpenAt p v n (passage_at begins frame known)
+pub opened : (p : Program) (v : Passage) (old now : Table) (n last begins frame : ℕ) (exits : Option AbstractState) (known : AbstractState) → IsAtCall p (calls_of p v) v old n last now exits begins known → frame ≡ v.frame + 1 → IsOpenAt p v n (passage_at begins frame known)
 opened p v old now n last begins frame exits known h next = record {
   fine = h.gone_to.fine;
   distance = h.distance;
@@ -66,7 +65,7 @@ pub done_whole : (p : Program) (v : Passage) (n : ℕ) → first_refusal p (call
 done_whole p v n none end = rw none (none, end)
 
 -- a passage whose call breaks a rule
-pub broken_by : (p : Program) (v : Passage) (old now : Table) (n last begins frame : ℕ) (exits : Option (Box AbstractState)) (known copy : AbstractState) (r : Refusal) → n < units p
+pub broken_by : (p : Program) (v : Passage) (old now : Table) (n last begins frame : ℕ) (exits : Option AbstractState) (known copy : AbstractState) (r : Refusal) → n < units p
     → IsAtCall p (calls_of p v) v old n last now exits begins known → frame ≡ v.frame + 1 → begins < units p → copy ≡ known
     → outcome p (calls_of p (passage_at begins frame known)) (passage_at begins frame known) ≡ Err r → IsBrokenBy p v n (passage_at begins frame copy)
 broken_by p v old now n last begins frame exits known copy r lt h next inside same is = rw same (record {

@@ -1,6 +1,5 @@
 -- What the code's tables stand for.
 use Rattle.std.specs.Prelude.{◌≡◌, ℕ, ◌+◌, ◌<◌, ◌≤◌, min, ℤ, pos, unsigned_abs, Bool, false, List, length, Option, Some, None, slice_index_or, slice_set}
-use Rattle.std.specs.Global.{Box}
 use Rattle.bpf_isa.specs.declared.instruction.Instruction.{Instruction}
 use Rattle.bpf_isa.specs.declared.instruction.Instruction.TheVariants.{CallLocal}
 use Rattle.bpf_image.specs.Program.{Program, units}
@@ -18,15 +17,11 @@ use Rattle.verifier.specs.Verdict.{most_counted, most_pairs}
 
 -- what is known at each pc, where it is
 abbrev pub Table : Type 0
-Table = List (Option (Box AbstractState))
-
-abbrev pub boxed_state : Option (Box AbstractState) → Option AbstractState
-boxed_state None = None
-boxed_state (Some b) = Some b.value
+Table = List (Option AbstractState)
 
 -- what a table of states has at a pc
 abbrev pub state_at : Table → ℕ → Option AbstractState
-state_at states q = boxed_state (slice_index_or states q None)
+state_at states q = slice_index_or states q None
 
 -- whether what starts somewhere is a call of a function of the program
 abbrev pub calls_one : Option Instruction → Bool
@@ -81,14 +76,14 @@ LeadInside end ws = (w : ℤ × AbstractState) → IsWay w ws → (q : ℕ) × (
 -- of a passage the pcs below n are gone through and broke no rule: a table has what has come from them to those from n on,
 -- nothing after the last to which something has come, and below the passage's entry what it had; and what the exits left
 -- is kept
-pub record IsGoneTo (p : Program) (calls : Calls) (v : Passage) (old : Table) (n last : ℕ) (states : Table) (exits : Option (Box AbstractState)) : Type 0 where
+pub record IsGoneTo (p : Program) (calls : Calls) (v : Passage) (old : Table) (n last : ℕ) (states : Table) (exits : Option AbstractState) : Type 0 where
   pub fine : first_refusal p calls v n ≡ None
   pub same_length : length states ≡ units p
   pub come_to : (q : ℕ) → n ≤ q → q < units p → state_at states q ≡ arrivals p calls v n q
   pub nothing_behind : (q : ℕ) → last < q → state_at states q ≡ None
   pub below : (q : ℕ) → q < v.entry → state_at states q ≡ state_at old q
   pub gone : (q : ℕ) → v.entry ≤ q → q < n → state_at states q ≡ None
-  pub left : boxed_state exits ≡ exit_state p calls v n
+  pub left : exits ≡ exit_state p calls v n
 
 -- an instruction leads no further than some pc
 abbrev pub Reaches : Program → ℕ → ℕ → Type 0
@@ -97,7 +92,7 @@ Reaches p pc further =
 
 -- a passage has come to a call: the function that is called begins there, as is known; the call's own state was taken from
 -- the table
-pub record IsAtCall (p : Program) (calls : Calls) (v : Passage) (old : Table) (n last : ℕ) (states : Table) (exits : Option (Box AbstractState)) (entry : ℕ) (known : AbstractState) : Type 0 where
+pub record IsAtCall (p : Program) (calls : Calls) (v : Passage) (old : Table) (n last : ℕ) (states : Table) (exits : Option AbstractState) (entry : ℕ) (known : AbstractState) : Type 0 where
   pub deep : v.frame < most_callers
   pub distance : ℤ
   pub found : instruction_at p n ≡ Some (CallLocal distance)

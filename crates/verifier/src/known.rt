@@ -6,7 +6,7 @@ ghost use Rattle.verifier.specs.declared.known.KnownPassage.{KnownPassage as Tol
 ghost use Rattle.verifier.specs.Listing.{listing_of};
 ghost use Rattle.verifier.specs.Equations.{passage_at, calls_of, first_refusal};
 ghost use Rattle.verifier.specs.Verdict.{first_fault, decoding_fault, flow_fault, pairs_fault, no_memory};
-ghost use Rattle.verifier.specs.Tables.{boxed_state, HasEnds};
+ghost use Rattle.verifier.specs.Tables.{HasEnds};
 ghost use Rattle.verifier.specs.Known.{is_walkable, IsKnownOf, IsBrokenBy, IsDoneAt, Tells, IsKnown};
 
 use crate::flow::find_flow_fault;
@@ -30,7 +30,7 @@ pub struct KnownPassage {
     /// The last pc that was gone over: the one that breaks a rule, or whose call does, and else the function's last.
     pub last: usize,
     /// What is known before each unit from `entry` to `last`: nothing where no run comes.
-    pub states: Vec<Option<Box<AbstractState>>>,
+    pub states: Vec<Option<AbstractState>>,
 }
 
 /// A refusal for lack of memory is an error here. Any other is none: it says something of the program.
@@ -86,13 +86,13 @@ fn lay_out(alloc: Global, image: &Image) -> Result<Option<Layout>, AllocError>
 /// A copy of what is known somewhere.
 fn copy_of(
     alloc: Global,
-    state: &Option<Box<AbstractState>>,
-) -> Result<Option<Box<AbstractState>>, AllocError>
-    ensures { IfOk result (λ copy. boxed_state copy ≡ boxed_state state.now) }
+    state: &Option<AbstractState>,
+) -> Result<Option<AbstractState>, AllocError>
+    ensures { IfOk result (λ copy. copy ≡ state.now) }
 {
     match state {
         None => Ok(None),
-        Some(state) => Ok(Some(Box::new(alloc, state.copy(alloc)?)?)),
+        Some(state) => Ok(Some(state.copy(alloc)?)),
     }
 }
 
@@ -105,19 +105,19 @@ fn go_over(
     ends: &[u16],
     entry: usize,
     frame: u8,
-    known: Box<AbstractState>,
-) -> Result<(KnownPassage, Option<(usize, Box<AbstractState>)>), AllocError>
+    known: AbstractState,
+) -> Result<(KnownPassage, Option<(usize, AbstractState)>), AllocError>
     requires listing { listing.now ≡ listing_of image.now (units image.now) }
     requires decodes { first_fault (decoding_fault image.now) (units image.now) ≡ None }
     requires flow { first_fault (flow_fault image.now) (units image.now) ≡ None }
     requires ends { HasEnds image.now ends.now }
     requires inside { entry < units image.now }
     requires frame { frame ≤ most_callers }
-    ensures known { IfOk result (λ told. IsKnownOf image.now (passage_at entry frame known.value) told.0) }
+    ensures known { IfOk result (λ told. IsKnownOf image.now (passage_at entry frame known) told.0) }
     ensures stopped { IfOk result (λ told. MatchOption told.1
-        (IsDoneAt image.now (passage_at entry frame known.value) told.0.last
-        (first_refusal image.now (calls_of image.now (passage_at entry frame known.value)) (passage_at entry frame known.value) (units image.now)))
-        (λ call. IsBrokenBy image.now (passage_at entry frame known.value) told.0.last (passage_at call.0 (frame + 1) call.1.value))) }
+        (IsDoneAt image.now (passage_at entry frame known) told.0.last
+        (first_refusal image.now (calls_of image.now (passage_at entry frame known)) (passage_at entry frame known) (units image.now)))
+        (λ call. IsBrokenBy image.now (passage_at entry frame known) told.0.last (passage_at call.0 (frame + 1) call.1))) }
 {
     let mut kept = no_states(alloc, image.code().len() / 8)?;
     let mut states = no_states(alloc, image.code().len() / 8)?;
@@ -141,7 +141,7 @@ fn go_over(
             Ok(opened) => opened,
         };
         if let Some((begins, known)) = opened {
-            let again = Box::new(alloc, known.copy(alloc)?)?;
+            let again = known.copy(alloc)?;
             match go_through(
                 alloc,
                 image,
@@ -185,7 +185,7 @@ fn tell(
     passages: &mut Vec<KnownPassage>,
     entry: usize,
     frame: u8,
-    known: Box<AbstractState>,
+    known: AbstractState,
 ) -> Result<(), AllocError>
     requires listing { layout.now.listing.items ≡ listing_of image.now (units image.now) }
     requires decodes { first_fault (decoding_fault image.now) (units image.now) ≡ None }
@@ -194,8 +194,8 @@ fn tell(
     requires inside { entry < units image.now }
     requires frame { frame ≤ most_callers }
     ensures { IfOk result (λ _. (told : List Told) × (passages.new.items ≡ passages.old.items ++ told)
-        × Tells image.now (passage_at entry frame known.value)
-        (first_refusal image.now (calls_of image.now (passage_at entry frame known.value)) (passage_at entry frame known.value) (units image.now)) told) }
+        × Tells image.now (passage_at entry frame known)
+        (first_refusal image.now (calls_of image.now (passage_at entry frame known)) (passage_at entry frame known) (units image.now)) told) }
 {
     let (passage, called) = go_over(
         alloc,
@@ -223,7 +223,7 @@ pub fn known_states(alloc: Global, image: &Image) -> Result<Vec<KnownPassage>, A
 {
     let mut passages = Vec::new(alloc);
     if let Some(layout) = lay_out(alloc, image)? {
-        let entry = Box::new(alloc, AbstractState::entry(image.lengths()))?;
+        let entry = AbstractState::entry(alloc, image.lengths())?;
         tell(alloc, image, &layout, &mut passages, 0, 0, entry)?;
     }
     Ok(passages)

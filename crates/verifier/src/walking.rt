@@ -1,9 +1,9 @@
 //! The last pass: what is known at each walked pc, and whether the instructions' rules hold of it. A function is gone
 //! through again for each call of it.
-ghost use Rattle.std.specs.Prelude.{◌≡◌, ◌<◌, ◌≤◌, ◌+◌, ℕ, ℤ, pos, None, Some, Ok, Err, IfOk, IfErr, MatchResult, MatchOption, List, Option, length, slice_index_or};
+ghost use Rattle.std.specs.Prelude.{◌≡◌, ◌<◌, ◌≤◌, ◌+◌, ℕ, ℤ, pos, None, Some, Ok, Err, IfOk, IfErr, MatchResult, MatchOption, List, Option, length, slice_index_or, slice_set};
 ghost use Rattle.bpf_isa.specs.declared.limits.TheConstants.{MOST_UNITS};
 ghost use Rattle.bpf_image.specs.Program.{units};
-ghost use Rattle.abstract_state.specs.States.{most_callers, left_state};
+ghost use Rattle.abstract_state.specs.States.{AbstractState as Known, most_callers, left_state};
 ghost use Rattle.verifier.specs.Rules.{branch_ways};
 ghost use Rattle.verifier.specs.RuleAnswers.{ways_onward};
 ghost use Rattle.verifier.specs.Listing.{listing_of};
@@ -11,34 +11,35 @@ ghost use Rattle.verifier.specs.Walks.{next_pcs, IsOneOf};
 ghost use Rattle.verifier.specs.Equations.{Passage, passage_at, joined_with, joined_ways, ways_after, outcome, calls_of};
 ghost use Rattle.verifier.specs.Verdict.{first_fault, decoding_fault, flow_fault, rule_refusal, unless_memory};
 ghost use Rattle.verifier.specs.Known.{IsBrokenAt};
-ghost use Rattle.verifier.specs.Tables.{Table, boxed_state, state_at, HasEnds, LeadInside, IsGoneTo, IsAtCall, Reaches};
+ghost use Rattle.verifier.specs.Tables.{Table, state_at, HasEnds, LeadInside, IsGoneTo, IsAtCall, Reaches};
 
 use crate::places::{entry_called_at, length_of, place_at, starting_at};
 use crate::refusal::Refusal;
-use crate::rules::{Onward, exit, step_over};
-use crate::states::{arrive, arrive_by_side, no_states};
-use abstract_state::{AbstractState, Called, MOST_CALLERS, enter_call, join_into, leave_call};
+use crate::rules::{Onward, exit};
+use crate::states::{arrive, arrive_beside, arrive_by_side, move_on, no_states, step_at};
+use abstract_state::{AbstractState, MOST_CALLERS, enter_call, join_into, leave_call};
 use abstract_values::Sides;
 use bpf_image::Image;
 use bpf_isa::{Instruction, Operand, Register};
 use std::alloc::{AllocError, Global};
 
-/// Both sides of a branch go on with what they know. A state is copied only where both are walked.
+/// Both sides of a branch go on with what they know.
+#[inline(never)]
 fn split(
     alloc: Global,
-    states: &mut Vec<Option<Box<AbstractState>>>,
+    states: &mut Vec<Option<AbstractState>>,
     pc: usize,
     compared: (Register, Operand),
     distance: i16,
     sides: Sides,
-    state: Box<AbstractState>,
+    state: AbstractState,
 ) -> Result<(), AllocError>
     requires near { pc ≤ MOST_UNITS }
     requires inside { LeadInside (length states.old.items)
-        (branch_ways pc distance state.value compared.0 compared.1 sides) }
+        (branch_ways pc distance state compared.0 compared.1 sides) }
     ensures gone { IfOk result (λ _. (q : ℕ) → state_at states.new.items q
         ≡ joined_ways (state_at states.old.items q)
-        (branch_ways pc distance state.value compared.0 compared.1 sides) q) }
+        (branch_ways pc distance state compared.0 compared.1 sides) q) }
     ensures same_length { length states.new.items ≡ length states.old.items }
 {
     let target = place_at(pc, i32::from(distance));
@@ -46,10 +47,8 @@ fn split(
         arrive_by_side(states, target, compared, sides.taken, state);
         return Ok(());
     }
-    if sides.taken.is_some() {
-        let other = Box::new(alloc, state.copy(alloc)?)?;
-        arrive_by_side(states, target, compared, sides.taken, other);
-    }
+    let mut state = state;
+    arrive_beside(alloc, states, target, compared, sides.taken, &mut state)?;
     arrive_by_side(states, (pc + 1) as i64, compared, sides.passed, state);
     Ok(())
 }
@@ -57,16 +56,16 @@ fn split(
 /// A run goes on after an instruction with what is known there, in the same function.
 fn go_on(
     alloc: Global,
-    states: &mut Vec<Option<Box<AbstractState>>>,
+    states: &mut Vec<Option<AbstractState>>,
     pc: usize,
     instruction: Instruction,
     onward: Onward,
-    state: Box<AbstractState>,
+    state: AbstractState,
 ) -> Result<(), AllocError>
     requires near { pc ≤ MOST_UNITS }
-    requires inside { LeadInside (length states.old.items) (ways_onward pc instruction onward state.value) }
+    requires inside { LeadInside (length states.old.items) (ways_onward pc instruction onward state) }
     ensures gone { IfOk result (λ _. (q : ℕ) → state_at states.new.items q
-        ≡ joined_ways (state_at states.old.items q) (ways_onward pc instruction onward state.value) q) }
+        ≡ joined_ways (state_at states.old.items q) (ways_onward pc instruction onward state) q) }
     ensures same_length { length states.new.items ≡ length states.old.items }
 {
     match (onward, instruction) {
@@ -88,9 +87,39 @@ fn go_on(
     Ok(())
 }
 
+/// A run goes on after an instruction with what is known at its pc, in the same function.
+#[inline(always)]
+fn go_on_from(
+    alloc: Global,
+    states: &mut Vec<Option<AbstractState>>,
+    pc: usize,
+    instruction: Instruction,
+    onward: Onward,
+) -> Result<(), AllocError>
+    requires near { pc ≤ MOST_UNITS }
+    requires here { pc < length states.old.items }
+    requires inside { (state : Known) × (state_at states.old.items pc ≡ Some state)
+        × LeadInside (length states.old.items) (ways_onward pc instruction onward state) }
+    ensures gone { IfOk result (λ _. (state : Known) → state_at states.old.items pc ≡ Some state
+        → (q : ℕ) → state_at states.new.items q
+        ≡ joined_ways (state_at (slice_set states.old.items pc None) q) (ways_onward pc instruction onward state) q) }
+    ensures same_length { length states.new.items ≡ length states.old.items }
+{
+    match onward {
+        Onward::Next => {
+            move_on(states, pc, pc + instruction.units());
+            Ok(())
+        }
+        _ => match states[pc].take() {
+            None => Ok(()),
+            Some(state) => go_on(alloc, states, pc, instruction, onward, state),
+        },
+    }
+}
+
 /// One exit more leaves what is known there.
-fn join_exit(exits: &mut Option<Box<AbstractState>>, state: Box<AbstractState>)
-    ensures { boxed_state exits.new ≡ joined_with (boxed_state exits.old) state.value }
+fn join_exit(exits: &mut Option<AbstractState>, state: AbstractState)
+    ensures { exits.new ≡ joined_with exits.old state }
 {
     match exits.take() {
         None => *exits = Some(state),
@@ -103,14 +132,14 @@ fn join_exit(exits: &mut Option<Box<AbstractState>>, state: Box<AbstractState>)
 
 /// What is known after a call comes to the next instruction, if the function may return.
 pub(crate) fn go_on_after(
-    states: &mut Vec<Option<Box<AbstractState>>>,
+    states: &mut Vec<Option<AbstractState>>,
     pc: usize,
-    left: Option<Box<AbstractState>>,
+    left: Option<AbstractState>,
 )
     requires near { pc ≤ MOST_UNITS }
     requires inside { pc + 1 < length states.old.items }
     ensures gone { (q : ℕ) → state_at states.new.items q
-        ≡ joined_ways (state_at states.old.items q) (ways_after pc (Ok (boxed_state left))) q }
+        ≡ joined_ways (state_at states.old.items q) (ways_after pc (Ok left)) q }
     ensures same_length { length states.new.items ≡ length states.old.items }
 {
     if let Some(state) = left {
@@ -120,15 +149,16 @@ pub(crate) fn go_on_after(
 
 /// Goes over what is at a pc of a passage, if that is walked. At a call it answers where the function begins that is called,
 /// and what is known there.
+#[inline(always)]
 pub(crate) fn visit(
     alloc: Global,
     image: &Image,
     listing: &[Option<Instruction>],
-    states: &mut Vec<Option<Box<AbstractState>>>,
-    exits: &mut Option<Box<AbstractState>>,
+    states: &mut Vec<Option<AbstractState>>,
+    exits: &mut Option<AbstractState>,
     pc: usize,
     frame: u8,
-) -> Result<Option<(usize, Box<AbstractState>)>, Refusal>
+) -> Result<Option<(usize, AbstractState)>, Refusal>
     requires listing { listing.now ≡ listing_of image.now (units image.now) }
     requires decodes { first_fault (decoding_fault image.now) (units image.now) ≡ None }
     requires flow { first_fault (flow_fault image.now) (units image.now) ≡ None }
@@ -140,17 +170,18 @@ pub(crate) fn visit(
         → MatchResult result
         (λ called. MatchOption called
         ((further : ℕ) → last ≤ further → Reaches image.now pc further → IsGoneTo image.now (calls_of image.now v) v old (pc + 1) further states.new.items exits.new)
-        (λ call. IsAtCall image.now (calls_of image.now v) v old pc last states.new.items exits.new call.0 call.1.value))
+        (λ call. IsAtCall image.now (calls_of image.now v) v old pc last states.new.items exits.new call.0 call.1))
         (λ refusal. unless_memory refusal (IsBrokenAt image.now v pc refusal)) }
 {
-    let Some(mut state) = states[pc].take() else {
-        return Ok(None);
-    };
     let Some(instruction) = starting_at(image, listing, pc) else {
+        states[pc] = None;
         return Ok(None);
     };
     match instruction {
         Instruction::Exit => {
+            let Some(mut state) = states[pc].take() else {
+                return Ok(None);
+            };
             if let Err(cause) = exit(&state) {
                 return Err(Refusal { cause, pc });
             }
@@ -162,20 +193,23 @@ pub(crate) fn visit(
             Ok(None)
         }
         Instruction::CallLocal { .. } => {
+            let Some(mut state) = states[pc].take() else {
+                return Ok(None);
+            };
             let Some(entry) = entry_called_at(image, listing, pc) else {
                 return Ok(None);
             };
             if usize::from(frame) >= MOST_CALLERS {
                 return Ok(None);
             }
-            let place = Box::new(alloc, Called::new())?;
-            enter_call(&mut state, frame, place);
+            enter_call(alloc, &mut state, frame)?;
             Ok(Some((entry, state)))
         }
-        _ => match step_over(image.lengths(), instruction, &mut state) {
-            Err(cause) => Err(Refusal { cause, pc }),
-            Ok(onward) => {
-                go_on(alloc, states, pc, instruction, onward, state)?;
+        _ => match step_at(states, pc, image.lengths(), instruction) {
+            None => Ok(None),
+            Some(Err(cause)) => Err(Refusal { cause, pc }),
+            Some(Ok(onward)) => {
+                go_on_from(alloc, states, pc, instruction, onward)?;
                 Ok(None)
             }
         },
@@ -188,11 +222,11 @@ pub(crate) fn go_through(
     image: &Image,
     listing: &[Option<Instruction>],
     ends: &[u16],
-    states: &mut Vec<Option<Box<AbstractState>>>,
+    states: &mut Vec<Option<AbstractState>>,
     entry: usize,
     frame: u8,
-    known: Box<AbstractState>,
-) -> Result<Option<Box<AbstractState>>, Refusal>
+    known: AbstractState,
+) -> Result<Option<AbstractState>, Refusal>
     requires listing { listing.now ≡ listing_of image.now (units image.now) }
     requires decodes { first_fault (decoding_fault image.now) (units image.now) ≡ None }
     requires flow { first_fault (flow_fault image.now) (units image.now) ≡ None }
@@ -203,8 +237,8 @@ pub(crate) fn go_through(
     requires clear { (q : ℕ) → entry ≤ q → state_at states.old.items q ≡ None }
     requires frame { frame ≤ most_callers }
     ensures comes { MatchResult result
-        (λ exits. outcome image.now (calls_of image.now (passage_at entry frame known.value)) (passage_at entry frame known.value) ≡ Ok (boxed_state exits))
-        (λ refusal. unless_memory refusal (outcome image.now (calls_of image.now (passage_at entry frame known.value)) (passage_at entry frame known.value) ≡ Err refusal)) }
+        (λ exits. outcome image.now (calls_of image.now (passage_at entry frame known)) (passage_at entry frame known) ≡ Ok exits)
+        (λ refusal. unless_memory refusal (outcome image.now (calls_of image.now (passage_at entry frame known)) (passage_at entry frame known) ≡ Err refusal)) }
     ensures before { IfOk result (λ _. (q : ℕ) → state_at states.new.items q ≡ state_at states.old.items q) }
     ensures same_length { IfOk result (λ _. length states.new.items ≡ length states.old.items) }
 {
@@ -250,7 +284,7 @@ pub(crate) fn walk(
         (λ refusal. unless_memory refusal (rule_refusal image.now ≡ Some refusal)) }
 {
     let mut states = no_states(alloc, image.code().len() / 8)?;
-    let entry = Box::new(alloc, AbstractState::entry(image.lengths()))?;
+    let entry = AbstractState::entry(alloc, image.lengths())?;
     match go_through(alloc, image, listing, ends, &mut states, 0, 0, entry) {
         Err(refusal) => Err(refusal),
         Ok(_) => Ok(()),

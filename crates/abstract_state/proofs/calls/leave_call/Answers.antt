@@ -1,18 +1,19 @@
-use Rattle.std.proofs.Common.{◌≡◌, ℕ, ◌<◌, rules, length, None, get_or, sym, ap, ◌∙◌, arith}
-use Rattle.abstract_values.specs.declared.value.AbstractValue.TheVariants.{Unset}
-use Rattle.abstract_state.specs.States.{left_state}
-use Rattle.abstract_state.specs.Called.{kept_by}
-use Rattle.abstract_state.proofs.Places.{left, default_apart}
+use Rattle.std.proofs.Common.{◌≡◌, ◌+◌, List, map, set, None, ap, ◌∙◌}
+use Rattle.abstract_values.specs.declared.value.AbstractValue.{AbstractValue}
+use Rattle.abstract_state.specs.declared.state.Frame.{Frame}
+use Rattle.abstract_state.specs.States.{nothing_kept, without_pointer, without_pointers, left_state}
+use Rattle.abstract_state.specs.Called.{frame_called, kept_by, places_of}
+use Rattle.abstract_state.proofs.Places.{Boxes, left}
 use Rattle.abstract_state.proofs.calls.leave_call.Goals as goal
 
 pub returns : goal.returns
 returns c =
-    let long : length c.state.inside.called ≡ 7 = search rules in
-    let lt : c.args.caller < length c.state.inside.called = (let few = c.requires.few in omega (arith, long, few)) in
-    let one : c.from-2.result ≡ c.args.caller = c.from-2.ensures in
-    let other : c.from.result ≡ c.args.caller = c.from.ensures in
-    let there = default_apart c.state.inside.called c.from.result c.from-2.result c.index-state-from.result None (other ∙ sym one) (let e : c.from-2.result ≡ c.args.caller = one in omega (arith, e, lt)) in
-    let kept : (i : ℕ) → get_or c.kept_for-kept.result i Unset ≡ get_or (kept_by (get_or c.state.inside.called c.from-2.result None)) i Unset =
-    λ i. c.kept_for-kept.ensures i ∙ ap (λ o. get_or (kept_by o) i Unset) there in
-    left c.state.inside.registers c.state.inside.frame c.state.inside.called c.forget_in_frames.new.called c.from-2.result c.args.caller c.kept_for-kept.result c.forget_in_slots.new.slots one lt kept c.forget_in_slots.ensures c.forget_in_frames.ensures.frames c.forget_in_frames.ensures.kept
-    ∙ ap (left_state c.args.caller) c.state.view_is
+    let registers : List AbstractValue = c.state.inside.own.value.registers in
+    let frame : Frame = c.state.inside.own.value.frame in
+    let called : Boxes = places_of c.state.inside.called in
+    let after : Boxes = places_of c.leave_place.result in
+    let cleared : c.forget_in_slots.new.slots ≡ map (without_pointer (c.args.caller + 1)) frame.slots = (rw c.deref_mut.ensures.value at c.forget_in_slots.ensures) in
+    let frames : map frame_called after ≡ map (without_pointers (c.from-at.result + 1)) (set (map frame_called called) c.from-at.result None) = (rw c.take-called.ensures.value at c.leave_place.ensures.frames) in
+    let keeps : map kept_by after ≡ set (map kept_by called) c.from-at.result nothing_kept = (rw c.take-called.ensures.value at c.leave_place.ensures.kept) in
+    rw (c.end_registers.ensures, c.deref_mut-2.ensures.value, c.deref_mut.ensures.value) (left registers frame called after c.from-at.result c.args.caller c.kept_for-kept.result c.forget_in_slots.new.slots c.from-at.ensures c.kept_for-kept.ensures cleared frames keeps
+    ∙ ap (left_state c.args.caller) c.state.view_is)

@@ -6,5 +6,5 @@ use Rattle.verifier.proofs.known.go_over.Given as goal
 
 abbrev pub invariant-loop-pc : goal.invariant-loop-pc
 invariant-loop-pc l =
-    (IsGoneTo l.image (calls_of l.image (passage_at l.entry l.frame l.fn.known.value)) (passage_at l.entry l.frame l.fn.known.value) [] l.pc (l.end - 1) l.states.items l.exits) × (l.entry ≤ l.pc) × (l.pc ≤ l.end)
-    × IsKeptTo l.image (passage_at l.entry l.frame l.fn.known.value) l.pc l.kept.items
+    (IsGoneTo l.image (calls_of l.image (passage_at l.entry l.frame l.fn.known)) (passage_at l.entry l.frame l.fn.known) [] l.pc (l.end - 1) l.states.items l.exits) × (l.entry ≤ l.pc) × (l.pc ≤ l.end)
+    × IsKeptTo l.image (passage_at l.entry l.frame l.fn.known) l.pc l.kept.items

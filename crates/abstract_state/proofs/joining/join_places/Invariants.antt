@@ -2,7 +2,7 @@ use Rattle.std.proofs.Common.{◌≡◌, ◌++◌, length, map, take, drop}
 use Rattle.abstract_values.specs.Values.{join_of}
 use Rattle.abstract_state.specs.States.{elementwise, join_if_live}
 use Rattle.abstract_state.specs.Called.{frame_called, kept_by}
-use Rattle.abstract_state.proofs.joining.join_called.Given as goal
+use Rattle.abstract_state.proofs.joining.join_places.Given as goal
 
 abbrev pub invariant-loop-i : goal.invariant-loop-i
 invariant-loop-i l =
