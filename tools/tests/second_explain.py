@@ -88,13 +88,14 @@ def walk(code, length, table):
 
 OBSTACLES = {"store": "stores to memory", "local": "calls a function", "helper": "calls gather"}
 GATHER = 5
+SLOTS_BYTES = 128
 
 
 def pace_text(instructions, units):
     """How the edges of an accepted program run, which only leads forward: breadth first, as far as an exit."""
     for pc, (instruction, _) in sorted(instructions.items()):
         kind, *parts = instruction
-        if kind in ("store", "local") or (kind == "helper" and parts[0] == GATHER):
+        if (kind == "store" and not fills_slot(*parts[:3])) or kind == "local" or (kind == "helper" and parts[0] == GATHER):
             return f"runs edge by edge, since the instruction at pc {pc} {OBSTACLES[kind]}"
     steps, here = 1, {0}
     while all(instructions[pc][0][0] != "exit" for pc in here):
@@ -102,6 +103,11 @@ def pace_text(instructions, units):
     if units > 3 * steps:
         return f"runs edge by edge, since a run may execute only {steps} instructions of its {units} units"
     return "runs in blocks of edges"
+
+
+def fills_slot(size, base, offset):
+    """Whether a store is of eight bytes to one of the uppermost slots of the program's own frame."""
+    return (size, base) == (8, 10) and offset in range(-SLOTS_BYTES, 0, 8)
 
 
 def ways_from(pc, instruction, units):

@@ -174,7 +174,11 @@ class RealRefusals(unittest.TestCase):
         for text, table, pace in (
             ("mov r0, 7\nneg r0\nexit\n", None, "runs in blocks of edges"),
             ("ldxb r0, [r3+1]\nexit\n", "0102", "runs in blocks of edges"),
-            ("lddw r0, 7\nstdw [r10-8], 1\nstdw [r10-16], 1\nexit\n", None, singly + "the instruction at pc 2 stores to memory"),
+            ("lddw r0, 7\nstdw [r10-8], 1\nstxdw [r10-128], r1\nexit\n", None, "runs in blocks of edges"),
+            ("mov r0, 7\nstdw [r10-136], 1\nexit\n", None, singly + "the instruction at pc 1 stores to memory"),
+            ("lddw r0, 7\nstw [r10-8], 1\nstdw [r10-16], 1\nexit\n", None, singly + "the instruction at pc 2 stores to memory"),
+            ("mov r0, 7\nstdw [r10-20], 1\nexit\n", None, singly + "the instruction at pc 1 stores to memory"),
+            ("mov r2, r10\nmov r0, 7\nstdw [r2-16], 1\nexit\n", None, singly + "the instruction at pc 2 stores to memory"),
             ("calllocal f\nexit\nf:\nstxdw [r10-8], r1\nmov r0, 1\nexit\n", None, singly + "the instruction at pc 0 calls a function"),
             (switch, None, singly + "a run may execute only 3 instructions of its 10 units"),
             (switch.replace("add r0, 1\n", "", 1), None, "runs in blocks of edges"),
