@@ -16,6 +16,7 @@ LOCAL_ARRAY = (
 UNDEFINED = (
     "set the variable on each way that leads here; clang also leaves out what C does not define, as a shift by more bits than there are"
 )
+PACE = re.compile(r"(runs edge by edge, since the instruction) at pc (\d+) (.*)")
 INDEX = (
     "compare the index with a constant before it is used, as in `if (index >= N) return 0;`, and use what was compared; at_most(index, N - 1) "
     "of edgebpf.h does both. The record has {length} bytes, and its argument {argument}"
@@ -97,6 +98,15 @@ class CWords:
         lines.append(f"    what helps: {self.advice(int(rule[1]), pc, known, usual)}")
         return lines
 
+    def accepted(self, told):
+        """The lines that say how runs of an accepted program go, an instruction at its line of C."""
+        return [self.pace(line) for line in read(told).end]
+
+    def pace(self, line):
+        found = PACE.fullmatch(line)
+        place = self.line(int(found[2])) if found else None
+        return f"{found[1]} at {place[0]}:{place[1]} {found[3]}" if place else line
+
     def by_line(self, told):
         """For each line of C, in the order of the files and lines, the instructions that it became."""
         found = {}
@@ -117,7 +127,8 @@ class CWords:
             units = f"{len(instructions)} instruction{'s' if len(instructions) > 1 else ''} from unit {first.pc}"
             known = "no run comes here" if not first.is_reached else self.state(first.known, first.pc)
             lines.append(f"      |     [{units}] {known}")
-        return "\n".join(lines + read(told).end[:1]) + "\n"
+        end = read(told).end
+        return "\n".join(lines + (end[:1] if end[0].startswith("refused") else self.accepted(told))) + "\n"
 
     def page(self, told):
         """The same as a page: each line of C with the instructions that it became, and the state before each."""
@@ -129,7 +140,7 @@ class CWords:
                 f"<dt>{one.pc}: <code>{html.escape(one.text)}</code></dt><dd>{html.escape(self.state(one.known, one.pc))}</dd>" for one in instructions
             ]
             rows.append(f"<details{' open' if is_refused else ''}>{head}</code></summary><dl>{''.join(states)}</dl></details>")
-        end = "".join(f"<p>{html.escape(line)}</p>" for line in (self.refusal(told) if refused else read(told).end))
+        end = "".join(f"<p>{html.escape(line)}</p>" for line in (self.refusal(told) if refused else self.accepted(told)))
         kind = "verdict refused" if refused else "verdict"
         title = html.escape(read(told).end[0])
         style = STYLE + "summary { white-space: pre; } summary.refused { background: #fbdcdc; } dl { margin: .2rem 2rem; }"

@@ -86,6 +86,36 @@ def walk(code, length, table):
     return (instructions[refused.pc][0], telling.open[-1][2][refused.pc]) if refused else (None, None)
 
 
+OBSTACLES = {"store": "stores to memory", "local": "calls a function", "helper": "calls gather"}
+GATHER = 5
+SLOTS_BYTES = 128
+
+
+def pace_text(instructions, units):
+    """How the edges of an accepted program run, which only leads forward: breadth first, as far as an exit."""
+    for pc, (instruction, _) in sorted(instructions.items()):
+        kind, *parts = instruction
+        if (kind == "store" and not fills_slot(*parts[:3])) or kind == "local" or (kind == "helper" and parts[0] == GATHER):
+            return f"runs edge by edge, since the instruction at pc {pc} {OBSTACLES[kind]}"
+    steps, here = 1, {0}
+    while all(instructions[pc][0][0] != "exit" for pc in here):
+        steps, here = steps + 1, {way for pc in here for way in ways_from(pc, *instructions[pc])}
+    if units > 3 * steps:
+        return f"runs edge by edge, since a run may execute only {steps} instructions of its {units} units"
+    return "runs in blocks of edges"
+
+
+def fills_slot(size, base, offset):
+    """Whether a store is of eight bytes to one of the uppermost slots of the program's own frame."""
+    return (size, base) == (8, 10) and offset in range(-SLOTS_BYTES, 0, 8)
+
+
+def ways_from(pc, instruction, units):
+    if instruction[0] == "jump":
+        return [pc + 1 + instruction[1]]
+    return [pc + units] + ([pc + 1 + instruction[5]] if instruction[0] == "branch" else [])
+
+
 def main(length, code, table=b""):
     print(f"program of {len(code) // 8} units, records of {length} bytes")
     try:
@@ -103,6 +133,7 @@ def main(length, code, table=b""):
         return 1
     walk(code, length, table)
     print(f"accepted, bound {bound}, frames {frames}")
+    print(pace_text(listed(code), len(code) // 8))
     return 0
 
 

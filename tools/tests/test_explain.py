@@ -132,6 +132,13 @@ class Explain(unittest.TestCase):
         self.assertIn('<li id="pc-2" data-pc="2" tabindex="0" class="refused">', written)
         self.assertNotRegex(written, r"(src|href)=")
 
+    def test_how_edges_run(self):
+        """The last line of an accepted program: it stands in the page, too."""
+        for pace in ("runs in blocks of edges", "runs edge by edge, since the instruction at pc 1 calls gather"):
+            text = f"program of 2 units, records of 16 bytes\n0: mov r0, 1\n1: exit\naccepted, bound 2, frames 1\n{pace}\n"
+            self.assertEqual(read(text).end, ["accepted, bound 2, frames 1", pace])
+            self.assertIn(f'<div class="verdict"><p>accepted, bound 2, frames 1</p><p>{pace}</p></div>', page(text))
+
     def test_from_the_shell(self):
         """The last program of a name, refused or not, by its code or its text."""
         sent = "graph 4\ncode c 16 61100d00000000009500000000000000\nprogram p 17\nmov r0, 7\nexit\nend\n"
@@ -159,6 +166,27 @@ class RealRefusals(unittest.TestCase):
             self.assertEqual((run.stderr, run.returncode), ("", 1))
             self.assertIn(f"\nrefused at {place}: ldxw r0, [r1+13]\nrule 11: ", run.stdout)
             self.assertIn("\nknown of r1: record+0\nwhat helps: ", run.stdout)
+
+    def test_how_edges_run(self):
+        """What blocks cannot do, the first of it by its unit; and a switch of which a run passes over most."""
+        singly = "runs edge by edge, since "
+        switch = "ldxw r0, [r1+4]\njeq r0, 0, end\n" + "add r0, 1\n" * 7 + "end:\nexit\n"
+        for text, table, pace in (
+            ("mov r0, 7\nneg r0\nexit\n", None, "runs in blocks of edges"),
+            ("ldxb r0, [r3+1]\nexit\n", "0102", "runs in blocks of edges"),
+            ("lddw r0, 7\nstdw [r10-8], 1\nstxdw [r10-128], r1\nexit\n", None, "runs in blocks of edges"),
+            ("mov r0, 7\nstdw [r10-136], 1\nexit\n", None, singly + "the instruction at pc 1 stores to memory"),
+            ("lddw r0, 7\nstw [r10-8], 1\nstdw [r10-16], 1\nexit\n", None, singly + "the instruction at pc 2 stores to memory"),
+            ("mov r0, 7\nstdw [r10-20], 1\nexit\n", None, singly + "the instruction at pc 1 stores to memory"),
+            ("mov r2, r10\nmov r0, 7\nstdw [r2-16], 1\nexit\n", None, singly + "the instruction at pc 2 stores to memory"),
+            ("calllocal f\nexit\nf:\nstxdw [r10-8], r1\nmov r0, 1\nexit\n", None, singly + "the instruction at pc 0 calls a function"),
+            (switch, None, singly + "a run may execute only 3 instructions of its 10 units"),
+            (switch.replace("add r0, 1\n", "", 1), None, "runs in blocks of edges"),
+        ):
+            run = run_tool("edgebpf-explain", "16", *(["--table", table] if table else []), text=text)
+            self.assertEqual((run.stderr, run.returncode), ("", 0))
+            accepted, last = run.stdout.splitlines()[-2:]
+            self.assertEqual((accepted.split(",")[0], last), ("accepted", pace))
 
     def test_no_program(self):
         for words, text, said in (

@@ -12,7 +12,6 @@ mod numbering;
 mod outcome;
 mod rows;
 mod span;
-mod worth;
 
 pub use ahead::{Ahead, number_ahead};
 pub use edge::Edge;

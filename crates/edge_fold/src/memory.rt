@@ -1,6 +1,6 @@
 //! What runs over edges work on.
 use crate::blocks::Blocks;
-use crate::worth::is_worth_blocks;
+use bpf_blocks::why_singly;
 use verifier::Verified;
 
 /// What runs over edges work on. It is made once for many maps of a program: nothing in it is cleared between them.
@@ -23,7 +23,7 @@ impl Memory {
             blocks: Blocks::new(),
         };
         memory.run.put_table(program);
-        memory.blocks.is_useful = is_worth_blocks(program);
+        memory.blocks.is_useful = why_singly(program.image()).is_none();
         memory
     }
 }

@@ -1,22 +1,23 @@
 //! The program: it tells what is known at each place of a BPF program, and why one is refused.
 #![tactic(auto)]
 
+mod pace;
 mod telling;
 mod words;
 
-use explanation::{Explanation, Judgement};
+use explanation::Judgement;
 use std::alloc::Global;
 use std::io::ErrorKind;
 use std::process::ExitCode;
 use std::{env, io};
-use telling::{Failure, told_of_digits, told_of_text};
+use telling::{Failure, Told, told_of_digits, told_of_text};
 use words::{Asked, options};
 
 /// The status where nothing can be told: what is asked for is not allowed, or help is.
 const WRONG_WORDS: u8 = 2;
 
 /// What is told of what the words hand in.
-fn told(rt: &HostRuntime, alloc: Global, asked: &Asked) -> Result<Explanation, Failure> {
+fn told(rt: &HostRuntime, alloc: Global, asked: &Asked) -> Result<Told, Failure> {
     match &asked.code {
         Some(digits) => told_of_digits(alloc, asked, digits),
         None => {
@@ -26,6 +27,20 @@ fn told(rt: &HostRuntime, alloc: Global, asked: &Asked) -> Result<Explanation, F
             told_of_text(alloc, asked, &text)
         }
     }
+}
+
+/// Writes what is told, and returns the status.
+fn written(rt: &HostRuntime, told: &Told) -> ExitCode {
+    let text = &told.explanation.text;
+    let (written, status) = match told.explanation.judgement {
+        Judgement::Accepted { .. } => (print!(rt; "{text}{}", told.pace), 0),
+        Judgement::Refused(_) => (print!(rt; "{text}"), 1),
+    };
+    if written.is_err() {
+        let _ = eprintln!(rt; "edgebpf-explain: write");
+        return ExitCode::from(WRONG_WORDS);
+    }
+    ExitCode::from(status)
 }
 
 fn main(rt: HostRuntime) -> ExitCode {
@@ -50,16 +65,7 @@ fn main(rt: HostRuntime) -> ExitCode {
         }
     };
     match told(&rt, alloc, &asked) {
-        Ok(explanation) => {
-            if print!(rt; "{}", explanation.text).is_err() {
-                let _ = eprintln!(rt; "edgebpf-explain: write");
-                return ExitCode::from(WRONG_WORDS);
-            }
-            match explanation.judgement {
-                Judgement::Accepted { .. } => ExitCode::from(0),
-                Judgement::Refused(_) => ExitCode::from(1),
-            }
-        }
+        Ok(told) => written(&rt, &told),
         Err(failure) => {
             let _ = eprintln!(rt; "edgebpf-explain: {failure}");
             ExitCode::from(WRONG_WORDS)

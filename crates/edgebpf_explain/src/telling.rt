@@ -1,11 +1,21 @@
 //! From what was handed in to what is told.
+use crate::pace::Pace;
 use crate::words::Asked;
 use bpf_asm::{AssembleError, TextCause, assemble};
+use bpf_blocks::why_singly;
 use bpf_image::{Image, ImageError};
 use explanation::{Explanation, SourceLine, explain, source_lines};
 use hex::FromHexError;
 use std::alloc::{AllocError, Global};
 use thiserror::Error;
+
+/// What is told of a program.
+#[derive(Drop)]
+pub struct Told {
+    pub explanation: Explanation,
+    /// How its edges run, if it is accepted.
+    pub pace: Pace,
+}
 
 /// Why nothing is told.
 #[derive(Debug, Drop, Error)]
@@ -61,27 +71,23 @@ fn told_of(
     asked: &Asked,
     code: Vec<u8>,
     source: &[SourceLine<'_>],
-) -> Result<Explanation, Failure> {
+) -> Result<Told, Failure> {
     let image = image_of(alloc, asked, code)?;
-    Ok(explain(alloc, image, source)?)
+    let pace = Pace {
+        why_singly: why_singly(&image),
+    };
+    let explanation = explain(alloc, image, source)?;
+    Ok(Told { explanation, pace })
 }
 
 /// What is told of code in hexadecimal digits.
-pub(crate) fn told_of_digits(
-    alloc: Global,
-    asked: &Asked,
-    digits: &str,
-) -> Result<Explanation, Failure> {
+pub(crate) fn told_of_digits(alloc: Global, asked: &Asked, digits: &str) -> Result<Told, Failure> {
     let code = bytes_of(alloc, digits)?;
     told_of(alloc, asked, code, &[])
 }
 
 /// What is told of assembler text.
-pub(crate) fn told_of_text(
-    alloc: Global,
-    asked: &Asked,
-    text: &str,
-) -> Result<Explanation, Failure> {
+pub(crate) fn told_of_text(alloc: Global, asked: &Asked, text: &str) -> Result<Told, Failure> {
     match assemble(alloc, text) {
         Ok(code) => {
             let source = source_lines(alloc, text)?;
