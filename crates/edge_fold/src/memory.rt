@@ -1,6 +1,5 @@
 //! What runs over edges work on.
 use crate::blocks::Blocks;
-use bpf_blocks::why_singly;
 use verifier::Verified;
 
 /// What runs over edges work on. It is made once for many maps of a program: nothing in it is cleared between them.
@@ -20,10 +19,9 @@ impl Memory {
         // Made in one place, so that none of it is moved.
         let mut memory = Memory {
             run: bpf_runs::Memory::new(),
-            blocks: Blocks::new(),
+            blocks: Blocks::for_program(program),
         };
         memory.run.put_table(program);
-        memory.blocks.is_useful = why_singly(program.image()).is_none();
         memory
     }
 }
