@@ -16,7 +16,8 @@ import sys
 import tempfile
 
 WORKER = b"edgebpf: worker\n"
-LINES = {b"edgebpf: memory\n", WORKER, b"edgebpf: store\n"}
+# No refused allocation is reported as an error of the store.
+LINES = {b"edgebpf: memory\n", WORKER}
 # One worker starts no thread, and neither do two for a script whose batches and runs have one piece each.
 ONE_PIECE = "first.script"
 # What is said where the words of the command line could not be read for want of memory.

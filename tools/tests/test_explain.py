@@ -166,11 +166,14 @@ class RealRefusals(unittest.TestCase):
             self.assertEqual((run.stderr, run.returncode), ("", 1))
             self.assertIn(f"\nrefused at {place}: ldxw r0, [r1+13]\nrule 11: ", run.stdout)
             self.assertIn("\nknown of r1: record+0\nwhat helps: ", run.stdout)
+            self.assertTrue(run.stdout.splitlines()[-1].startswith("what helps: "), run.stdout)
 
     def test_how_edges_run(self):
         """What blocks cannot do, the first of it by its unit; and a switch of which a run passes over most."""
         singly = "runs edge by edge, since "
         switch = "ldxw r0, [r1+4]\njeq r0, 0, end\n" + "add r0, 1\n" * 7 + "end:\nexit\n"
+        past = "ldxw r0, [r1+4]\njeq r0, 0, few\n{} end\nfew:\n" + "add r0, 1\n" * 9 + "end:\nexit\n"
+        early = "ldxw r0, [r1+4]\njne r0, 0, many\nexit\nmany:\n" + "add r0, 1\n" * 7 + "exit\n"
         for text, table, pace in (
             ("mov r0, 7\nneg r0\nexit\n", None, "runs in blocks of edges"),
             ("ldxb r0, [r3+1]\nexit\n", "0102", "runs in blocks of edges"),
@@ -181,6 +184,11 @@ class RealRefusals(unittest.TestCase):
             ("mov r2, r10\nmov r0, 7\nstdw [r2-16], 1\nexit\n", None, singly + "the instruction at pc 2 stores to memory"),
             ("calllocal f\nexit\nf:\nstxdw [r10-8], r1\nmov r0, 1\nexit\n", None, singly + "the instruction at pc 0 calls a function"),
             (switch, None, singly + "a run may execute only 3 instructions of its 10 units"),
+            ("mov r3, r10\nadd r3, -8\nmov r1, 0\nmov r2, 0\nmov r4, 8\ncall 5\nexit\n", None, singly + "the instruction at pc 5 calls gather"),
+            ("mov r0, 7\nstw [r10-8], 1\nsth [r10-2], 1\nexit\n", None, singly + "the instruction at pc 1 stores to memory"),
+            (past.format("ja"), None, singly + "a run may execute only 4 instructions of its 13 units"),
+            (past.format("ja32"), None, singly + "a run may execute only 4 instructions of its 13 units"),
+            (early, None, singly + "a run may execute only 3 instructions of its 11 units"),
             (switch.replace("add r0, 1\n", "", 1), None, "runs in blocks of edges"),
         ):
             run = run_tool("edgebpf-explain", "16", *(["--table", table] if table else []), text=text)
