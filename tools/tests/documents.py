@@ -72,7 +72,7 @@ def faulty_script(cell):
 
 
 def faults():
-    for row in rows(between(SCRIPT, "| C | Means | Script", "\nA vertex of `run`")):
+    for row in rows(between(SCRIPT, "| C | Means | Script", "\nAn endless line")):
         yield f"fault_{row[0]}", Case(faulty_script(row[2]), [], codes(row[3])[0])
 
 
@@ -182,7 +182,7 @@ def causes():
             assert "Eight functions, of which each but the last calls\nthe next ten times, are refused at pc 0" in said
             yield "cause_7", refused(chain(8, 10), 7, 0)
         if cause == 18:
-            assert "Eight functions, of which each but the last\nhas ten times a branch past a call of the next and an exit, and an exit at its end, are refused at pc 0" in said
+            assert "take eight functions. Each but the\nlast has ten times a branch, which skips a call of the next function and an exit; then it exits. They are refused at pc 0" in said
             yield "cause_18", refused(branching(8, 10), 18, 0)
         for place, block in enumerate(shown):
             length = 20 if "With record length 20" in said.split(block)[0] else 16
@@ -234,8 +234,8 @@ def narrowing():
 
 
 def assembler_lines():
-    part = between(BPF, "The first fault is reported with its line", "\nOnly when all lines are well")
-    listed = between(BPF, "and `NumberRange`, where it is too far away. The causes have the numbers ", "`OutOfMemory`.")
+    part = between(BPF, "The first fault is reported with its line", "\nIf all lines are well")
+    listed = between(BPF, "and `NumberRange` if it is too far away. The causes have the numbers ", "`OutOfMemory`.")
     numbers = {name: int(cause) for cause, name in re.findall(r"([1-7]) `(\w+)`", listed)}
     for name, rest in re.findall(r"^[0-9]\. `(\w+)`(.*)$", part, re.M):
         for place, line in enumerate(codes(rest.split(": ", 1)[1])):
@@ -251,7 +251,7 @@ def all_cases():
 
 def traps():
     """The number and name of each trap, the bytes of its program and of its table, and the pc where it stops."""
-    for row in rows(between(BPF, "| Kind | When | Program |", "\nWhere several apply")):
+    for row in rows(between(BPF, "| Kind | When | Program |", "\nIf several apply")):
         kind, name = re.match(r"([0-9]+) `(\w+)`", row[0]).groups()
         pc = re.search(r", at pc ([0-9]+)$", row[2])
         code, table = (*codes(row[2]), "")[:2]
