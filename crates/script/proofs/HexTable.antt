@@ -3,11 +3,11 @@ use Rattle.std.proofs.Common.{◌≡◌, ℕ, zero, suc, ◌+◌, ◌<◌, ◌�
 use Rattle.std.proofs.lemmas.Bool.Decides.{nat_tests}
 use Rattle.std.specs.Prelude.{Option, Some, None}
 use Rattle.script_model.specs.Lexing.{hex_digit}
-use Rattle.script.specs.declared.reading.hex.TheConstants.{DIGITS}
+use Rattle.script.specs.declared.reading.hex.TheConstants.{DIGITS, NO_DIGIT}
 
 -- the table's number for a byte that has this value as a digit
 abbrev of_value : Option ℕ → ℕ
-of_value None = 255
+of_value None = 256
 of_value (Some v) = v
 
 abbrev is_small : Option ℕ → Bool
@@ -59,16 +59,16 @@ a_digit : (o : Option ℕ) (n : ℕ) → n ≡ of_value o → n < 16 → o ≡ S
 a_digit None n is small = absurd (omega arith)
 a_digit (Some v) n is small = ap (λ x. Some x) (sym is)
 
-no_digit : (o : Option ℕ) (n : ℕ) → n ≡ of_value o → is_small o ≡ true → 16 ≤ n → o ≡ None
-no_digit None n is small big = refl
+no_digit : (o : Option ℕ) (n : ℕ) → n ≡ of_value o → is_small o ≡ true → 16 ≤ n → (n ≡ NO_DIGIT) × (o ≡ None)
+no_digit None n is small big = (is, refl)
 no_digit (Some v) n is small big = absurd (let under : v < 16 = grind (arith, nat_tests) in omega arith)
 
--- a byte below 16 in the table is the digit with that value
+-- a number below 16 in the table is the value of the digit
 pub digit_read : (c : ℕ) → c < 256 → get_or DIGITS c 0 < 16 → hex_digit c ≡ Some (get_or DIGITS c 0)
 digit_read c within small = a_digit (hex_digit c) (get_or DIGITS c 0) (number_of c within) small
 
--- another one is no digit
-pub digit_refused : (c : ℕ) → c < 256 → 16 ≤ get_or DIGITS c 0 → hex_digit c ≡ None
+-- another byte is no digit
+pub digit_refused : (c : ℕ) → c < 256 → 16 ≤ get_or DIGITS c 0 → (get_or DIGITS c 0 ≡ NO_DIGIT) × (hex_digit c ≡ None)
 digit_refused c within big =
     let same : 0 + c ≡ c = omega arith in
     no_digit (hex_digit c) (get_or DIGITS c 0) (number_of c within) (ap (λ b. is_small (hex_digit b)) (sym same) ∙ small_at 256 0 c all_small within) big

@@ -17,7 +17,7 @@ use std::sync::Wait;
 use std::thread::Threads;
 
 /// The most bytes that one read asks for.
-const BLOCK_BYTES: usize = 65_536;
+const BLOCK_BYTES: usize = 262_144;
 
 /// A script on its way: how far it is, the bytes that were read and not executed, and the text that is
 /// not written.
