@@ -1,9 +1,9 @@
 //! Programs, which are verified before they can be run.
-ghost use Rattle.std.specs.Prelude.{◌≡◌, ◌≢◌, min, Some};
+ghost use Rattle.std.specs.Prelude.{◌≡◌, ◌≢◌, ◌⊎◌, min, length, Some};
 ghost use Rattle.bpf_isa.specs.declared.limits.TheConstants.{MOST_UNITS};
-ghost use Rattle.bpf_image.specs.Program.{without_table};
+ghost use Rattle.bpf_image.specs.Program.{without_table, IsRecordLength, IsCodeLength};
 ghost use Rattle.explanation.specs.Words.{cause_number};
-ghost use Rattle.embedding.specs.declared.statuses.TheConstants.{DONE, REFUSED};
+ghost use Rattle.embedding.specs.declared.statuses.TheConstants.{DONE, NO_MEMORY, RECORD_LENGTH, CODE_LENGTH, REFUSED};
 ghost use Rattle.embedding.specs.Holding.{OnProgram, HoldsProgram};
 ghost use Rattle.embedding.specs.Batches.{IsHandedOut};
 ghost use Rattle.embedding.specs.Programs.{IsImageOf, IsAccepted, IsRefused};
@@ -71,7 +71,8 @@ fn refused(refusal: Refusal) -> Verdict
     }
 }
 
-/// Verifies a program, and writes a handle of it where it is accepted.
+/// Verifies a program, and writes a handle of it if it is accepted. The status is that of the first test that fails: of the
+/// record length, of the code's length, of the verifier; or `NO_MEMORY`.
 pub fn new_program(
     alloc: Global,
     record_length: u16,
@@ -79,6 +80,10 @@ pub fn new_program(
     verdict: &mut Verdict,
     out: &mut Handle,
 ) -> u32
+    ensures record { result ≡ RECORD_LENGTH → IsRecordLength record_length → ⊥ }
+    ensures code { result ≡ CODE_LENGTH → IsRecordLength record_length × (IsCodeLength (length code.now) → ⊥) }
+    ensures image { (result ≡ DONE) ⊎ (result ≡ REFUSED) → IsRecordLength record_length × IsCodeLength (length code.now) }
+    ensures others { result ≢ DONE → result ≢ REFUSED → result ≢ RECORD_LENGTH → result ≢ CODE_LENGTH → result ≡ NO_MEMORY }
     ensures made { result ≡ DONE → HoldsProgram out.new.held (without_table code.now record_length) }
     ensures told { result ≡ DONE → IsAccepted (without_table code.now record_length) verdict.new }
     ensures refused { result ≡ REFUSED → IsRefused (without_table code.now record_length) verdict.new }
