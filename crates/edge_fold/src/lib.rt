@@ -5,7 +5,9 @@
 mod ahead;
 mod blocks;
 mod edge;
+mod few;
 mod fold;
+mod kept;
 pub mod laws;
 mod memory;
 mod numbering;

@@ -1,5 +1,6 @@
 //! What runs over edges work on.
 use crate::blocks::Blocks;
+use crate::kept::Kept;
 use verifier::Verified;
 
 /// What runs over edges work on. It is made once for many maps of a program: nothing in it is cleared between them.
@@ -7,6 +8,8 @@ use verifier::Verified;
 pub struct Memory {
     pub(crate) run: bpf_runs::Memory,
     pub(crate) blocks: Blocks,
+    /// The numbers of edges of vertices that have few.
+    pub(crate) kept: Kept,
 }
 
 impl Memory {
@@ -20,6 +23,7 @@ impl Memory {
         let mut memory = Memory {
             run: bpf_runs::Memory::new(),
             blocks: Blocks::for_program(program),
+            kept: Kept::new(),
         };
         memory.run.put_table(program);
         memory

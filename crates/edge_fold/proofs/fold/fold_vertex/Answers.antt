@@ -12,6 +12,7 @@ pub slices-init : goal.slices-init
 slices-init c = record {
   rest = sym c.cursor-cursor.ensures;
   memory = c.requires.memory;
+  kept = c.requires.kept;
   folded = none_folded c.args.reduction c.args.program.now (graph_of c.args.version.now) c.args.argument.now c.args.source 0 (neighbours (graph_of c.args.version.now) c.args.source) c.nothing-so_far.result c.nothing-so_far.ensures;
 }
 
@@ -22,6 +23,7 @@ slices-preserved c =
     record {
       rest = (row_behind all c.in-Some.targets.now c.next_slice.new.self c.slices.place ahead c.slices.invariant.folded.within).1;
       memory = c.fold_slice-value.ensures.memory;
+      kept = c.fold_slice-value.ensures.kept;
       folded = row_folded c.args.reduction c.args.program.now (graph_of c.args.version.now) c.args.argument.now c.args.source all c.in-Some.targets.now c.next_slice.new.self c.slices.place c.slices.so_far c.fold_slice-value.result c.combine-so_far.result c.slices.invariant.folded ahead c.fold_slice-value.ensures.value c.fold_slice-value.ensures.count c.combine-so_far.ensures;
     }
 

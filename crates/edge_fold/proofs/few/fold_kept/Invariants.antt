@@ -1,0 +1,10 @@
+use Rattle.past_model.specs.Past.{graph_of}
+use Rattle.edge_fold.specs.Kept.{AreNumbered}
+use Rattle.edge_fold.proofs.Numbers.{IsFolded}
+use Rattle.edge_fold.proofs.few.fold_kept.Given as goal
+
+abbrev pub invariant-targets : goal.invariant-targets
+invariant-targets l = record {
+  folded : IsFolded l.reduction l.program (graph_of l.version) l.argument l.span.source l.span.place l.span.targets.now l.at l.so_far;
+  kept : AreNumbered l.program (graph_of l.version) l.argument l.kept;
+}

@@ -1,0 +1,126 @@
+//! Vertices that have few neighbours: the edges of some of them are run in one block.
+ghost use Rattle.std.specs.Prelude.{◌≡◌, ◌+◌, ◌^◌, ◌≤◌, ℕ, List, length, IfSome};
+ghost use Rattle.past_model.specs.Past.{graph_of};
+ghost use Rattle.graph_model.specs.Graph.{Graph, degree};
+ghost use Rattle.bpf_image.specs.Program.{Program};
+ghost use Rattle.map_model.specs.EdgeMap.{reduction_of_numbers};
+ghost use Rattle.map_model.specs.declared.limits.TheConstants.{EDGE_BYTES};
+ghost use Rattle.bpf_blocks.specs.declared.columns.TheConstants.{LANES};
+ghost use Rattle.edge_fold.specs.Kept.{AreNumbered, IsFor};
+ghost use Rattle.edge_fold.specs.Numbers.{span_numbers};
+
+use crate::edge::Edge;
+use crate::fold::{LEAST_IN_BLOCK, combine, nothing};
+use crate::kept::Kept;
+use crate::memory::Memory;
+use crate::span::Span;
+use bpf_blocks::{Edges, LANES};
+use map_model::{EDGE_BYTES, Reduction};
+use verifier::Verified;
+use version::Version;
+
+/// Whether a vertex with so many neighbours has few, but some.
+pub(crate) fn are_few(neighbour_count: u32) -> bool {
+    0 < neighbour_count && (neighbour_count as usize) < LEAST_IN_BLOCK
+}
+
+/// Puts the edges of a vertex into a block, from a lane on.
+#[inline(always)]
+fn put_edges(edges: &mut Edges, first: usize, source: u32, targets: &[u32])
+    requires { first + length targets.now ≤ LANES }
+{
+    'targets: for place in 0..targets.len() {
+        let lane = first + place;
+        edges.sources[lane] = source;
+        edges.targets[lane] = targets[place];
+        edges.places[lane] = place as u32;
+        edges.degrees[lane] = targets.len() as u32;
+    }
+}
+
+/// Makes a block of the edges of the next vertices that have few. None of them has its number yet. Returns how many vertices
+/// were looked at.
+fn gather(version: &Version, kept: &mut Kept, frontier: &[u32]) -> usize
+    ensures few { kept.new.edges.count ≤ LANES }
+    ensures numbered { (p : Program) (g : Graph) (argument : List ℕ) → AreNumbered p g argument kept.new }
+{
+    let mut count = 0usize;
+    let mut looked = 0usize;
+    'vertices: for vertex in frontier {
+        let neighbour_count = version.degree(u64::from(*vertex));
+        if are_few(neighbour_count) {
+            let mut cursor = version.cursor(*vertex);
+            let targets = cursor.next_slice().unwrap_or(&[]);
+            if targets.len() > LANES - count {
+                break;
+            }
+            put_edges(&mut kept.edges, count, *vertex, targets);
+            count += targets.len();
+        }
+        looked = looked.saturating_add(1);
+    }
+    kept.edges.count = count;
+    kept.forget();
+    looked
+}
+
+/// Runs the edges of the next vertices that have few in one block, if they are enough for one and that can be done at once, and
+/// keeps their numbers. Returns how many vertices it has looked at: those after them are worth another try.
+pub(crate) fn keep_next(
+    version: &Version,
+    program: &Verified,
+    argument: &[u8],
+    memory: &mut Memory,
+    frontier: &[u32],
+) -> usize
+    requires argument { length argument.now + EDGE_BYTES ≡ program.now.record_length }
+    requires memory { IsFor program.now memory.old }
+    ensures kept { AreNumbered program.now (graph_of version.now) argument.now memory.new.kept }
+    ensures memory { IsFor program.now memory.new }
+{
+    if !memory.blocks.is_useful || frontier.len() < 2 {
+        memory.kept.forget();
+        return frontier.len();
+    }
+    let looked = gather(version, &mut memory.kept, frontier);
+    if memory.kept.edges.count >= LEAST_IN_BLOCK {
+        let columns = &mut memory.blocks.columns;
+        memory.blocks.is_useful = memory.kept.run(version, program, argument, columns);
+    }
+    looked
+}
+
+/// What the numbers of edges in a row reduce to, if they are kept. Each of them has one.
+#[inline(always)]
+pub(crate) fn fold_kept(
+    version: &Version,
+    program: &Verified,
+    argument: &[u8],
+    kept: &mut Kept,
+    reduction: Reduction,
+    span: Span<'_>,
+) -> Option<u64>
+    requires degree { span.degree ≡ degree (graph_of version.now) span.source }
+    requires few { span.place + length span.targets.now ≤ 2 ^ 32 }
+    requires kept { AreNumbered program.now (graph_of version.now) argument.now kept.old }
+    ensures value { IfSome result (λ value. value ≡ reduction_of_numbers reduction
+        (span_numbers program.now (graph_of version.now) argument.now span.entry)) }
+    ensures count { IfSome result (λ _. length (span_numbers program.now (graph_of version.now) argument.now span.entry)
+        ≡ length span.entry.targets.now) }
+    ensures kept { AreNumbered program.now (graph_of version.now) argument.now kept.new }
+{
+    let mut so_far = nothing(reduction);
+    'targets: for at in 0..span.targets.len() {
+        let edge = Edge {
+            source: span.source,
+            target: span.targets[at],
+            place: span.place + at as u32,
+            degree: span.degree,
+        };
+        let Some(number) = kept.number_of(edge) else {
+            return None;
+        };
+        so_far = combine(reduction, so_far, number);
+    }
+    Some(so_far)
+}

@@ -1,0 +1,115 @@
+//! The numbers of a block of edges, kept for those that are asked for later.
+ghost use Rattle.std.specs.Prelude.{◌≡◌, ◌+◌, ◌<◌, ◌≤◌, true, Some, ℕ, List, length};
+ghost use Rattle.past_model.specs.Past.{graph_of};
+ghost use Rattle.graph_model.specs.Graph.{Graph, degree};
+ghost use Rattle.bpf_image.specs.Program.{Program};
+ghost use Rattle.bpf_model.specs.Run.{number_for};
+ghost use Rattle.bpf_blocks.specs.declared.columns.TheConstants.{LANES};
+ghost use Rattle.map_model.specs.EdgeMap.{edge_record};
+ghost use Rattle.map_model.specs.declared.limits.TheConstants.{EDGE_BYTES};
+ghost use Rattle.verifier.specs.Walks.{longest};
+ghost use Rattle.edge_fold.specs.Kept.{AreNumbered, IsEdgeAt};
+
+use crate::blocks::number_of_lane;
+use crate::edge::Edge;
+use bpf_blocks::{Columns, Edges, LANES, sweep_edges};
+use map_model::EDGE_BYTES;
+use verifier::Verified;
+use version::Version;
+
+/// A block of edges, and the numbers of those that have been run.
+#[derive(Drop)]
+pub(crate) struct Kept {
+    pub edges: Edges,
+    pub numbers: [u64; LANES],
+    /// How many of the block's edges have their numbers here.
+    pub count: usize,
+    /// The edge that is looked for next. It only saves time.
+    pub at: usize,
+}
+
+/// Whether a lane of a block has this edge.
+#[inline(always)]
+fn is_edge_at(edges: &Edges, lane: usize, edge: Edge) -> bool
+    requires { lane < LANES }
+    ensures { result ≡ true → IsEdgeAt edges.now lane edge }
+{
+    edges.targets[lane] == edge.target
+        && edges.sources[lane] == edge.source
+        && edges.places[lane] == edge.place
+        && edges.degrees[lane] == edge.degree
+}
+
+impl Kept {
+    /// No numbers.
+    pub fn new() -> Kept
+        ensures { (p : Program) (g : Graph) (argument : List ℕ) → AreNumbered p g argument result }
+    {
+        Kept {
+            edges: Edges {
+                count: 0,
+                sources: [0; LANES],
+                targets: [0; LANES],
+                places: [0; LANES],
+                degrees: [0; LANES],
+            },
+            numbers: [0; LANES],
+            count: 0,
+            at: 0,
+        }
+    }
+
+    /// Forgets all numbers.
+    #[inline(always)]
+    pub fn forget(&mut self)
+        ensures numbered { (p : Program) (g : Graph) (argument : List ℕ) → AreNumbered p g argument self.new }
+        ensures edges { self.new.edges ≡ self.old.edges }
+    {
+        self.count = 0;
+        self.at = 0;
+    }
+
+    /// Runs the block's edges at once, if that can be done, and keeps their numbers. The answer is whether it could.
+    pub fn run(
+        &mut self,
+        version: &Version,
+        program: &Verified,
+        argument: &[u8],
+        columns: &mut Columns,
+    ) -> bool
+        requires argument { length argument.now + EDGE_BYTES ≡ program.now.record_length }
+        requires few { self.old.edges.count ≤ LANES }
+        ensures { AreNumbered program.now (graph_of version.now) argument.now self.new }
+    {
+        self.count = 0;
+        self.at = 0;
+        if !sweep_edges(
+            program,
+            version,
+            &self.edges,
+            argument,
+            columns,
+            &mut self.numbers,
+        ) {
+            return false;
+        }
+        self.count = self.edges.count;
+        true
+    }
+
+    /// The number of an edge, if it is the one that is looked for next.
+    #[inline(always)]
+    pub fn number_of(&mut self, edge: Edge) -> Option<u64>
+        ensures same { (p : Program) (g : Graph) (argument : List ℕ) → AreNumbered p g argument self.old → AreNumbered p g argument self.new }
+        ensures number { (p : Program) (g : Graph) (argument : List ℕ) (n : ℕ) → AreNumbered p g argument self.old
+            → result ≡ Some n → edge.degree ≡ degree g edge.source
+            → number_for p (longest p) g (edge_record g edge.source edge.target edge.place argument) ≡ Some n }
+    {
+        let lane = self.at;
+        if lane >= self.count || lane >= LANES || !is_edge_at(&self.edges, lane, edge) {
+            return None;
+        }
+        self.at = lane + 1;
+        Some(number_of_lane(&self.numbers, lane))
+    }
+}
