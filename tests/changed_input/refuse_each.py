@@ -18,8 +18,11 @@ import tempfile
 WORKER = b"edgebpf: worker\n"
 # No refused allocation is reported as an error of the store.
 LINES = {b"edgebpf: memory\n", WORKER}
-# One worker starts no thread, and neither do two for a script whose batches and runs have one piece each.
-ONE_PIECE = "first.script"
+# One worker starts no thread, and neither do many for a script whose batches and runs have one piece each.
+ONE_PIECE, MOST_WORKERS = "first.script", 16
+# How many threads a script starts for two workers. Two allocations are of a start, which comes at no certain place where another thread runs
+# already; all others are of memory.
+STARTS, MOST_A_START = {"homes": 1, "ranges": 4, "epochs": 8}, 4
 # What is said where the words of the command line could not be read for want of memory.
 UNREAD = (2, b"", b"error: out of memory\n")
 TARGET = "code t 16 61100400000000009500000000000000"
@@ -64,7 +67,8 @@ int posix_memalign(void **out, size_t a, size_t n)
 
 
 def homes():
-    """A vertex that goes from its block to the array, to a tree, which is edited twice where it stands, and back to its block."""
+    """A vertex that goes from its block to the array, to a tree, which is edited twice where it stands, and back to its block. Each batch has
+    one piece: a run alone starts threads."""
     def batch(sign, begin, end):
         return ["batch A", *[f"{sign} 0 {target}" for target in range(begin, end)], "end", "home 0"]
 
@@ -74,10 +78,10 @@ def homes():
 
 
 def ranges():
-    """Edges in five ranges, from both feeds, and runs by one program over two pins."""
+    """Edges in five ranges, from two feeds, and runs by one program over two pins. Each run has one piece: batches alone start threads."""
     edits = [f"+ {256 * place} {place}" for place in range(5)] + [f"+ {256 * place + 7} {place}" for place in range(5)]
     lines = ["graph 1280", "batch A", *edits, "end", "pin a", "batch B", "- 0 0", "- 263 1", "+ 9 9", "end", TARGET]
-    return "".join(f"{line}\n" for line in [*lines, "pin b", "run t a sum -", "run t b min - 0 9 263", "list t a -"]).encode()
+    return "".join(f"{line}\n" for line in [*lines, "pin b", "run t a sum - 0 256 512 768 1024", "run t b min - 0 9 263", "list t a -"]).encode()
 
 
 def epochs():
@@ -124,15 +128,19 @@ def is_served(got, whole, lines):
 
 def serve_each(program, shim, folder, name, script, workers):
     """Serves a script with each allocation refused. Returns how many ends were wrong: a refused worker, too, where no
-    thread is started, and no refused worker where threads are."""
+    thread is started, and where threads are, no refused worker or too many."""
     starts_threads = workers > 1 and name != ONE_PIECE
     lines = LINES if starts_threads else LINES - {WORKER}
     kind = lambda got: got.stderr.decode(errors="replace").strip() or "complete"
     right = lambda got, whole: is_served(got, whole, lines)
     title = f"{name} by {workers}"
     wrong, kinds = try_each(program, shim, folder, title, script, ["--workers", str(workers)], right, kind)
-    if starts_threads and WORKER.decode().strip() not in kinds:
+    refused = kinds[WORKER.decode().strip()]
+    if starts_threads and not refused:
         print(f"{title}: no worker was refused")
+        wrong += 1
+    if workers == 2 and name in STARTS and refused > MOST_A_START * STARTS[name]:
+        print(f"{title}: more workers were refused than threads are started")
         wrong += 1
     return wrong
 
@@ -161,7 +169,8 @@ def main():
         for path in asked.scripts or [first]:
             own[os.path.basename(path)] = open(path, "rb").read()
         for name, script in own.items():
-            wrong += sum(serve_each(program, shim, folder, name, script, workers) for workers in asked.workers)
+            counts = [*asked.workers, MOST_WORKERS] if name == ONE_PIECE else asked.workers
+            wrong += sum(serve_each(program, shim, folder, name, script, workers) for workers in counts)
     sys.exit(1 if wrong else 0)
 
 

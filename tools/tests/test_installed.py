@@ -22,6 +22,27 @@ u64 loop(struct edge *edge, u64 length) {
 """
 OUTSIDE = "#include <edgebpf.h>\nu64 outside(struct edge *edge, u64 length) { return edge->argument[0]; }\n"
 BACKWARD = "again:\n    ja again\n"
+HELP = """\
+Serves a script from standard input, and writes the answers to standard output.
+A script makes a directed graph by batches of edges, pins its versions, and runs
+small BPF programs once for each edge. Programs are verified before they run.
+
+Usage: edgebpf [OPTIONS]
+
+Options:
+      --workers <N>  How many threads work on a batch or a run, from 1 to 16; 1 if it is not said
+  -h, --help         Print help
+  -V, --version      Print version
+
+Three lines to try. The last one prints the sum of the numbers that a program
+gives to the edges of a graph with two vertices and one edge:
+  printf '%s\\n' 'graph 2' 'batch A' '+ 0 1' end 'pin now' > graph.script
+  printf '%s\\n' 'program p 16' 'mov r0, 7' exit end 'run p now sum -' > run.script
+  cat graph.script run.script | edgebpf --workers 2
+
+The status is 0 once the whole script was executed, and 1 after a fault, which
+is the last line of the output.
+"""
 
 
 def make(*words):
@@ -76,6 +97,11 @@ class Installed(unittest.TestCase):
         self.assertRegex(commit, "^commit [0-9a-f]{12}(-dirty)?$" if (TOP / ".git").exists() else "^commit ")
         self.assertIn(facts["kit"], proved)
         self.assertIn(facts["sources of edgebpf"], proved)
+
+    def test_help(self):
+        for word in ("--help", "-h"):
+            run = self.run_as_user("edgebpf", word)
+            self.assertEqual((run.stdout, run.stderr, run.returncode), ("", HELP, 2))
 
     def test_help_shows_lines_that_work(self):
         text = self.run_as_user("edgebpf", "--help").stderr

@@ -139,6 +139,9 @@ static void refuses_batches(void) {
     for (uint32_t number = 3; number <= EDGEBPF_MOST_BATCHES; number++)
         CHECK(edgebpf_store_apply(&store, 0, many, 0, many, 0, marks, 0, &change) == EDGEBPF_DONE && change.number == number);
     CHECK(edgebpf_store_apply(&store, 0, many, 0, many, 0, marks, 0, &change) == EDGEBPF_LOG_FULL);
+    CHECK(edgebpf_store_pin(&store, &now) == EDGEBPF_DONE && edgebpf_version_info(&now, &info) == EDGEBPF_DONE);
+    CHECK(info.number == EDGEBPF_MOST_BATCHES && info.edges == 5);
+    edgebpf_close_version(&now);
 }
 
 /* After the last batch that a log has room for: the graph is version 0 of the next epoch, and there is room again. */
@@ -163,6 +166,64 @@ static void rebases(void) {
     CHECK(edgebpf_store_pin(&store, &based) == EDGEBPF_DONE && edgebpf_version_info(&based, &info) == EDGEBPF_DONE);
     CHECK(info.epoch == EDGEBPF_MOST_EPOCHS && info.number == 1 && info.edges == 6);
     edgebpf_close_version(&based);
+}
+
+/* 4,096 units, the most that code may have: all but the last give 7, which is then the number of each edge. */
+static void takes_the_longest_program(void) {
+    enum { UNITS = 4096 };
+    static const char line[] = "mov r0, 7\n", start[] = "program of 4096 units, records of 16 bytes\n", end[] = "accepted, bound 4096, frames 1\n";
+    static const uint8_t seven[8] = {0xb7, 0, 0, 0, 7}, leave[8] = {0x95};
+    static uint8_t text[UNITS * (sizeof line - 1) + 5], code[8 * (UNITS + 1)];
+    const uint32_t frontier[] = {3, 0, 1};
+    uint64_t values[3];
+    edgebpf_program longest = {{0}};
+    edgebpf_assembled made;
+    edgebpf_verdict verdict;
+    edgebpf_totals totals;
+    size_t length = 0, count = 0, again = 0;
+    for (; length < (UNITS - 1) * (sizeof line - 1); length += sizeof line - 1) memcpy(text + length, line, sizeof line - 1);
+    memcpy(text + length, "exit\n", 5);
+    CHECK(edgebpf_assemble(text, length + 5, code, sizeof code, &made) == EDGEBPF_DONE && made.length == 8 * UNITS);
+    for (size_t unit = 0; unit < UNITS; unit++) CHECK(!memcmp(code + 8 * unit, unit < UNITS - 1 ? seven : leave, 8));
+    CHECK(edgebpf_program_new(16, code, 8 * UNITS, &verdict, &longest) == EDGEBPF_DONE);
+    CHECK(verdict.bound == UNITS && verdict.frames == 1);
+    CHECK(edgebpf_run(&last, &longest, EDGEBPF_NO_BYTES, 0, frontier, 3, EDGEBPF_SUM, values, 3, &totals) == EDGEBPF_DONE);
+    CHECK(values[0] == 7 && values[1] == 21 && values[2] == 0 && totals.edges == 4 && totals.total == 28);
+    edgebpf_close_program(&longest);
+    CHECK(edgebpf_explain(16, code, 8 * UNITS, text, 0, &count) == EDGEBPF_LENGTHS && count > sizeof start + sizeof end);
+    char *told = malloc(count);
+    CHECK(told && edgebpf_explain(16, code, 8 * UNITS, (uint8_t *)told, count, &again) == EDGEBPF_DONE && again == count);
+    CHECK(!memcmp(told, start, sizeof start - 1) && !memcmp(told + count - (sizeof end - 1), end, sizeof end - 1));
+    free(told);
+    CHECK(edgebpf_program_new(16, code, 8 * (UNITS + 1), &verdict, &longest) == EDGEBPF_CODE_LENGTH && !longest.handle.at);
+    memcpy(text + length, line, sizeof line - 1);
+    memcpy(text + length + sizeof line - 1, "exit\n", 5);
+    CHECK(edgebpf_assemble(text, sizeof text, code, sizeof code, &made) == EDGEBPF_WRONG_TEXT);
+    CHECK(made.line == UNITS + 1 && made.cause == 6); /* TooLong */
+}
+
+/* The greatest graph, in which each 16th vertex has an edge to the fifth one after it, and all vertices as the frontier, from the last one. */
+static void runs_over_the_longest_frontier(void) {
+    enum { APART = 16, MOST = EDGEBPF_MOST_VERTICES };
+    static uint32_t sources[MOST / APART], targets[MOST / APART], frontier[MOST + 1];
+    static uint8_t marks[MOST / APART];
+    static uint64_t values[MOST + 1];
+    edgebpf_store greatest = {{0}};
+    edgebpf_version pin = {{0}};
+    edgebpf_change change;
+    edgebpf_totals totals;
+    uint64_t total = 0;
+    for (uint32_t i = 0; i < COUNT(sources); i++) sources[i] = APART * i, targets[i] = APART * i + 5, total += targets[i];
+    CHECK(edgebpf_store_new(MOST, &greatest) == EDGEBPF_DONE);
+    CHECK(edgebpf_store_apply(&greatest, 2, sources, COUNT(sources), targets, COUNT(targets), marks, COUNT(marks), &change) == EDGEBPF_DONE);
+    CHECK(change.added == COUNT(sources) && edgebpf_store_pin(&greatest, &pin) == EDGEBPF_DONE);
+    for (uint32_t i = 0; i < MOST; i++) frontier[i] = MOST - 1 - i;
+    CHECK(edgebpf_run(&pin, &targets_of, EDGEBPF_NO_BYTES, 0, frontier, MOST, EDGEBPF_SUM, values, MOST, &totals) == EDGEBPF_DONE);
+    for (uint32_t i = 0; i < MOST; i++) CHECK(values[i] == (frontier[i] % APART ? 0 : frontier[i] + 5));
+    CHECK(totals.edges == COUNT(sources) && totals.total == total);
+    CHECK(edgebpf_run(&pin, &targets_of, EDGEBPF_NO_BYTES, 0, frontier, MOST + 1, EDGEBPF_SUM, values, MOST + 1, &totals) == EDGEBPF_LENGTHS);
+    edgebpf_close_version(&pin);
+    edgebpf_close_store(&greatest);
 }
 
 static void tells_what_handles_hold(void) {
@@ -203,6 +264,8 @@ int main(void) {
     verifies_programs();
     reads_and_writes_texts();
     runs_programs();
+    takes_the_longest_program();
+    runs_over_the_longest_frontier();
     refuses_batches();
     rebases();
     tells_what_handles_hold();
