@@ -5,7 +5,7 @@ use service::ServeError;
 use std::alloc::Global;
 use std::fmt::Display;
 use std::test::Fail;
-use store::{PinError, PublishError, StoreError, SubmitCause};
+use store::{PinError, PublishError, RebaseError, StoreError, SubmitCause};
 
 #[test]
 fn of_stores(rt: HostRuntime) {
@@ -23,6 +23,11 @@ fn of_stores(rt: HostRuntime) {
         PublishError::WorkerRefused as u8,
     ];
     assert_eq!(rt; publishing, [1, 2, 3]);
+    let rebasing = [
+        RebaseError::OutOfMemory as u8,
+        RebaseError::EpochsFull as u8,
+    ];
+    assert_eq!(rt; rebasing, [1, 2]);
     let pinning = [PinError::Closed as u8, PinError::NoShare as u8];
     assert_eq!(rt; pinning, [1, 2]);
 }
@@ -100,6 +105,19 @@ fn words_of_stores(rt: HostRuntime) -> Result<(), Fail> {
     assert_eq!(rt;
         text_of(rt.alloc(), &PinError::NoShare)?.as_str(),
         "the version cannot have one owner more"
+    );
+    Ok(())
+}
+
+#[test]
+fn words_of_rebases(rt: HostRuntime) -> Result<(), Fail> {
+    assert_eq!(rt;
+        text_of(rt.alloc(), &RebaseError::OutOfMemory)?.as_str(),
+        "out of memory"
+    );
+    assert_eq!(rt;
+        text_of(rt.alloc(), &RebaseError::EpochsFull)?.as_str(),
+        "1024 rebases were published, and there is room for no more"
     );
     Ok(())
 }

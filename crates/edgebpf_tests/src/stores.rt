@@ -92,12 +92,12 @@ fn steps_in_vain<R: Threads + Wait>(rt: &R, shop: &mut Shop, count: u32) -> u32 
     idle
 }
 
-// Steps in vain never hide a batch that comes after them.
+// Steps in vain never hide a batch that comes after them, however many there were in all.
 #[test]
 fn a_batch_after_steps_in_vain(rt: HostRuntime) -> Result<(), Fail> {
     let mut shop = Shop::open(&rt, rt.alloc(), 4)?;
-    for _ in 0..3 {
-        assert_eq!(rt; steps_in_vain(&rt, &mut shop, 100), 100);
+    for _ in 0..300 {
+        assert_eq!(rt; steps_in_vain(&rt, &mut shop, 1), 1);
         assert!(rt; shop.submit(&rt, 0, Batch::empty()).is_none());
         assert!(rt; matches!(shop.step(&rt), Ok(Some(_))));
     }

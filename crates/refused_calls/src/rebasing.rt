@@ -152,7 +152,7 @@ fn rebase_while_held<R: Threads + Wait>(
         epoch: 0,
         number: 0,
         neighbours: &[],
-        held: Some(0),
+        held: Some(3),
     };
     if !is_at(publisher, reader, state) {
         return Told::Changed;
@@ -176,12 +176,12 @@ fn publish_in_turn<R: Threads + Wait>(
         epoch: 1,
         number: 0,
         neighbours: &[],
-        held: Some(0),
+        held: Some(3),
     };
     if !is_at(publisher, reader, rebased) {
         return Told::Changed;
     }
-    let first = publish(rt, publisher, reader, rebased, 0);
+    let first = publish(rt, publisher, reader, rebased, 3);
     let next = State {
         epoch: 1,
         number: 1,
@@ -202,7 +202,7 @@ fn rebase_and_publish<R: Threads + Wait>(
     ensures store { OneStore publisher.old.moment publisher.new.moment }
 {
     match publisher.step(rt, Workers::one(), &OpenGate) {
-        Ok(Some(receipt)) if is_next(&receipt, 0, 1, 0) => rebase_after(rt, publisher, reader),
+        Ok(Some(receipt)) if is_next(&receipt, 0, 1, 3) => rebase_after(rt, publisher, reader),
         Err(PublishError::OutOfMemory) => rebase_while_held(rt, publisher, reader),
         _ => Told::Changed,
     }
@@ -272,7 +272,7 @@ fn is_done(finished: &Finished) -> bool {
         && finished.last.edge_count() == 2
 }
 
-/// Two feeds submit a batch each. The first is published, the store is rebased, and the second is published.
+/// The last feed and another one submit a batch each. The first is published, the store is rebased, and the second is published.
 pub(crate) fn rebase_between<R: Threads + Wait>(rt: &R, alloc: Global) -> Result<(), Stop> {
     let Ok((first_batch, second_batch)) = batches(alloc) else {
         return Err(Stop::NotBegun);
@@ -285,7 +285,7 @@ pub(crate) fn rebase_between<R: Threads + Wait>(rt: &R, alloc: Global) -> Result
         mut feeds,
         mut reader,
     } = ends;
-    let submitted = feeds[0].submit(first_batch, rt).is_ok()
+    let submitted = feeds[3].submit(first_batch, rt).is_ok()
         && feeds[1].submit(second_batch, rt).is_ok();
     let told = rebase_and_publish(rt, &mut publisher, &mut reader);
     let last_is_pinned = pins_such(
