@@ -19,6 +19,9 @@ use map_model::{EDGE_BYTES, Reduction};
 use verifier::Verified;
 use version::Version;
 
+/// A program of fewer actions runs edge by edge over such vertices: to look ahead takes as long as some actions.
+const LEAST_ACTIONS: usize = 8;
+
 /// Whether a vertex with so many neighbours has few, but some.
 pub(crate) fn are_few(neighbour_count: u32) -> bool {
     0 < neighbour_count && (neighbour_count as usize) < LEAST_IN_BLOCK
@@ -78,7 +81,8 @@ pub(crate) fn keep_next(
     ensures kept { AreNumbered program.now (graph_of version.now) argument.now memory.new.kept }
     ensures memory { IsFor program.now memory.new }
 {
-    if !memory.blocks.is_useful || frontier.len() < 2 {
+    let is_short = program.actions().len() < LEAST_ACTIONS;
+    if is_short || !memory.blocks.is_useful || frontier.len() < 2 {
         memory.kept.forget();
         return frontier.len();
     }
