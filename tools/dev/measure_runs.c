@@ -12,8 +12,9 @@
 #include <rte_bpf.h>
 #endif
 
-/* A slice of fewer than 8 neighbours is run edge by edge, so the edges lie in two graphs, one of each kind. */
-enum { EDGES = 1 << 20, FEW = 7, MANY = 64, BATCH = 65536, TRIES = 9, RECORD = 24, ROOM = 4096, STRAIGHT = 250, TARGETS = 1 << 18 };
+/* A program with more than three times as many units as its shortest path is run edge by edge, so exits that no path reaches are added to the
+ * same program. */
+enum { EDGES = 1 << 20, DEGREE = 64, BATCH = 65536, TRIES = 9, RECORD = 24, ROOM = 8192, STRAIGHT = 250, TARGETS = 1 << 18 };
 
 typedef struct { uint32_t source, target, place, degree; uint64_t weight; } record;
 typedef uint64_t (*function)(const record *);
@@ -61,12 +62,12 @@ static void equal(uint64_t total, uint64_t wanted) {
     exit(1);
 }
 
-/* Edges of vertices with so many neighbours each, ascending, as a store has them. */
-static void make_edges(uint32_t degree) {
-    uint32_t step = TARGETS / degree - 1;
+/* Edges of vertices with DEGREE neighbours each, ascending, as a store has them. */
+static void make_edges(void) {
+    uint32_t step = TARGETS / DEGREE - 1;
     for (uint32_t at = 0; at < EDGES; at++) {
-        uint32_t source = at / degree, place = at % degree, last = EDGES % degree && source == EDGES / degree;
-        edges[at] = (record){source, (source % 97 + place * step) % TARGETS, place, last ? EDGES % degree : degree, weight};
+        uint32_t source = at / DEGREE, place = at % DEGREE;
+        edges[at] = (record){source, (source % 97 + place * step) % TARGETS, place, DEGREE, weight};
     }
 }
 
@@ -136,33 +137,38 @@ static void print_dpdk(const uint8_t *code, size_t length, uint64_t wanted) {
 static void print_dpdk(const uint8_t *code, size_t length, uint64_t wanted) { (void)code, (void)length, (void)wanted; }
 #endif
 
-static void measure(program *of, edgebpf_version *few, edgebpf_version *many) {
-    static uint8_t code[ROOM] __attribute__((aligned(8)));
-    edgebpf_assembled told;
+static double time_of_run(edgebpf_version *version, const uint8_t *code, size_t length, uint64_t wanted) {
     edgebpf_verdict verdict;
     edgebpf_program accepted = {{0}};
+    done(edgebpf_program_new(RECORD, code, length, &verdict, &accepted));
+    double time = BEST(wanted, sum_of_run(version, &accepted));
+    edgebpf_close_program(&accepted);
+    return time;
+}
+
+static void measure(program *of, edgebpf_version *version) {
+    static uint8_t code[ROOM] __attribute__((aligned(8)));
+    static const uint8_t leave[8] = {0x95};
+    edgebpf_assembled told;
     done(edgebpf_assemble((const uint8_t *)of->text, strlen(of->text), code, sizeof code, &told));
-    done(edgebpf_program_new(RECORD, code, told.length, &verdict, &accepted));
-    make_edges(FEW);
-    printf("%s: edge by edge %.2f", of->name, BEST(native_sum(of->native), sum_of_run(few, &accepted)));
-    make_edges(MANY);
+    size_t longer = 3 * told.length + sizeof leave;
+    if (longer > sizeof code) { fprintf(stderr, "%s is too long\n", of->name); exit(1); }
+    for (size_t at = told.length; at < longer; at += sizeof leave) memcpy(code + at, leave, sizeof leave);
     uint64_t wanted = native_sum(of->native);
-    printf(", blocks %.2f, native %.2f", BEST(wanted, sum_of_run(many, &accepted)), BEST(wanted, native_sum(of->native)));
+    printf("%s: edge by edge %.2f", of->name, time_of_run(version, code, longer, wanted));
+    printf(", blocks %.2f, native %.2f", time_of_run(version, code, told.length, wanted), BEST(wanted, native_sum(of->native)));
     print_dpdk(code, told.length, wanted);
     printf(" ns an edge\n");
-    edgebpf_close_program(&accepted);
 }
 
 int main(void) {
-    edgebpf_store stores[2] = {{{0}}};
+    edgebpf_store store = {{0}};
     char *at = programs[2].text;
     at += sprintf(at, "ldxw r0, [r1+4]\n");
     for (int turn = 0; turn < STRAIGHT / 2; turn++) at += sprintf(at, "add r0, 7\nxor r0, 0x55\n");
     sprintf(at, "exit\n");
-    make_edges(FEW);
-    edgebpf_version few = version_of_edges(&stores[0]);
-    make_edges(MANY);
-    edgebpf_version many = version_of_edges(&stores[1]);
-    for (size_t number = 0; number < sizeof programs / sizeof *programs; number++) measure(&programs[number], &few, &many);
+    make_edges();
+    edgebpf_version version = version_of_edges(&store);
+    for (size_t number = 0; number < sizeof programs / sizeof *programs; number++) measure(&programs[number], &version);
     return 0;
 }

@@ -268,6 +268,7 @@ class Terminal(unittest.TestCase):
         self.types("\x04")
         self.assertEqual(self.status(), 0)
 
+    @unittest.skipIf(MISSING, f"not there: {MISSING}")
     def test_interrupt_of_an_import(self):
         os.mkfifo(self.folder / "edges")
         self.start(TOOLS / "tests" / "second_store.py")
