@@ -173,6 +173,13 @@ class Installed(unittest.TestCase):
             self.assertEqual((run.returncode, run.stderr), (0, ""))
             self.assertIn(said, run.stdout)
 
+    def test_man_page_has_the_words_of_help(self):
+        page = " ".join(line for line in (TOP / "dist/edgebpf.1").read_text().splitlines() if not line.startswith("."))
+        about = " ".join(HELP.partition("\n\n")[0].split())
+        option = HELP.partition("--workers <N>")[2].partition("\n")[0].strip()
+        for words in [*about.removeprefix("Serves ").rstrip(".").split(". "), option]:
+            self.assertIn(words, page)
+
     def test_library(self):
         """The program in C of docs/EMBEDDING.md, over what is installed."""
         source = (TOP / "docs/EMBEDDING.md").read_text().split("```c\n")[1].split("```")[0]
