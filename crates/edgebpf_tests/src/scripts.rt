@@ -145,13 +145,13 @@ fn served_whole<G: Gate, R: Threads + Wait>(
     (answer, output.writes)
 }
 
-// 9,000 edges are two blocks of 4,096 and one of 808. Besides these there are writes for each read of the script and for the
-// first line of the list.
+// 9,000 edges are two blocks of 4,096 and one of 808. Besides these there is a write for the one read of the script, and one for
+// the first line of the list.
 #[test]
 fn a_list_is_written_in_blocks(rt: HostRuntime) -> Result<(), Fail> {
     let script = long_list(rt.alloc())?;
     let answer = served_whole(&rt, rt.alloc(), &script, Workers::one(), &OpenGate);
-    assert_eq!(rt; answer, (Ok(Ending::Complete), 6));
+    assert_eq!(rt; answer, (Ok(Ending::Complete), 5));
     Ok(())
 }
 
