@@ -90,9 +90,11 @@ class Program:
         return bytes(library.foreign().buffer(code, told.length))
 
     def _lines(self, name: str) -> bytes:
-        """The lines of a script that load the program under a name."""
-        if self.code is not None:
-            return f"code {name} {self.record} {self.code.hex() or '-'}\n".encode()
+        """The lines of a script that load the program under a name. They have the code of a text that the library assembled: some of its
+        lines may be too long for a script, and a process ends at such a line."""
+        code = self._bytes() if self._handle else self.code
+        if code is not None:
+            return f"code {name} {self.record} {code.hex() or '-'}\n".encode()
         return f"program {name} {self.record}\n{self.text}\nend\n".encode()
 
     def _explain(self) -> str:

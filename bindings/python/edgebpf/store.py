@@ -130,7 +130,7 @@ class Store:
 
     def __init__(self, process: Process, vertices: int) -> None:
         self._process, self.vertices = process, vertices
-        # Held while something is published or pinned, so that what is kept here is what the process has.
+        # Held while something is published, pinned or loaded, so that what is kept here is what the process has.
         self._turn = threading.Lock()
         # How many rebases there were, and how many batches since the last one.
         self._epoch, self._batches = 0, 0
@@ -186,15 +186,16 @@ class Store:
         """The name under which the process has a program; it is loaded at its first use."""
         if not isinstance(program, Program):
             raise TypeError("a program is made by Program, assemble or compile_c")
-        if program not in self._programs:
-            if len(self._programs) >= MOST_NAMES:
-                raise TooManyNames(f"the process keeps at most {MOST_NAMES} programs")
-            name = f"p{next(self._names)}"
-            words, _ = self._process.ask(program._lines(name))
-            if words[0] != "program":
-                raise Error(f"edgebpf did not load the program: {' '.join(words)}")
-            self._programs[program] = name
-        return self._programs[program]
+        with self._turn:
+            if program not in self._programs:
+                if len(self._programs) >= MOST_NAMES:
+                    raise TooManyNames(f"the process keeps at most {MOST_NAMES} programs")
+                name = f"p{next(self._names)}"
+                words, _ = self._process.ask(program._lines(name))
+                if words[0] != "program":
+                    raise Error(f"edgebpf did not load the program: {' '.join(words)}")
+                self._programs[program] = name
+            return self._programs[program]
 
     def close(self) -> None:
         """Ends the process, and with it the graph and its versions. May be called twice."""

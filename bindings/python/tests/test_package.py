@@ -1,4 +1,5 @@
 """The Python package over an `edgebpf` process: what README shows, answers against sets and scipy, and each error."""
+import concurrent.futures
 import os
 import pathlib
 import random
@@ -166,6 +167,26 @@ class Package(unittest.TestCase):
         named = {name: int(number) for name, number in statuses if hasattr(edgebpf.library, name)}
         self.assertEqual({name: getattr(edgebpf.library, name) for name in named}, named)
         self.assertGreater(len(named), 10)
+
+    def test_long_texts(self):
+        """A text may have lines that a script must not have, and the process of a store goes on."""
+        store = self.store(4)
+        store.batch("A", inserts=([0], [3]))
+        for before in (" " * 80_001 + "\n", "\n" * 65_537):
+            self.assertEqual(store.pin().run(edgebpf.assemble(before + TARGET)).total, 3)
+
+    def test_first_runs_at_once(self):
+        """Two threads that are the first to run a program load it once: at more than 256 programs a process ends."""
+        store = self.store(4)
+        store.batch("A", inserts=([0], [3]))
+        with concurrent.futures.ThreadPoolExecutor(2) as pool:
+            for number in range(256):
+                program = edgebpf.assemble(f"mov r0, {number}; exit")
+                totals = [each.result().total for each in [pool.submit(store.pin().run, program) for _ in range(2)]]
+                self.assertEqual(totals, [number, number])
+        with self.assertRaises(edgebpf.TooManyNames):
+            store.pin().run(edgebpf.assemble(TARGET))
+        self.assertEqual(store.batch("A", inserts=([1], [2])).version, 2)
 
     def test_without_the_library(self):
         """A program is verified by a process, with the same answers."""
