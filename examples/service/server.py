@@ -8,10 +8,14 @@ README.md has the requests. One batch is applied at a time; readers pin the last
 import argparse
 import asyncio
 import contextlib
+import json
 import pathlib
+import re
+import resource
 import sys
 import tempfile
 import time
+import urllib.parse
 
 from aiohttp import web
 
@@ -21,10 +25,18 @@ sys.path.insert(0, str(HERE.parent.parent / "bindings" / "python"))
 import edgebpf  # noqa: E402
 
 MOST_BYTES = 4 << 20
+MOST_TEXT = 1 << 18
+# The process keeps 256 programs, and lists edges by one of its own.
+MOST_PROGRAMS = 255
+# A run holds the process: more instructions than these, some seconds of work, are refused before it begins.
+MOST_INSTRUCTIONS = 10**9
+# A connection that stays for so long is closed, at the latest after twice as long.
+CONNECTION_SECONDS = 60
+NAME = re.compile(r"[A-Za-z_][A-Za-z0-9_-]{0,63}")
 BUCKETS = (0.001, 0.01, 0.1, 1.0, 10.0)
 # What a client did wrong, and what the service cannot do now.
 WRONG = (edgebpf.VertexRange, edgebpf.TooManyEdits, edgebpf.ArgumentLength, edgebpf.WrongText)
-NOT_NOW = (edgebpf.LogFull, edgebpf.TooManyNames, edgebpf.NoMemory, edgebpf.Closed)
+NOT_NOW = (edgebpf.LogFull, edgebpf.TooManyNames, edgebpf.NoMemory, edgebpf.Closed, OSError)
 
 
 class Histogram:
@@ -51,8 +63,9 @@ class Histogram:
 
 
 class Service:
-    def __init__(self, store):
-        self.store, self.programs, self.writing = store, {}, asyncio.Lock()
+    def __init__(self, store, has_c=False):
+        self.store, self.has_c, self.programs = store, has_c, {}
+        self.writing, self.listing, self.version = asyncio.Lock(), asyncio.Lock(), None
         self.batches, self.runs = Histogram("edgebpf_batch_seconds"), Histogram("edgebpf_run_seconds")
 
     async def batch(self, request):
@@ -68,13 +81,26 @@ class Service:
         """Keeps a program under a name: {"name": "score", "record": 16} with "text", "code" in hexadecimal digits, or "c"."""
         asked = await fields(request)
         name, record = text_of(asked, "name"), asked.get("record", 16)
+        if not NAME.fullmatch(name) or type(record) is not int:
+            raise ValueError("a name has 1 to 64 letters, digits, _ and -, and begins with a letter or _; a record is a whole number")
+        if "c" in asked and not self.has_c:
+            raise web.HTTPForbidden(text="this service compiles no C: it was started without --with-c")
         try:
-            self.programs[name] = program = await asyncio.to_thread(verified, asked, name, record)
+            program = self.kept(name, await asyncio.to_thread(verified, asked, name, record))
         except edgebpf.Refused as refused:
             told = {"error": "Refused", "cause": refused.cause, "unit": refused.unit, "words": refused.words}
             explained = await asyncio.to_thread(refused.explain)
             return web.json_response({**told, "explanation": explained}, status=422)
         return web.json_response({"name": name, "bound": program.bound, "frames": program.frames}, status=201)
+
+    def kept(self, name, program):
+        """The program of a name, which stays the first that had it: others run it."""
+        first = self.programs.get(name, program)
+        if (first.code, first.text, first.record) != (program.code, program.text, program.record):
+            raise web.HTTPConflict(text="another program has this name")
+        if name not in self.programs and len(self.programs) >= MOST_PROGRAMS:
+            raise edgebpf.TooManyNames(f"the service keeps {MOST_PROGRAMS} programs")
+        return self.programs.setdefault(name, first)
 
     async def run(self, request):
         """Runs a program on the last version: {"program": "score", "reduction": "sum", "frontier": [..], "argument": "00ff"}."""
@@ -82,9 +108,12 @@ class Service:
         if text_of(asked, "program") not in self.programs:
             raise web.HTTPNotFound(text="no program has this name")
         program, argument = self.programs[asked["program"]], bytes.fromhex(asked.get("argument", ""))
+        frontier = asked.get("frontier")
         with self.runs.time():
             version = await asyncio.to_thread(self.store.pin)
-            words = (program, asked.get("reduction", "sum"), asked.get("frontier"), argument)
+            if program.bound * version.edges > MOST_INSTRUCTIONS:
+                raise web.HTTPUnprocessableEntity(text=f"the bound times the edges is more than {MOST_INSTRUCTIONS}")
+            words = (program, asked.get("reduction", "sum"), None if frontier is None else whole(frontier), argument)
             result = await asyncio.to_thread(version.run, *words)
         about = {"version": version.number, "edges": result.edges, "total": result.total}
         if request.query.get("format") == "bytes":
@@ -93,8 +122,13 @@ class Service:
         return web.json_response({**about, "values": result.values.tolist()})
 
     async def neighbours(self, request):
-        version = await asyncio.to_thread(self.store.pin)
-        targets = await asyncio.to_thread(version.neighbours, int(request.match_info["vertex"]))
+        async with self.listing:
+            version = await asyncio.to_thread(self.store.pin)
+            # A version lists its edges once, at the first question.
+            if self.version is None or self.version.number != version.number:
+                self.version = version
+            version = self.version
+            targets = await asyncio.to_thread(version.neighbours, int(request.match_info["vertex"]))
         return web.json_response({"version": version.number, "neighbours": targets.tolist()})
 
     async def metrics(self, request):
@@ -119,7 +153,7 @@ def verified(asked, name, record):
 
 
 async def fields(request):
-    asked = await request.json()
+    asked = json.loads(await request.read())
     if not isinstance(asked, dict):
         raise ValueError("a request is an object")
     return asked
@@ -128,31 +162,60 @@ async def fields(request):
 def text_of(asked, name):
     if not isinstance(asked.get(name), str):
         raise ValueError(f"{name} is a text")
+    if len(asked[name]) > MOST_TEXT:
+        raise ValueError(f"{name} has more than {MOST_TEXT} characters")
     return asked[name]
+
+
+def whole(numbers):
+    """A list of whole numbers. True and false are none, though numpy takes them for 1 and 0."""
+    if not isinstance(numbers, list) or any(type(number) is not int for number in numbers):
+        raise ValueError("vertices are a list of whole numbers")
+    return numbers
 
 
 def pairs(edges):
     if not isinstance(edges, list) or not all(isinstance(edge, list) and len(edge) == 2 for edge in edges):
         raise ValueError("edges are a list of pairs")
-    return [edge[0] for edge in edges], [edge[1] for edge in edges]
+    return whole([edge[0] for edge in edges]), whole([edge[1] for edge in edges])
 
 
 @web.middleware
 async def told_errors(request, handler):
     """Errors as answers: their names, and their words."""
     try:
+        # Browsers let the page of another site post here, and name it.
+        if "Origin" in request.headers and urllib.parse.urlsplit(request.headers["Origin"]).netloc != request.host:
+            raise web.HTTPForbidden(text="this page is not of this service")
+        await request.read()
+        if request.transport:
+            request.transport.pause_reading()
         return await handler(request)
     except WRONG as error:
         return web.json_response({"error": type(error).__name__, "words": str(error)}, status=422)
     except NOT_NOW as error:
         return web.json_response({"error": type(error).__name__, "words": str(error)}, status=503)
-    except (ValueError, TypeError, KeyError, edgebpf.Error) as error:
+    except (ValueError, TypeError, KeyError, RecursionError, web.RequestPayloadError, edgebpf.Error) as error:
         return web.json_response({"error": "BadRequest", "words": str(error)}, status=400)
 
 
-def application(store):
-    service = Service(store)
-    app = web.Application(middlewares=[told_errors], client_max_size=MOST_BYTES)
+@web.middleware
+async def one_request(request, handler):
+    """Closes the connection after the answer: told_errors has read nothing after the request, so no requests pile up in memory."""
+    try:
+        response = await handler(request)
+    except web.HTTPException as error:
+        error.force_close()
+        raise
+    response.force_close()
+    return response
+
+
+def application(store, has_c=False):
+    service = Service(store, has_c)
+    # A short body that is compressed may be a long one.
+    plain = {"auto_decompress": False}
+    app = web.Application(middlewares=[one_request, told_errors], client_max_size=MOST_BYTES, handler_args=plain)
     app.add_routes([
         web.post("/batches", service.batch), web.post("/programs", service.program), web.post("/runs", service.run),
         web.get("/neighbours/{vertex:[0-9]+}", service.neighbours), web.get("/metrics", service.metrics), web.get("/", service.page),
@@ -160,14 +223,34 @@ def application(store):
     return app
 
 
+async def serve(app, port):
+    """Serves until it is interrupted, and closes connections that stay too long."""
+    runner, stayed = web.AppRunner(app), set()
+    await runner.setup()
+    try:
+        await web.TCPSite(runner, "127.0.0.1", port, shutdown_timeout=5).start()
+        while True:
+            await asyncio.sleep(CONNECTION_SECONDS)
+            for connection in stayed.intersection(runner.server.connections):
+                if connection.transport:
+                    connection.transport.abort()
+            stayed = set(runner.server.connections)
+    finally:
+        await runner.cleanup()
+
+
 def main():
     parser = argparse.ArgumentParser(description=__doc__, formatter_class=argparse.RawDescriptionHelpFormatter)
     parser.add_argument("--vertices", type=int, default=100_000)
     parser.add_argument("--workers", type=int, default=2)
     parser.add_argument("--port", type=int, default=8080)
+    parser.add_argument("--with-c", action="store_true", help="also take programs in C, whose compiler reads any file")
     options = parser.parse_args()
-    with edgebpf.connect(options.vertices, options.workers) as store:
-        web.run_app(application(store), host="127.0.0.1", port=options.port, print=None)
+    # Connections that are left open are files; where no more may be opened, nobody is served.
+    most = resource.getrlimit(resource.RLIMIT_NOFILE)[1]
+    resource.setrlimit(resource.RLIMIT_NOFILE, (most, most))
+    with edgebpf.connect(options.vertices, options.workers) as store, contextlib.suppress(KeyboardInterrupt):
+        asyncio.run(serve(application(store, options.with_c), options.port))
 
 
 if __name__ == "__main__":

@@ -1,4 +1,6 @@
 """The service under requests while batches come: no answer is wrong, and none mixes two versions."""
+import asyncio
+import contextlib
 import http.client
 import json
 import os
@@ -12,8 +14,11 @@ import sys
 import threading
 import time
 import unittest
+import unittest.mock
+import zlib
 
 HERE = pathlib.Path(__file__).resolve().parent
+sys.path.insert(0, str(HERE))
 try:
     import aiohttp  # noqa: F401
     import numpy  # noqa: F401
@@ -32,9 +37,9 @@ class Client:
     def __init__(self, port):
         self.connection = http.client.HTTPConnection("127.0.0.1", port, timeout=60)
 
-    def ask(self, method, path, body=None):
+    def ask(self, method, path, body=None, heads={}):
         sent = body if body is None or isinstance(body, bytes) else json.dumps(body).encode()
-        self.connection.request(method, path, sent)
+        self.connection.request(method, path, sent, heads)
         answer = self.connection.getresponse()
         return answer.status, answer.headers, answer.read()
 
@@ -49,7 +54,8 @@ class Service(unittest.TestCase):
         with socket.socket() as free:
             free.bind(("127.0.0.1", 0))
             self.port = free.getsockname()[1]
-        words = [sys.executable, HERE / "server.py", "--vertices", str(VERTICES), "--port", str(self.port)]
+        words = ["sh", "-c", 'ulimit -Sn 64; exec "$@"', "sh"]
+        words += [sys.executable, HERE / "server.py", "--vertices", str(VERTICES), "--port", str(self.port)]
         self.server = subprocess.Popen(words)
         for _ in range(200):
             client = Client(self.port)
@@ -141,6 +147,10 @@ class Service(unittest.TestCase):
             ("/programs", {"name": "p", "text": "jmp x"}, 422), ("/programs", {"name": "p", "code": "zz"}, 400), ("/programs", {"name": 7}, 400),
             ("/runs", {"program": "none"}, 404), ("/runs", {"program": "target", "frontier": [1, 0]}, 400),
             ("/runs", {"program": "target", "argument": "00"}, 422), ("/runs", {"program": "target", "reduction": "mean"}, 400),
+            ("/batches", b"[" * 100_000, 400), ("/batches", {"inserts": [[True, 1], [1, 1]]}, 400),
+            ("/runs", {"program": "target", "frontier": [False, 1]}, 400), ("/programs", {"name": "p", "text": " " * 300_000}, 400),
+            ("/programs", {"name": "p", "text": "exit", "record": "--help"}, 400), ("/programs", {"name": "n" * 65, "text": "exit"}, 400),
+            ("/programs", {"name": "--html=/tmp/x", "text": "exit"}, 400), ("/programs", {"name": "p", "c": '#include "/etc/passwd"'}, 403),
         ):
             with self.subTest(path=path, body=body if len(body) < 100 else "long"):
                 client = Client(self.port)
@@ -151,6 +161,83 @@ class Service(unittest.TestCase):
         self.assertEqual((status, told["error"], told["cause"]), (422, "Refused", 11))
         self.assertIn("rule 11", told["explanation"])
         self.assertEqual(self.client.told("POST", "/batches", {"inserts": [[0, 1]]}), (200, {"version": 1, "added": 1, "removed": 0}))
+
+    def test_heads(self):
+        """No charset, compressed body or page of another site makes an error of the server, or a batch."""
+        for heads, body, status in (
+            ({"Content-Type": "application/json; charset=nonsense"}, b"[]", 400), ({"Content-Encoding": "gzip"}, b"x", 400),
+            ({"Content-Encoding": "deflate"}, zlib.compress(b'{"inserts": [[0, 1]]}'), 400),
+            ({"Origin": "http://elsewhere.example"}, b'{"inserts": [[0, 1]]}', 403), ({"Origin": "null"}, b'{"inserts": [[0, 1]]}', 403),
+            ({"Origin": f"http://127.0.0.1:{self.port}"}, b'{"inserts": [[0, 1]]}', 200),
+        ):
+            with self.subTest(heads=heads):
+                self.assertEqual(self.client.ask("POST", "/batches", body, heads)[0], status)
+        self.assertEqual(self.client.told("GET", "/neighbours/0"), (200, {"version": 1, "neighbours": [1]}))
+
+    def test_texts_that_no_script_has(self):
+        """A line of more than 80,000 bytes or more than 65,536 lines would end the store's process."""
+        self.client.told("POST", "/batches", {"inserts": [[0, 7]]})
+        for name, before in (("long", " " * 80_001 + "\n"), ("lines", "\n" * 65_537)):
+            self.assertEqual(self.client.ask("POST", "/programs", {"name": name, "text": before + "ldxw r0, [r1+4]; exit"})[0], 201)
+            self.assertEqual(self.client.told("POST", "/runs", {"program": name, "frontier": [0]})[1]["values"], [7])
+
+    def test_names(self):
+        """A name keeps its program, and programs up to the limit leave room for all that the service itself runs."""
+        self.client.told("POST", "/batches", {"inserts": [[0, 7]]})
+        self.assertEqual(self.client.ask("POST", "/programs", {"name": "target", "text": "mov r0, 1; exit"})[0], 409)
+        for number in range(254):
+            status, _ = self.client.told("POST", "/programs", {"name": f"p{number}", "text": f"mov r0, {number}; exit"})
+            self.assertEqual(status, 201 if number < 253 else 503)
+            if status == 201:
+                self.assertEqual(self.client.told("POST", "/runs", {"program": f"p{number}", "frontier": [0]})[1]["values"], [number])
+        self.assertEqual(self.client.ask("POST", "/programs", {"name": "target", "text": "ldxw r0, [r1+4]; exit"})[0], 201)
+        for name, wanted in (("target", [7]), ("degree", [1])):
+            self.assertEqual(self.client.told("POST", "/runs", {"program": name, "frontier": [0]})[1]["values"], wanted)
+        self.assertEqual(self.client.told("GET", "/neighbours/0")[1]["neighbours"], [7])
+
+    def test_long_run(self):
+        """A program that may run for 946,010 instructions is not run on 2,000 edges."""
+        functions = [line for level in range(3) for line in (f"f{level}:", *[f"calllocal f{level + 1}"] * 21, "mov r0, 0", "exit")]
+        text = "\n".join([*functions, "f3:", *["mov r0, 1"] * 100, "exit"])
+        self.assertEqual(self.client.told("POST", "/programs", {"name": "heavy", "text": text})[1]["bound"], 946_010)
+        self.client.told("POST", "/batches", {"inserts": [[number % 300, number // 300] for number in range(2_000)]})
+        self.assertEqual(self.client.ask("POST", "/runs", {"program": "heavy"})[0], 422)
+
+    def test_one_request_of_a_connection(self):
+        """What follows a request is not read, so it cannot fill the memory."""
+        with socket.create_connection(("127.0.0.1", self.port), timeout=60) as connection, connection.makefile("rb") as answers:
+            connection.sendall(b"GET /metrics HTTP/1.1\r\nHost: x\r\n\r\n" * 3)
+            self.assertEqual(answers.read().count(b"HTTP/1.1"), 1)
+
+    def test_many_connections(self):
+        """More connections than files may be open at the start of a process leave room for others."""
+        with contextlib.ExitStack() as held:
+            for _ in range(100):
+                held.enter_context(socket.create_connection(("127.0.0.1", self.port)))
+            client = Client(self.port)
+            self.assertEqual(client.ask("GET", "/neighbours/0")[0], 200)
+            client.connection.close()
+
+    def test_idle_connection(self):
+        """A connection that sends no request is closed."""
+        import server
+
+        async def closed():
+            with server.edgebpf.connect(4) as store, socket.socket() as free:
+                free.bind(("127.0.0.1", 0))
+                port = free.getsockname()[1]
+                free.close()
+                serving = asyncio.create_task(server.serve(server.application(store), port))
+                await asyncio.sleep(0.2)
+                reader, writer = await asyncio.open_connection("127.0.0.1", port)
+                with contextlib.suppress(ConnectionResetError):
+                    self.assertEqual(await asyncio.wait_for(reader.read(), 20), b"")
+                writer.close()
+                serving.cancel()
+                await asyncio.wait([serving])
+
+        with unittest.mock.patch.object(server, "CONNECTION_SECONDS", 0.1):
+            asyncio.run(closed())
 
     def test_page(self):
         status, heads, body = self.client.ask("GET", "/")
