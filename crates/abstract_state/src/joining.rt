@@ -7,8 +7,40 @@ ghost use Rattle.abstract_state.specs.Called.{frame_called, kept_by, places_of};
 use crate::state::{AbstractState, Called, Callees, Frame, MOST_CALLERS, Places};
 use abstract_values::{AbstractValue, join};
 
+/// Whether an address has the other in its range. It looks at the other first, so that LLVM makes no table of jumps of this test and
+/// those before it.
+#[inline(always)]
+fn keeps_address(value: AbstractValue, other: AbstractValue) -> bool
+    ensures { IsTrue result → join_of value other ≡ value }
+{
+    match (other, value) {
+        (
+            AbstractValue::Record {
+                lo: least,
+                hi: greatest,
+            },
+            AbstractValue::Record { lo, hi },
+        )
+        | (
+            AbstractValue::Table {
+                lo: least,
+                hi: greatest,
+            },
+            AbstractValue::Table { lo, hi },
+        ) => lo <= least && greatest <= hi,
+        (
+            AbstractValue::Stack {
+                frame: its_frame,
+                offset: its_offset,
+            },
+            AbstractValue::Stack { frame, offset },
+        ) => frame == its_frame && offset == its_offset,
+        _ => false,
+    }
+}
+
 /// Whether it is seen at once that a join with the other changes nothing, as with most: neither an unset value nor
-/// a number whose range has the other's.
+/// a number or an address whose range has the other's.
 #[inline(always)]
 fn stays(value: AbstractValue, other: AbstractValue) -> bool
     ensures { IsTrue result → join_of value other ≡ value }
@@ -22,7 +54,7 @@ fn stays(value: AbstractValue, other: AbstractValue) -> bool
                 hi: greatest,
             },
         ) => lo <= least && greatest <= hi,
-        _ => false,
+        _ => keeps_address(value, other),
     }
 }
 
