@@ -1,4 +1,4 @@
-//! The program: it tells what is known at each place of a BPF program, and why one is refused.
+//! The program: it prints the verifier's state before each instruction of a BPF program, and why one is refused.
 #![tactic(auto)]
 
 mod pace;
@@ -13,10 +13,10 @@ use std::{env, io};
 use telling::{Failure, Told, told_of_digits, told_of_text};
 use words::{Asked, options};
 
-/// The status where nothing can be told: what is asked for is not allowed, or help is.
+/// The status if there is nothing to explain: the words are not allowed, or ask for help.
 const WRONG_WORDS: u8 = 2;
 
-/// What is told of what the words hand in.
+/// Explains what the words hand in.
 fn told(rt: &HostRuntime, alloc: Global, asked: &Asked) -> Result<Told, Failure> {
     match &asked.code {
         Some(digits) => told_of_digits(alloc, asked, digits),
@@ -29,7 +29,7 @@ fn told(rt: &HostRuntime, alloc: Global, asked: &Asked) -> Result<Told, Failure>
     }
 }
 
-/// Writes what is told, and returns the status.
+/// Prints an explanation, and returns the status.
 fn written(rt: &HostRuntime, told: &Told) -> ExitCode {
     let text = &told.explanation.text;
     let (written, status) = match told.explanation.judgement {

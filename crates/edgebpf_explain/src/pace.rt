@@ -1,6 +1,6 @@
 //! How a program's edges run.
-use bpf_blocks::WhySingly;
 use std::fmt;
+use verifier::WhySingly;
 
 /// How the edges of an accepted program run: in blocks, or one by one and why so. It is written as a line.
 #[derive(Drop)]

@@ -1,15 +1,15 @@
-//! From what was handed in to what is told.
+//! From what was handed in to its explanation.
 use crate::pace::Pace;
 use crate::words::Asked;
 use bpf_asm::{AssembleError, TextCause, assemble};
-use bpf_blocks::why_singly;
 use bpf_image::{Image, ImageError};
 use explanation::{Explanation, SourceLine, explain, source_lines};
 use hex::FromHexError;
 use std::alloc::{AllocError, Global};
 use thiserror::Error;
+use verifier::{Cause, WhySingly, why_singly};
 
-/// What is told of a program.
+/// The explanation of a program.
 #[derive(Drop)]
 pub struct Told {
     pub explanation: Explanation,
@@ -17,7 +17,7 @@ pub struct Told {
     pub pace: Pace,
 }
 
-/// Why nothing is told.
+/// Why there is no explanation.
 #[derive(Debug, Drop, Error)]
 pub enum Failure {
     #[error("{0}")]
@@ -65,7 +65,16 @@ fn image_of(alloc: Global, asked: &Asked, code: Vec<u8>) -> Result<Image, Failur
     }
 }
 
-/// What is told of code.
+/// Why a program's edges run one by one, if they do. Of code that does not decode nothing is said.
+fn reason_of(alloc: Global, image: &Image) -> Result<Option<WhySingly>, Failure> {
+    match why_singly(alloc, image) {
+        Ok(why) => Ok(why),
+        Err(refusal) if refusal.cause == Cause::OutOfMemory => Err(Failure::Memory),
+        Err(_) => Ok(None),
+    }
+}
+
+/// Explains code.
 fn told_of(
     alloc: Global,
     asked: &Asked,
@@ -74,19 +83,19 @@ fn told_of(
 ) -> Result<Told, Failure> {
     let image = image_of(alloc, asked, code)?;
     let pace = Pace {
-        why_singly: why_singly(&image),
+        why_singly: reason_of(alloc, &image)?,
     };
     let explanation = explain(alloc, image, source)?;
     Ok(Told { explanation, pace })
 }
 
-/// What is told of code in hexadecimal digits.
+/// Explains code in hexadecimal digits.
 pub(crate) fn told_of_digits(alloc: Global, asked: &Asked, digits: &str) -> Result<Told, Failure> {
     let code = bytes_of(alloc, digits)?;
     told_of(alloc, asked, code, &[])
 }
 
-/// What is told of assembler text.
+/// Explains assembler text.
 pub(crate) fn told_of_text(alloc: Global, asked: &Asked, text: &str) -> Result<Told, Failure> {
     match assemble(alloc, text) {
         Ok(code) => {

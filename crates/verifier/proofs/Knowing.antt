@@ -90,8 +90,7 @@ told_within p v w n (t ∷ ts) h told =
     let comes : outcome_at (calls_of p v) (opening v n (CallLocal h.opens.distance) h.opens.state) ≡ Err h.refusal = ap (outcome_at (calls_of p v)) h.opens.opens ∙ deeper p v w h.deep next ∙ h.breaks in
     let whole = call_broken p (calls_of p v) v n h.opens.distance h.opens.state h.refusal h.inside h.opens.fine h.opens.found h.opens.walked comes in
     let one : first_refusal p (calls_of p v) v (units p) ≡ Some h.refusal = breaks_one p (calls_of p v) v h.refusal whole in
-    let both : first_refusal p (calls_of p w) w (units p) ≡ first_refusal p (calls_of p v) v (units p) = within ∙ sym one in
-    (w, h.opens, told.0, subst (λ o. TellsWithin p w t.last o ts) both told.1)
+    subst (λ o. TellsWithin p v n o (t ∷ ts)) (sym one) (w, h.opens, told.0, subst (λ o. TellsWithin p w t.last o ts) within told.1)
   where
     opened_frame : (v : Passage) (n : ℕ) (z : ℤ) (s : AbstractState) (w : Passage) → opening v n (CallLocal z) s ≡ Some w → w.frame ≡ suc v.frame
     opened_frame v n z s w is = (let e : passage_at (unsigned_abs (target n z)) (suc v.frame) (callee_state v.frame s) ≡ w = cc in ap (λ (x : Passage). x.frame) (sym e))

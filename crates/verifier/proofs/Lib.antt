@@ -31,3 +31,4 @@ pub mod Knowing
 pub mod Verdicts
 pub mod Forward
 pub mod Keeping
+pub mod Singly

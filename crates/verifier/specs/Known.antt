@@ -1,4 +1,4 @@
--- What is known at the pcs of a program, as it is told to a person.
+-- What is known at the pcs of a program, as it is listed for a person.
 use Rattle.std.specs.Prelude.{◌≡◌, ℕ, ◌+◌, ◌<◌, ◌≤◌, ◌&&◌, ℤ, Bool, false, true, List, [], ◌∷◌, length, Option, Some, None, Err, is_none}
 use Rattle.bpf_isa.specs.declared.instruction.Instruction.TheVariants.{CallLocal}
 use Rattle.bpf_image.specs.Program.{Program, units}
@@ -15,7 +15,7 @@ use Rattle.verifier.specs.Verdict.{first_fault, decoding_fault, flow_fault, pair
 abbrev pub is_walkable : Program → Bool
 is_walkable p = is_none (first_fault (decoding_fault p) (units p)) && is_none (first_fault (flow_fault p) (units p)) && is_none (pairs_fault p)
 
--- what is told of a passage: what is known at each of its pcs, up to the last that was gone over
+-- what is listed of a passage: what is known at each of its pcs, up to the last that was gone over
 pub record IsKnownOf (p : Program) (v : Passage) (t : KnownPassage) : Type 0 where
   pub entry : t.entry ≡ v.entry
   pub same_length : length t.states.items ≡ units p
@@ -41,17 +41,19 @@ abbrev pub IsDoneAt : Program → Passage → ℕ → Option Refusal → Type 0
 IsDoneAt p v pc None = (first_refusal p (calls_of p v) v (units p) ≡ None) × (function_end p v.entry ≡ pc + 1)
 IsDoneAt p v pc (Some r) = IsBrokenAt p v pc r
 
--- of the passages that are open where a rule is broken each is told, each one after that which calls it
+-- of the passages that are open where a rule is broken each is listed, each one after that which calls it; where none is
+-- broken there is no other passage
 abbrev pub TellsWithin : Program → Passage → ℕ → Option Refusal → List KnownPassage → Type 0
 TellsWithin p v pc r [] = IsDoneAt p v pc r
-TellsWithin p v pc r (t ∷ ts) = (w : Passage) × IsOpenAt p v pc w × IsKnownOf p w t × TellsWithin p w t.last r ts
+TellsWithin p v pc None (t ∷ ts) = ⊥
+TellsWithin p v pc (Some r) (t ∷ ts) = (w : Passage) × IsOpenAt p v pc w × IsKnownOf p w t × TellsWithin p w t.last (Some r) ts
 
 abbrev pub Tells : Program → Passage → Option Refusal → List KnownPassage → Type 0
 Tells p v r [] = ⊥
 Tells p v r (t ∷ ts) = IsKnownOf p v t × TellsWithin p v t.last r ts
 
--- of a program that can be walked the main passage is told, and those within it that are open where the first rule is
--- broken, which breaks it by the instruction at the last pc told; of any other program nothing is told
+-- of a program that can be walked the main passage is listed, and those within it that are open where the first rule is
+-- broken, which breaks it by the instruction at the last pc listed; of any other program nothing is listed
 pub record IsKnown (p : Program) (told : List KnownPassage) : Type 0 where
   pub nothing : is_walkable p ≡ false → told ≡ []
   pub tells : is_walkable p ≡ true → Tells p (main_passage p) (rule_refusal p) told

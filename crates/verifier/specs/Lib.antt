@@ -17,3 +17,4 @@ pub mod Tables
 pub mod Known
 pub mod Actions
 pub mod Writing
+pub mod Singly

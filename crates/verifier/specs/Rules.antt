@@ -88,7 +88,7 @@ abbrev pub is_same : Register → Operand → Bool
 is_same left (Immediate n) = false
 is_same left (Source r) = number_of left == number_of r
 
--- both sides of a branch. What a register is compared with itself for tells nothing of it.
+-- both sides of a branch. What a register is compared with itself for shows nothing of it.
 abbrev pub branch_sides : Width → Comparison → Register → Operand → AbstractValue → AbstractValue → Result Sides Cause
 branch_sides w comparison left right a b =
     bind (narrowing w comparison a b) (λ sides.

@@ -32,12 +32,12 @@ calls_one (Some i) = is_call i
 abbrev pub HasOneFunction : Program → Type 0
 HasOneFunction p = (pc : ℕ) → calls_one (instruction_at p pc) ≡ false
 
--- a table that tells of each pc whether a function begins there
+-- a table of whether a function begins at each pc
 abbrev pub HasEntries : Program → List Bool → Type 0
 HasEntries p entries =
     (length entries ≡ units p) × ((q : ℕ) → q < units p → slice_index_or entries q false ≡ is_entry p q)
 
--- a table that tells of each pc where its function ends
+-- a table of where each pc's function ends
 abbrev pub HasEnds : Program → List ℕ → Type 0
 HasEnds p ends = (length ends ≡ units p) × ((q : ℕ) → q < units p → slice_index_or ends q 0 ≡ function_end p q)
 
@@ -59,7 +59,7 @@ successors_below Instructions end = next_pcs
 successors_below Frames end = next_pcs
 successors_below Pairs end = following_below end
 
--- weights of so much and more are not told apart
+-- weights of so much and more count as one
 abbrev pub ceiling : Measure → ℕ
 ceiling Instructions = most_counted + 1
 ceiling Frames = most_frames + 1

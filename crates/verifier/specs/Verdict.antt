@@ -70,7 +70,7 @@ flow_at p pc (Some i) = flow_cause p pc i
 abbrev pub flow_fault : Program → ℕ → Option Cause
 flow_fault p pc = flow_at p pc (instruction_at p pc)
 
--- ---- third and fourth pass: no walk has too many frames or counts too much. They are told at pc 0.
+-- ---- third and fourth pass: no walk has too many frames or counts too much. They are reported at pc 0.
 
 abbrev pub frames_fault : Program → Option Refusal
 frames_fault p = if nat_lt most_frames (deepest p) then Some (record { cause = TooDeep; pc = 0 }) else None
@@ -83,7 +83,7 @@ abbrev pub length_fault : Program → Option Refusal
 length_fault p = if nat_lt most_counted (longest p) then Some (record { cause = TooLong; pc = 0 }) else None
 
 -- ---- fifth pass: there are not too many instructions to verify, each function's once for every call of it. It is
--- told at pc 0 too.
+-- reported at pc 0 too.
 
 -- the most that are verified
 abbrev pub most_pairs : ℕ

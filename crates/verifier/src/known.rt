@@ -177,7 +177,7 @@ fn go_over(
     ))
 }
 
-/// Tells a passage, and those that are open within it where a rule is broken.
+/// Lists a passage, and those that are open within it where a rule is broken.
 fn tell(
     alloc: Global,
     image: &Image,
@@ -214,8 +214,8 @@ fn tell(
 }
 
 /// What is known before each unit of a program, of every run that comes there. It is for a person who asks why a program
-/// is refused, so a program may break rules: nothing is told where its code does not decode or flow, or where too many
-/// instructions would be gone through. Else the main passage is told, from the first pc on, and after it each function
+/// is refused, so a program may break rules: nothing is listed where its code does not decode or flow, or where too many
+/// instructions would be gone through. Else the main passage is listed, from the first pc on, and after it each function
 /// that is open where the first rule is broken: the call stands at the last pc of the passage before, and the broken
 /// rule at the last pc of the last passage.
 pub fn known_states(alloc: Global, image: &Image) -> Result<Vec<KnownPassage>, AllocError>

@@ -17,6 +17,7 @@ mod states;
 mod verified;
 mod walking;
 mod weights;
+mod worth;
 mod writing;
 
 pub use bpf_model::Cause;
@@ -26,3 +27,4 @@ pub use refusal::Refusal;
 pub use rules::{Onward, step_over};
 pub use verified::{Verified, verify};
 pub use weights::{MOST_COUNTED, MOST_PAIRS};
+pub use worth::{SLOTS, SLOTS_BYTES, WhySingly, why_singly};

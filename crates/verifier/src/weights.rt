@@ -37,7 +37,7 @@ pub enum Measure {
 }
 
 impl Measure {
-    /// From which weight on weights are not told apart: one more than is allowed. So no sum overflows,
+    /// From which weight on weights count as one: one more than is allowed. So no sum overflows,
     /// however much code that no way leads to would count.
     fn ceiling(self) -> u32
         ensures { result ≡ weight_ceiling self }
