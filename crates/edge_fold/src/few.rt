@@ -113,6 +113,9 @@ pub(crate) fn fold_kept(
         ≡ length span.entry.targets.now) }
     ensures kept { AreNumbered program.now (graph_of version.now) argument.now kept.new }
 {
+    if kept.count == 0 {
+        return None;
+    }
     let mut so_far = nothing(reduction);
     'targets: for at in 0..span.targets.len() {
         let edge = Edge {

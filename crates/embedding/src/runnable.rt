@@ -1,6 +1,7 @@
 //! A program with the memory of its runs.
 ghost use Rattle.std.specs.Prelude.{◌≡◌, ◌+◌, ◌≤◌, IfOk, length};
 ghost use Rattle.past_model.specs.Past.{graph_of};
+ghost use Rattle.past_model.specs.declared.limits.TheConstants.{MOST_VERTICES};
 ghost use Rattle.graph_model.specs.Graph.{edge_count, numbers_below};
 ghost use Rattle.map_model.specs.EdgeMap.{all_numbers, reduction_of_numbers, rows_of};
 ghost use Rattle.map_model.specs.declared.limits.TheConstants.{EDGE_BYTES};
@@ -84,7 +85,7 @@ impl Runnable {
         reduction: Reduction,
     ) -> Result<MapOutcome, AllocError>
         requires argument { length argument.now + EDGE_BYTES ≡ self.old.record_length }
-        requires few { length frontier.now ≤ 1048576 }
+        requires few { length frontier.now ≤ MOST_VERTICES }
         ensures program { self.new ≡ self.old }
         ensures edges { IfOk result (λ out. out.edges
             ≡ length (all_numbers self.old (longest self.old) (graph_of version.now) argument.now frontier.now)) }
