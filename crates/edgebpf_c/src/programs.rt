@@ -21,6 +21,10 @@ pub extern "C" fn edgebpf_program_new(
     verdict: &mut Verdict,
     out: &mut Handle,
 ) -> u32
+    ensures record { result ≡ RECORD_LENGTH → IsRecordLength record_length → ⊥ }
+    ensures code { result ≡ CODE_LENGTH → IsRecordLength record_length × (IsCodeLength (length code.now) → ⊥) }
+    ensures image { (result ≡ DONE) ⊎ (result ≡ REFUSED) → IsRecordLength record_length × IsCodeLength (length code.now) }
+    ensures others { result ≢ DONE → result ≢ REFUSED → result ≢ RECORD_LENGTH → result ≢ CODE_LENGTH → result ≡ NO_MEMORY }
     ensures made { result ≡ DONE → HoldsProgram out.new.held (without_table code.now record_length) }
     ensures told { result ≡ DONE → IsAccepted (without_table code.now record_length) verdict.new }
     ensures refused { result ≡ REFUSED → IsRefused (without_table code.now record_length) verdict.new }

@@ -49,7 +49,7 @@ pub extern "C" fn edgebpf_store_apply(
     }
 }
 
-/// Makes the graph of the last version the base of a new epoch, whose log is empty, and tells how many epochs ended.
+/// Makes the graph of the last version the base of a new epoch, whose log is empty, and reports how many epochs ended.
 #[unsafe(no_mangle)]
 pub extern "C" fn edgebpf_store_rebase(alloc: Global, store: &mut Handle, epoch: &mut u64) -> u32
     ensures { IsRebasedTo store.old.held result store.new.held epoch.old epoch.new }

@@ -20,7 +20,7 @@ fault_in p e =
 abbrev pub change_of : Past → Entry → Change
 change_of p e = record { added = added e.batch (graph_of p); removed = removed e.batch (graph_of p); number = number_of p + 1 }
 
--- the batch makes the next version and is told, or nothing changes and nothing is told. The answer is the first test that
+-- the batch makes the next version and is reported, or nothing changes and nothing is written. The answer is the first test that
 -- fails, unless there is no memory
 pub record IsApplied (p : Past) (e : Entry) (status : ℕ) (next : Past) (before after : Change) : Type 0 where
   pub done : status ≡ DONE → (next ≡ longer p e) × (after ≡ change_of p e)
@@ -31,7 +31,7 @@ pub record IsApplied (p : Past) (e : Entry) (status : ℕ) (next : Past) (before
 abbrev pub rebase_fault_in : Past → ℕ
 rebase_fault_in p = if nat_lt (epoch_of p) MOST_EPOCHS then DONE else EPOCHS_FULL
 
--- the last version's graph is the base of the next epoch, whose number is told, or nothing changes and nothing is told. The answer
+-- the last version's graph is the base of the next epoch, whose number is reported, or nothing changes and nothing is written. The answer
 -- is whether there is room, unless there is and no memory
 pub record IsRebased (p : Past) (status : ℕ) (next : Past) (before after : ℕ) : Type 0 where
   pub done : status ≡ DONE → (next ≡ rebased p) × (after ≡ epoch_of p + 1)

@@ -7,7 +7,7 @@ use Rattle.embedding.specs.declared.statuses.TheConstants.{EMPTY, OTHER_KIND}
 use Rattle.embedding.specs.declared.held.Held.{Held}
 use Rattle.embedding.specs.declared.held.Held.TheVariants as held
 
--- of a store whose last version has this past, what is told
+-- of a store whose last version has this past, what is reported
 abbrev pub OnStore : Option Held → ℕ → Type 0 → (Past → Type 0) → Type 0
 OnStore None status same told = (status ≡ EMPTY) × same
 OnStore (Some (held.Store s)) status same told = told s
@@ -28,7 +28,7 @@ OnProgram (Some (held.Store s)) status same told = (status ≡ OTHER_KIND) × sa
 OnProgram (Some (held.Version v)) status same told = (status ≡ OTHER_KIND) × same
 OnProgram (Some (held.Program c)) status same told = told c
 
--- of a version and a program; an empty handle is told first
+-- of a version and a program; an empty handle is reported first
 abbrev pub OnBoth : Option Held → Option Held → ℕ → Type 0 → (Past → Program → Type 0) → Type 0
 OnBoth None b status same told = (status ≡ EMPTY) × same
 OnBoth (Some x) None status same told = (status ≡ EMPTY) × same

@@ -1,4 +1,4 @@
--- What is told of a program.
+-- What is reported of a program.
 use Rattle.std.specs.Prelude.{◌≡◌, ◌≢◌, ℕ, min, List, Result, Ok, Err, length}
 use Rattle.bpf_isa.specs.declared.limits.TheConstants.{MOST_UNITS}
 use Rattle.explanation.specs.Words.{cause_number}
@@ -16,14 +16,14 @@ IsImageOf code n (Err status) =
     × (status ≡ CODE_LENGTH → IsRecordLength n × (IsCodeLength (length code) → ⊥))
     × (status ≢ RECORD_LENGTH → status ≢ CODE_LENGTH → status ≡ NO_MEMORY)
 
--- the verifier accepts it with this bound and these frames
+-- the verifier accepts it with this bound and these frames; there is no cause and no place
 abbrev pub IsAccepted : Program → Told → Type 0
-IsAccepted p told = verdict p ≡ Accepted told.bound told.frames
+IsAccepted p told = (verdict p ≡ Accepted told.bound told.frames) × (told.cause ≡ 0) × (told.pc ≡ 0)
 
--- it refuses it, by this rule and at this place
+-- it refuses it, by this rule and at this place; there is no bound and there are no frames
 abbrev pub refusal_told : Verdict → Told → Type 0
 refusal_told (Accepted bound frames) told = ⊥
-refusal_told (Refused r) told = (told.cause ≡ cause_number r.cause) × (told.pc ≡ min r.pc MOST_UNITS)
+refusal_told (Refused r) told = (told.cause ≡ cause_number r.cause) × (told.pc ≡ min r.pc MOST_UNITS) × (told.bound ≡ 0) × (told.frames ≡ 0)
 
 abbrev pub IsRefused : Program → Told → Type 0
 IsRefused p told = refusal_told (verdict p) told

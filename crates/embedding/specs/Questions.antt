@@ -1,4 +1,4 @@
--- What is told of a version.
+-- What is answered of a version.
 use Rattle.std.specs.Prelude.{◌≡◌, ℕ, Bool, true, false, Option, Some, None, slice_get}
 use Rattle.graph_model.specs.Graph.{Graph, neighbours, edge_count}
 use Rattle.past_model.specs.Past.{Past, graph_of, number_of, epoch_of}
@@ -14,7 +14,7 @@ abbrev pub answer_of : Bool → ℕ
 answer_of true = 1
 answer_of false = 0
 
--- the neighbour there is told, or that there is none, and then nothing is written
+-- the neighbour there is written; or there is none, and then nothing is written
 abbrev pub told_neighbour : Option ℕ → ℕ → ℕ → ℕ → Type 0
 told_neighbour (Some v) status before after = (status ≡ DONE) × (after ≡ v)
 told_neighbour None status before after = (status ≡ NO_NEIGHBOUR) × (after ≡ before)

@@ -1,5 +1,5 @@
 -- A run over a frontier, as a host asks for it.
-use Rattle.std.specs.Prelude.{◌≡◌, ◌≢◌, ℕ, ◌==◌, if◌then◌else◌, List, length, map, Option, Some, None}
+use Rattle.std.specs.Prelude.{◌≡◌, ◌≢◌, ℕ, ◌+◌, ◌==◌, ◌&&◌, nat_le, if◌then◌else◌, List, length, map, Option, Some, None}
 use Rattle.bpf_image.specs.Program.{Program}
 use Rattle.graph_model.specs.Graph.{Graph}
 use Rattle.map_model.specs.declared.reduction.Reduction.{Reduction}
@@ -7,7 +7,9 @@ use Rattle.map_model.specs.declared.reduction.Reduction.TheVariants.{Min, Max, S
 use Rattle.map_model.specs.declared.row.Row.{Row}
 use Rattle.map_model.specs.EdgeMap.{all_numbers, reduction_of_numbers, rows_of}
 use Rattle.verifier.specs.Walks.{longest}
-use Rattle.embedding.specs.declared.statuses.TheConstants.{DONE, REDUCTION}
+use Rattle.map_model.specs.declared.limits.TheConstants.{EDGE_BYTES}
+use Rattle.past_model.specs.declared.limits.TheConstants.{MOST_VERTICES}
+use Rattle.embedding.specs.declared.statuses.TheConstants.{DONE, NO_MEMORY, REDUCTION, LENGTHS, ARGUMENT_LENGTH}
 use Rattle.embedding.specs.declared.runs.Totals.{Totals}
 
 -- the reduction of a number
@@ -24,8 +26,18 @@ pub record IsTold (g : Graph) (p : Program) (argument frontier : List ℕ) (r : 
   pub edges : totals.edges ≡ length (all_numbers p (longest p) g argument frontier)
   pub total : totals.total ≡ reduction_of_numbers r (all_numbers p (longest p) g argument frontier)
 
--- of a known reduction, what it writes; and else nothing is written. Each other answer says what is wrong
+-- a reduction that there is, then one value for each vertex of a frontier that is not too long, then an argument of the
+-- program's length
+abbrev pub run_status : Program → (argument frontier values : List ℕ) → Option Reduction → ℕ
+run_status p argument frontier values None = REDUCTION
+run_status p argument frontier values (Some r) =
+    if (length values == length frontier) && nat_le (length frontier) MOST_VERTICES
+    then (if length argument + EDGE_BYTES == p.record_length then DONE else ARGUMENT_LENGTH)
+    else LENGTHS
+
+-- the status is that of the first test that fails, unless there is no memory; a run that is done writes its numbers, and else
+-- nothing is written
 pub record IsRun (g : Graph) (p : Program) (argument frontier : List ℕ) (reduction : ℕ) (status : ℕ) (values : List ℕ) (totals : Totals) (new_values : List ℕ) (new_totals : Totals) : Type 0 where
-  pub known : status ≡ REDUCTION → reduction_at reduction ≡ None
+  pub status_is : status ≢ NO_MEMORY → status ≡ run_status p argument frontier values (reduction_at reduction)
   pub done : (r : Reduction) → reduction_at reduction ≡ Some r → status ≡ DONE → IsTold g p argument frontier r new_values new_totals
   pub left : status ≢ DONE → (new_values ≡ values) × (new_totals ≡ totals)

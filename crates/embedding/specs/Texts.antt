@@ -12,7 +12,7 @@ use Rattle.embedding.specs.declared.statuses.TheConstants.{DONE, NO_MEMORY, LENG
 use Rattle.embedding.specs.declared.texts.Assembled.{Assembled}
 
 -- they stand at the beginning, and after them is what was there; or there is too little room for them, and none is written.
--- It is told how many they are
+-- Their number is reported
 pub record IsWritten (bytes before : List ℕ) (status : ℕ) (after : List ℕ) (count : ℕ) : Type 0 where
   pub told : count ≡ length bytes
   pub done : status ≡ DONE → after ≡ bytes ++ drop (length bytes) before
@@ -27,7 +27,7 @@ fault_number NumberRange = 5
 fault_number TooLong = 6
 fault_number OutOfMemory = 7
 
--- what is told of a text: how many bytes of code it means, or the line of its first fault and which fault that is
+-- what is reported of a text: how many bytes of code it means, or the line of its first fault and which fault that is
 abbrev pub told_of : Result (List ℕ) AssembleError → Assembled
 told_of (Ok code) = record { length = length code; line = 0; cause = 0 }
 told_of (Err e) = record { length = 0; line = e.line; cause = fault_number e.cause }
@@ -42,7 +42,7 @@ abbrev pub written_over : Result (List ℕ) AssembleError → List ℕ → List 
 written_over (Ok code) room = if nat_lt (length room) (length code) then room else code ++ drop (length code) room
 written_over (Err e) room = room
 
--- all of it is told, if there was memory; a text that is no UTF-8 has neither a length nor a line
+-- all of it is reported, if there was memory; a text that is no UTF-8 has neither a length nor a line
 pub record IsAssembled (text room : List ℕ) (status : ℕ) (told : Assembled) (new_room : List ℕ) : Type 0 where
   pub code : IsUtf8 text → status ≢ NO_MEMORY
       → (status ≡ assembled_status (assembly text) (length room)) × (told ≡ told_of (assembly text)) × (new_room ≡ written_over (assembly text) room)

@@ -56,7 +56,7 @@ fn apply_arrays(
     }
 }
 
-/// Applies a batch to the store that a handle holds, and tells what it did.
+/// Applies a batch to the store that a handle holds, and reports what it did.
 pub fn apply_held(
     alloc: Global,
     held: &mut Held,
@@ -73,7 +73,7 @@ pub fn apply_held(
     }
 }
 
-/// Begins the next epoch of the store that a handle holds, and tells how many ended.
+/// Begins the next epoch of the store that a handle holds, and reports how many ended.
 pub fn rebase_held(held: &mut Held, epoch: &mut u64) -> u32
     ensures { IsRebasedTo (Some held.old) result (Some held.new) epoch.old epoch.new }
 {

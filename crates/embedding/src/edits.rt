@@ -10,8 +10,11 @@ use std::alloc::{AllocError, Global};
 /// `removes` is not 0.
 #[derive(Clone, Copy)]
 pub struct Arrays<'a> {
+    /// The vertex that each edge leaves.
     pub sources: &'a [u32],
+    /// The vertex that each edge leads to.
     pub targets: &'a [u32],
+    /// 0 where the edge is put in.
     pub removes: &'a [u8],
 }
 

@@ -81,7 +81,7 @@ impl Handle {
         }
     }
 
-    /// Puts this in. What it held is let go.
+    /// Puts this in. What it held is dropped.
     pub fn put(&mut self, held: Box<Held>)
         ensures { self.new.held ≡ Some held.value }
     {
@@ -100,7 +100,7 @@ impl Drop for Handle {
 // Whoever has a handle owns the box, and all kinds of what it holds may go to another thread.
 unsafe impl Send for Handle {}
 
-/// Writes a new handle of this where the host wants it. What was held there is let go.
+/// Writes a new handle of this where the host wants it. What was held there is dropped.
 pub fn hand_out(alloc: Global, held: Held, out: &mut Handle) -> u32
     ensures made { result ≡ DONE → out.new.held ≡ Some held }
     ensures left { result ≢ DONE → (result ≡ NO_MEMORY) × (out.new.held ≡ out.old.held) }

@@ -46,7 +46,7 @@ pub(crate) fn image_of(alloc: Global, record_length: u16, code: &[u8]) -> Result
     }
 }
 
-// What is told of a program that is accepted.
+// The verdict on a program that is accepted.
 fn accepted(program: &Verified) -> Verdict
     ensures { IsAccepted program.now result }
 {
@@ -58,10 +58,11 @@ fn accepted(program: &Verified) -> Verdict
     }
 }
 
-// What is told of one that is refused.
+// The verdict on one that is refused.
 fn refused(refusal: Refusal) -> Verdict
     ensures cause { result.cause ≡ cause_number refusal.cause }
     ensures pc { result.pc ≡ min refusal.pc MOST_UNITS }
+    ensures others { (result.bound ≡ 0) × (result.frames ≡ 0) }
 {
     Verdict {
         bound: 0,

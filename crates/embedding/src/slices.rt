@@ -14,7 +14,9 @@ use version::Version;
 #[repr(C)]
 #[derive(Clone, Copy)]
 pub struct Slice {
+    /// The first neighbour's address.
     pub at: *const u32,
+    /// How many neighbours lie there.
     pub count: usize,
 }
 
@@ -28,7 +30,7 @@ fn slice_from(first: &u32, count: usize) -> Slice
     }
 }
 
-// Writes the slices of a vertex, as far as there is room, and tells how many.
+// Writes the slices of a vertex, as far as there is room, and returns how many.
 fn lend(version: &Version, vertex: u32, slices: &mut [Slice]) -> usize
     ensures { AreLent (degree (graph_of version.now) vertex) result slices.new }
 {
@@ -44,7 +46,7 @@ fn lend(version: &Version, vertex: u32, slices: &mut [Slice]) -> usize
     lent
 }
 
-/// Writes the slices in which a vertex's neighbours lie, in order, and tells how many it wrote: as many as there is room for,
+/// Writes the slices in which a vertex's neighbours lie, in order, and returns how many it wrote: as many as there is room for,
 /// and fewer only where these are all. They stay where they are while any handle of the version is open.
 pub fn lend_held(held: &Held, vertex: u32, slices: &mut [Slice], lent: &mut usize) -> u32
     ensures { OnVersion (Some held.now) result ((slices.new ≡ slices.old) × (lent.new ≡ lent.old))

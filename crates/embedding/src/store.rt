@@ -111,8 +111,8 @@ impl Store {
         Ok((Arc::new(self.alloc, version)?, change))
     }
 
-    /// Applies a batch: it makes the next version, and tells what the batch did. Else the store is as it was, and nothing is
-    /// told. `TOO_MANY_EDITS` exactly above 65,536 edits; else `VERTEX_RANGE` exactly where an edit names a vertex that the
+    /// Applies a batch: it makes the next version, and reports what the batch did. Else the store is as it was, and nothing is
+    /// written. `TOO_MANY_EDITS` exactly above 65,536 edits; else `VERTEX_RANGE` exactly where an edit names a vertex that the
     /// graph does not have; else `LOG_FULL` exactly after 4,096 batches of one epoch; else `FEED` exactly where there is no
     /// such feed.
     /// `NO_MEMORY` comes only where all tests pass: all that is wanted is taken before the store changes, so that the same
@@ -144,9 +144,9 @@ impl Store {
         Ok(Arc::new(self.alloc, version)?)
     }
 
-    /// Makes the graph of the last version the base of a new epoch, whose log is empty, and tells how many epochs ended. Homes
+    /// Makes the graph of the last version the base of a new epoch, whose log is empty, and reports how many epochs ended. Homes
     /// stay as they are, numbers begin again at 0, and there is room for 4,096 batches more. Else the store is as it was, and
-    /// nothing is told: `EPOCHS_FULL` exactly after 1,024 rebases, and else `NO_MEMORY`.
+    /// nothing is written: `EPOCHS_FULL` exactly after 1,024 rebases, and else `NO_MEMORY`.
     pub fn rebase(&mut self, epoch: &mut u64) -> u32
         ensures { IsRebased self.old result self.new epoch.old epoch.new }
     {
