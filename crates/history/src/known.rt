@@ -23,7 +23,7 @@ impl Model for Known {
 }
 
 impl Known {
-    /// What such a token of the book tells.
+    /// What such a token of the book shows.
     pub(crate) fn of(seen: Seen<Published, u64, Law>) -> Known
         ensures published { result.published ≡ seen.log }
         ensures book { result.book ≡ seen.book }

@@ -1,4 +1,4 @@
 //! How long a history may become.
 
-/// How many publications a history may have: 4,096 batches in each of 1,025 epochs, and a rebase between each two of them.
-pub const MOST_PUBLICATIONS: u64 = 4_199_424;
+/// How many publications a history may have: as many as its word of 64 bits counts.
+pub const MOST_PUBLICATIONS: u64 = u64::MAX;

@@ -4,6 +4,7 @@ use Rattle.std.proofs.lemmas.List.{length_push}
 use Rattle.past_model.specs.declared.entry.Entry.{Entry}
 use Rattle.past_model.specs.Past.{Past, number_of, epoch_of, longer}
 use Rattle.past_model.specs.Epochs.{mark_of, rebased}
+use Rattle.history.specs.declared.limits.TheConstants.{MOST_PUBLICATIONS}
 use Rattle.history.specs.Moment.{Moment, Beginning, moment_of, and_then}
 use Rattle.history.specs.declared.published.Published.TheVariants.{Batch, Rebase}
 use Rattle.history.proofs.Moments.{moment_of-and_then}
@@ -11,7 +12,7 @@ use Rattle.store.specs.Recorded.{moment_in, AreFew}
 
 -- ---- a batch
 
-pub room_for_batch : (p : Past) (count : ℕ) → AreFew p count → number_of p < 4096 → count < 4199424
+pub room_for_batch : (p : Past) (count : ℕ) → AreFew p count → number_of p < 4096 → count < MOST_PUBLICATIONS
 room_for_batch p count few room = let a = few.few in let b = few.epochs in omega arith
 
 pub few_longer : (p q : Past) (e : Entry) (count : ℕ) → q ≡ longer p e → AreFew p count → number_of p < 4096 → AreFew q (count + 1)
@@ -33,7 +34,7 @@ batch_known p q e k k' now next is =
 
 -- ---- a rebase
 
-pub room_for_rebase : (p : Past) (count : ℕ) → AreFew p count → epoch_of p < 1024 → count < 4199424
+pub room_for_rebase : (p : Past) (count : ℕ) → AreFew p count → epoch_of p < 1024 → count < MOST_PUBLICATIONS
 room_for_rebase p count few room = let a = few.few in let b = few.short in omega arith
 
 pub few_rebased : (p q : Past) (count : ℕ) → q ≡ rebased p → AreFew p count → epoch_of p < 1024 → AreFew q (count + 1)

@@ -1,4 +1,4 @@
--- The rule of the board, and what its steps tell.
+-- The rule of the board, and what its steps show.
 use Rattle.std.specs.Prelude.{◌≡◌, ℕ, true, List}
 use mathlib.Core.Option.{some}
 use lib.ListN.{get_elem?}

@@ -71,14 +71,16 @@ abbrev pub IsFeedOf : ℕ → TableId → ℕ → Feeding → Type 0
 IsFeedOf n queue feed s = (s.vertex_count ≡ n) × (s.queue ≡ queue) × (s.feed ≡ feed)
 
 -- at some moment the queue held as many batches as it may, and these and what was taken before were, of the
--- feed, all that it had put
+-- feed, all that it had put. Nothing that an end sees later can show that this was not so: other threads put and took at
+-- that moment, too
 pub record WasFull (s : Feeding) : Type 0 where
   pub taken : List Entry
   pub items : List Entry
   pub full : length items ≡ QUEUE_PLACES
   pub all : of_feed s.feed (taken ++ items) ≡ s.sent
 
--- at some moment the queue held nothing: all that the feeds had put was taken
+-- at some moment the queue held nothing: all that the feeds had put was taken. Nothing that an end sees later can show that
+-- this was not so: a feed may have put a batch a moment after it
 pub record WasEmpty (t : Taking) : Type 0 where
   pub sent : ℕ → List Entry
   pub all : (feed : ℕ) → of_feed feed t.taken ≡ sent feed

@@ -31,7 +31,7 @@ publication_after m None = rebase_of m
 abbrev pub IsPublication : Publication → Type 0
 IsPublication p = (before : Moment) × (p ≡ publication_after before p.entry)
 
--- what a version and a change of edges tell of one; without a change it is a rebase
+-- the publication that a version and a change of edges make; without a change it is a rebase
 abbrev pub publication_by : Moment → Option Change → Publication
 publication_by m (Some c) = record { moment = m; entry = Some c.entry; added = c.counts.added; removed = c.counts.removed }
 publication_by m None = record { moment = m; entry = None; added = 0; removed = 0 }

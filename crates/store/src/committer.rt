@@ -22,7 +22,7 @@ use std::thread::Threads;
 use version::{Counts, Version};
 use workers::{Gate, WorkError, Workers};
 
-/// From so many edits on, workers let go of the version before a batch.
+/// From so many edits on, workers drop the version before a batch.
 const LET_GO_EDITS: usize = 4_096;
 
 /// Where versions are made and shown. It has to be ended by `close`.
@@ -232,7 +232,7 @@ impl Committer {
         }
     }
 
-    // Shows it, and lets go of the version before: the board's other copy is brought up to the version that is shown, so that
+    // Shows it, and drops the version before: the board's other copy is brought up to the version that is shown, so that
     // the log that ended has no owner here.
     fn show_turn<R: Wait>(
         &mut self,
@@ -276,7 +276,7 @@ impl Committer {
         }
     }
 
-    /// Ends it: the last version. Readers are told from then on that the store is closed.
+    /// Ends it: the last version. Readers are answered from then on that the store is closed.
     pub(crate) fn close<R: Wait>(self, rt: &R) -> Arc<Version>
         ensures { arc_value result ≡ self.moment.past }
     {

@@ -53,7 +53,9 @@ pub enum SubmitCause {
 /// Why a batch was not submitted, and the batch.
 #[derive(Debug, Drop)]
 pub struct SubmitError {
+    /// Why it was not submitted.
     pub cause: SubmitCause,
+    /// The batch, as it was handed in.
     pub batch: Batch,
 }
 

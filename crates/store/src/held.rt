@@ -67,7 +67,7 @@ impl Held {
         }
     }
 
-    /// The batch, and the feed that it came by. What was done for it is let go.
+    /// The batch, and the feed that it came by. What was done for it is dropped.
     pub(crate) fn into_entry(self) -> Entry
         ensures { result ≡ entry_in self }
     {

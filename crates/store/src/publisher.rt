@@ -164,7 +164,7 @@ impl Publisher {
         }
     }
 
-    /// Ends the store, once its feeds are handed in, from A on. It takes no memory. Readers are told from then on
+    /// Ends the store, once its feeds are handed in, from A on. It takes no memory. Readers are answered from then on
     /// that the store is closed.
     pub fn finish<R: Wait>(self, feeds: Vec<Feed>, rt: &R) -> Finished
         requires { AreFeedsOf self feeds.items }

@@ -13,7 +13,8 @@ use std::sync::Arc;
 use store_model::{Event, Reply};
 
 /// Does one event, and answers it. An event that cannot happen is `Refused` and changes nothing. After
-/// an error, which comes where there is no memory for what the event makes, nothing is changed either.
+/// an error, which comes if there is no memory for what the event makes, and after 2^64 - 1 publications, nothing is changed
+/// either.
 pub fn step(world: &mut World, event: Event) -> Result<Reply, AllocError>
     ensures ok { IfOk result (λ reply. Steps world.old event reply world.new) }
     ensures err { OnErr result (world.new ≡ world.old) }

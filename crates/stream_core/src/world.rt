@@ -175,7 +175,7 @@ impl World {
         Ok(())
     }
 
-    /// Puts the held batch at the end of the log, and its shards in the place of the ones before. It fails after 4,199,424
+    /// Puts the held batch at the end of the log, and its shards in the place of the ones before. It fails after 2^64 - 1
     /// publications.
     pub(crate) fn publish(&mut self) -> Result<(), AllocError>
         requires { can self.old events.Publish ≡ true }
@@ -194,7 +194,7 @@ impl World {
         Ok(())
     }
 
-    /// Makes the graph of this moment the base of a new epoch, whose log is empty. It fails after 4,199,424 publications.
+    /// Makes the graph of this moment the base of a new epoch, whose log is empty. It fails after 2^64 - 1 publications.
     pub(crate) fn rebase(&mut self) -> Result<(), AllocError>
         requires { can self.old events.Rebase ≡ true }
         ensures ok { OnOk result (self.new ≡ after self.old events.Rebase replies.Done) }

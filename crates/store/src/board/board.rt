@@ -61,7 +61,7 @@ impl Board {
         answer
     }
 
-    /// Ends the board. From then on readers are told so.
+    /// Ends the board. From then on readers are answered so.
     pub(crate) fn close<R: Wait>(self, rt: &R) {
         let Board { writer } = self;
         if let Some(writer) = writer {

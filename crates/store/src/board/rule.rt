@@ -26,7 +26,7 @@ impl Outcome<Shown, BoardView> for Look {
     ghost then = { λ v x y w. Looks v x.version y.version w };
 }
 
-/// Another pass is told what this one knows.
+/// Another pass is given what this one knows.
 pub(crate) struct Notes;
 
 impl Split<BoardView> for Notes {
