@@ -1,4 +1,4 @@
-//! A batch's edits by ranges, as the batch alone tells.
+//! A batch's edits by ranges, as the batch alone determines them.
 ghost use Rattle.std.specs.Prelude.{◌≡◌, IfOk, IfErr};
 ghost use Rattle.batch_apply.specs.Splits.{IsSplitByRange};
 

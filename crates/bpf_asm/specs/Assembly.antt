@@ -53,7 +53,7 @@ abbrev pub reading_admission : List Item → Result Item TextCause → Result It
 reading_admission before (Ok i) = admission before i
 reading_admission before (Err cause) = Err cause
 
--- goes on after a line, or tells its fault
+-- goes on after a line, or reports its fault
 abbrev pub after_line : List Item → Result Item TextCause → (Item → Result (List Item) AssembleError) → Result (List Item) AssembleError
 after_line before (Ok i) go = go i
 after_line before (Err cause) go = Err (record { line = length before + 1; cause = cause })

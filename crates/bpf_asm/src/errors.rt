@@ -38,6 +38,7 @@ pub enum TextCause {
 pub struct AssembleError {
     /// The line, counted from 1. Where there is no memory it says nothing.
     pub line: usize,
+    /// What is wrong with the line, or that there is no memory.
     pub cause: TextCause,
 }
 

@@ -117,7 +117,7 @@ fn may_be_lent(room: u64) -> bool
     room % 4 == 0 && 4 <= room && room <= MOST_GATHER_BYTES as u64
 }
 
-/// Fills a slice of so many bytes with the neighbours that are asked for, and tells how many they are.
+/// Fills a slice of so many bytes with the neighbours that are asked for, and returns how many they are.
 fn fill<G: GraphView>(graph: &G, request: &Request, words: &mut [u8]) -> u32
     requires room { IsTrue (is_room request.now.room) }
     requires length { length words.old ≡ request.now.room }

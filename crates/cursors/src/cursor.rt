@@ -15,7 +15,7 @@ use std::marker::Model;
 /// cursor. How the list is cut into slices is left open.
 #[derive(Drop)]
 pub struct Cursor<'a> {
-    // None is the cursor of a vertex outside, and one that has told its end.
+    // None is the cursor of a vertex outside, and one that has reported its end.
     shard: Option<&'a Shard>,
     vertex: u8,
     place: u32,
@@ -101,7 +101,7 @@ impl<'a> Cursor<'a> {
         let shard: &'a Shard = self.shard?;
         let slice = shard.lent_at(self.vertex, self.place);
         if slice.is_empty() {
-            // From now on the end is told without a look at the list.
+            // From now on the end is reported without a look at the list.
             self.shard = None;
             return None;
         }

@@ -52,7 +52,7 @@ fn write_word(out: &mut [u8], place: usize, word: u32)
     out[4 * place..4 * place + 4].copy_from_slice(&word.to_le_bytes());
 }
 
-/// Fills a slice with a cursor's words, and with words that are no vertices where it ends. It tells
+/// Fills a slice with a cursor's words, and with words that are no vertices where it ends. It returns
 /// how many the cursor had.
 fn fill(cursor: Cursor<'_>, out: &mut [u8]) -> u32
     requires whole { length out.old % 4 ≡ 0 }
@@ -79,7 +79,7 @@ fn fill(cursor: Cursor<'_>, out: &mut [u8]) -> u32
 }
 
 /// Fills a slice with the neighbours of a vertex, in whose shard they stand, from a place on, each as four
-/// bytes, the lowest first, and with bytes 255 where there are no more. It tells how many there
+/// bytes, the lowest first, and with bytes 255 where there are no more. It returns how many there
 /// were. Vertex and place are not cut: a vertex outside has no neighbours. It takes no memory, and one
 /// pass over the places that are wanted.
 pub fn gather(shard: Option<&Shard>, vertex: u64, first: u64, out: &mut [u8]) -> u32

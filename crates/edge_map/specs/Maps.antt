@@ -13,7 +13,7 @@ use Rattle.edge_fold.specs.Rows.{told_rows}
 use Rattle.edge_map.specs.declared.errors.MapError.{MapError}
 use Rattle.edge_map.specs.declared.errors.MapError.TheVariants.{ArgumentLength, Frontier, OutOfMemory, WorkerRefused}
 
--- how many exit numbers there are, what all of them reduce to, and the rows that are told
+-- how many exit numbers there are, what all of them reduce to, and the rows that are reported
 pub record IsMap (rows : Rows) (p : Program) (g : Graph) (r : Reduction) (argument frontier : List ℕ) (out : MapOutcome) : Type 0 where
   pub edges : out.edges ≡ length (all_numbers p (longest p) g argument frontier)
   pub total : out.total ≡ reduction_of_numbers r (all_numbers p (longest p) g argument frontier)

@@ -98,7 +98,7 @@ call_lines told pc = pieces_to (call_piece told pc) (length told)
 abbrev pub if_told : Bool → List ℕ → List ℕ
 if_told is_told text = if is_told then text else []
 
--- what is told at a pc: nothing at the second unit of a wide instruction
+-- what is listed at a pc: nothing at the second unit of a wide instruction
 abbrev pub pc_text : Program → List SourceLine → Judgement → List KnownPassage → ℕ → List ℕ
 pc_text p source judgement told pc =
     if is_start p pc then if_told (is_told judgement) (call_lines told pc) ++ (instruction_line p source pc (starts_below p pc) ++ if_told (is_told judgement) (known_lines told pc))
@@ -204,7 +204,7 @@ abbrev pub verdict_of : Judgement → Verdict
 verdict_of (Accepted bound frames) = verdicts.Accepted bound frames
 verdict_of (Refused r) = verdicts.Refused r
 
--- a text and a judgement explain a program: the judgement is its verdict, and the text tells it with what is known at the pcs
+-- a text and a judgement explain a program: the judgement is its verdict, and the text says it with what is known at the pcs
 pub record Explains (p : Program) (source : List SourceLine) (text : List ℕ) (judgement : Judgement) : Type 0 where
   pub told : List KnownPassage
   pub is_known : IsKnown p told

@@ -1,4 +1,4 @@
--- Which rules look at what is known, and where it is told.
+-- Which rules look at what is known, and where that is listed.
 use Rattle.std.specs.Prelude.{ℕ, ◌<◌, Bool, true, false, ⊤}
 use Rattle.bpf_model.specs.declared.cause.Cause.{Cause}
 use Rattle.bpf_model.specs.declared.cause.Cause.TheVariants as causes
@@ -26,7 +26,7 @@ judges_values causes.OutOfMemory = false
 judges_values causes.ReadOnly = true
 judges_values causes.TooManyPairs = false
 
--- what is known is told of an accepted program, and of one that breaks a rule of values
+-- what is known is listed for an accepted program, and for one that breaks a rule of values
 abbrev pub is_told : Judgement → Bool
 is_told (Accepted bound frames) = true
 is_told (Refused r) = judges_values r.cause

@@ -57,7 +57,7 @@ begins_row f byte = if byte == 0 then is_set f byte else is_set f byte && not (i
 abbrev pub ends_row : Frame → ℕ → Bool
 ends_row f byte = is_set f byte && not (is_set f (byte + 1))
 
--- bytes that are set stand as rows: the first byte of a row begins it, and the last one ends it. A byte is told by how
+-- bytes that are set stand as rows: the first byte of a row begins it, and the last one ends it. A byte is named by how
 -- far it is below the frame's top
 abbrev pub row_text : (begins ends : Bool) → (number below : ℕ) → List ℕ
 row_text true true number below = codes "  byte[" ++ decimal number ++ codes "] -" ++ decimal below

@@ -65,7 +65,7 @@ fn write_all(
     Ok(text)
 }
 
-/// What is told of a program.
+/// The explanation of a program.
 #[derive(Debug, Drop)]
 pub struct Explanation {
     /// The text for a person.

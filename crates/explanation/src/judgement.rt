@@ -48,7 +48,7 @@ pub(crate) fn is_of_the_whole(cause: Cause) -> bool
 }
 
 impl Judgement {
-    /// Whether it is told what is known at the pcs.
+    /// Whether the state at each pc is listed.
     pub(crate) fn tells(self) -> bool
         ensures { result ≡ is_told self }
     {

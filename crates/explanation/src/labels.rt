@@ -17,7 +17,7 @@ pub(crate) enum Label {
     Frames,
     /// Before what usually helps.
     Help,
-    /// Before the number of a frame, of which it is told what is known.
+    /// Before the number of a frame, whose state follows.
     Frame,
     /// Where no byte of it is set.
     NoByte,

@@ -113,7 +113,7 @@ fn put_call_line(
     }
 }
 
-/// Writes from where the function is called that begins at a pc, if a passage of it is told.
+/// Writes from where the function is called that begins at a pc, if a passage of it is listed.
 #[tactic(auto, using(crate::proofs::Written::pieces_none, crate::proofs::Written::written_more))]
 fn put_call_lines(text: &mut String, told: &[KnownPassage], pc: usize) -> Result<(), AllocError>
     ensures { OnOk result (string_bytes text.new ≡ string_bytes text.old ++ call_lines told.now pc) }

@@ -101,7 +101,7 @@ IsPin seen pinned =
     → list_any (is_of_reader reader) events ≡ false → IsBeforeInEpoch pinned t.past → reader < READERS → vertex < seen.vertex_count
     → (place : ℕ) × Ran s (insert events place (Pin reader vertex)) (insert replies place Done) (with_run t reader (new_run pinned vertex))
 
--- a cursor lent a slice, or told the end
+-- a cursor lent a slice, or reported the end
 abbrev pub IsLend : Past → ℕ → List ℕ → Option (List ℕ) → List ℕ → Type 0
 IsLend past vertex left (Some slice) rest =
     (s : Core) (reader : ℕ) (words : Vec ℕ Global) → CursorSees s reader past vertex left → words.items ≡ slice

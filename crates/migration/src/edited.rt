@@ -11,7 +11,7 @@ use crate::merge::{merge, sort_by_target};
 use past_model::Edit;
 use std::alloc::AllocError;
 
-/// Puts a vertex's words after its edits, in their order, into a list in place of what it held, and tells what
+/// Puts a vertex's words after its edits, in their order, into a list in place of what it held, and returns what
 /// the edits did. The edits are sorted in place. A list that does not lie in one slice is first gathered.
 #[inline(never)]
 pub(crate) fn edited_list(

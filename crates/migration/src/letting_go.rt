@@ -1,4 +1,4 @@
-//! Shards that several threads let go.
+//! Shards that several threads drop.
 
 use crate::shard::Shard;
 use std::sync::Arc;

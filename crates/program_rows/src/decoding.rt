@@ -13,7 +13,7 @@ fn is_spelled(instruction: &Instruction, units: usize, code: &[u8], pc: usize) -
 }
 
 /// The instruction at this unit of the code that the first word has, if it is encoded as the same bytes, or why there is none.
-/// After the first word may stand what the reader is told.
+/// After the first word may stand a note for the reader.
 pub(crate) fn decoded(alloc: Global, pc: u64, input: &str) -> Result<String> {
     let (digits, _) = input.split_once(' ').unwrap_or((input, ""));
     let code = bytes_of(alloc, digits)?;

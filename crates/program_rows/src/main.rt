@@ -1,4 +1,4 @@
-//! Reads rows about BPF programs, and tells of each block of them whether all came out as they say.
+//! Reads rows about BPF programs, and prints for each block of them whether all came out as they say.
 #![tactic(auto)]
 
 mod answers;

@@ -1,4 +1,4 @@
-//! What is told of a block.
+//! The report on a block.
 use crate::answers::answer;
 use crate::block::{Block, Row};
 use anyhow::Result;
@@ -51,7 +51,7 @@ fn tell_of_table(alloc: Global, told: &mut String, block: &Block<'_>) -> Result<
     Ok(count)
 }
 
-/// What is told of a block: its name, with how many rows it has, and that all came out as they want, or what came of the others.
+/// The report on a block: its name, with how many rows it has, and that all came out as they want, or what came of the others.
 pub(crate) fn report_on(alloc: Global, block: &Block<'_>) -> Result<String> {
     let mut told = String::new(alloc);
     let count = match Row::of_block(block.lines) {

@@ -19,7 +19,7 @@ fn ending(alloc: Global, outcome: Outcome) -> Result<String, AllocError> {
     }
 }
 
-/// Adds the record to what is told of a run, if it has changed.
+/// Adds the record to the report on a run, if it has changed.
 fn with_record(alloc: Global, told: String, record: &[u8]) -> Result<String, AllocError> {
     if record == RECORD.as_slice() {
         return Ok(told);

@@ -1,4 +1,4 @@
-//! What the verifier answers, and what is told of it.
+//! What the verifier answers, and how it is explained.
 use crate::code::code_of;
 use crate::images::image_of;
 use anyhow::Result;
@@ -34,7 +34,7 @@ fn lines_of(alloc: Global, input: &str) -> Result<Vec<SourceLine<'_>>, AllocErro
     source_lines(alloc, input)
 }
 
-/// What is told of a program.
+/// The explanation of a program.
 pub(crate) fn explained(alloc: Global, record_length: u16, input: &str) -> Result<String> {
     let Ok(image) = Image::new(record_length, code_of(alloc, input)?) else {
         return Ok(String::from_str(alloc, "no image")?);

@@ -1,4 +1,4 @@
-//! Calls that take memory, one after another. It tells which of them was refused, and is run with each of its allocations failing in turn.
+//! Calls that take memory, one after another. It prints which of them was refused, and is run with each of its allocations failing in turn.
 #![tactic(auto)]
 
 mod calls;

@@ -135,7 +135,7 @@ impl Script {
         ensures line { self.new.line ≡ self.old.line }
         ensures few { HasFewVertices self.old.session }
     {
-        // The number of vertices tells that numbers cut at 2^64 - 1 fail the same tests.
+        // The number of vertices shows that numbers cut at 2^64 - 1 fail the same tests.
         let _few = self.session.vertex_count();
         match said {
             Line::Skipped => Ok(None),

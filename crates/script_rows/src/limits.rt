@@ -1,4 +1,4 @@
-//! Scripts at the limits: of each is told how it ended, and how long its text is, with a digest of it.
+//! Scripts at the limits: it prints how each ended, and how long its text is, with a digest of it.
 mod digest;
 mod recipes;
 

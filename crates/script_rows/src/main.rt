@@ -1,4 +1,4 @@
-//! Serves the scripts that its standard input has in rows, and tells of each row whether it came as the row wants; then those at the
+//! Serves the scripts that its standard input has in rows, and prints for each row whether it came as the row wants; then those at the
 //! limits, which it describes.
 #![tactic(auto)]
 
@@ -19,7 +19,7 @@ use std::thread::Threads;
 /// How many workers serve each script, in turn.
 const WORKERS: [u8; 3] = [1, 2, 16];
 
-/// Serves a row's script by so many workers. Where it did not come as the row wants, this is told.
+/// Serves a row's script by so many workers. If it did not come as the row wants, this is printed.
 fn came_so<R: Print + Threads + Wait>(
     rt: &R,
     alloc: Global,
@@ -53,7 +53,7 @@ fn came_always<R: Print + Threads + Wait>(
     Ok(true)
 }
 
-/// Serves the rows of a text, and tells how each came.
+/// Serves the rows of a text, and prints how each came.
 fn serve_rows<R: Print + Threads + Wait>(rt: &R, alloc: Global, text: &str) -> io::Result<()> {
     let text = text.strip_suffix('\n').unwrap_or(text);
     // What stands before the first head says what the file is.

@@ -1,4 +1,4 @@
--- What an end of the service tells: its bytes, where they are known, and how often it failed.
+-- What an end of the service shows: its bytes, where they are known, and how often it failed.
 use Rattle.std.specs.Prelude.{◌≡◌, ℕ, ◌+◌, ◌<◌, ◌≤◌, ◌^◌, ◌%◌, List, ◌++◌, length, Option, Result, Ok, Err, ⊤}
 use Rattle.std.specs.Io.KnownBytes.{Appends}
 

@@ -30,7 +30,7 @@ pub(crate) fn write_all<O: Output>(output: &mut O, text: &[u8]) -> Result<(), Fa
     Ok(())
 }
 
-/// Writes a text and lets go of it. After an error the output has some of it, from the front.
+/// Writes a text and clears it. After an error the output has some of it, from the front.
 pub(crate) fn write_text<O: Output>(output: &mut O, text: &mut Vec<u8>) -> Result<(), ServeError>
     ensures ok { OnOk result (Appends (O.contents output.old) (O.contents output.new) text.old.items) }
     ensures empty { OnOk result (text.new.items ≡ []) }

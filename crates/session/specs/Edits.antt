@@ -12,7 +12,7 @@ abbrev pub edit_of : GivenEdit → Edit
 edit_of (given.Insert source target) = edits.Insert source target
 edit_of (given.Remove source target) = edits.Remove source target
 
--- the edit stands after the others, or the fault is told and they are as they were
+-- the edit stands after the others, or the fault is reported and they are as they were
 abbrev pub AddsEdit : Option Fault → Edit → (old new : List Edit) → Result (Unit {0}) CommandError → Type 0
 AddsEdit fault e old new (Ok _) = (fault ≡ None) × (new ≡ old ++ e ∷ [])
 AddsEdit fault e old new (Err (errors.Fault told)) = (fault ≡ Some told) × (new ≡ old)

@@ -16,7 +16,7 @@ map_error_of map.Frontier = errors.Fault faults.Frontier
 map_error_of map.OutOfMemory = errors.OutOfMemory
 map_error_of map.WorkerRefused = errors.WorkerRefused
 
--- what a map gave, told of a program and a pin by their names; or why it gave nothing
+-- what a map gave, with the names of its program and its pin; or why it gave nothing
 abbrev pub IsToldOf : (program pin : List ℕ) → Result MapOutcome MapError → Result GivenAnswer CommandError → Type 0
 IsToldOf program pin (Ok out) (Ok answer) = answer_of answer ≡ EdgesMapped program pin out.edges out.total out.rows.items
 IsToldOf program pin (Ok out) (Err e) = ⊥

@@ -21,8 +21,9 @@ pub enum CommandError {
     /// A thread could not be started. A batch may be held, to be handed in again.
     #[error("a worker could not be started")]
     WorkerRefused,
-    /// The store does not answer as it should: it refuses a batch or a pin, has no batch, or publishes or pins another.
-    #[error("the store does not answer as it should")]
+    /// A version cannot have one owner more, or the store did not answer as it should: it refused a batch or a pin, had no
+    /// batch, or published or pinned another.
+    #[error("a version cannot have one owner more")]
     Store,
 }
 

@@ -9,7 +9,7 @@ use crate::session::Session;
 use session_model::Fault;
 
 impl Session {
-    /// Tells where the last version keeps a vertex's neighbours, and how many they are.
+    /// Reports where the last version keeps a vertex's neighbours, and how many they are.
     pub(crate) fn tell_home<'a>(&mut self, vertex: u64) -> Result<Answer<'a>, CommandError>
         ensures { Performs (home_response vertex self.old) result self.old self.new }
     {

@@ -1,4 +1,4 @@
-//! The edges that a list still has to tell.
+//! The edges that a list still has to print.
 
 ghost use Rattle.std.specs.Prelude.{◌≡◌};
 ghost use Rattle.std.specs.Arc.{arc_value};
@@ -54,7 +54,7 @@ impl Listing {
         }
     }
 
-    /// The edges from the first on, to be told block by block.
+    /// The edges from the first on, to be listed block by block.
     pub fn edges(&self) -> EdgeList<'_>
         ensures { result ≡ self.now }
     {

@@ -23,7 +23,7 @@ pub(crate) struct Names<'a> {
     pub pin: &'a [u8],
 }
 
-/// Lists the edges of a pin, where both are there. It runs nothing: the edges are run as they are told.
+/// Lists the edges of a pin, where both are there. It runs nothing: the edges are run as they are listed.
 fn list_found<'a>(
     names: &Names<'a>,
     argument: Vec<u8>,

@@ -100,7 +100,7 @@ impl Session {
         }
     }
 
-    /// Ends the session: its graph, programs and pins are let go.
+    /// Ends the session: its graph, programs and pins are dropped.
     pub fn close<R: Wait>(self, rt: &R) {
         let Session {
             alloc: _,

@@ -12,7 +12,7 @@ use Rattle.map_model.specs.declared.limits.TheConstants.{EDGE_BYTES}
 use Rattle.session_model.specs.declared.limits.TheConstants.{MOST_KEPT}
 use Rattle.session_model.specs.Session.{Session, program_named, pin_named}
 
--- tests in their order: the first that holds tells the fault
+-- tests in their order: the first that holds gives the fault
 abbrev pub first_fault : List (Bool × Fault) → Option Fault
 first_fault [] = None
 first_fault (test ∷ tests) = if test.0 then Some test.1 else first_fault tests

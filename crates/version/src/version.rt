@@ -143,7 +143,7 @@ impl Version {
     }
 
     /// Fills a slice with the neighbours of a vertex from a place on, each as four bytes, the lowest first,
-    /// and with bytes 255 where there are no more. It tells how many there were.
+    /// and with bytes 255 where there are no more. It returns how many there were.
     pub fn gather(&self, vertex: u64, first: u64, out: &mut [u8]) -> u32
         requires { length out.old % 4 ≡ 0 }
         ensures words { out.new

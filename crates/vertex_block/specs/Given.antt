@@ -1,4 +1,4 @@
--- The places of a block are told by its words.
+-- A block's words determine its places.
 use Rattle.std.proofs.Common.{◌≡◌, ℕ, ◌-◌, List, ◌++◌, length, take, replicate, sym, ap, ap₂, ◌∙◌, arith}
 use Rattle.std.proofs.lemmas.List.{length-take, take-append-drop}
 use Rattle.vertex_block.specs.declared.block.VertexBlock.TheInside.{Inside}

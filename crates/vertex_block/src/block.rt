@@ -13,7 +13,7 @@ pub const PLACES: usize = 12;
 /// its words.
 #[derive(Clone, Copy)]
 pub struct VertexBlock {
-    // 0 stands at the places that are free, so that a block is told by its words.
+    // 0 stands at the places that are free, so that a block's words determine it.
     places: [u32; PLACES],
     len: u32,
 }
