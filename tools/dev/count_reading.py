@@ -1,11 +1,14 @@
 """Prints the reading list of docs/HEADLINE.md: each file with its lines, and how many of these are to be read.
 
-Run it at the top of the repository. A line is to be read if it is neither empty nor a comment nor an import.
+Run it at the top of the repository. A line is to be read if it is neither empty nor a comment, an import or an attribute.
 """
 from pathlib import Path
 
 LIST = [
     ("What a program is", [
+        ("bpf_image/src/limits.rt", "how long records and tables are"),
+        ("bpf_image/src/lengths.rt", "the lengths of both, as a type"),
+        ("bpf_isa/src/limits.rt", "how long code is"),
         ("bpf_image/specs/Program.antt", "a program; which lengths are allowed"),
         ("bpf_isa/src/instruction.rt", "the instructions, as types (the calls below them are inner)"),
         ("bpf_isa/specs/Encoding.antt", "which bytes spell each"),
@@ -21,6 +24,7 @@ LIST = [
         ("bpf_model/specs/Helpers.antt", "what a program may ask of the graph"),
         ("bpf_model/specs/Step.antt", "one step of each instruction"),
         ("bpf_model/specs/Run.antt", "steps in turn; the outcome of a run, and its number"),
+        ("map_model/src/limits.rt", "the edge's part of a record"),
         ("map_model/specs/EdgeMap.antt", "the record of an edge; all edges with their numbers"),
         ("verifier/specs/Sound.antt", "`IsFine`, `IsRecord`, `NeverGoesWrong`, `AlwaysExits`; the others are inner"),
         ("bpf_locality/specs/Locality.antt", "what a step touches"),
@@ -48,7 +52,7 @@ NOT_READ = ("--", "//", "#[")
 
 
 def to_read(text):
-    """How many lines of a file are neither empty nor a comment nor an import, which may go over several lines."""
+    """How many lines of a file are neither empty nor a comment, an attribute or an import, which may go over several lines."""
     count, inside = 0, False
     for line in map(str.strip, text.splitlines()):
         if inside:
