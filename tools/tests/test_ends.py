@@ -118,7 +118,9 @@ class Ends(unittest.TestCase):
             number = (signal.SIGINT, signal.SIGTERM)[place % 2]
             run.send_signal(number)
             _, said = run.communicate()
-            if run.returncode == 0:
+            if run.returncode == 0 or "the table is" in said:
+                # All was written before the signal came.
+                self.assertTrue((self.folder / "edges.ids").exists())
                 break
             self.assertEqual(run.returncode, 128 + number, said)
             self.assertEqual([line for line in said.splitlines() if "edges read" not in line], [f"edgebpf-import: {'interrupted' if number == signal.SIGINT else 'terminated'}"])
