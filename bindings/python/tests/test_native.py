@@ -14,7 +14,7 @@ from test_package import TARGET, edgebpf, np
 @unittest.skipIf(np is not None and edgebpf.library.path() is None, "not there: cffi, or libedgebpf.so, which make -C dist makes")
 class Native(test_package.Package):
     # These are of a process, or of the package as it lies on disk.
-    test_ended = test_cookbook = test_from_c = test_installed = None
+    test_ended = test_cookbook = test_first_runs_at_once = test_from_c = test_installed = None
 
     def store(self, vertices, workers=1):
         store = edgebpf.Store(vertices)
