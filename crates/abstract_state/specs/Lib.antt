@@ -3,3 +3,4 @@ pub mod Called
 pub mod Memory
 pub mod Described
 pub mod Laws
+pub mod Joining

@@ -1,46 +1,15 @@
 //! What is known where two ways meet, of all registers and the stacks.
-ghost use Rattle.std.specs.Prelude.{◌≡◌, ◌&&◌, IsTrue, length, map};
+ghost use Rattle.std.specs.Prelude.{◌≡◌, ◌<◌, ◌&&◌, IsTrue, length, map};
 ghost use Rattle.abstract_values.specs.Values.{join_of};
 ghost use Rattle.abstract_state.specs.States.{most_callers, elementwise, join_of_frames, join_if_live, join_of_states};
+ghost use Rattle.abstract_state.specs.Joining.{joined_from};
 ghost use Rattle.abstract_state.specs.Called.{frame_called, kept_by, places_of};
 
 use crate::state::{AbstractState, Called, Callees, Frame, MOST_CALLERS, Places};
 use abstract_values::{AbstractValue, join};
 
-/// Whether an address has the other in its range. It looks at the other first, so that LLVM makes no table of jumps of this test and
-/// those before it.
-#[inline(always)]
-fn keeps_address(value: AbstractValue, other: AbstractValue) -> bool
-    ensures { IsTrue result → join_of value other ≡ value }
-{
-    match (other, value) {
-        (
-            AbstractValue::Record {
-                lo: least,
-                hi: greatest,
-            },
-            AbstractValue::Record { lo, hi },
-        )
-        | (
-            AbstractValue::Table {
-                lo: least,
-                hi: greatest,
-            },
-            AbstractValue::Table { lo, hi },
-        ) => lo <= least && greatest <= hi,
-        (
-            AbstractValue::Stack {
-                frame: its_frame,
-                offset: its_offset,
-            },
-            AbstractValue::Stack { frame, offset },
-        ) => frame == its_frame && offset == its_offset,
-        _ => false,
-    }
-}
-
 /// Whether it is seen at once that a join with the other changes nothing, as with most: neither an unset value nor
-/// a number or an address whose range has the other's.
+/// a number whose range has the other's.
 #[inline(always)]
 fn stays(value: AbstractValue, other: AbstractValue) -> bool
     ensures { IsTrue result → join_of value other ≡ value }
@@ -54,16 +23,60 @@ fn stays(value: AbstractValue, other: AbstractValue) -> bool
                 hi: greatest,
             },
         ) => lo <= least && greatest <= hi,
-        _ => keeps_address(value, other),
+        _ => false,
     }
 }
 
-/// A join that changes something, as with few. It is a call, so that the others take few instructions.
-#[inline(never)]
-fn join_one(value: &mut AbstractValue, other: &AbstractValue)
-    ensures { value.new ≡ join_of value.old other.now }
+/// Whether an address has the other in its range.
+#[inline(always)]
+fn keeps_address(value: AbstractValue, other: AbstractValue) -> bool
+    ensures { IsTrue result → join_of value other ≡ value }
 {
-    *value = join(*value, *other);
+    match (value, other) {
+        (
+            AbstractValue::Record { lo, hi },
+            AbstractValue::Record {
+                lo: least,
+                hi: greatest,
+            },
+        )
+        | (
+            AbstractValue::Table { lo, hi },
+            AbstractValue::Table {
+                lo: least,
+                hi: greatest,
+            },
+        ) => lo <= least && greatest <= hi,
+        (
+            AbstractValue::Stack { frame, offset },
+            AbstractValue::Stack {
+                frame: its_frame,
+                offset: its_offset,
+            },
+        ) => frame == its_frame && offset == its_offset,
+        _ => false,
+    }
+}
+
+/// Goes on from a value that is not seen at once to stay, and returns from where on the others are left: it passes over the
+/// addresses there that stay, or joins the one value. It is a call, so that numbers take few instructions.
+#[inline(never)]
+fn join_from(values: &mut [AbstractValue], others: &[AbstractValue], from: usize) -> usize
+    requires long { length values.old ≡ length others.now }
+    requires inside { from < length values.old }
+    ensures ahead { from < result }
+    ensures long { length values.new ≡ length values.old }
+    ensures joined { joined_from result values.new others.now ≡ joined_from from values.old others.now }
+{
+    let mut at = from;
+    'addresses: while at < values.len() && keeps_address(values[at], others[at]) {
+        at += 1;
+    }
+    if at > from {
+        return at;
+    }
+    values[from] = join(values[from], others[from]);
+    from + 1
 }
 
 /// Joins each value with the other's.
@@ -71,11 +84,13 @@ fn join_values(values: &mut [AbstractValue], others: &[AbstractValue])
     requires { length values.old ≡ length others.now }
     ensures { values.new ≡ elementwise join_of values.old others.now }
 {
-    for i in 0..values.len() {
-        if stays(values[i], others[i]) {
-            continue;
+    let mut at = 0usize;
+    'values: while at < values.len() {
+        if stays(values[at], others[at]) {
+            at += 1;
+        } else {
+            at = join_from(values, others, at);
         }
-        join_one(&mut values[i], &others[i]);
     }
 }
 
