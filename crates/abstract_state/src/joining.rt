@@ -8,14 +8,12 @@ ghost use Rattle.abstract_state.specs.Called.{frame_called, kept_by, places_of};
 use crate::state::{AbstractState, Called, Callees, Frame, MOST_CALLERS, Places};
 use abstract_values::{AbstractValue, join};
 
-/// Whether it is seen at once that a join with the other changes nothing, as with most: neither an unset value nor
-/// a number whose range has the other's.
+/// Whether a number's range has the other's.
 #[inline(always)]
-fn stays(value: AbstractValue, other: AbstractValue) -> bool
+fn keeps_number(value: AbstractValue, other: AbstractValue) -> bool
     ensures { IsTrue result → join_of value other ≡ value }
 {
     match (value, other) {
-        (AbstractValue::Unset, _) => true,
         (
             AbstractValue::Number { lo, hi },
             AbstractValue::Number {
@@ -25,6 +23,14 @@ fn stays(value: AbstractValue, other: AbstractValue) -> bool
         ) => lo <= least && greatest <= hi,
         _ => false,
     }
+}
+
+/// Whether nothing is known, so that nothing is lost, whatever the other is.
+#[inline(always)]
+fn stays_unset(value: AbstractValue, _other: AbstractValue) -> bool
+    ensures { IsTrue result → join_of value _other ≡ value }
+{
+    matches!(value, AbstractValue::Unset)
 }
 
 /// Whether an address has the other in its range.
@@ -79,16 +85,21 @@ fn join_from(values: &mut [AbstractValue], others: &[AbstractValue], from: usize
     from + 1
 }
 
-/// Joins each value with the other's.
+/// Joins each value with the other's. Most stay as they are: runs of numbers and runs of unset values are passed over in a
+/// loop each, which takes fewer instructions than one loop for both.
 fn join_values(values: &mut [AbstractValue], others: &[AbstractValue])
     requires { length values.old ≡ length others.now }
     ensures { values.new ≡ elementwise join_of values.old others.now }
 {
     let mut at = 0usize;
     'values: while at < values.len() {
-        if stays(values[at], others[at]) {
+        'numbers: while at < values.len() && keeps_number(values[at], others[at]) {
             at += 1;
-        } else {
+        }
+        'unset: while at < values.len() && stays_unset(values[at], others[at]) {
+            at += 1;
+        }
+        if at < values.len() {
             at = join_from(values, others, at);
         }
     }
