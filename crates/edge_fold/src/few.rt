@@ -1,4 +1,4 @@
-//! Vertices that have few neighbours: the edges of some of them are run in one block.
+//! Vertices that have few neighbours, for the program that is run: the edges of some of them are run in one block.
 ghost use Rattle.std.specs.Prelude.{◌≡◌, ◌+◌, ◌^◌, ◌≤◌, ℕ, List, length, IfSome};
 ghost use Rattle.past_model.specs.Past.{graph_of};
 ghost use Rattle.graph_model.specs.Graph.{Graph, degree};
@@ -22,9 +22,22 @@ use version::Version;
 /// A program of fewer actions runs edge by edge over such vertices: to look ahead takes as long as some actions.
 const LEAST_ACTIONS: usize = 8;
 
+/// Of more than half a block hardly two vertices share one.
+const MOST_TOGETHER: usize = LANES / 2;
+
+/// From so many neighbours on, a vertex has a block of its own. A block takes some 25 instructions for each action beside those of its
+/// lanes, and to share one takes some 25 for each edge.
+pub(crate) fn least_alone(program: &Verified) -> u32 {
+    let actions = program.actions().len();
+    if actions < LEAST_ACTIONS {
+        return 0;
+    }
+    actions.min(MOST_TOGETHER + 1) as u32
+}
+
 /// Whether a vertex with so many neighbours has few, but some.
-pub(crate) fn are_few(neighbour_count: u32) -> bool {
-    0 < neighbour_count && (neighbour_count as usize) < LEAST_IN_BLOCK
+pub(crate) fn are_few(neighbour_count: u32, least_alone: u32) -> bool {
+    0 < neighbour_count && neighbour_count < least_alone
 }
 
 /// Puts the edges of a vertex into a block, from a lane on.
@@ -43,7 +56,7 @@ fn put_edges(edges: &mut Edges, first: usize, source: u32, targets: &[u32])
 
 /// Makes a block of the edges of the next vertices that have few. None of them has its number yet. Returns how many vertices
 /// were looked at.
-fn gather(version: &Version, kept: &mut Kept, frontier: &[u32]) -> usize
+fn gather(version: &Version, kept: &mut Kept, frontier: &[u32], least_alone: u32) -> usize
     ensures few { kept.new.edges.count ≤ LANES }
     ensures numbered { (p : Program) (g : Graph) (argument : List ℕ) → AreNumbered p g argument kept.new }
 {
@@ -51,7 +64,7 @@ fn gather(version: &Version, kept: &mut Kept, frontier: &[u32]) -> usize
     let mut looked = 0usize;
     'vertices: for vertex in frontier {
         let neighbour_count = version.degree(u64::from(*vertex));
-        if are_few(neighbour_count) {
+        if are_few(neighbour_count, least_alone) {
             let mut cursor = version.cursor(*vertex);
             let targets = cursor.next_slice().unwrap_or(&[]);
             if targets.len() > LANES - count {
@@ -75,18 +88,18 @@ pub(crate) fn keep_next(
     argument: &[u8],
     memory: &mut Memory,
     frontier: &[u32],
+    least_alone: u32,
 ) -> usize
     requires argument { length argument.now + EDGE_BYTES ≡ program.now.record_length }
     requires memory { IsFor program.now memory.old }
     ensures kept { AreNumbered program.now (graph_of version.now) argument.now memory.new.kept }
     ensures memory { IsFor program.now memory.new }
 {
-    let is_short = program.actions().len() < LEAST_ACTIONS;
-    if is_short || !memory.blocks.is_useful || frontier.len() < 2 {
+    if !memory.blocks.is_useful || frontier.len() < 2 {
         memory.kept.forget();
         return frontier.len();
     }
-    let looked = gather(version, &mut memory.kept, frontier);
+    let looked = gather(version, &mut memory.kept, frontier, least_alone);
     if memory.kept.edges.count >= LEAST_IN_BLOCK {
         let columns = &mut memory.blocks.columns;
         memory.blocks.is_useful = memory.kept.run(version, program, argument, columns);
