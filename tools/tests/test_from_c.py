@@ -4,6 +4,7 @@ import os
 import pathlib
 import random
 import re
+import struct
 import subprocess
 import tempfile
 import unittest
@@ -31,6 +32,39 @@ NATIVE_FLAGS = ["-fwrapv", "-fno-strict-aliasing", "-ffreestanding", "-fPIC", "-
 RECORDS = int(os.environ.get("FROM_C_RECORDS", "2"))
 RANDOM_FUNCTIONS = int(os.environ.get("RANDOM_FUNCTIONS", "150"))
 VERTICES = 90
+MOST = 2**64 - 1
+# A vertex with more neighbours than 16 times 1,024, and what the header's loops over them give.
+HUB = 17_000
+LOOPS = """#include <edgebpf.h>
+for_each_neighbour(of_each, word, total, unused) { return total + word; }
+for_1024_neighbours(of_1024, word, total, unused) { return total + word; }
+for_64_neighbours(of_64, word, total, unused) { return total + word; }
+for_each_neighbour_until(of_65, limit, word, total, limit) { return total + 1; }
+u64 each(struct edge *edge, u64 length) { return of_each(edge->source, 0, 0); }
+u64 thousand(struct edge *edge, u64 length) { return of_1024(edge->source, 0, 0); }
+u64 few(struct edge *edge, u64 length) { return of_64(edge->source, 0, 0); }
+u64 until_64(struct edge *edge, u64 length) { return of_65(edge->source, 0, 64); }
+u64 until_65(struct edge *edge, u64 length) { return of_65(edge->source, 0, 65); }
+"""
+LOOP_NUMBERS = {"each": HUB * (HUB - 1) // 2, "thousand": 1024 * 1023 // 2, "few": 64 * 63 // 2, "until_64": 64, "until_65": 128}
+
+
+def hashed(number):
+    for _ in range(2):
+        number = (number ^ number >> 32) * 0xD6E8FEB86659FD93 & MOST
+    return number ^ number >> 32
+
+
+# What functions give that are little more than one of the header's, which both sides compile: of source, target, numbers of 64 bits, and argument.
+BY_HAND = {
+    "saturated_sum": lambda source, target, words, argument: min(words[0] + words[1], MOST),
+    "saturated_difference": lambda source, target, words, argument: max(target - source, 0),
+    "saturated_product": lambda source, target, words, argument: min(words[0] * target, MOST),
+    "trailing_zeros": lambda source, target, words, argument: (target & -target).bit_length() - 1 if target else 32,
+    "index_at_most": lambda source, target, words, argument: argument[min(target, 15)],
+    "hash_of_target": lambda source, target, words, argument: hashed(target),
+    "hash_of_edge": lambda source, target, words, argument: hashed(hashed(source + 0x9E3779B97F4A7C15 & MOST) ^ target),
+}
 
 
 class OneGraph:
@@ -125,6 +159,15 @@ class FromC(unittest.TestCase):
             # 190 of 200 are to be accepted.
             self.assertLessEqual(20 * refused, accepted + refused)
 
+    def test_loops_over_a_hub(self):
+        path = pathlib.Path(self.folder.name) / "loops.c"
+        path.write_text(LOOPS)
+        objects, hub = objects_of(path, self.folder.name), Graph(HUB, {0: list(range(HUB))}, HUB)
+        record = struct.pack("<4I", 0, 1, 1, HUB)
+        programs = {function.name: link(objects, function, 16) for function in objects.functions if function.name in LOOP_NUMBERS}
+        numbers = {name: run(program.code, record, hub, judged(program.code, 16)[0]) for name, program in programs.items()}
+        self.assertEqual(numbers, LOOP_NUMBERS)
+
     def test_random_functions(self):
         """Each is accepted as it is or with opaque indices, as `edgebpf-c` compiles what is refused; what is refused first is so at a line and
         for an index of which too little is known. Both ways give the numbers of native code."""
@@ -165,6 +208,10 @@ class FromC(unittest.TestCase):
         self.assertNotIsInstance(verdict, Refused, f"{name}: {verdict}")
         for record in self.graph.records(length, name):
             number = run(program.code, record, self.graph.graph, verdict[0])
+            for one in (record, record[:16].ljust(length, b"\0")) if name in BY_HAND else ():
+                source, target = struct.unpack_from("<2I", one)
+                wanted = BY_HAND[name](source, target, struct.unpack_from("<2Q", one[16:].ljust(16)), one[16:])
+                self.assertEqual(run(program.code, one, self.graph.graph, verdict[0]), wanted, f"{name} of {one.hex()}")
             self.assertEqual(number, native_number(library, name, record), f"{name} of {record.hex()}")
 
 

@@ -64,6 +64,11 @@ class EdgebpfSpread(unittest.TestCase):
         self.assertEqual(self.spread("--reduce", "min").stdout, least)
         most = "run t last edges 4 total 4\nrow 0 1\nrow 70 2\nrow 299 4\n"
         self.assertEqual(self.spread("--reduce", "max").stdout, most)
+        # Parts take turns with ranges of 256 vertices; a source that stands in a line with two blanks alone; and a sum past 2^64.
+        graph, ones = "graph 600\nbatch A\n+ 0 1\n+  256 2\n+ 512 3\nend\n", "code m 16 b7000000ffffffff9500000000000000\n"
+        rows = "".join(f"row {vertex} {2**64 - 1}\n" for vertex in (0, 256, 512))
+        for words in ([], ["--whole"]):
+            self.assertEqual(self.spread(*words, graph=graph, program=ones).stdout, f"run m last edges 3 total {2**64 - 3}\n{rows}")
         empty = self.spread("--reduce", "min", "--whole", graph="graph 3\n")
         self.assertEqual(empty.stdout, "run t last edges 0 total 18446744073709551615\n")
 

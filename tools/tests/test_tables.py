@@ -53,6 +53,9 @@ class Tables(unittest.TestCase):
         words = ("--table", "FOLDER/column", "--table-type")
         _, table = self.image(self.compiled(READS, *words, "u16", column="3\n1\n400\n\n65535\n").stdout)
         self.assertEqual(table, bytes([3, 0, 1, 0, 144, 1, 255, 255]))
+        for kind, size in (("u8", 1), ("u16", 2), ("u32", 4), ("u64", 8)):
+            _, table = self.image(self.compiled(READS, *words, kind, column="1\n2\n").stdout)
+            self.assertEqual(table, b"".join(number.to_bytes(size, "little") for number in (1, 2)))
         self.refused("column:2: 256 is no number from 0 to 255", READS, *words, "u8", column="3\n256\n")
         self.refused("column:1: -1 is no number", READS, *words, "u64", column="-1\n")
         self.refused("column has no byte", READS, *words, "u8", column="\n")

@@ -189,7 +189,13 @@ static void takes_the_longest_program(void) {
     CHECK(verdict.bound == UNITS && verdict.frames == 1);
     CHECK(edgebpf_run(&last, &longest, EDGEBPF_NO_BYTES, 0, frontier, 3, EDGEBPF_SUM, values, 3, &totals) == EDGEBPF_DONE);
     CHECK(values[0] == 7 && values[1] == 21 && values[2] == 0 && totals.edges == 4 && totals.total == 28);
+    edgebpf_program shared = {{0}};
+    CHECK(edgebpf_program_share(&longest, &shared) == EDGEBPF_DONE);
     edgebpf_close_program(&longest);
+    CHECK(edgebpf_run(&last, &shared, EDGEBPF_NO_BYTES, 0, frontier, 3, EDGEBPF_MAX, values, 3, &totals) == EDGEBPF_DONE);
+    CHECK(values[0] == 7 && values[1] == 7 && values[2] == 0 && totals.edges == 4 && totals.total == 7);
+    edgebpf_close_program(&shared);
+    CHECK(edgebpf_explain(24, code, 8 * UNITS, text, 0, &again) == EDGEBPF_LENGTHS && again > sizeof start + sizeof end);
     CHECK(edgebpf_explain(16, code, 8 * UNITS, text, 0, &count) == EDGEBPF_LENGTHS && count > sizeof start + sizeof end);
     char *told = malloc(count);
     CHECK(told && edgebpf_explain(16, code, 8 * UNITS, (uint8_t *)told, count, &again) == EDGEBPF_DONE && again == count);
@@ -223,7 +229,40 @@ static void runs_over_the_longest_frontier(void) {
     CHECK(totals.edges == COUNT(sources) && totals.total == total);
     CHECK(edgebpf_run(&pin, &targets_of, EDGEBPF_NO_BYTES, 0, frontier, MOST + 1, EDGEBPF_SUM, values, MOST + 1, &totals) == EDGEBPF_LENGTHS);
     edgebpf_close_version(&pin);
+    /* Each vertex gets an edge more, and then two of them lose one: a million edges, over a rebase. */
+    uint64_t epoch = 9;
+    edgebpf_info info;
+    for (uint32_t part = 1; part <= APART; part++) {
+        for (uint32_t i = 0; i < COUNT(sources); i++) sources[i] = APART * i + part % APART, targets[i] = sources[i] ^ 1;
+        CHECK(edgebpf_store_apply(&greatest, 1, sources, COUNT(sources), targets, COUNT(targets), marks, COUNT(marks), &change) == EDGEBPF_DONE);
+        CHECK(change.added == COUNT(sources) && change.number == part + 1);
+    }
+    CHECK(edgebpf_store_rebase(&greatest, &epoch) == EDGEBPF_DONE && epoch == 1);
+    marks[0] = marks[1] = 1;
+    CHECK(edgebpf_store_apply(&greatest, 0, sources, 2, targets, 2, marks, 2, &change) == EDGEBPF_DONE);
+    CHECK(change.added == 0 && change.removed == 2 && change.number == 1);
+    CHECK(edgebpf_store_pin(&greatest, &pin) == EDGEBPF_DONE && edgebpf_version_info(&pin, &info) == EDGEBPF_DONE);
+    CHECK(info.epoch == 1 && info.edges == MOST + COUNT(sources) - 2);
+    edgebpf_close_version(&pin);
     edgebpf_close_store(&greatest);
+}
+
+/* A record of 256 bytes, of which the program reads the last one of the argument. */
+static void runs_with_the_longest_argument(void) {
+    static const uint8_t last_byte[] = {0x71, 0x10, 255, 0, 0, 0, 0, 0, 0x95, 0, 0, 0, 0, 0, 0, 0};
+    const uint32_t frontier[] = {3, 0, 1};
+    uint8_t argument[240] = {0};
+    uint64_t values[3], numbers[5];
+    edgebpf_program longest = {{0}};
+    edgebpf_verdict verdict;
+    edgebpf_totals totals;
+    argument[239] = 7;
+    CHECK(edgebpf_program_new(256, last_byte, 16, &verdict, &longest) == EDGEBPF_DONE && verdict.bound == 2);
+    CHECK(edgebpf_run(&last, &longest, argument, 240, frontier, 3, EDGEBPF_SUM, values, 3, &totals) == EDGEBPF_DONE);
+    CHECK(values[0] == 7 && values[1] == 21 && values[2] == 0 && totals.edges == 4 && totals.total == 28);
+    CHECK(edgebpf_numbers(&last, &longest, argument, 240, numbers, 5) == EDGEBPF_DONE);
+    for (int i = 0; i < 5; i++) CHECK(numbers[i] == 7);
+    edgebpf_close_program(&longest);
 }
 
 static void tells_what_handles_hold(void) {
@@ -252,8 +291,11 @@ static void tells_what_handles_hold(void) {
     CHECK(edgebpf_store_new(0, &none) == EDGEBPF_VERTEX_COUNT && !none.handle.at);
     CHECK(edgebpf_store_new(EDGEBPF_MOST_VERTICES + 1, &none) == EDGEBPF_VERTEX_COUNT && !none.handle.at);
     edgebpf_close_store(&none);
-    CHECK(!strcmp(edgebpf_words(EDGEBPF_NO_NEIGHBOUR), "the vertex has no neighbour at this place"));
-    CHECK(!strcmp(edgebpf_words(EDGEBPF_EPOCHS_FULL), "1024 rebases were made, and there is room for no more"));
+    static const char *const words[] = {
+        "done", "memory", "empty", "another kind", "number of vertices", "an edit names", "65536 edits", "4096 batches",
+        "feed", "lengths", "refuses", "record length", "code is not", "argument", "reduction", "means no code", "neighbour", "1024 rebases",
+    };
+    for (uint32_t status = 0; status < COUNT(words); status++) CHECK(strstr(edgebpf_words(status), words[status]));
     CHECK(!strcmp(edgebpf_words(EDGEBPF_EPOCHS_FULL + 1), "there is no such status"));
 }
 
@@ -266,6 +308,7 @@ int main(void) {
     runs_programs();
     takes_the_longest_program();
     runs_over_the_longest_frontier();
+    runs_with_the_longest_argument();
     refuses_batches();
     rebases();
     tells_what_handles_hold();

@@ -122,8 +122,10 @@ class Package(unittest.TestCase):
 
     def test_views(self):
         store = self.store(5)
+        self.assertEqual(store.pin().csr()[0].tolist(), [0] * 6)
         store.batch("A", ([1, 1, 4], [0, 3, 2]))
         version = store.pin()
+        self.assertFalse(any(array.flags.writeable for array in version.csr()))
         view = version.neighbours(1)
         self.assertEqual(view.tolist(), [0, 3])
         self.assertEqual(version.neighbours(0).tolist(), [])
@@ -140,6 +142,13 @@ class Package(unittest.TestCase):
         self.assertEqual(store.pin().run(scaled, argument=b"\x05").values.tolist(), [5, 10, 0])
         with self.assertRaises(edgebpf.ArgumentLength):
             store.pin().run(scaled)
+        # The first and the last byte of the longest argument, and the place, which is not the target.
+        text = "ldxb r0, [r1+16]; lsh r0, 8; ldxb r2, [r1+255]; or r0, r2; ldxw r2, [r1+8]; lsh r2, 16; or r0, r2; exit"
+        ends, argument = edgebpf.assemble(text, record=256), bytes(range(1, 241))
+        store.batch("A", ([0], [2]))
+        version = store.pin()
+        self.assertEqual(version.numbers(ends, argument).tolist(), [1 << 8 | 240, 1 << 16 | 1 << 8 | 240, 1 << 8 | 240])
+        self.assertEqual(version.run(ends, argument=argument).values.tolist(), [1 << 16 | 992, 496, 0])
 
     def test_refused(self):
         with self.assertRaises(edgebpf.Refused) as told:
@@ -147,12 +156,24 @@ class Package(unittest.TestCase):
         self.assertEqual((told.exception.cause, told.exception.unit), (11, 0))
         self.assertIn("rule 11", told.exception.explain())
         with self.assertRaises(edgebpf.Refused) as told:
+            edgebpf.assemble("mov r2, 1; ldxw r0, [r1+21]; exit", record=24)
+        self.assertEqual((told.exception.cause, told.exception.unit), (11, 1))
+        self.assertEqual(str(told.exception), f"refused, cause 11 at unit 1: {edgebpf.errors.CAUSES[11]}")
+        self.assertIn("records of 24 bytes", told.exception.explain())
+        with self.assertRaises(edgebpf.Refused) as told:
             edgebpf.Program(bytes.fromhex("9500000000000000"))
         self.assertEqual(told.exception.cause, 8)
         self.assertIn("rule 8", told.exception.explain())
         with self.assertRaises(edgebpf.WrongText) as told:
             edgebpf.assemble("mov r0, 7\njmp x")
         self.assertEqual((told.exception.cause, told.exception.line), (2, 2))
+        with self.assertRaisesRegex(edgebpf.WrongText, "^line 3: no statement has this word$"):
+            edgebpf.assemble("mov r0, 7; mov r1, 1; jmp x")
+        for text in ("mov r0, 1\nend\nexit", "mov r0, 1 ; \xe9\nexit"):
+            with self.assertRaises(ValueError):
+                edgebpf.assemble(text)
+        calls = edgebpf.assemble("calllocal f;exit;f:;mov r0, 1;exit")
+        self.assertEqual((calls.bound, calls.frames), (4, 2))
         for code in (b"", bytes(7), bytes(8 * 4_097)):
             with self.assertRaises(ValueError):
                 edgebpf.Program(code)
@@ -163,6 +184,20 @@ class Package(unittest.TestCase):
     def test_numbers_of_errors(self):
         """Each cause and each error of a text has words, and the library's statuses are those of the header."""
         self.assertEqual((sorted(edgebpf.errors.CAUSES), sorted(edgebpf.errors.TEXT_ERRORS)), (list(range(1, 19)), list(range(1, 7))))
+        words = ["instruction", "out of its", "back", "call", "exit", "eight", "may run", "unset", "r10", "only a number", "outside", "stack byte", "argument"]
+        words += ["helper", "in r0", "memory", "table", "verified"]
+        for number, word in enumerate(words, 1):
+            self.assertIn(word, edgebpf.errors.CAUSES[number])
+        for number, word in enumerate(["no label", "has this word", "earlier", "no line", "number", "4,096"], 1):
+            self.assertIn(word, edgebpf.errors.TEXT_ERRORS[number])
+        raised = {1: edgebpf.NoMemory, 2: edgebpf.Closed, 5: edgebpf.VertexRange, 6: edgebpf.TooManyEdits, 7: edgebpf.LogFull, 13: edgebpf.ArgumentLength}
+        for status, error in (raised | {17: edgebpf.EpochsFull, 99: edgebpf.Error}).items():
+            with self.assertRaises(error) as told:
+                edgebpf.library.check(status)
+            self.assertIs(type(told.exception), error)
+        for status, word in ((11, "record"), (12, "units")):
+            with self.assertRaisesRegex(ValueError, word):
+                edgebpf.library.check(status)
         statuses = re.findall(r"^    EDGEBPF_(\w+) = (\d+)", (TOP / "bindings/c/edgebpf.h").read_text(), re.M)
         named = {name: int(number) for name, number in statuses if hasattr(edgebpf.library, name)}
         self.assertEqual({name: getattr(edgebpf.library, name) for name in named}, named)
@@ -170,6 +205,8 @@ class Package(unittest.TestCase):
 
     def test_long_texts(self):
         """A text may have lines that a script must not have, and the process of a store goes on."""
+        longest = edgebpf.assemble("mov r0, 7; " * 4_095 + "exit")
+        self.assertEqual((longest.bound, edgebpf.Program(bytes.fromhex("b700000007000000" * 4_095 + "9500000000000000")).bound), (4_096, 4_096))
         store = self.store(4)
         store.batch("A", inserts=([0], [3]))
         for before in (" " * 80_001 + "\n", "\n" * 65_537):
@@ -201,7 +238,7 @@ class Package(unittest.TestCase):
         """After each error nothing was published, and the store goes on."""
         store = self.store(4)
         outside = edgebpf.VertexRange
-        for edges, error in ((([4], [0]), outside), (([0], [-1]), outside), (([0, 1], [0]), ValueError), (([0.5], [1]), TypeError), ((["a"], [1]), TypeError)):
+        for edges, error in ((([4], [0]), outside), (([0], [-1]), outside), (([0, 1], [0]), ValueError), (([0.5], [1]), TypeError), ((["a"], [1]), TypeError), (([1 << 32], [0]), outside), (([True], [False]), TypeError), (([[0]], [[1]]), TypeError)):
             with self.assertRaises(error):
                 store.batch("A", edges)
         with self.assertRaises(edgebpf.TooManyEdits):
@@ -215,11 +252,15 @@ class Package(unittest.TestCase):
                 version.run(edgebpf.assemble(TARGET), "sum", frontier)
         with self.assertRaises(edgebpf.VertexRange):
             version.run(edgebpf.assemble(TARGET), "sum", [4])
-        with self.assertRaises(edgebpf.VertexRange):
-            version.neighbours(-1)
+        for vertex in (-1, 4):
+            with self.assertRaises(edgebpf.VertexRange):
+                version.neighbours(vertex)
 
     def test_rebase(self):
         """Numbers begin again, the graph stays as it is, and so does a version from before."""
+        store = self.store(4)
+        store.pin(), store.rebase()
+        self.assertEqual((store.pin().epoch, store.pin().number), (1, 0))
         store, target = self.store(4), edgebpf.assemble(TARGET)
         store.batch("A", ([0, 0, 1], [1, 2, 2]))
         first = store.pin()
@@ -269,6 +310,7 @@ class Package(unittest.TestCase):
         store.close()
         with self.assertRaises(edgebpf.Closed):
             store.batch("A", ([0], [1]))
+        edgebpf.connect(4, 16).close()
         for vertices, workers in ((0, 1), (1 << 20 | 1, 1), (4, 0), (4, 17)):
             with self.assertRaises(ValueError):
                 edgebpf.connect(vertices, workers)
@@ -276,13 +318,15 @@ class Package(unittest.TestCase):
     def test_ended(self):
         """A process that ends is an error with its words, and not a wait."""
         with tempfile.TemporaryDirectory() as folder:
-            for words, error in (("edgebpf: memory", edgebpf.NoMemory), ("edgebpf: write", edgebpf.Closed)):
+            memory, closed = edgebpf.NoMemory, edgebpf.Closed
+            for words, to, error in (("edgebpf: memory", "2", memory), ("edgebpf: worker", "2", memory), ("edgebpf: write", "2", closed), ("fault 3 line 2, and more", "1", closed)):
                 ends = pathlib.Path(folder) / "ends"
-                ends.write_text(f"#!/bin/sh\nread line; echo graph 4; read line; echo '{words}' >&2; exit 1\n")
+                ends.write_text(f"#!/bin/sh\nread line; echo graph 4; read line; echo '{words}' >&{to}; exit 1\n")
                 ends.chmod(0o755)
                 store = edgebpf.connect(4, program=str(ends))
-                with self.assertRaises(error):
+                with self.assertRaises(error) as told:
                     store.batch("A", ([0], [1]))
+                self.assertEqual(str(told.exception), f"edgebpf has ended: {words}")
 
     def test_threads(self):
         """Two threads on one store: each answer is of one version, and numbers never go back."""
@@ -297,7 +341,7 @@ class Package(unittest.TestCase):
                     wrong.append((version.number, version.edges, total))
                 last = version.number
 
-        readers = [threading.Thread(target=reads) for _ in range(2)]
+        readers = [threading.Thread(target=told, args=(reads, wrong)) for _ in range(2)]
         for reader in readers:
             reader.start()
         for number in range(8):
@@ -337,6 +381,14 @@ class Package(unittest.TestCase):
                 words = [sys.executable, "-c", "import edgebpf; print(edgebpf.library.path()); print(edgebpf.Store(4).batch('D', ([0], [1])).added)"]
                 run = subprocess.run(words, capture_output=True, text=True, cwd=folder, env={"PYTHONPATH": folder})
                 self.assertEqual((run.stdout, run.stderr), (f"{folder}/edgebpf/libedgebpf.so\n1\n", ""))
+
+
+def told(work, wrong):
+    """What a thread raises is wrong, too: without this it would only end."""
+    try:
+        work()
+    except Exception as error:
+        wrong.append(repr(error))
 
 
 def zip_ends(edges):

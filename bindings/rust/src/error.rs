@@ -155,3 +155,30 @@ impl fmt::Display for NotAssembled {
 }
 
 impl std::error::Error for NotAssembled {}
+
+#[cfg(test)]
+mod tests {
+    use super::Error;
+
+    /// Each status of the header that a call here may answer is an error of its own, whose words are those of the header.
+    #[test]
+    fn errors_are_the_statuses_of_the_header() {
+        let header = include_str!("../../c/edgebpf.h");
+        let words: Vec<&str> =
+            header.split("words[] = {").nth(1).unwrap().split('"').skip(1).step_by(2).take(18).collect();
+        for (status, error) in [
+            (1, Error::NoMemory),
+            (4, Error::VertexCount),
+            (6, Error::TooManyEdits),
+            (7, Error::LogFull),
+            (9, Error::Lengths),
+            (11, Error::RecordLength),
+            (12, Error::CodeLength),
+            (13, Error::ArgumentLength),
+            (17, Error::EpochsFull),
+        ] {
+            assert_eq!((Error::of(status), error.to_string().as_str()), (error, words[status as usize]));
+        }
+        assert_eq!((Error::of(5), Error::of(8)), (Error::VertexRange, Error::Unknown(8)));
+    }
+}

@@ -1,7 +1,7 @@
 //! What the crate answers, on graphs whose answers were found by hand or by sets.
 use edgebpf::{
-    assemble, explain, Batch, Error, Feed, NotAssembled, Program, Reduction, Refusal, Store, Version, MOST_EDITS,
-    MOST_VERTICES,
+    assemble, explain, Batch, Error, Feed, NotAssembled, Program, Reduction, Refusal, Store, Version, EDGE_BYTES,
+    MOST_EDITS, MOST_VERTICES,
 };
 use std::collections::BTreeSet;
 
@@ -61,8 +61,16 @@ fn runs_reduce_the_numbers_of_edges() {
     assert_eq!(version.numbers(&target, &[]).unwrap(), [1, 2, 0]);
     let weighted = program("ldxdw r0, [r1+16]\nldxw r2, [r1+4]\nmul r0, r2\nexit", 24);
     assert_eq!(version.numbers(&weighted, &7u64.to_le_bytes()).unwrap(), [7, 14, 0]);
+    // The first and the last byte of the longest argument.
+    let ends = program("ldxb r0, [r1+16]\nlsh r0, 8\nldxb r2, [r1+255]\nor r0, r2\nexit", 256);
+    let argument: Vec<u8> = (1..=240).collect();
+    assert_eq!(version.numbers(&ends, &argument).unwrap(), [496; 3]);
+    let totals = version.run(&ends, &argument, &frontier, Reduction::Sum, &mut values).unwrap();
+    assert_eq!((values, totals.total), ([496, 0, 992], 1488));
     assert_eq!(weighted.share().unwrap().verdict(), weighted.verdict());
     assert_eq!((weighted.verdict().bound, weighted.verdict().frames), (4, 1));
+    let calls = program("calllocal f\nexit\nf:\nmov r0, 1\nexit", 16);
+    assert_eq!((calls.verdict().bound, calls.verdict().frames), (4, 2));
 }
 
 #[test]
@@ -107,6 +115,19 @@ fn errors_are_told_and_change_nothing() {
 }
 
 #[test]
+fn a_batch_may_be_cleared() {
+    let mut batch = Batch::new();
+    assert!(batch.is_empty());
+    assert!(!batch.insert(0, 1).is_empty());
+    assert_eq!(batch.remove(0, 2).len(), 2);
+    batch.clear();
+    assert_eq!((batch.len(), batch.is_empty()), (0, true));
+    let mut store = Store::new(4).unwrap();
+    assert_eq!(store.apply(Feed::B, batch.insert(1, 2)).unwrap().added, 1);
+    assert_eq!(EDGE_BYTES, 16);
+}
+
+#[test]
 fn programs_are_refused_and_explained() {
     let outside = assemble("ldxw r0, [r1+13]\nexit ; the byte after the record").unwrap();
     let Err(Refusal::Refused(refused)) = Program::verify(16, &outside) else { panic!("it is outside the record") };
@@ -114,10 +135,24 @@ fn programs_are_refused_and_explained() {
     assert_eq!(refused.to_string(), "the verifier refuses the program: cause 11 at 0");
     assert_eq!(refused.explain().unwrap(), explain(16, &outside).unwrap());
     assert!(refused.explain().unwrap().contains("ldxw"));
+    let later = assemble("mov r2, 1\nldxw r0, [r1+21]\nexit").unwrap();
+    let Err(Refusal::Refused(refused)) = Program::verify(24, &later) else { panic!("it is outside the record") };
+    assert_eq!((refused.cause, refused.pc), (11, 1));
+    assert!(refused.explain().unwrap().starts_with("program of 3 units, records of 24 bytes\n"));
+    let longest = assemble(&("mov r0, 7\n".repeat(4095) + "exit")).unwrap();
+    assert_eq!(Program::verify(16, &longest).unwrap().verdict().bound, 4096);
+    assert!(explain(16, &longest).unwrap().ends_with("\naccepted, bound 4096, frames 1\n"));
+    // An explanation that is longer than what it is first given room for: each instruction knows twenty slots.
+    let slots: String = (1..=20).map(|slot| format!("stdw [r10-{}], {slot}\n", 8 * slot)).collect();
+    let spilled = assemble(&(slots + &"mov r0, 1\n".repeat(40) + "exit")).unwrap();
+    let told = explain(16, &spilled).unwrap();
+    assert!(told.len() > 256 + 16 * spilled.len() && told.ends_with("\naccepted, bound 61, frames 1\n"));
     assert!(matches!(Program::verify(15, &outside), Err(Refusal::Error(Error::RecordLength))));
     assert!(matches!(Program::verify(16, &outside[1..]), Err(Refusal::Error(Error::CodeLength))));
     assert!(matches!(Program::verify(16, &[]), Err(Refusal::Error(Error::CodeLength))));
-    assert!(matches!(assemble("exit\nldxw r0"), Err(NotAssembled::WrongText { line: 2, .. })));
+    let wrong = assemble("mov r0, 1\nja x").unwrap_err();
+    assert_eq!(wrong, NotAssembled::WrongText { line: 2, cause: 4 });
+    assert_eq!(wrong.to_string(), "the text means no code: error 4 in line 2");
     assert_eq!(assemble("mov r0, 1\nexit").unwrap().len(), 16);
     assert_eq!(assemble(&"lddw r0, 1\n".repeat(100)).unwrap().len(), 1600);
 }
@@ -133,6 +168,17 @@ fn a_long_list_lies_in_many_slices() {
     assert!(slices.len() > 64);
     assert_eq!(slices.concat(), (0..240_000).collect::<Vec<u32>>());
     store.apply(Feed::A, Batch::new().remove(7, 0)).unwrap();
+    assert_eq!((version.neighbour(7, 200_000), version.neighbour(7, 240_000)), (Some(200_000), None));
+    let target = program(TARGET, 16);
+    assert_eq!(version.numbers(&target, &[]).unwrap(), (0..240_000).collect::<Vec<u64>>());
+    let csr = version.csr().unwrap();
+    assert_eq!((csr.starts.len(), csr.starts[7], csr.starts[8]), (MOST_VERTICES as usize + 1, 0, 240_000));
+    assert_eq!(csr.targets, (0..240_000).collect::<Vec<u32>>());
+    let (frontier, mut values) = ((0..MOST_VERTICES).collect::<Vec<u32>>(), vec![1; MOST_VERTICES as usize]);
+    let totals = version.run(&target, &[], &frontier, Reduction::Max, &mut values).unwrap();
+    assert_eq!((totals.edges, totals.total, values[7], values[8]), (240_000, 239_999, 239_999, 0));
+    let most: Batch = (0..MOST_EDITS as u32).map(|each| (8, each)).collect();
+    assert_eq!(store.apply(Feed::C, &most).unwrap().added, MOST_EDITS as u64);
     assert_eq!(slices[0][0], 0);
     assert_eq!(store.pin().unwrap().slices(7)[0][0], 1);
 }
