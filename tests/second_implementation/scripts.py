@@ -20,6 +20,9 @@ FEW = [0, 1, 7, 8, 9, 12, 13, 14, 40, 63, 64, 65, 128, 130, 200]
 MANY = [0, 8, 9, 12, 13, 700, 767, 768, 769, 800, 1024, 1025, 1026, 1030]
 # The numbers from here on are of scripts about hubs: all are of long lists, and most of their batches have one edit of one of these.
 HUBS = 1_000_000_000
+# Those from here on are of scripts whose programs all have functions, each program run over these edges.
+CALLS = 2_000_000_000
+CALLS_EDGES = [(0, 1), (0, 2), (0, 15), (1, 0), (1, 3), (2, 2), (5, 7), *((6, target) for target in range(9))]
 # A run of a program executes no more instructions than this, and all runs of a command no more than that.
 LONG_RUN, LONG_COMMAND = 2_000, 100_000
 
@@ -27,7 +30,7 @@ LONG_RUN, LONG_COMMAND = 2_000, 100_000
 class Writer:
     def __init__(self, number):
         self.number, self.random = number, random.Random(number)
-        self.has_hubs = number >= HUBS
+        self.has_hubs, self.has_calls = HUBS <= number < CALLS, number >= CALLS
         self.writing = Programs(self.random)
         self.programs, self.pins, self.count = {}, {}, 0
         self.targets, self.homes = {}, {}
@@ -209,7 +212,21 @@ class Writer:
             words[-1] = words[-1].upper()
         return self.choice(["", " ", "\t"]) + self.choice([" ", "  ", "\t "]).join(words) + self.choice(["", " ", "\t"])
 
+    def script_of_calls(self):
+        lines = ["graph 16", "batch A", *(f"+ {source} {target}" for source, target in CALLS_EDGES), "end", "pin a"]
+        for place in range(150):
+            name, length = f"p{place}", self.choice([16, 17, 20, 32, 256])
+            code = b"".join(self.writing.chain() if self.often(0.03) else self.writing.with_functions(length))
+            lines.append(f"code {name} {length} {code.hex()}")
+            self.learn(name, length, code)
+            if name in self.programs:
+                argument = self.random.randbytes(length - 16).hex() or "-"
+                lines.append(f"run {name} a {self.choice(['min', 'max', 'sum'])} {argument}")
+        return "\n".join(lines).encode()
+
     def script(self):
+        if self.has_calls:
+            return self.script_of_calls()
         self.choose_graph()
         if self.often(0.002):
             return at_a_limit(self.random)
