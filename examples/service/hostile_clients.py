@@ -251,7 +251,9 @@ def started(log):
     with socket.socket() as free:
         free.bind(("127.0.0.1", 0))
         port = free.getsockname()[1]
-    server = subprocess.Popen([sys.executable, HERE / "server.py", "--vertices", str(VERTICES), "--port", str(port)], stderr=log)
+    words = [sys.executable, HERE / "server.py", "--vertices", str(VERTICES), "--port", str(port)]
+    # Whoever runs this may ignore the signal that ends the server.
+    server = subprocess.Popen(words, stderr=log, preexec_fn=lambda: signal.signal(signal.SIGINT, signal.SIG_DFL))
     for _ in range(200):
         try:
             socket.create_connection(("127.0.0.1", port)).close()

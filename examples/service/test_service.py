@@ -56,7 +56,9 @@ class Service(unittest.TestCase):
             self.port = free.getsockname()[1]
         words = ["sh", "-c", 'ulimit -Sn 64; exec "$@"', "sh"]
         words += [sys.executable, HERE / "server.py", "--vertices", str(VERTICES), "--port", str(self.port)]
-        self.server = subprocess.Popen(words)
+        # Whoever runs this may ignore the signal that ends the server.
+        self.server = subprocess.Popen(words, preexec_fn=lambda: signal.signal(signal.SIGINT, signal.SIG_DFL))
+        self.addCleanup(self.server.kill)
         for _ in range(200):
             client = Client(self.port)
             try:
