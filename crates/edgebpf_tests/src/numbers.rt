@@ -92,7 +92,7 @@ fn words_of_stores(rt: HostRuntime) -> Result<(), Fail> {
     );
     assert_eq!(rt;
         text_of(rt.alloc(), &PublishError::LogFull)?.as_str(),
-        "4096 batches were published, and there is room for no more"
+        "4096 batches were published, and there is room for no more before a rebase"
     );
     assert_eq!(rt;
         text_of(rt.alloc(), &PublishError::WorkerRefused)?.as_str(),

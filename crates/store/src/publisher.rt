@@ -58,8 +58,9 @@ impl Publisher {
     /// Publishes one batch: the held one, and else the one that waits longest in the queue. `None`, and nothing is
     /// published, where neither is there. The batch is applied by workers, and what is published is the same for each
     /// number of them, gate and order in which threads run; each edited range's number is a piece of the gate's.
-    /// `LogFull` comes exactly after 4,096 batches of one epoch, and takes nothing. After `OutOfMemory`, and after `WorkerRefused`,
-    /// which one worker cannot meet, nothing is published, and the batch is held.
+    /// `LogFull` comes exactly after 4,096 batches of one epoch, and takes nothing; a rebase makes room. After `OutOfMemory`, and
+    /// after `WorkerRefused`, which one worker cannot meet, nothing is published, and a batch that was taken is held. Where a
+    /// rebase waits to be shown, `OutOfMemory` comes before a batch is taken.
     pub fn step<Ga: Gate, R: Threads + Wait>(
         &mut self,
         rt: &R,
