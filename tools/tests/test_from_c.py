@@ -35,6 +35,7 @@ VERTICES = 90
 MOST = 2**64 - 1
 # A vertex with more neighbours than 16 times 1,024, and what the header's loops over them give.
 HUB = 17_000
+MOST_NEIGHBOURS = 65_536
 LOOPS = """#include <edgebpf.h>
 for_each_neighbour(of_each, word, total, unused) { return total + word; }
 for_1024_neighbours(of_1024, word, total, unused) { return total + word; }
@@ -45,6 +46,7 @@ u64 thousand(struct edge *edge, u64 length) { return of_1024(edge->source, 0, 0)
 u64 few(struct edge *edge, u64 length) { return of_64(edge->source, 0, 0); }
 u64 until_64(struct edge *edge, u64 length) { return of_65(edge->source, 0, 64); }
 u64 until_65(struct edge *edge, u64 length) { return of_65(edge->source, 0, 65); }
+u64 common(struct edge *edge, u64 length) { return common_neighbours(edge->source, edge->target); }
 """
 LOOP_NUMBERS = {"each": HUB * (HUB - 1) // 2, "thousand": 1024 * 1023 // 2, "few": 64 * 63 // 2, "until_64": 64, "until_65": 128}
 
@@ -167,6 +169,18 @@ class FromC(unittest.TestCase):
         programs = {function.name: link(objects, function, 16) for function in objects.functions if function.name in LOOP_NUMBERS}
         numbers = {name: run(program.code, record, hub, judged(program.code, 16)[0]) for name, program in programs.items()}
         self.assertEqual(numbers, LOOP_NUMBERS)
+
+    def test_common_neighbours_of_a_vertex_with_too_many(self):
+        """Only the first MOST_NEIGHBOURS of a vertex are asked for, so the one with fewer is. The only word they share is the other's last."""
+        path = pathlib.Path(self.folder.name) / "common.c"
+        path.write_text(LOOPS)
+        last = MOST_NEIGHBOURS + 2
+        graph = Graph(last + 1, {0: list(range(1, last + 1)), 1: [last]}, last + 1)
+        objects = objects_of(path, self.folder.name)
+        program = link(objects, next(function for function in objects.functions if function.name == "common"), 16)
+        for source, target in ((0, 1), (1, 0)):
+            record = struct.pack("<4I", source, target, 1, 2)
+            self.assertEqual(run(program.code, record, graph, judged(program.code, 16)[0]), 1, source)
 
     def test_random_functions(self):
         """Each is accepted as it is or with opaque indices, as `edgebpf-c` compiles what is refused; what is refused first is so at a line and

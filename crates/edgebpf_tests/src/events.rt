@@ -161,10 +161,20 @@ fn many_publications(rt: HostRuntime) -> Result<(), Fail> {
     Ok(())
 }
 
-// What a vertex of 65,536 neighbours is lent is a slice of several words.
+// A vertex of 65,536 neighbours is lent all of them, ascending.
 #[test]
 fn the_most_edits_in_the_greatest_store(rt: HostRuntime) -> Result<(), Fail> {
-    let signs = from_greatest(rt.alloc(), "mt0pAa")?;
-    assert_eq!(rt; signs.as_str(), "ddddds");
+    let alloc = rt.alloc();
+    let mut world = World::new(alloc, MOST_VERTICES)?;
+    let signs = signs_of(alloc, &mut world, "mt0pA")?;
+    assert_eq!(rt; signs.as_str(), "ddddd");
+    let Reply::Slice(words) = step(&mut world, Event::Lend { reader: 0 })? else {
+        return Err(Fail::from("nothing is lent"));
+    };
+    assert_eq!(rt; words.len(), MOST_EDITS);
+    assert!(rt;
+        words.iter().copied().eq(0..MOST_EDITS as u32),
+        "other words"
+    );
     Ok(())
 }
