@@ -142,13 +142,13 @@ fn run_from_greatest(alloc: Global, letters: &str) -> Result<String, AllocError>
     Ok(signs)
 }
 
-// 101 batches, each submitted, taken, done and published, and then the last vertex, which has no neighbour.
+// 1,025 batches, each submitted, taken, done and published, and then the last vertex, which has no neighbour.
 #[test]
 fn many_publications(rt: HostRuntime) -> Result<(), Fail> {
     let alloc = rt.alloc();
     let mut letters = String::new(alloc);
     let mut wanted = String::new(alloc);
-    for _ in 0..101 {
+    for _ in 0..1_025 {
         letters.push_str("st0p")?;
         wanted.push_str("dddd")?;
     }
