@@ -236,7 +236,7 @@ def _look_at(objects, function, instruction):
 
 
 def _in_order(objects, entry):
-    """The functions that the entry reaches, each behind all that call it, with their blocks."""
+    """The functions that the entry reaches, each after all that call it, with their blocks."""
     parts, order, open_now = {}, [], []
 
     def visit(function):
@@ -260,7 +260,7 @@ def _in_order(objects, entry):
 
 
 def _rewritten(parts, length):
-    """The instructions of each function, written so that the verifier follows them. Each stands behind all that call it."""
+    """The instructions of each function, written so that the verifier follows them. Each stands after all that call it."""
     calls, is_read = {}, {parts[0][0]: True}
     for function, blocks in parts:
         state = called_state(calls[function]) if function in calls else entry_state(length)

@@ -212,14 +212,14 @@ class OneSourceOfWords(unittest.TestCase):
     def test_the_words_are_those_of_the_crate(self):
         """All eighteen rules are found in the source, in the order of their numbers, and each has words that help."""
         self.assertEqual(len(CAUSES), 18)
-        self.assertEqual(CAUSES[11], "bytes may lie outside the record or the frame, or a pointer may leave them")
+        self.assertEqual(CAUSES[11], "bytes may lie outside the record, the table or the frame, or a pointer may leave them")
         self.assertEqual(CAUSES[15], "a function answers a pointer")
         self.assertEqual((sorted(HELP), set(HELP.values()) - set(words_of("Advice"))), (sorted(CAUSES), set()))
         for error, word in enumerate(["no label", "has this word", "earlier", "no line", "range", "4,096", "memory"], 1):
             self.assertIn(word, in_words(f"assembler p error {error} line 3"))
         told = in_words("refused t cause 4 pc 7")
         self.assertTrue(told.startswith("refused at unit 7: a call leads where no instruction starts"), told)
-        self.assertTrue(told.endswith("put each function behind all that call it, and use no recursion"), told)
+        self.assertTrue(told.endswith("put each function after all that call it, and use no recursion"), told)
 
 
 if __name__ == "__main__":

@@ -17,7 +17,7 @@ CAUSES = {
     8: "a register is read that may be unset",
     9: "the frame register r10 is written",
     10: "a pointer is used where only a number may be, or a number where only a pointer may be",
-    11: "bytes may lie outside the record or the frame, or a pointer may leave them",
+    11: "bytes may lie outside the record, the table or the frame, or a pointer may leave them",
     12: "a stack byte is read that may be unset",
     13: "an argument of a helper is not as the helper wants it",
     14: "no helper has this number",

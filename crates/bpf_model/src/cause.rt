@@ -14,7 +14,7 @@ pub enum Cause {
     #[error("a jump goes back")]
     JumpBack = 3,
     /// A call goes to no instruction after itself.
-    #[error("a call goes to no instruction behind it")]
+    #[error("a call goes to no instruction after it")]
     CallTarget = 4,
     /// The last instruction of a function goes on after its end.
     #[error("the last instruction is no exit")]

@@ -1,3 +1,4 @@
 pub mod Inside
 pub mod Written
 pub mod Starts
+pub mod Lines

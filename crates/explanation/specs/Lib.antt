@@ -2,6 +2,7 @@ pub mod Pieces
 pub mod Labels
 pub mod Values
 pub mod Starts
+pub mod SourceLines
 pub mod Judging
 pub mod Advice
 pub mod Words

@@ -13,7 +13,7 @@ pub(crate) fn words_of_cause(cause: Cause) -> &'static str
         Cause::BadInstruction => "no instruction stands there",
         Cause::JumpOut => "a jump leads where no instruction starts, or out of its function",
         Cause::JumpBack => "a jump leads back, and there are no loops",
-        Cause::CallTarget => "a call leads where no instruction starts, or not behind itself",
+        Cause::CallTarget => "a call leads where no instruction starts, or not after itself",
         Cause::FallsOff => "a function ends neither in an exit nor in a jump",
         Cause::TooDeep => "more than eight functions may be live at once",
         Cause::TooLong => "more than 1,000,000 instructions may run",
@@ -23,7 +23,7 @@ pub(crate) fn words_of_cause(cause: Cause) -> &'static str
             "a pointer stands where only a number may, or a number where only a pointer may"
         }
         Cause::OutOfRange => {
-            "bytes may lie outside the record or the frame, or a pointer may leave them"
+            "bytes may lie outside the record, the table or the frame, or a pointer may leave them"
         }
         Cause::UnsetStackByte => "bytes of the frame are read that may be unset",
         Cause::HelperArgument => "an argument of a helper is not what it has to be",
@@ -49,7 +49,7 @@ pub(crate) fn words_of_advice(advice: Advice) -> &'static str
         Advice::Unroll => {
             "have the loop unrolled as often as it may go round, or ask for neighbours by gather, which answers a known number of them at most"
         }
-        Advice::ForwardCalls => "put each function behind all that call it, and use no recursion",
+        Advice::ForwardCalls => "put each function after all that call it, and use no recursion",
         Advice::EndFunctions => "end each function in exit",
         Advice::FewerFrames => "have functions inlined, so that calls nest less deep",
         Advice::ShorterRuns => "unroll fewer rounds, or call functions less often on one way",
