@@ -134,7 +134,7 @@ pub extern "C" fn edgebpf_version_lend(
 ) -> u32
     ensures kept { version.new.held ≡ version.old.held }
     ensures told { OnVersion version.old.held result ((slices.new ≡ slices.old) × (lent.new ≡ lent.old))
-        (λ p. (result ≡ DONE) × AreLent (degree (graph_of p) vertex) lent.new slices.new) }
+        (λ p. (result ≡ DONE) × AreLent (degree (graph_of p) vertex) lent.new slices.old slices.new) }
 {
     match version.take(alloc) {
         None => EMPTY,

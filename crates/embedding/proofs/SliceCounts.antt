@@ -1,6 +1,8 @@
--- How many words slices have together.
-use Rattle.std.proofs.Common.{◌≡◌, ℕ, ◌+◌, ◌<◌, List, [], ◌∷◌, length, take, set, ap, arith}
-use Rattle.std.proofs.lemmas.List.{take_more_set}
+-- Slices that were written: how many words they have together, that each has one, and the places after them.
+use Rattle.std.proofs.Common.{◌≡◌, ℕ, ◌+◌, ◌<◌, List, [], ◌∷◌, length, take, drop, set, sym, ap, subst, ◌∙◌, arith}
+use Rattle.std.specs.List.{All}
+use Rattle.std.proofs.lemmas.List.{drop-drop, drop-set-lt, take_more_set}
+use Rattle.std.proofs.lemmas.List.Elements.{All-push}
 use Rattle.std.proofs.lemmas.List.Sums.{sum_by-append}
 use Rattle.embedding.specs.declared.slices.Slice.{Slice}
 use Rattle.embedding.specs.Slices.{counted}
@@ -11,3 +13,13 @@ counted_more slices i s inside =
     let more = ap counted (take_more_set slices i s inside) in
     let both = sum_by-append (λ (s : Slice). s.count) (take i slices) (s ∷ []) in
     omega (arith, more, both)
+
+-- each has a word, and so has one more
+pub filled_more : (slices : List Slice) (i : ℕ) (s : Slice) → i < length slices → 0 < s.count → All (λ (t : Slice). 0 < t.count) (take i slices) → All (λ (t : Slice). 0 < t.count) (take (i + 1) (set slices i s))
+filled_more slices i s inside some filled =
+    subst (All (λ (t : Slice). 0 < t.count)) (sym (take_more_set slices i s inside)) (All-push (λ (t : Slice). 0 < t.count) (take i slices) s filled some)
+
+-- the places after them are as they were
+pub rest_more : (slices before : List Slice) (i : ℕ) (s : Slice) → drop i slices ≡ drop i before → drop (i + 1) (set slices i s) ≡ drop (i + 1) before
+rest_more slices before i s rest =
+    drop-set-lt (i + 1) slices i s (omega arith) ∙ (sym (drop-drop 1 i slices) ∙ (ap (drop 1) rest ∙ drop-drop 1 i before))

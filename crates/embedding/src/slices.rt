@@ -32,7 +32,7 @@ fn slice_from(first: &u32, count: usize) -> Slice
 
 // Writes the slices of a vertex, as far as there is room, and returns how many.
 fn lend(version: &Version, vertex: u32, slices: &mut [Slice]) -> usize
-    ensures { AreLent (degree (graph_of version.now) vertex) result slices.new }
+    ensures { AreLent (degree (graph_of version.now) vertex) result slices.old slices.new }
 {
     let mut cursor = version.cursor(vertex);
     let mut lent = 0usize;
@@ -50,7 +50,7 @@ fn lend(version: &Version, vertex: u32, slices: &mut [Slice]) -> usize
 /// and fewer only where these are all. They stay where they are while any handle of the version is open.
 pub fn lend_held(held: &Held, vertex: u32, slices: &mut [Slice], lent: &mut usize) -> u32
     ensures { OnVersion (Some held.now) result ((slices.new ≡ slices.old) × (lent.new ≡ lent.old))
-        (λ p. (result ≡ DONE) × AreLent (degree (graph_of p) vertex) lent.new slices.new) }
+        (λ p. (result ≡ DONE) × AreLent (degree (graph_of p) vertex) lent.new slices.old slices.new) }
 {
     match held {
         Held::Version(version) => {

@@ -1,11 +1,13 @@
-use Rattle.std.proofs.Common.{length, ap, arith}
+use Rattle.std.proofs.Common.{length, refl, ap, arith}
 use Rattle.std.proofs.lemmas.List.{length-append, length-set}
-use Rattle.embedding.proofs.SliceCounts.{counted_more}
+use Rattle.embedding.proofs.SliceCounts.{counted_more, filled_more, rest_more}
 use Rattle.embedding.proofs.slices.lend.Goals as goal
 
 pub slices-init : goal.slices-init
 slices-init c = record {
   fit = omega arith;
+  filled = λ k d below. absurd (omega (arith, below));
+  rest = refl;
   some = omega (arith, ap length c.cursor-cursor.ensures);
 }
 
@@ -17,6 +19,8 @@ slices-preserved c =
     let count = c.slice_from.ensures in
     record {
       fit = omega (arith, here, length-set c.slices.slices c.slices.lent c.slice_from.result);
+      filled = filled_more c.slices.slices c.slices.lent c.slice_from.result here (omega (arith, count, c.in-Some.ensures.lent.0)) c.slices.invariant.filled;
+      rest = rest_more c.slices.slices _ c.slices.lent c.slice_from.result c.slices.invariant.rest;
       some = omega (arith, some, cut, count, length-append c.in-Some.words.now c.next_slice.new.self, counted_more c.slices.slices c.slices.lent c.slice_from.result here);
     }
 
@@ -25,6 +29,8 @@ returns-in_default c =
     let some = c.slices.invariant.some in
     record {
       fit = c.slices.invariant.fit;
+      filled = c.slices.invariant.filled;
+      rest = c.slices.invariant.rest;
       some = omega (arith, some);
       all = λ below. (let none = ap length c.in_default.ensures.lent.0 in omega (arith, some, none));
     }
@@ -35,6 +41,8 @@ returns c =
     let past = c.slices-test.false in
     record {
       fit = c.slices.invariant.fit;
+      filled = c.slices.invariant.filled;
+      rest = c.slices.invariant.rest;
       some = omega (arith, some);
       all = λ below. absurd (omega (arith, past, below));
     }
