@@ -1,5 +1,5 @@
 -- What is answered to a batch, test by test.
-use Rattle.std.proofs.Common.{◌≡◌, ℕ, Bool, true, false, ltb, leb, List, [], ◌∷◌, None, refl, ap, ◌∙◌, length}
+use Rattle.std.proofs.Common.{◌≡◌, ℕ, Bool, true, false, ltb, leb, List, None, refl, ap, ◌∙◌, length}
 use Rattle.past_model.specs.declared.edit.Edit.{Edit}
 use Rattle.past_model.specs.Past.{Past, opening, longer, number_of}
 use Rattle.session_model.specs.declared.fault.Fault.TheVariants as faults

@@ -1,5 +1,5 @@
 -- A store after a step that published nothing.
-use Rattle.std.proofs.Common.{◌≡◌, Option, Some, None, IfSome, refl, inl, inr, subst, ◌∙◌}
+use Rattle.std.proofs.Common.{◌≡◌, Option, Some, None, IfSome, refl, ap, inl, inr, subst, ◌∙◌}
 use Rattle.past_model.specs.declared.entry.Entry.{Entry}
 use Rattle.past_model.specs.Past.{Past}
 use Rattle.store.specs.Storing.{Storing, IsKept}
@@ -10,9 +10,9 @@ with_held past held = record { past = past; held = held }
 
 by_held : (past : Past) (before after : Option Entry) → IfSome before (λ e. after ≡ Some e) → IsUnpublished (with_held past before) (with_held past after)
 by_held past None None first = inl refl
-by_held past None (Some e) first = inr (e, refl)
+by_held past None (Some e) first = inr (refl, (e, refl))
 by_held past (Some e) None first = absurd (let none : None ≡ Some e = first in cc)
-by_held past (Some e) (Some f) first = inr (f, refl)
+by_held past (Some e) (Some f) first = inl (ap (with_held past) first)
 
 unpublished : (s t : Storing) → IsKept s t → IsUnpublished (with_held s.moment.past s.held) (with_held t.moment.past t.held)
 unpublished s t kept = rw kept.after (by_held s.moment.past s.held t.held kept.first)

@@ -36,9 +36,9 @@ pub record IsOf (old : StoreState) (e : Entry) (p : Publication) (new : StoreSta
   pub gained : p.added ≡ added e.batch (graph_of old.past)
   pub lost : p.removed ≡ removed e.batch (graph_of old.past)
 
--- nothing is published, and a batch that was taken is held
+-- nothing is published: all is as it was, but that a batch may be held where none was
 abbrev pub IsUnpublished : (old new : StoreState) → Type 0
-IsUnpublished old new = (new ≡ old) ⊎ ((e : Entry) × (new ≡ record old { held = Some e }))
+IsUnpublished old new = (new ≡ old) ⊎ ((old.held ≡ None) × ((e : Entry) × (new ≡ record old { held = Some e })))
 
 -- the batch is published; or there is no memory or no worker, and nothing is. Where the store does not answer as it should, it
 -- holds no batch: so none is held for lack of memory or of a worker

@@ -21,9 +21,9 @@ abbrev pub IsOfStore : Response → Type 0
 IsOfStore (Answers answer s) = IsAskedOfStore answer
 IsOfStore (Fails fault) = ⊥
 
--- the session is as it was, but that a batch may be held that its store has taken
+-- the session is as it was, but that a batch may be held where none was: one that its store has taken
 abbrev pub IsAsItWas : (old new : Session) → Type 0
-IsAsItWas old new = (new ≡ old) ⊎ ((e : Entry) × (new ≡ record old { held = Some e }))
+IsAsItWas old new = (new ≡ old) ⊎ ((old.held ≡ None) × ((e : Entry) × (new ≡ record old { held = Some e })))
 
 -- the store gave no such answer as it should: for a batch none is held, so none is for lack of memory or of a worker; for a pin,
 -- a home or a rebase the session is as it was
@@ -36,7 +36,7 @@ IsDenied (Answers answer s) old new = IsAskedOfStore answer × IsUnanswered answ
 IsDenied (Fails fault) old new = ⊥
 
 -- the answer is the response's, and leads to its session; or the fault is the response's, and the session is as it was. Where
--- there is no memory or no worker, it is as it was, but that a batch may be held. Where the store does not answer as it should,
+-- there is no memory or no worker, it is as it was, but that a batch may be held where none was. Where the store does not answer as it should,
 -- the response would have been an answer that only it gives: of a batch, and none is held; else the session is as it was.
 abbrev pub Performs : Response → Result GivenAnswer CommandError → (old new : Session) → Type 0
 Performs response (Ok answer) old new = response ≡ Answers (answer_of answer) new

@@ -49,14 +49,14 @@ impl Session {
         }
     }
 
-    /// Performs a command: the answer is what the definition `response` says, or the fault is, whatever the number of
+    /// Performs a command: the answer is what the definition `response` says, or the fault is, for every number of
     /// workers, their gate and the order in which threads run. Batches and runs are in pieces: a batch's are the ranges
-    /// of 256 vertices that it edits, a run's are 64 places each of its frontier. Besides it answers `OutOfMemory` for
-    /// lack of memory, `WorkerRefused` where a thread could not be started, of which one worker needs none, and `Store`
-    /// where its store does not answer as it should, which comes only of a command that is answered by a publication, a pin,
-    /// a home or a rebase. After a fault the session is as it was, and so it is after lack of memory or of a worker, but that the batch may be
-    /// held: the same batch handed in again goes on with it. After `Store` of a batch none is held, and there is no use of the
-    /// session but `close`.
+    /// of 256 vertices that it edits, a run's are 64 places each of its frontier. Besides it answers `OutOfMemory` if memory
+    /// was refused, `WorkerRefused` if a thread could not be started, of which one worker needs none, and `Store`
+    /// if its store does not answer as it should, which comes only of a command that is answered by a publication, a pin,
+    /// a home or a rebase. After a fault the session is as it was. So it is after `OutOfMemory` and `WorkerRefused`, but that
+    /// its store may hold a batch where it held none: a batch handed in again publishes that one, and is answered `Store` if
+    /// it is another. After `Store` of a batch none is held, and there is no use of the session but `close`.
     pub fn perform<'a, Ga: Gate, R: Threads + Wait>(
         &mut self,
         crew: &Crew<'_, R, Ga>,
