@@ -1,5 +1,7 @@
 //! Why a run stopped.
-/// Why a run stopped without an exit number. Where several apply, the first one is given.
+/// Why a run stopped without an exit number. If several apply to one instruction, the lowest number is given, with two
+/// exceptions: `ReadOnly` ranks as `OutsideMemory`, in place of which it is given, and a room that gather may not have
+/// (`RoomNotAllowed`) ranks before the bytes that it would write to.
 #[derive(Clone, Copy, Debug, PartialEq, Eq)]
 pub enum TrapKind {
     /// No instruction stands at the pc.

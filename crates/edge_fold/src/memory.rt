@@ -19,7 +19,6 @@ impl Memory {
     pub fn for_program(program: &Verified) -> Memory
         ensures { IsFor program.now result }
     {
-        // Made in one place, so that none of it is moved.
         let mut memory = Memory {
             run: bpf_runs::Memory::new(),
             blocks: Blocks::for_program(program),

@@ -1,5 +1,5 @@
--- The verifier's answer: the first broken rule by pass, pc and cause, or the bound of a program that
--- breaks none.
+-- The verifier's answer: the first broken rule, or the bound of a program that breaks none. The passes come in turn. A pass has
+-- its first fault at the lowest pc, and there by the lowest cause; the last pass meets a function at each call of it.
 use Rattle.std.specs.Prelude.{◌≡◌, ℕ, zero, suc, ◌+◌, nat_lt, nat_le, ◌&&◌, if◌then◌else◌, ℤ, pos, negsuc, ◌⊎◌, Option, Some, None, is_some}
 use Rattle.std.specs.Option.{option_or}
 use Rattle.bpf_isa.specs.declared.instruction.Instruction.{Instruction}

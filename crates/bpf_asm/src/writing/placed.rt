@@ -7,7 +7,9 @@ use bpf_isa::{Distance, Instruction};
 /// An instruction and the unit at which it starts, one of the first 4,096.
 #[derive(Clone, Copy, Debug, PartialEq, Eq)]
 pub struct Placed {
+    /// The unit at which it starts.
     pub pc: u16,
+    /// The instruction.
     pub instruction: Instruction,
 }
 
