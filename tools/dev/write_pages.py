@@ -6,7 +6,7 @@
     tools/dev/write_pages.py --adopt         also puts made parts where tables of calls and of edits are still written by hand
     tools/dev/write_pages.py --by-hand       prints how many bytes of each document are kept by hand
 
-CONTRACTS has each public item of each library, with its `///`. DEFINITIONS has each public definition in `specs/`, with its comment.
+CONTRACTS has each public item of each library, with its `///`, and the functions that C calls. DEFINITIONS has each public definition in `specs/`, with its comment.
 CRATES has the towers of crates as crates.txt has them, with the `//!` of each. write_parts.py says what a made part may be.
 """
 import re
@@ -23,18 +23,25 @@ CRATES = TOP / "crates"
 COMMAND = "tools/dev/write_pages.py"
 COLUMNS = 120
 
+# What stands after a call that has no clause.
+NO_CLAUSE = "No clause."
+
 CONTRACTS_HEAD = f"""\
 # Contracts
 
 What each public call promises, in the words of its source. `{COMMAND}` writes this page of the `///` in `crates/*/src`.
-The clauses under each signature say the same exactly, and are proved. No contract says how long a call takes.
+The clauses (`requires`, `ensures`) stand in the source, under the signature. They are what is proved, and say it exactly.
 
+- "{NO_CLAUSE}" marks a call without any: it is proved to be safe, and nothing that its words say is proved.
+- Other words that no clause says are about who does the work and in which order, what memory is taken, shared, copied or dropped,
+  the cause of an answer such as `OutOfMemory`, `WorkerRefused` or `Full`, and what saves time. No contract says how long a call takes.
+- `edgebpf_c` has the functions that C calls. In C `alloc` is no parameter, and a slice is a pointer and a count.
 - "Takes no memory" means that the call has no allocator, and so never reports that there is none. If a call may answer out of memory, it
   may do so at any growth. That it does so only then is not claimed.
 - `From<AllocError>` and `From<AllocFailed<T>>` of an error make its answer for out of memory.
 - A law is a call that does nothing: its contract states a theorem. A law of calls only makes public calls, often at their limits, and
   is proved from their contracts.
-- A value whose type has private fields was made by one of the calls below, and keeps what the type's text says.
+- A value whose type has private fields was made by one of the calls below, and keeps the invariant that its source states, if any.
 """
 
 DEFINITIONS_HEAD = f"""\
@@ -59,7 +66,7 @@ PROGRAMS, STORE = "bpf_isa", "past_model"
 TOWERS = {(False, False): "Base", (True, False): "Programs", (False, True): "Store", (True, True): "Both"}
 
 CODE = re.compile(r"^```[^`]*^```$|^    [^\n]*$", re.M)
-ITEM = re.compile(r"pub (?:const )?(struct|enum|trait|fn|const|type) (\w+)")
+ITEM = re.compile(r'pub (?:const )?(extern "C" )?(struct|enum|trait|fn|const|type) (\w+)')
 METHOD = re.compile(r"    (pub )?(?:const )?fn (\w+)")
 IMPLEMENTS = re.compile(r"(?:unsafe )?impl(?:<.*?>)? (?:(\w+)(?:<.*?>)? for )?(\w+)")
 VARIANT = re.compile(r"    (\w+)(?:\(.*\)| \{.*)?(?: = (\d+))?,?$")
@@ -68,10 +75,10 @@ DEFINITION = re.compile(r"(?:abbrev|opaque|def|record|data|enum) pub (\S+)|pub (
 
 
 class Item:
-    """A public item: its kind, its name, its signature, its `///` in one line, and what belongs to it."""
+    """A public item: its kind, its name, its signature, its `///` in one line, what belongs to it, and whether C calls it."""
 
-    def __init__(self, kind, name, said, docs):
-        self.kind, self.name, self.said, self.docs = kind, name, said, docs
+    def __init__(self, kind, name, said, docs, is_export=False):
+        self.kind, self.name, self.said, self.docs, self.is_export = kind, name, said, docs, is_export
         self.parts = []
 
 
@@ -86,7 +93,17 @@ def signature(lines, at):
             break
     text = re.sub(r"\s*[{;]$", "", " ".join(words))
     text = re.sub(r"\( ", "(", re.sub(r",? \)", ")", text))
-    return re.sub(r"^pub ", "", text)
+    return re.sub(r'^pub (?:extern "C" )?', "", text)
+
+
+def with_clauses(docs, lines, at):
+    """What a function says, and that it has no clause if none stands under its signature."""
+    for line in lines[at:]:
+        if re.match(r"\s*(requires|ensures)\b", line):
+            return docs
+        if line.rstrip().endswith(("{", "}", ";")):
+            break
+    return f"{docs} {NO_CLAUSE}".strip()
 
 
 def paragraphs(docs):
@@ -107,11 +124,12 @@ def items_of(path):
             continue
         top, method, begun = ITEM.match(line), METHOD.match(line), IMPLEMENTS.match(line)
         if top:
-            kind, name = top.groups()
+            export, kind, name = top.groups()
             said = signature(lines, at) if kind == "fn" else f"{kind} {name}"
             if kind == "const":
                 said = re.sub(r"^pub ", "", text.rstrip(";"))
-            owner = found.setdefault(name, Item(kind, name, said, paragraphs(docs)))
+            words = with_clauses(paragraphs(docs), lines, at) if kind == "fn" else paragraphs(docs)
+            owner = found.setdefault(name, Item(kind, name, said, words, bool(export)))
             if kind in ("fn", "const", "type"):
                 owner = None
         elif begun and not line.startswith(" "):
@@ -120,7 +138,7 @@ def items_of(path):
         elif line.startswith("}"):
             owner = None
         elif owner and method and docs and (method.group(1) or owner.kind == "trait"):
-            owner.parts.append(Item("fn", method.group(2), signature(lines, at), paragraphs(docs)))
+            owner.parts.append(Item("fn", method.group(2), signature(lines, at), with_clauses(paragraphs(docs), lines, at)))
         elif owner and owner.kind == "enum" and (variant := VARIANT.match(line)):
             number = f" = {variant.group(2)}" if variant.group(2) else ""
             owner.parts.append(Item("variant", variant.group(1), variant.group(1) + number, paragraphs(docs)))
@@ -163,7 +181,13 @@ def public_items(crate):
             for path, items in known[name]:
                 if wanted in items:
                     yield path, items[wanted]
+    yield from ((path, item) for sources in known.values() for path, items in sources for item in items.values() if item.is_export)
     yield from ((folder / "lib.rt", item) for item in items_of(folder / "lib.rt").values())
+
+
+def has_laws(path):
+    """Whether the functions of a source are laws."""
+    return path.stem == "laws" or path.stem.endswith("_laws")
 
 
 def head_of(path):
@@ -203,8 +227,8 @@ def contracts():
             continue
         page.extend([f"## `{crate}`", "", wrapped(head_of(library)), ""])
         items = list(public_items(crate))
-        laws = [line_of(item) for path, item in items if path.stem == "laws"]
-        loose = [line_of(item) for path, item in items if item.kind in ("fn", "const") and path.stem != "laws"]
+        laws = [line_of(item) for path, item in items if has_laws(path)]
+        loose = [line_of(item) for path, item in items if item.kind in ("fn", "const") and not has_laws(path)]
         for _, item in items:
             if item.kind not in ("fn", "const"):
                 page.extend(section_of(item))

@@ -37,7 +37,7 @@ def rows(pages, crate):
         if not item.docs:
             continue
         row = f"| `{item.name}` | {first_sentence(item.docs)} |"
-        (laws if path.stem == "laws" or path.stem.endswith("_laws") else calls).append(row)
+        (laws if pages.has_laws(path) else calls).append(row)
         calls += [f"| `{item.name}::{part.name}` | {first_sentence(part.docs)} |" for part in item.parts if part.kind == "fn" and part.docs]
     return calls, laws
 

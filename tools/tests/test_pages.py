@@ -1,4 +1,5 @@
 """The parts of documents that are written from the sources (`tools/dev/write_parts.py`)."""
+import re
 import sys
 import unittest
 
@@ -51,6 +52,23 @@ class Parts(unittest.TestCase):
         self.assertTrue(new.startswith("before\n<!-- made: file examples/first.output -->\n```\ngraph 4\n"))
         self.assertTrue(new.endswith("row 1 2\n```\n<!-- end -->\nafter\n"))
         self.assertEqual(write_parts.written(write_pages, new), new)
+
+    def test_functions_for_c_are_public_calls(self):
+        exports = re.findall(r"^uint32_t (\w+)\(|^void (\w+)\(", (TOOLS.parent / "bindings/c/edgebpf.h").read_text(), re.M)
+        items = [item for _, item in write_pages.public_items("edgebpf_c")]
+        self.assertEqual(sorted(item.name for item in items), sorted(one or other for one, other in exports))
+        self.assertTrue(all(write_pages.line_of(item).startswith(f"- `{item.name}(alloc: Global, ") for item in items))
+
+    def test_a_call_without_a_clause_says_so(self):
+        items = {item.name: item for _, item in write_pages.public_items("workers")}
+        said = {part.name: part.docs.endswith(" " + write_pages.NO_CLAUSE) for name in ("HoldingGate", "Workers") for part in items[name].parts}
+        self.assertEqual(said, {"until": True, "entered": True, "left": True, "in_vain": True, "new": False, "one": False, "count": False})
+
+    def test_laws_stand_under_laws(self):
+        page = write_pages.contracts()
+        for crate, law in (("bpf_model", "swap_twice"), ("verifier", "step_describes"), ("store_model", "nothing_lost")):
+            section = page.split(f"## `{crate}`\n")[1].split("\n## ")[0]
+            self.assertIn(f"- `{law}(", section.split("### `laws`")[1], law)
 
 
 if __name__ == "__main__":
