@@ -81,7 +81,7 @@ pub extern "C" fn edgebpf_store_pin(alloc: Global, store: &mut Handle, out: &mut
     }
 }
 
-/// Lets go of what a handle holds, and leaves it empty.
+/// Drops what a handle holds, and leaves it empty.
 #[unsafe(no_mangle)]
 pub extern "C" fn edgebpf_close(alloc: Global, handle: &mut Handle)
     ensures { handle.new.held ≡ None }

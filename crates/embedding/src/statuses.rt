@@ -2,7 +2,7 @@
 
 /// It is done.
 pub const DONE: u32 = 0;
-/// There is no memory. All is as it was, and the call may be made again.
+/// There is no memory. Each handle is as it was, and the call may be made again.
 pub const NO_MEMORY: u32 = 1;
 /// The handle is empty.
 pub const EMPTY: u32 = 2;

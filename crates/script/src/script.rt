@@ -123,7 +123,7 @@ impl Script {
         }
     }
 
-    /// Lets go of all that the script has made.
+    /// Drops all that the script has made.
     pub fn close<R: Wait>(self, rt: &R) {
         let Script {
             alloc: _,

@@ -36,7 +36,7 @@ impl Model for Serving {
 }
 
 impl Serving {
-    /// Lets go of the first bytes that were read, which are executed.
+    /// Drops the first bytes that were read, which are executed.
     fn drop_first(&mut self, alloc: Global, count: usize) -> Result<(), AllocError>
         requires { count ≤ length self.old.pending }
         ensures script { self.new.script ≡ self.old.script }
@@ -183,7 +183,7 @@ impl Serving {
         Err(ServeError::OutOfMemory)
     }
 
-    /// Lets go of the script and of what it has made.
+    /// Drops the script and what it has made.
     fn close<R: Wait>(self, rt: &R) {
         let Serving {
             script,

@@ -133,7 +133,7 @@ impl Handles {
     {
         let pin = self.pin()?;
         let edges = pin.version().edge_count();
-        // Let go, so that the log that ends has no owner here.
+        // Dropped, so that the log that ends has no owner here.
         drop(pin);
         match self.ends.publisher.rebase(rt) {
             Ok(receipt) => {

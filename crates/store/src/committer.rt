@@ -255,7 +255,7 @@ impl Committer {
         }
     }
 
-    // Lets go of the version before a batch of so many edits. Before a large one it goes now, and by workers: the board's other
+    // Drops the version before a batch of so many edits. Before a large one it goes now, and by workers: the board's other
     // copy is brought up to the version that is shown, so that the one before has no owner here but this one.
     fn let_go<R: Threads + Wait>(
         &mut self,
