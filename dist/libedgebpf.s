@@ -3658,7 +3658,7 @@
 	.balign 16
 .Lsection_80:
 	.type "explanation::explaining::write_all",@function
-	.size "explanation::explaining::write_all",7214
+	.size "explanation::explaining::write_all",7209
 "explanation::explaining::write_all":
 	.ascii "UAWAVAUATSH\201\354\370\000\000\000H\211L$`H\211T$PI\211\366I\211"
 	.ascii "\377A\017\266\000\210D$\036E\213h\004A\017\266h\010M\213`\020H\215D$_H\211\004$f"
@@ -3760,7 +3760,7 @@
 	.ascii "\374\004\000\000\017\266t$\037H\213\024$H\215<\002H\203\300\011L\215\005\000\000\000\000I\211\371M"
 	.ascii ")\301I\203\371\010I\270, framesL\211\007\306G\010 H\211\024$H\211D$\010"
 	.ascii "H\211L$\020H\211\347\350\000\000\000\000\204\300\017\205,\002\000\000L\213d$\010L\213t$\020M"
-	.ascii "9\346\017\204\302\013\000\000L\213<$\351\203\016\000\0001\377E1\355H\213D$\010H\213L$\020"
+	.ascii "9\346\017\204\302\013\000\000L\213<$\351~\016\000\0001\377E1\355H\213D$\010H\213L$\020"
 	.ascii "H\211\312H)\302D\017\266d$\037\276\237\377\001\000D\017\243\346H\211|$P\017\203\016\001\000\000"
 	.ascii "H\203\372\012\017\206\352\003\000\000H\213\024$H\2154\002H\203\300\013H\215=\000\000\000\000I\211\360"
 	.ascii "I)\370H\277refused I\203\370\012w\017H\211>f\307F\010at\306F\012 "
@@ -3852,40 +3852,40 @@
 	.ascii "ps: L\211<$H\211D$\010L\211t$\020H\2155\000\000\000\000\272\227\000\000\0001\333"
 	.ascii "H\215=\000\000\000\000Hc\014\217H\001\371\377\341H\2112\307B\010ps: L\211<$H\211"
 	.ascii "D$\010L\211t$\020H\2155\000\000\000\000\272\227\000\000\0001\333H\215=\000\000\000\000Hc\014"
-	.ascii "\217H\001\371\377\341H\2155\000\000\000\000\2728\000\000\000\351\356\001\000\000H\213L$(\215A\376\203"
-	.ascii "\370\002\017\202\206\003\000\000\203\371\005\017\204\245\003\000\000\203\371\001\017\205\032\372\377\377H\211\347L\211\356"
+	.ascii "\217H\001\371\377\341H\2155\000\000\000\000\2728\000\000\000\351\351\001\000\000H\213L$(\215A\376\203"
+	.ascii "\370\002\017\202\201\003\000\000\203\371\005\017\204\240\003\000\000\203\371\001\017\205\032\372\377\377H\211\347L\211\356"
 	.ascii "\272\001\000\000\000\351\375\371\377\377H\211\347\276\001\000\000\000\350\000\000\000\000\204\300\017\204B\366\377\377L"
 	.ascii "\213d$\010L\213t$\020\351\032\364\377\377L\211\301\351\363\366\377\377H\211\347\276\014\000\000\000\350\000"
 	.ascii "\000\000\000\204\300\017\204\026\366\377\377H\213D$\010L\213t$\020\351\324\376\377\377H\2155\000\000\000"
-	.ascii "\000\272\220\000\000\000\351Z\001\000\000H\2155\000\000\000\000\272\301\000\000\000\351I\001\000\000H\2155\000"
-	.ascii "\000\000\000\272e\000\000\000\3518\001\000\000H\2155\000\000\000\000\272\031\000\000\000\263\001\351'\001\000\000"
-	.ascii "H\2155\000\000\000\000\272I\000\000\000\351\024\001\000\000H\2155\000\000\000\000\2726\000\000\000\351\003\001"
-	.ascii "\000\000H\2155\000\000\000\000\272h\000\000\000\351\362\000\000\000H\2155\000\000\000\000\272\201\000\000\000\351"
-	.ascii "\341\000\000\000H\2155\000\000\000\000\272I\000\000\000\351\320\000\000\000H\2155\000\000\000\000\272?\000\000"
-	.ascii "\000\351\277\000\000\000H\2155\000\000\000\000\272n\000\000\000\351\256\000\000\000H\2155\000\000\000\000\272q"
-	.ascii "\000\000\000\351\235\000\000\000H\2155\000\000\000\000\272N\000\000\000\351\214\000\000\000H\2155\000\000\000\000"
-	.ascii "\2724\000\000\000\353~H\2155\000\000\000\000\272<\000\000\000\353pH\2155\000\000\000\000\272C\000\000"
-	.ascii "\000\353bH\2155\000\000\000\000\272<\000\000\000\353TH\2155\000\000\000\000\2720\000\000\000\353FH"
-	.ascii "\2155\000\000\000\000\272S\000\000\000\3538H\2155\000\000\000\000\272)\000\000\000\353*H\2155\000\000"
-	.ascii "\000\000\272\032\000\000\000\263\001\353\034H\2155\000\000\000\000\272m\000\000\000\353\014H\2155\000\000\000\000"
-	.ascii "\272>\000\000\0001\333L\211\361H)\301H9\312\017\207>\001\000\000L\215$\020I\215<\007H\211"
-	.ascii "\371H)\361H9\321s\012H\203\371 s\0161\311\353m\350\000\000\000\000\351\304\000\000\000\204\333t"
-	.ascii "\0041\311\353>\211\321\203\341\340N\215\0048I\203\300\020E1\311\363B\017o\004\016B\017\020L\016"
-	.ascii "\020\363C\017\177D\010\360C\017\021\014\010I\203\301 L9\311u\3379\312\017\204\203\000\000\000\366\302"
-	.ascii "\034t\035I\211\310\211\321\203\341\374F\213\014\006F\211\014\007I\203\300\004L9\301u\3579\312ta"
-	.ascii "I\211\321I\211\310I\203\341\003t\024I\211\310F\017\266\024\006F\210\024\007I\377\300I\377\311u\357"
-	.ascii ")\321\203\371\374w:L\001\370H\203\300\003B\017\266\014\006B\210L\000\375B\017\266L\006\001B\210"
-	.ascii "L\000\376B\017\266L\006\002B\210L\000\377B\017\266L\006\003B\210\014\000I\203\300\004L9\302u"
-	.ascii "\315L\211<$L\211d$\010L\211t$\020M9\346trC\306\004'\012L\211<$I\377\304"
-	.ascii "L\211d$\010L\211t$\020H\213\214$\210\000\000\000\306\001\000H\213\004$H\211A\010H\213D"
-	.ascii "$\010H\211A\020H\213D$\020H\211A\030\3515\346\377\377I\211\364H\211\347I\211\325H\211\326"
-	.ascii "\350\000\000\000\000\204\300\017\2044\363\377\377L\213<$H\213D$\010L\213t$\020L\211\346L\211"
-	.ascii "\352\351\220\376\377\377H\211\347\276\001\000\000\000\350\000\000\000\000\204\300\017\204\006\363\377\377L\213<$L"
-	.ascii "\213d$\010L\213t$\020\351f\377\377\377H\211\347L\211\356\272\001\000\000\000\350\000\000\000\000\204\300"
-	.ascii "\017\205\333\362\377\377H\211\347L\211\356\272\002\000\000\000\351q\366\377\377H\211\347L\211\356\272\001\000\000"
-	.ascii "\000\350\000\000\000\000\204\300\017\205\263\362\377\377H\211\347L\211\356\272\002\000\000\000\350\000\000\000\000\204\300"
-	.ascii "\017\205\233\362\377\377H\211\347L\211\356\272\003\000\000\000\350\000\000\000\000\204\300\017\205\203\362\377\377H\211"
-	.ascii "\347L\211\356\272\004\000\000\000\351\031\366\377\377"
+	.ascii "\000\272\220\000\000\000\351U\001\000\000H\2155\000\000\000\000\272\301\000\000\000\351D\001\000\000H\2155\000"
+	.ascii "\000\000\000\272e\000\000\000\3513\001\000\000H\2155\000\000\000\000\272\031\000\000\000\263\001\351\042\001\000\000"
+	.ascii "H\2155\000\000\000\000\272I\000\000\000\351\017\001\000\000H\2155\000\000\000\000\2726\000\000\000\351\376\000"
+	.ascii "\000\000H\2155\000\000\000\000\272h\000\000\000\351\355\000\000\000H\2155\000\000\000\000\272\201\000\000\000\351"
+	.ascii "\334\000\000\000H\2155\000\000\000\000\272I\000\000\000\351\313\000\000\000H\2155\000\000\000\000\351\272\000\000"
+	.ascii "\000H\2155\000\000\000\000\272n\000\000\000\351\256\000\000\000H\2155\000\000\000\000\272q\000\000\000\351\235"
+	.ascii "\000\000\000H\2155\000\000\000\000\272N\000\000\000\351\214\000\000\000H\2155\000\000\000\000\2724\000\000\000"
+	.ascii "\353~H\2155\000\000\000\000\272<\000\000\000\353pH\2155\000\000\000\000\272C\000\000\000\353bH\215"
+	.ascii "5\000\000\000\000\272<\000\000\000\353TH\2155\000\000\000\000\2720\000\000\000\353FH\2155\000\000\000"
+	.ascii "\000\272S\000\000\000\3538H\2155\000\000\000\000\272)\000\000\000\353*H\2155\000\000\000\000\272\032\000"
+	.ascii "\000\000\263\001\353\034H\2155\000\000\000\000\272m\000\000\000\353\014H\2155\000\000\000\000\272>\000\000\000"
+	.ascii "1\333L\211\361H)\301H9\312\017\207>\001\000\000L\215$\020I\215<\007H\211\371H)\361H"
+	.ascii "9\321s\012H\203\371 s\0161\311\353m\350\000\000\000\000\351\304\000\000\000\204\333t\0041\311\353>"
+	.ascii "\211\321\203\341\340N\215\0048I\203\300\020E1\311\363B\017o\004\016B\017\020L\016\020\363C\017\177"
+	.ascii "D\010\360C\017\021\014\010I\203\301 L9\311u\3379\312\017\204\203\000\000\000\366\302\034t\035I\211"
+	.ascii "\310\211\321\203\341\374F\213\014\006F\211\014\007I\203\300\004L9\301u\3579\312taI\211\321I\211"
+	.ascii "\310I\203\341\003t\024I\211\310F\017\266\024\006F\210\024\007I\377\300I\377\311u\357)\321\203\371\374"
+	.ascii "w:L\001\370H\203\300\003B\017\266\014\006B\210L\000\375B\017\266L\006\001B\210L\000\376B\017"
+	.ascii "\266L\006\002B\210L\000\377B\017\266L\006\003B\210\014\000I\203\300\004L9\302u\315L\211<$"
+	.ascii "L\211d$\010L\211t$\020M9\346trC\306\004'\012L\211<$I\377\304L\211d$\010"
+	.ascii "L\211t$\020H\213\214$\210\000\000\000\306\001\000H\213\004$H\211A\010H\213D$\010H\211A"
+	.ascii "\020H\213D$\020H\211A\030\351:\346\377\377I\211\364H\211\347I\211\325H\211\326\350\000\000\000\000"
+	.ascii "\204\300\017\2049\363\377\377L\213<$H\213D$\010L\213t$\020L\211\346L\211\352\351\220\376\377"
+	.ascii "\377H\211\347\276\001\000\000\000\350\000\000\000\000\204\300\017\204\013\363\377\377L\213<$L\213d$\010L"
+	.ascii "\213t$\020\351f\377\377\377H\211\347L\211\356\272\001\000\000\000\350\000\000\000\000\204\300\017\205\340\362\377"
+	.ascii "\377H\211\347L\211\356\272\002\000\000\000\351v\366\377\377H\211\347L\211\356\272\001\000\000\000\350\000\000\000"
+	.ascii "\000\204\300\017\205\270\362\377\377H\211\347L\211\356\272\002\000\000\000\350\000\000\000\000\204\300\017\205\240\362\377"
+	.ascii "\377H\211\347L\211\356\272\003\000\000\000\350\000\000\000\000\204\300\017\205\210\362\377\377H\211\347L\211\356\272"
+	.ascii "\004\000\000\000\351\036\366\377\377"
 	.reloc .Lsection_80+86,R_X86_64_PLT32,".text.unlikely.std_alloc::vec::Vec::grow_amortized::<#4b6dea4396d3f8eb>"-4
 	.reloc .Lsection_80+127,R_X86_64_PC32,".rodata..Lstatic.67"-4
 	.reloc .Lsection_80+199,R_X86_64_PLT32,".text.explanation::values::put_number"-4
@@ -3994,26 +3994,26 @@
 	.reloc .Lsection_80+6422,R_X86_64_PC32,".rodata..Lstatic.152"-4
 	.reloc .Lsection_80+6439,R_X86_64_PC32,".rodata..Lstatic.165"-4
 	.reloc .Lsection_80+6456,R_X86_64_PC32,".rodata..Lstatic.153"-4
-	.reloc .Lsection_80+6473,R_X86_64_PC32,".rodata..Lstatic.157"-4
-	.reloc .Lsection_80+6490,R_X86_64_PC32,".rodata..Lstatic.167"-4
-	.reloc .Lsection_80+6507,R_X86_64_PC32,".rodata..Lstatic.170"-4
-	.reloc .Lsection_80+6524,R_X86_64_PC32,".rodata..Lstatic.155"-4
-	.reloc .Lsection_80+6538,R_X86_64_PC32,".rodata..Lstatic.171"-4
-	.reloc .Lsection_80+6552,R_X86_64_PC32,".rodata..Lstatic.163"-4
-	.reloc .Lsection_80+6566,R_X86_64_PC32,".rodata..Lstatic.156"-4
-	.reloc .Lsection_80+6580,R_X86_64_PC32,".rodata..Lstatic.168"-4
-	.reloc .Lsection_80+6594,R_X86_64_PC32,".rodata..Lstatic.160"-4
-	.reloc .Lsection_80+6608,R_X86_64_PC32,".rodata..Lstatic.158"-4
-	.reloc .Lsection_80+6622,R_X86_64_PC32,".rodata..Lstatic.172"-4
-	.reloc .Lsection_80+6638,R_X86_64_PC32,".rodata..Lstatic.169"-4
-	.reloc .Lsection_80+6652,R_X86_64_PC32,".rodata..Lstatic.173"-4
-	.reloc .Lsection_80+6708,R_X86_64_PLT32,"memmove"-4
-	.reloc .Lsection_80+7009,R_X86_64_PLT32,".text.unlikely.std_alloc::vec::Vec::grow_amortized::<#4b6dea4396d3f8eb>"-4
-	.reloc .Lsection_80+7055,R_X86_64_PLT32,".text.unlikely.std_alloc::vec::Vec::grow_amortized::<#4b6dea4396d3f8eb>"-4
-	.reloc .Lsection_80+7098,R_X86_64_PLT32,".text.explanation::values::put_register_line"-4
-	.reloc .Lsection_80+7138,R_X86_64_PLT32,".text.explanation::values::put_register_line"-4
-	.reloc .Lsection_80+7162,R_X86_64_PLT32,".text.explanation::values::put_register_line"-4
-	.reloc .Lsection_80+7186,R_X86_64_PLT32,".text.explanation::values::put_register_line"-4
+	.reloc .Lsection_80+6468,R_X86_64_PC32,".rodata..Lstatic.157"-4
+	.reloc .Lsection_80+6485,R_X86_64_PC32,".rodata..Lstatic.167"-4
+	.reloc .Lsection_80+6502,R_X86_64_PC32,".rodata..Lstatic.170"-4
+	.reloc .Lsection_80+6519,R_X86_64_PC32,".rodata..Lstatic.155"-4
+	.reloc .Lsection_80+6533,R_X86_64_PC32,".rodata..Lstatic.171"-4
+	.reloc .Lsection_80+6547,R_X86_64_PC32,".rodata..Lstatic.163"-4
+	.reloc .Lsection_80+6561,R_X86_64_PC32,".rodata..Lstatic.156"-4
+	.reloc .Lsection_80+6575,R_X86_64_PC32,".rodata..Lstatic.168"-4
+	.reloc .Lsection_80+6589,R_X86_64_PC32,".rodata..Lstatic.160"-4
+	.reloc .Lsection_80+6603,R_X86_64_PC32,".rodata..Lstatic.158"-4
+	.reloc .Lsection_80+6617,R_X86_64_PC32,".rodata..Lstatic.172"-4
+	.reloc .Lsection_80+6633,R_X86_64_PC32,".rodata..Lstatic.169"-4
+	.reloc .Lsection_80+6647,R_X86_64_PC32,".rodata..Lstatic.173"-4
+	.reloc .Lsection_80+6703,R_X86_64_PLT32,"memmove"-4
+	.reloc .Lsection_80+7004,R_X86_64_PLT32,".text.unlikely.std_alloc::vec::Vec::grow_amortized::<#4b6dea4396d3f8eb>"-4
+	.reloc .Lsection_80+7050,R_X86_64_PLT32,".text.unlikely.std_alloc::vec::Vec::grow_amortized::<#4b6dea4396d3f8eb>"-4
+	.reloc .Lsection_80+7093,R_X86_64_PLT32,".text.explanation::values::put_register_line"-4
+	.reloc .Lsection_80+7133,R_X86_64_PLT32,".text.explanation::values::put_register_line"-4
+	.reloc .Lsection_80+7157,R_X86_64_PLT32,".text.explanation::values::put_register_line"-4
+	.reloc .Lsection_80+7181,R_X86_64_PLT32,".text.explanation::values::put_register_line"-4
 	.section ".rodata.explanation::explaining::write_all","a",@progbits
 	.balign 4
 .Lsection_81:
@@ -4036,30 +4036,30 @@
 	.reloc .Lsection_81+44,R_X86_64_PC32,".text.explanation::explaining::write_all"+4212
 	.reloc .Lsection_81+48,R_X86_64_PC32,".text.explanation::explaining::write_all"+4688
 	.reloc .Lsection_81+52,R_X86_64_PC32,".text.explanation::explaining::write_all"+4744
-	.reloc .Lsection_81+56,R_X86_64_PC32,".text.explanation::explaining::write_all"+6663
+	.reloc .Lsection_81+56,R_X86_64_PC32,".text.explanation::explaining::write_all"+6658
 	.reloc .Lsection_81+60,R_X86_64_PC32,".text.explanation::explaining::write_all"+6154
 	.reloc .Lsection_81+64,R_X86_64_PC32,".text.explanation::explaining::write_all"+6427
 	.reloc .Lsection_81+68,R_X86_64_PC32,".text.explanation::explaining::write_all"+6465
 	.reloc .Lsection_81+72,R_X86_64_PC32,".text.explanation::explaining::write_all"+6365
-	.reloc .Lsection_81+76,R_X86_64_PC32,".text.explanation::explaining::write_all"+6541
-	.reloc .Lsection_81+80,R_X86_64_PC32,".text.explanation::explaining::write_all"+6587
-	.reloc .Lsection_81+84,R_X86_64_PC32,".text.explanation::explaining::write_all"+6498
-	.reloc .Lsection_81+88,R_X86_64_PC32,".text.explanation::explaining::write_all"+6637
+	.reloc .Lsection_81+76,R_X86_64_PC32,".text.explanation::explaining::write_all"+6536
+	.reloc .Lsection_81+80,R_X86_64_PC32,".text.explanation::explaining::write_all"+6582
+	.reloc .Lsection_81+84,R_X86_64_PC32,".text.explanation::explaining::write_all"+6493
+	.reloc .Lsection_81+88,R_X86_64_PC32,".text.explanation::explaining::write_all"+6632
 	.reloc .Lsection_81+92,R_X86_64_PC32,".text.explanation::explaining::write_all"+6421
-	.reloc .Lsection_81+96,R_X86_64_PC32,".text.explanation::explaining::write_all"+6631
+	.reloc .Lsection_81+96,R_X86_64_PC32,".text.explanation::explaining::write_all"+6626
 	.reloc .Lsection_81+100,R_X86_64_PC32,".text.explanation::explaining::write_all"+6376
 	.reloc .Lsection_81+104,R_X86_64_PC32,".text.explanation::explaining::write_all"+6416
-	.reloc .Lsection_81+108,R_X86_64_PC32,".text.explanation::explaining::write_all"+6601
+	.reloc .Lsection_81+108,R_X86_64_PC32,".text.explanation::explaining::write_all"+6596
 	.reloc .Lsection_81+112,R_X86_64_PC32,".text.explanation::explaining::write_all"+6371
 	.reloc .Lsection_81+116,R_X86_64_PC32,".text.explanation::explaining::write_all"+6496
 	.reloc .Lsection_81+120,R_X86_64_PC32,".text.explanation::explaining::write_all"+6362
-	.reloc .Lsection_81+124,R_X86_64_PC32,".text.explanation::explaining::write_all"+6555
-	.reloc .Lsection_81+128,R_X86_64_PC32,".text.explanation::explaining::write_all"+6649
-	.reloc .Lsection_81+132,R_X86_64_PC32,".text.explanation::explaining::write_all"+6711
-	.reloc .Lsection_81+136,R_X86_64_PC32,".text.explanation::explaining::write_all"+6584
-	.reloc .Lsection_81+140,R_X86_64_PC32,".text.explanation::explaining::write_all"+6619
-	.reloc .Lsection_81+144,R_X86_64_PC32,".text.explanation::explaining::write_all"+6707
-	.reloc .Lsection_81+148,R_X86_64_PC32,".text.explanation::explaining::write_all"+6741
+	.reloc .Lsection_81+124,R_X86_64_PC32,".text.explanation::explaining::write_all"+6550
+	.reloc .Lsection_81+128,R_X86_64_PC32,".text.explanation::explaining::write_all"+6644
+	.reloc .Lsection_81+132,R_X86_64_PC32,".text.explanation::explaining::write_all"+6706
+	.reloc .Lsection_81+136,R_X86_64_PC32,".text.explanation::explaining::write_all"+6579
+	.reloc .Lsection_81+140,R_X86_64_PC32,".text.explanation::explaining::write_all"+6614
+	.reloc .Lsection_81+144,R_X86_64_PC32,".text.explanation::explaining::write_all"+6702
+	.reloc .Lsection_81+148,R_X86_64_PC32,".text.explanation::explaining::write_all"+6736
 	.reloc .Lsection_81+152,R_X86_64_PC32,".text.explanation::explaining::write_all"+6498
 	.section ".text.explanation::values::put_number","ax",@progbits
 	.balign 16
@@ -18026,7 +18026,7 @@
 	.section ".rodata..Lstatic.133","a",@progbits
 .Lsection_343:
 	.ascii "a call leads where no instructio"
-	.ascii "n starts, or not behind itself"
+	.ascii "n starts, or not after itself"
 	.section ".rodata..Lstatic.134","a",@progbits
 .Lsection_344:
 	.ascii "a function ends neither in an ex"
@@ -18055,8 +18055,8 @@
 	.section ".rodata..Lstatic.140","a",@progbits
 .Lsection_350:
 	.ascii "bytes may lie outside the record"
-	.ascii " or the frame, or a pointer may "
-	.ascii "leave them"
+	.ascii ", the table or the frame, or a p"
+	.ascii "ointer may leave them"
 	.section ".rodata..Lstatic.141","a",@progbits
 .Lsection_351:
 	.ascii "bytes of the frame are read that"
@@ -18113,8 +18113,8 @@
 	.ascii "t"
 	.section ".rodata..Lstatic.153","a",@progbits
 .Lsection_362:
-	.ascii "put each function behind all tha"
-	.ascii "t call it, and use no recursion"
+	.ascii "put each function after all that"
+	.ascii " call it, and use no recursion"
 	.section ".rodata..Lstatic.154","a",@progbits
 .Lsection_363:
 	.ascii "end each function in exit"
@@ -18251,9 +18251,9 @@
 	.section ".rodata..Lswitch.table.explanation::explaining::write_all","a",@progbits
 	.balign 8
 .Lsection_393:
-	.ascii "\033\000\000\000\000\000\000\000@\000\000\000\000\000\000\000)\000\000\000\000\000\000\000>\000\000\000\000\000\000\000"
+	.ascii "\033\000\000\000\000\000\000\000@\000\000\000\000\000\000\000)\000\000\000\000\000\000\000=\000\000\000\000\000\000\000"
 	.ascii "0\000\000\000\000\000\000\000-\000\000\000\000\000\000\000(\000\000\000\000\000\000\000$\000\000\000\000\000\000\000"
-	.ascii ".\000\000\000\000\000\000\000N\000\000\000\000\000\000\000J\000\000\000\000\000\000\000-\000\000\000\000\000\000\000"
+	.ascii ".\000\000\000\000\000\000\000N\000\000\000\000\000\000\000U\000\000\000\000\000\000\000-\000\000\000\000\000\000\000"
 	.ascii "0\000\000\000\000\000\000\000!\000\000\000\000\000\000\000\034\000\000\000\000\000\000\000 \000\000\000\000\000\000\000"
 	.ascii "7\000\000\000\000\000\000\000k\000\000\000\000\000\000\000"
 	.section ".data.rel.ro..Lswitch.table.explanation::explaining::write_all.987","aw",@progbits
