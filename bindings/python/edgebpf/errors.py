@@ -90,4 +90,4 @@ class NoMemory(Error):
 
 
 class Closed(Error):
-    """The store or the version was closed, or its process has ended."""
+    """The store or the version was closed, or its process has ended, as after a call that was interrupted."""

@@ -11,20 +11,15 @@ import numpy as np
 import numpy.typing as npt
 
 from edgebpf import library
-from edgebpf.errors import ArgumentLength, Closed, TooManyEdits, VertexRange
-from edgebpf.programs import EDGE_BYTES, Program
-from edgebpf.store import FEEDS, MOST_EDITS, MOST_VERTICES, Counts, Edges, Numbers, Result, Vertices, vertices_of
+from edgebpf.errors import Closed, TooManyEdits, VertexRange
+from edgebpf.programs import Program
+from edgebpf.store import (
+    FEEDS, MOST_EDITS, MOST_VERTICES, Counts, Edges, Numbers, Result, Vertices, argument_of, ends_of, frozen, vertices_of, whole,
+)
 
 NUMBERS = {"sum": 0, "min": 1, "max": 2}
 LEAST_ROOM = 64
 making = threading.Lock()
-
-
-def edges_of(edges: Edges, count: int) -> tuple[Vertices, Vertices]:
-    sources, targets = vertices_of(edges[0], count), vertices_of(edges[1], count)
-    if len(sources) != len(targets):
-        raise ValueError("there are as many targets as sources")
-    return sources, targets
 
 
 def joined(first: Vertices, second: Vertices) -> Vertices:
@@ -66,6 +61,7 @@ class Store:
     turns, and is a context manager. vertices: 1 to 1,048,576."""
 
     def __init__(self, vertices: int) -> None:
+        vertices = whole(vertices)
         if not 1 <= vertices <= MOST_VERTICES:
             raise ValueError(f"a graph has 1 to {MOST_VERTICES} vertices")
         handle = library.Handle()
@@ -87,7 +83,7 @@ class Store:
         if feed not in FEEDS:
             raise ValueError("a feed is A, B, C or D")
         handle, change = self._open(), library.new("change *")
-        new, old = edges_of(inserts, self.vertices), edges_of(removes, self.vertices)
+        new, old = ends_of(inserts, self.vertices), ends_of(removes, self.vertices)
         sources, targets = joined(new[0], old[0]), joined(new[1], old[1])
         if len(sources) > MOST_EDITS:
             raise TooManyEdits(f"{len(sources)} edits; a batch has at most {MOST_EDITS}")
@@ -177,8 +173,7 @@ class Version:
             with handle.lock:
                 arrays = *library.numbers("uint64_t", starts), *library.numbers("uint32_t", targets)
                 library.check(library.load().edgebpf_version_copy(handle.at, *arrays))
-            starts.flags.writeable = targets.flags.writeable = False
-            self._csr = starts.view(np.int64), targets
+            self._csr = frozen(starts).view(np.int64), frozen(targets)
         return self._csr
 
     def slices(self, vertex: int) -> list[Vertices]:
@@ -229,7 +224,6 @@ class Version:
 
     def _ask(self, call: Callable[..., int], program: Program, argument: bytes, arrays: tuple[Any, ...]) -> None:
         handle, code = self._open(), handle_of(program)
-        if len(argument) != program.record - EDGE_BYTES:
-            raise ArgumentLength(f"the argument has {program.record - EDGE_BYTES} bytes, not {len(argument)}")
+        given = argument_of(program, argument)
         with handle.lock, code.lock:
-            library.check(call(handle.at, code.at, bytes(argument), len(argument), *arrays))
+            library.check(call(handle.at, code.at, given, len(given), *arrays))

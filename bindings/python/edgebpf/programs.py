@@ -109,7 +109,7 @@ def assemble(text: str, record: int = EDGE_BYTES) -> Program:
 
     Raises `WrongText`, whose line counts statements so, and `Refused`.
     """
-    lines = text.replace(";", "\n").splitlines()
+    lines = text.replace(";", "\n").replace("\r\n", "\n").split("\n")
     if any(line.strip() == "end" for line in lines):
         raise ValueError("a line `end` would end the program; a label of that name is written `end:`")
     if not text.isascii():

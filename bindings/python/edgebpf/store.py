@@ -5,6 +5,7 @@ import dataclasses
 import functools
 import io
 import itertools
+import operator
 import subprocess
 import threading
 from collections.abc import Iterator, Sequence
@@ -64,10 +65,37 @@ def vertices_of(values: npt.ArrayLike, count: int) -> Vertices:
     return array.astype(np.uint32)
 
 
-def edit_lines(sign: str, edges: Edges, count: int) -> list[str]:
+def ends_of(edges: Edges, count: int) -> tuple[Vertices, Vertices]:
+    """The sources and the targets of some edges, as many of each, if all are in the graph."""
+    if len(edges) != 2:
+        raise ValueError("edges are a pair of arrays, their sources and their targets")
     sources, targets = (vertices_of(ends, count) for ends in edges)
     if len(sources) != len(targets):
         raise ValueError("there are as many targets as sources")
+    return sources, targets
+
+
+def argument_of(program: Program, argument: bytes) -> bytes:
+    """The bytes of an argument, if they are as many as the program's record has beyond 16. An array gives the bytes of its items."""
+    given, wanted = memoryview(argument).tobytes(), program.record - EDGE_BYTES
+    if len(given) != wanted:
+        raise ArgumentLength(f"the argument has {wanted} bytes, not {len(given)}")
+    return given
+
+
+def whole(number: int) -> int:
+    """A number that is whole by its type, as a place in a list has to be."""
+    return int(operator.index(number))
+
+
+def frozen(array: npt.NDArray[Any]) -> npt.NDArray[Any]:
+    """A view of an array that nobody can make writable."""
+    array.flags.writeable = False
+    return array.view()
+
+
+def edit_lines(sign: str, edges: Edges, count: int) -> list[str]:
+    sources, targets = ends_of(edges, count)
     return [f"{sign} {source} {target}\n" for source, target in zip(sources.tolist(), targets.tolist())]
 
 
@@ -81,20 +109,31 @@ class Process:
         self.errors = cast(IO[bytes], self.child.stderr)
 
     def ask(self, text: bytes, has_rows: bool = False) -> tuple[list[str], bytes]:
-        """The first line of the answer as words, and the rest as bytes if it has rows."""
+        """The first line of the answer as words, and the rest as bytes if it has rows. If it is interrupted, the process ends: the
+        rest of the answer would be taken for the next one."""
         with self.lock:
             if self.input.closed:
                 raise Closed("the store is closed")
             try:
-                # The answer to one question more says that the rows have ended.
-                self.input.write(text + (b"home 0\n" if has_rows else b""))
-                self.input.flush()
-            except BrokenPipeError:
-                raise self.ended() from None
-            head = self.output.readline()
-            if not head or head.startswith(b"fault "):
-                raise self.ended(head)
-            return head.decode().split(), self.rows() if has_rows else b""
+                return self.answer(text, has_rows)
+            except Error:
+                raise
+            except BaseException:
+                self.child.kill()
+                self.close()
+                raise
+
+    def answer(self, text: bytes, has_rows: bool) -> tuple[list[str], bytes]:
+        try:
+            # The answer to one question more says that the rows have ended.
+            self.input.write(text + (b"home 0\n" if has_rows else b""))
+            self.input.flush()
+        except BrokenPipeError:
+            raise self.ended() from None
+        head = self.output.readline()
+        if not head or head.startswith(b"fault "):
+            raise self.ended(head)
+        return head.decode().split(), self.rows() if has_rows else b""
 
     def rows(self) -> bytes:
         parts, tail = [], b""
@@ -248,13 +287,14 @@ class Version:
     def csr(self) -> tuple[npt.NDArray[np.int64], Vertices]:
         """All edges: `starts`, an int64 array of `vertices` + 1 places, and `targets`, a uint32 array, ascending for each source. Both
         are read-only, for `scipy.sparse.csr_array((ones, targets, starts))`."""
+        if self._is_closed:
+            raise Closed("the version is closed")
         if self._csr is None:
             edges = self._list(zero_program(), b"")
             degrees = np.bincount(edges[:, 0].astype(np.int64), minlength=self.vertices)
             starts = np.concatenate((np.zeros(1, np.int64), np.cumsum(degrees)))
             targets = edges[:, 1].astype(np.uint32)
-            starts.flags.writeable = targets.flags.writeable = False
-            self._csr = starts, targets
+            self._csr = frozen(starts), frozen(targets)
         return self._csr
 
     def neighbours(self, vertex: int) -> Vertices:
@@ -279,9 +319,7 @@ class Version:
             raise Closed("the version is closed")
         if not isinstance(program, Program):
             raise TypeError("a program is made by Program, assemble or compile_c")
-        if len(argument) != program.record - EDGE_BYTES:
-            raise ArgumentLength(f"the argument has {program.record - EDGE_BYTES} bytes, not {len(argument)}")
-        return bytes(argument).hex() or "-"
+        return argument_of(program, argument).hex() or "-"
 
     def _part(self, program: Program, reduction: str, argument: str, vertices: str) -> tuple[Numbers, int, int]:
         name = self._store._name_of(program)
@@ -332,6 +370,7 @@ def connect(vertices: int, workers: int = 1, program: str | None = None) -> Stor
     vertices: 1 to 1,048,576. workers: 1 to 16 threads that apply batches and make runs. program: the path of `edgebpf`; by default the
     variable EDGEBPF, the checkout's launcher, or what is on PATH.
     """
+    vertices, workers = whole(vertices), whole(workers)
     if not 1 <= vertices <= MOST_VERTICES:
         raise ValueError(f"a graph has 1 to {MOST_VERTICES} vertices")
     if not 1 <= workers <= 16:

@@ -17,7 +17,7 @@ from test_package import TARGET, edgebpf, np, told
 @unittest.skipIf(np is not None and edgebpf.library.path() is None, "not there: cffi, or libedgebpf.so, which make -C dist makes")
 class Native(test_package.Package):
     # These are of a process, or of the package as it lies on disk.
-    test_ended = test_cookbook = test_first_runs_at_once = test_from_c = test_installed = None
+    test_ended = test_interrupted = test_cookbook = test_first_runs_at_once = test_from_c = test_installed = None
 
     def store(self, vertices, workers=1):
         store = edgebpf.Store(vertices)
@@ -35,6 +35,8 @@ class Native(test_package.Package):
         for vertices in (0, 1 << 20 | 1):
             with self.assertRaises(ValueError):
                 edgebpf.Store(vertices)
+        with self.assertRaises(TypeError):
+            edgebpf.Store(4.0)
 
     def test_closed(self):
         store = self.store(2)

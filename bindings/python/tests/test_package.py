@@ -5,6 +5,7 @@ import pathlib
 import random
 import re
 import shutil
+import signal
 import subprocess
 import sys
 import tempfile
@@ -125,7 +126,10 @@ class Package(unittest.TestCase):
         self.assertEqual(store.pin().csr()[0].tolist(), [0] * 6)
         store.batch("A", ([1, 1, 4], [0, 3, 2]))
         version = store.pin()
-        self.assertFalse(any(array.flags.writeable for array in version.csr()))
+        for array in version.csr():
+            self.assertFalse(array.flags.writeable)
+            with self.assertRaises(ValueError):
+                array.setflags(write=True)
         view = version.neighbours(1)
         self.assertEqual(view.tolist(), [0, 3])
         self.assertEqual(version.neighbours(0).tolist(), [])
@@ -142,6 +146,13 @@ class Package(unittest.TestCase):
         self.assertEqual(store.pin().run(scaled, argument=b"\x05").values.tolist(), [5, 10, 0])
         with self.assertRaises(edgebpf.ArgumentLength):
             store.pin().run(scaled)
+        # An array counts by its bytes.
+        word = edgebpf.assemble("ldxdw r0, [r1+16]; exit", record=24)
+        self.assertEqual(store.pin().run(word, argument=np.array([1 << 40], np.uint64)).total, 1 << 41)
+        with self.assertRaises(edgebpf.ArgumentLength):
+            store.pin().run(scaled, argument=np.array([5], np.uint16))
+        with self.assertRaises(TypeError):
+            store.pin().run(scaled, argument=1)
         # The first and the last byte of the longest argument, and the place, which is not the target.
         text = "ldxb r0, [r1+16]; lsh r0, 8; ldxb r2, [r1+255]; or r0, r2; ldxw r2, [r1+8]; lsh r2, 16; or r0, r2; exit"
         ends, argument = edgebpf.assemble(text, record=256), bytes(range(1, 241))
@@ -238,7 +249,7 @@ class Package(unittest.TestCase):
         """After each error nothing was published, and the store goes on."""
         store = self.store(4)
         outside = edgebpf.VertexRange
-        for edges, error in ((([4], [0]), outside), (([0], [-1]), outside), (([0, 1], [0]), ValueError), (([0.5], [1]), TypeError), ((["a"], [1]), TypeError), (([1 << 32], [0]), outside), (([True], [False]), TypeError), (([[0]], [[1]]), TypeError)):
+        for edges, error in ((([4], [0]), outside), (([0], [-1]), outside), (([0, 1], [0]), ValueError), (([0.5], [1]), TypeError), ((["a"], [1]), TypeError), (([1 << 32], [0]), outside), (([True], [False]), TypeError), (([[0]], [[1]]), TypeError), (np.array([[0, 1], [2, 3], [3, 0]]), ValueError)):
             with self.assertRaises(error):
                 store.batch("A", edges)
         with self.assertRaises(edgebpf.TooManyEdits):
@@ -303,9 +314,11 @@ class Package(unittest.TestCase):
     def test_closed(self):
         store = self.store(2)
         version = store.pin()
+        version.csr()
         version.close()
-        with self.assertRaises(edgebpf.Closed):
-            version.run(edgebpf.assemble(TARGET))
+        for ask in (version.csr, lambda: version.run(edgebpf.assemble(TARGET)), lambda: version.neighbours(0)):
+            with self.assertRaises(edgebpf.Closed):
+                ask()
         store.close()
         store.close()
         with self.assertRaises(edgebpf.Closed):
@@ -314,6 +327,31 @@ class Package(unittest.TestCase):
         for vertices, workers in ((0, 1), (1 << 20 | 1, 1), (4, 0), (4, 17)):
             with self.assertRaises(ValueError):
                 edgebpf.connect(vertices, workers)
+        for vertices, workers in ((4.0, 1), (4, 1.0), ("4", 1)):
+            with self.assertRaises(TypeError):
+                edgebpf.connect(vertices, workers)
+
+    def test_interrupted(self):
+        """After a call that was interrupted no other call takes the rest of its answer."""
+        store = self.store(2000)
+        store.batch("A", (np.repeat(np.arange(2000), 30), np.arange(60_000) % 2000))
+        version, long = store.pin(), edgebpf.assemble("mov r0, 0;" + "add r0, 1;" * 4000 + "exit")
+        version.run(edgebpf.assemble(TARGET))
+
+        def interrupt(*_):
+            raise KeyboardInterrupt
+
+        before = signal.signal(signal.SIGALRM, interrupt)
+        try:
+            signal.setitimer(signal.ITIMER_REAL, 0.1)
+            with self.assertRaises(KeyboardInterrupt):
+                for _ in range(1000):
+                    version.run(long)
+        finally:
+            signal.signal(signal.SIGALRM, before)
+        for ask in (lambda: version.run(edgebpf.assemble(TARGET)), lambda: store.batch("A"), store.rebase):
+            with self.assertRaises(edgebpf.Closed):
+                ask()
 
     def test_ended(self):
         """A process that ends is an error with its words, and not a wait."""
