@@ -1,12 +1,16 @@
 """Scripts: what is written for a script's bytes, as docs/SCRIPT.md says."""
 import re
 import struct
+import sys
 from collections import Counter
 
 from assembler import Fault as TextFault
 from assembler import assemble
 from bpf import BITS_64, Graph, run
 from verifier import Refused, judged
+
+# A number has as many digits as fit into a line.
+sys.set_int_max_str_digits(0)
 
 LONG_LINE, WORDS, ORDER, RANGE, NAME, ARGUMENT, FRONTIER, TOO_MANY, LOG_FULL, OPEN_BLOCK, EPOCHS_FULL = range(1, 12)
 FEEDS = ("A", "B", "C", "D")
