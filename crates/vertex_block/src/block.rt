@@ -22,6 +22,7 @@ impl Model for VertexBlock {
     ghost use Rattle.std.specs.Prelude.{◌++◌, ◌-◌, List, ℕ, length, replicate, take};
     ghost use Rattle.vertex_block.specs.Block.{IsBlock};
     ghost use Rattle.vertex_block.specs.Given.{places_told};
+    ghost use Rattle.vertex_block.specs.declared.block.TheConstants.{PLACES};
 
     ghost Value = { List ℕ };
 
@@ -29,7 +30,7 @@ impl Model for VertexBlock {
 
     ghost invariant = { λ b. IsBlock b.len b.places };
 
-    ghost inverse = { λ ws. record { places = ws ++ replicate (12 - length ws) 0; len = length ws } };
+    ghost inverse = { λ ws. record { places = ws ++ replicate (PLACES - length ws) 0; len = length ws } };
 
     ghost inverse_ok = { λ b is. places_told b is };
 }

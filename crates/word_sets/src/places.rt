@@ -1,8 +1,10 @@
 //! The search for a word.
 ghost use Rattle.word_sets.specs.Words.{IsSet, IsPlace};
 
-/// Every word of a set is below this: 2^20, the greatest number of a graph's vertices.
-pub const WORD_LIMIT: u32 = 1_048_576;
+use past_model::MOST_VERTICES;
+
+/// Every word of a set is below this, as each vertex of a graph is.
+pub const WORD_LIMIT: u32 = MOST_VERTICES;
 
 /// `Ok` of the place at which a word stands in a set's list. Where it does not, `Err` of the place at which it
 /// belongs.
