@@ -104,8 +104,22 @@ static void run_all(edgebpf_store *store) {
     edgebpf_close_program(&other);
 }
 
+/* Lengths that no program has are found before memory is asked for. */
+static void check_lengths(void) {
+    static uint8_t code[8 * 4097], told[16];
+    edgebpf_program program = {{0}};
+    edgebpf_verdict verdict;
+    size_t count;
+    CHECK(edgebpf_program_new(16, code, sizeof code, &verdict, &program) == EDGEBPF_CODE_LENGTH);
+    CHECK(edgebpf_program_new(15, code, sizeof code, &verdict, &program) == EDGEBPF_RECORD_LENGTH);
+    CHECK(edgebpf_explain(16, code, 9, told, sizeof told, &count) == EDGEBPF_CODE_LENGTH);
+    CHECK(edgebpf_explain(257, code, 9, told, sizeof told, &count) == EDGEBPF_RECORD_LENGTH);
+    CHECK(asked == 0);
+}
+
 int main(void) {
     long tries = 0;
+    check_lengths();
     do {
         edgebpf_store store = {{0}};
         refused_at = ++tries;

@@ -1,10 +1,10 @@
 //! Programs.
 ghost use Rattle.std.specs.Prelude.{◌≡◌, ◌≢◌, ◌⊎◌, length};
-ghost use Rattle.bpf_image.specs.Program.{without_table, IsRecordLength, IsCodeLength};
+ghost use Rattle.bpf_image.specs.Program.{without_table};
 ghost use Rattle.embedding.specs.declared.statuses.TheConstants.{DONE, NO_MEMORY, LENGTHS, REFUSED, RECORD_LENGTH, CODE_LENGTH};
 ghost use Rattle.embedding.specs.Holding.{OnProgram, HoldsProgram};
 ghost use Rattle.embedding.specs.Batches.{IsHandedOut};
-ghost use Rattle.embedding.specs.Programs.{IsAccepted, IsRefused};
+ghost use Rattle.embedding.specs.Programs.{AreImageLengths, TellsLengths, IsAccepted, IsRefused};
 ghost use Rattle.embedding.specs.Texts.{IsAssembled, IsExplained};
 
 use embedding::{
@@ -21,9 +21,8 @@ pub extern "C" fn edgebpf_program_new(
     verdict: &mut Verdict,
     out: &mut Handle,
 ) -> u32
-    ensures record { result ≡ RECORD_LENGTH → IsRecordLength record_length → ⊥ }
-    ensures code { result ≡ CODE_LENGTH → IsRecordLength record_length × (IsCodeLength (length code.now) → ⊥) }
-    ensures image { (result ≡ DONE) ⊎ (result ≡ REFUSED) → IsRecordLength record_length × IsCodeLength (length code.now) }
+    ensures lengths { TellsLengths record_length (length code.now) result }
+    ensures image { (result ≡ DONE) ⊎ (result ≡ REFUSED) → AreImageLengths record_length (length code.now) }
     ensures others { result ≢ DONE → result ≢ REFUSED → result ≢ RECORD_LENGTH → result ≢ CODE_LENGTH → result ≡ NO_MEMORY }
     ensures made { result ≡ DONE → HoldsProgram out.new.held (without_table code.now record_length) }
     ensures told { result ≡ DONE → IsAccepted (without_table code.now record_length) verdict.new }
@@ -78,8 +77,7 @@ pub extern "C" fn edgebpf_explain(
 ) -> u32
     ensures explained { (result ≡ DONE) ⊎ (result ≡ LENGTHS)
         → IsExplained (without_table code.now record_length) text.old result text.new count.new }
-    ensures record { result ≡ RECORD_LENGTH → IsRecordLength record_length → ⊥ }
-    ensures code { result ≡ CODE_LENGTH → IsRecordLength record_length × (IsCodeLength (length code.now) → ⊥) }
+    ensures lengths { TellsLengths record_length (length code.now) result }
     ensures others { result ≢ DONE → result ≢ LENGTHS → result ≢ RECORD_LENGTH → result ≢ CODE_LENGTH → result ≡ NO_MEMORY }
     ensures left { result ≢ DONE → text.new ≡ text.old }
 {

@@ -1,18 +1,18 @@
 //! Programs, which are verified before they can be run.
-ghost use Rattle.std.specs.Prelude.{◌≡◌, ◌≢◌, ◌⊎◌, min, length, Some};
+ghost use Rattle.std.specs.Prelude.{◌≡◌, ◌≢◌, ◌⊎◌, min, length, Some, MatchOption};
 ghost use Rattle.bpf_isa.specs.declared.limits.TheConstants.{MOST_UNITS};
-ghost use Rattle.bpf_image.specs.Program.{without_table, IsRecordLength, IsCodeLength};
+ghost use Rattle.bpf_image.specs.Program.{without_table};
 ghost use Rattle.explanation.specs.Words.{cause_number};
 ghost use Rattle.embedding.specs.declared.statuses.TheConstants.{DONE, NO_MEMORY, RECORD_LENGTH, CODE_LENGTH, REFUSED};
 ghost use Rattle.embedding.specs.Holding.{OnProgram, HoldsProgram};
 ghost use Rattle.embedding.specs.Batches.{IsHandedOut};
-ghost use Rattle.embedding.specs.Programs.{IsImageOf, IsAccepted, IsRefused};
+ghost use Rattle.embedding.specs.Programs.{AreImageLengths, IsImageOf, TellsLengths, IsAccepted, IsRefused};
 
 use crate::handle::{Handle, hand_out};
 use crate::held::Held;
 use crate::runnable::Runnable;
 use crate::statuses::{CODE_LENGTH, NO_MEMORY, OTHER_KIND, RECORD_LENGTH, REFUSED};
-use bpf_image::{Image, ImageError};
+use bpf_image::{Image, LEAST_RECORD_LENGTH, MOST_RECORD_LENGTH};
 use bpf_isa::MOST_UNITS;
 use std::alloc::Global;
 use verifier::{Cause, Refusal, Verified, verify};
@@ -32,17 +32,34 @@ pub struct Verdict {
     pub pc: u32,
 }
 
+/// The status of the first length that no image has, tested before code is copied, of which there may be much.
+fn length_status(record_length: u16, code_length: usize) -> Option<u32>
+    ensures { MatchOption result (AreImageLengths record_length code_length)
+        (λ status. TellsLengths record_length code_length status × ((status ≡ RECORD_LENGTH) ⊎ (status ≡ CODE_LENGTH))) }
+{
+    if record_length < LEAST_RECORD_LENGTH || record_length > MOST_RECORD_LENGTH {
+        return Some(RECORD_LENGTH);
+    }
+    let units = code_length / 8;
+    if code_length % 8 != 0 || units == 0 || units > MOST_UNITS {
+        return Some(CODE_LENGTH);
+    }
+    None
+}
+
 /// The image of this code, or why there is none: its status.
 pub(crate) fn image_of(alloc: Global, record_length: u16, code: &[u8]) -> Result<Image, u32>
     ensures { IsImageOf code.now record_length result }
 {
+    if let Some(status) = length_status(record_length, code.len()) {
+        return Err(status);
+    }
     let Ok(code) = Vec::from_slice(alloc, code) else {
         return Err(NO_MEMORY);
     };
     match Image::new(record_length, code) {
         Ok(image) => Ok(image),
-        Err((_code, ImageError::RecordLength)) => Err(RECORD_LENGTH),
-        Err(_) => Err(CODE_LENGTH),
+        Err(_) => unreachable!(),
     }
 }
 
@@ -81,9 +98,8 @@ pub fn new_program(
     verdict: &mut Verdict,
     out: &mut Handle,
 ) -> u32
-    ensures record { result ≡ RECORD_LENGTH → IsRecordLength record_length → ⊥ }
-    ensures code { result ≡ CODE_LENGTH → IsRecordLength record_length × (IsCodeLength (length code.now) → ⊥) }
-    ensures image { (result ≡ DONE) ⊎ (result ≡ REFUSED) → IsRecordLength record_length × IsCodeLength (length code.now) }
+    ensures lengths { TellsLengths record_length (length code.now) result }
+    ensures image { (result ≡ DONE) ⊎ (result ≡ REFUSED) → AreImageLengths record_length (length code.now) }
     ensures others { result ≢ DONE → result ≢ REFUSED → result ≢ RECORD_LENGTH → result ≢ CODE_LENGTH → result ≡ NO_MEMORY }
     ensures made { result ≡ DONE → HoldsProgram out.new.held (without_table code.now record_length) }
     ensures told { result ≡ DONE → IsAccepted (without_table code.now record_length) verdict.new }

@@ -1,7 +1,8 @@
 //! Programs as text, and what the verifier knows of them as text.
 ghost use Rattle.std.specs.Prelude.{◌≡◌, ◌≢◌, ◌⊎◌, length};
-ghost use Rattle.bpf_image.specs.Program.{without_table, IsRecordLength, IsCodeLength};
+ghost use Rattle.bpf_image.specs.Program.{without_table};
 ghost use Rattle.embedding.specs.declared.statuses.TheConstants.{DONE, NO_MEMORY, LENGTHS, RECORD_LENGTH, CODE_LENGTH};
+ghost use Rattle.embedding.specs.Programs.{TellsLengths};
 ghost use Rattle.embedding.specs.Texts.{IsWritten, IsAssembled, IsExplained};
 
 use crate::programs::image_of;
@@ -70,8 +71,7 @@ pub fn explain_into(
 ) -> u32
     ensures explained { (result ≡ DONE) ⊎ (result ≡ LENGTHS)
         → IsExplained (without_table code.now record_length) text.old result text.new count.new }
-    ensures record { result ≡ RECORD_LENGTH → IsRecordLength record_length → ⊥ }
-    ensures code { result ≡ CODE_LENGTH → IsRecordLength record_length × (IsCodeLength (length code.now) → ⊥) }
+    ensures lengths { TellsLengths record_length (length code.now) result }
     ensures others { result ≢ DONE → result ≢ LENGTHS → result ≢ RECORD_LENGTH → result ≢ CODE_LENGTH → result ≡ NO_MEMORY }
     ensures left { result ≢ DONE → text.new ≡ text.old }
 {
