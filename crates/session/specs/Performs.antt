@@ -2,7 +2,7 @@
 use Rattle.std.specs.Prelude.{◌≡◌, ◌⊎◌, Some, None, Result, Ok, Err, ⊤}
 use Rattle.past_model.specs.declared.entry.Entry.{Entry}
 use Rattle.session_model.specs.Session.{Session}
-use Rattle.session_model.specs.Commands.{Answer, BatchPublished, PinTaken, HomeTold, Rebased}
+use Rattle.session_model.specs.Commands.{Command, PublishBatch, Answer, BatchPublished, PinTaken, HomeTold, Rebased}
 use Rattle.session_model.specs.Responses.{Response, Answers, Fails}
 use Rattle.session.specs.declared.answer.Answer.{Answer as GivenAnswer}
 use Rattle.session.specs.declared.error.CommandError.{CommandError}
@@ -20,6 +20,10 @@ IsAskedOfStore answer = ⊥
 abbrev pub IsOfStore : Response → Type 0
 IsOfStore (Answers answer s) = IsAskedOfStore answer
 IsOfStore (Fails fault) = ⊥
+
+abbrev pub HandsInBatch : Command → Type 0
+HandsInBatch (PublishBatch feed edits) = ⊤
+HandsInBatch command = ⊥
 
 -- the session is as it was, but that a batch may be held where none was: one that its store has taken
 abbrev pub IsAsItWas : (old new : Session) → Type 0

@@ -15,10 +15,10 @@ pub enum CommandError {
     /// Something is wrong with the command.
     #[error("a command has a fault")]
     Fault(Fault),
-    /// There is no memory for it. A batch may be held, to be handed in again.
+    /// There is no memory for it. If it hands in a batch, one may be held, to be handed in again.
     #[error("out of memory")]
     OutOfMemory,
-    /// A thread could not be started. A batch may be held, to be handed in again.
+    /// A thread could not be started. If it hands in a batch, one may be held, to be handed in again.
     #[error("a worker could not be started")]
     WorkerRefused,
     /// A version cannot have one owner more, or the store did not answer as it should: it refused a batch or a pin, had no

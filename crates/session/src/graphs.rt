@@ -35,7 +35,8 @@ impl Session {
         rt: &R,
         vertices: u64,
     ) -> Result<Answer<'a>, CommandError>
-        ensures { Performs (graph_response vertices self.old) result self.old self.new }
+        ensures performed { Performs (graph_response vertices self.old) result self.old self.new }
+        ensures kept { IfErr result (λ _. self.new ≡ self.old) }
     {
         if self.store.is_some() {
             return Err(CommandError::Fault(Fault::Order));

@@ -1,5 +1,6 @@
 //! Where a session's graph keeps neighbours.
 
+ghost use Rattle.std.specs.Prelude.{◌≡◌, IfErr};
 ghost use Rattle.session_model.specs.Responses.{home_response};
 ghost use Rattle.session.specs.Performs.{Performs};
 
@@ -11,7 +12,8 @@ use session_model::Fault;
 impl Session {
     /// Reports where the last version keeps a vertex's neighbours, and how many they are.
     pub(crate) fn tell_home<'a>(&mut self, vertex: u64) -> Result<Answer<'a>, CommandError>
-        ensures { Performs (home_response vertex self.old) result self.old self.new }
+        ensures performed { Performs (home_response vertex self.old) result self.old self.new }
+        ensures kept { IfErr result (λ _. self.new ≡ self.old) }
     {
         let Some(store) = &mut self.store else {
             return Err(CommandError::Fault(Fault::Order));

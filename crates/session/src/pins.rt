@@ -1,5 +1,6 @@
 //! The pins of a session.
 
+ghost use Rattle.std.specs.Prelude.{◌≡◌, IfErr};
 ghost use Rattle.session_model.specs.Responses.{pin_response};
 ghost use Rattle.session.specs.Performs.{Performs};
 
@@ -12,7 +13,8 @@ use session_model::{Fault, MOST_KEPT};
 impl Session {
     /// Names the last version.
     pub(crate) fn take_pin<'a>(&mut self, name: &'a [u8]) -> Result<Answer<'a>, CommandError>
-        ensures { Performs (pin_response name.now self.old) result self.old self.new }
+        ensures performed { Performs (pin_response name.now self.old) result self.old self.new }
+        ensures kept { IfErr result (λ _. self.new ≡ self.old) }
     {
         if self.store.is_none() {
             return Err(CommandError::Fault(Fault::Order));

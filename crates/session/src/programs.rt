@@ -50,8 +50,9 @@ impl Session {
         record_length: u64,
         code: Vec<u8>,
     ) -> Result<Answer<'a>, CommandError>
-        ensures { Performs (load_response name.now
+        ensures performed { Performs (load_response name.now
             (without_table code.items record_length) self.old) result self.old self.new }
+        ensures kept { IfErr result (λ _. self.new ≡ self.old) }
     {
         if let Some(fault) = self.program_fault(name, record_length) {
             return Err(CommandError::Fault(fault));
@@ -88,7 +89,8 @@ impl Session {
         name: &'a [u8],
         bytes: &[u8],
     ) -> Result<Answer<'a>, CommandError>
-        ensures { Performs (image_response name.now bytes.now self.old) result self.old self.new }
+        ensures performed { Performs (image_response name.now bytes.now self.old) result self.old self.new }
+        ensures kept { IfErr result (λ _. self.new ≡ self.old) }
     {
         if let Some(fault) = self.image_fault(name) {
             return Err(CommandError::Fault(fault));
@@ -102,7 +104,8 @@ impl Session {
 
     /// Keeps a program where the verifier accepts it, and says what it answered.
     fn judge<'a>(&mut self, name: &'a [u8], image: Image) -> Result<Answer<'a>, CommandError>
-        ensures { Performs (verdict_response (verdict image) name.now image self.old) result self.old self.new }
+        ensures performed { Performs (verdict_response (verdict image) name.now image self.old) result self.old self.new }
+        ensures kept { IfErr result (λ _. self.new ≡ self.old) }
     {
         match verify(self.alloc, image) {
             Err((_, refusal)) => {

@@ -1,10 +1,10 @@
 //! The state of a session, and its commands one by one.
 
-ghost use Rattle.std.specs.Prelude.{◌≡◌};
+ghost use Rattle.std.specs.Prelude.{◌≡◌, ◌⊎◌, IfErr};
 ghost use Rattle.session_model.specs.Session.{new_session};
 ghost use Rattle.session_model.specs.Responses.{response};
 ghost use Rattle.session.specs.Kept.{command_of};
-ghost use Rattle.session.specs.Performs.{Performs};
+ghost use Rattle.session.specs.Performs.{HandsInBatch, Performs};
 
 use crate::answer::Answer;
 use crate::command::Command;
@@ -54,15 +54,17 @@ impl Session {
     /// of 256 vertices that it edits, a run's are 64 places each of its frontier. Besides it answers `OutOfMemory` if memory
     /// was refused, `WorkerRefused` if a thread could not be started, of which one worker needs none, and `Store`
     /// if its store does not answer as it should, which comes only of a command that is answered by a publication, a pin,
-    /// a home or a rebase. After a fault the session is as it was. So it is after `OutOfMemory` and `WorkerRefused`, but that
-    /// its store may hold a batch where it held none: a batch handed in again publishes that one, and is answered `Store` if
-    /// it is another. After `Store` of a batch none is held, and there is no use of the session but `close`.
+    /// a home or a rebase. After a fault the session is as it was, and after each error of a command that hands in no batch.
+    /// So it is after `OutOfMemory` and `WorkerRefused` of a batch, but that its store may hold one where it held none: a batch
+    /// handed in again publishes that one, and is answered `Store` if it is another. After `Store` of a batch none is held,
+    /// and there is no use of the session but `close`.
     pub fn perform<'a, Ga: Gate, R: Threads + Wait>(
         &mut self,
         crew: &Crew<'_, R, Ga>,
         command: Command<'a>,
     ) -> Result<Answer<'a>, CommandError>
-        ensures { Performs (response (command_of command.entry) self.old) result self.old self.new }
+        ensures performed { Performs (response (command_of command.entry) self.old) result self.old self.new }
+        ensures kept { IfErr result (λ _. HandsInBatch (command_of command.entry) ⊎ (self.new ≡ self.old)) }
     {
         match command {
             Command::MakeGraph { vertices } => self.make_graph(crew.rt, vertices),
