@@ -107,7 +107,7 @@ def edits_of(plan, feed, batch):
         word = numbers.next()
         source, target = (word >> 16 & 0xFFFFFF) % vertices, (word >> 40) % vertices
         is_insertion = word & 7 >= removals
-        if code in (10, 11):
+        if code in (1, 2, 3, 7, 10, 11):
             source = hub
         elif code in (12, 13):
             source, target, is_insertion = hub, (first + place) % vertices, removals < 4
