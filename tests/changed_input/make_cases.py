@@ -14,7 +14,7 @@ import sys
 ROOT = pathlib.Path(__file__).parent.parent.parent
 sys.path.insert(0, str(ROOT / "tests/second_implementation"))
 from programs import Programs  # noqa: E402
-from script import Session  # noqa: E402
+from script import REDUCTIONS, Session  # noqa: E402
 from verifier import Refused, judged  # noqa: E402
 
 # Programs of one script: no more are kept.
@@ -81,16 +81,20 @@ class Script:
             self.lines.append(line)
             self.session.line(line.encode(), len(self.lines))
 
-    def program(self, name, lines):
-        """A program, and a run of it where it is accepted."""
+    def program(self, name, lines, choice=None):
+        """A program, and a run of it where it is accepted: one of random choices, if they are given."""
         self.add(*lines)
         if name in self.session.programs:
             length = self.session.programs[name][0]
-            argument = bytes(range(1, length - 15)).hex() or "-"
-            self.add(f"run {name} a sum {argument}")
+            argument = choice.randbytes(length - 16) if choice else bytes(range(1, length - 15))
+            reducer = choice.choice(sorted(REDUCTIONS)) if choice else "sum"
+            self.add(f"run {name} a {reducer} {argument.hex() or '-'}")
+
+    def bytes(self):
+        return "".join(f"{line}\n" for line in self.lines).encode()
 
     def write(self, path):
-        path.write_text("".join(f"{line}\n" for line in self.lines))
+        path.write_bytes(self.bytes())
         path.with_suffix(".stdout").write_text("".join(f"{line}\n" for line in self.session.said))
 
 
