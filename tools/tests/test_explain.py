@@ -196,12 +196,27 @@ class RealRefusals(unittest.TestCase):
             accepted, last = run.stdout.splitlines()[-2:]
             self.assertEqual((accepted.split(",")[0], last), ("accepted", pace))
 
+    def test_at_the_limits(self):
+        """The last byte of the longest record, and that of the longest table, by text and by code."""
+        for length, words, text in (
+            ("256", [], "ldxb r0, [r1+255]\nexit\n"),
+            ("16", ["--table", "00" * 4096], "ldxb r0, [r3+4095]\nexit\n"),
+            ("16", ["7130ff0f000000009500000000000000", "--table", "00" * 4096], None),
+        ):
+            run = run_tool("edgebpf-explain", length, *words, text=text)
+            self.assertEqual((run.stderr, run.returncode), ("", 0))
+            self.assertIn("\naccepted, bound 2, frames 1\n", run.stdout)
+
     def test_no_program(self):
         for words, text, said in (
             (["16", "9"], None, "hexadecimal"),
             (["16", "95"], None, "whole units"),
             (["16"], "mov r11, 1\n", "line 1: "),
             (["15", "9500000000000000"], None, "15"),
+            (["257", "9500000000000000"], None, "257"),
+            (["16", "--table", "00" * 4097], "exit\n", "the table is not 1 to 4096 bytes"),
+            (["16", "95", "--table", "00" * 4097], None, "whole units"),
+            (["16", "9500000000000000", "--table", "000"], None, "hexadecimal"),
         ):
             run = run_tool("edgebpf-explain", *words, text=text)
             self.assertEqual((run.stdout, run.returncode), ("", 2))
