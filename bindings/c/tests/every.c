@@ -208,6 +208,26 @@ static void takes_the_longest_program(void) {
     CHECK(made.line == UNITS + 1 && made.cause == 6); /* TooLong */
 }
 
+/* Of each vertex of a version the slices have the neighbours that are copied, at their places. */
+static void lends_what_it_copies(edgebpf_version *version) {
+    enum { MOST = EDGEBPF_MOST_VERTICES, ROOM = 4096 };
+    static edgebpf_slice slices[ROOM];
+    static uint64_t starts[MOST + 1];
+    edgebpf_info info;
+    CHECK(edgebpf_version_info(version, &info) == EDGEBPF_DONE && info.vertices <= MOST);
+    uint32_t *targets = malloc(info.edges * sizeof *targets);
+    CHECK(targets && edgebpf_version_copy(version, starts, info.vertices + 1, targets, info.edges) == EDGEBPF_DONE);
+    for (uint32_t vertex = 0; vertex < info.vertices; vertex++) {
+        const uint32_t *next = targets + starts[vertex];
+        size_t lent;
+        CHECK(edgebpf_version_lend(version, vertex, slices, ROOM, &lent) == EDGEBPF_DONE && lent < ROOM);
+        for (size_t i = 0; i < lent; next += slices[i++].count)
+            CHECK(!memcmp(slices[i].at, next, slices[i].count * sizeof *next));
+        CHECK(next == targets + starts[vertex + 1]);
+    }
+    free(targets);
+}
+
 /* The greatest graph, in which each 16th vertex has an edge to the fifth one after it, and all vertices as the frontier, from the last one. */
 static void runs_over_the_longest_frontier(void) {
     enum { APART = 16, MOST = EDGEBPF_MOST_VERTICES };
@@ -228,8 +248,9 @@ static void runs_over_the_longest_frontier(void) {
     for (uint32_t i = 0; i < MOST; i++) CHECK(values[i] == (frontier[i] % APART ? 0 : frontier[i] + 5));
     CHECK(totals.edges == COUNT(sources) && totals.total == total);
     CHECK(edgebpf_run(&pin, &targets_of, EDGEBPF_NO_BYTES, 0, frontier, MOST + 1, EDGEBPF_SUM, values, MOST + 1, &totals) == EDGEBPF_LENGTHS);
+    lends_what_it_copies(&pin);
     edgebpf_close_version(&pin);
-    /* Each vertex gets an edge more, and then two of them lose one: a million edges, over a rebase. */
+    /* Each vertex gets an edge more, and then two of them lose one: a million edges, over a rebase. Then the last vertex gets many. */
     uint64_t epoch = 9;
     edgebpf_info info;
     for (uint32_t part = 1; part <= APART; part++) {
@@ -243,6 +264,12 @@ static void runs_over_the_longest_frontier(void) {
     CHECK(change.added == 0 && change.removed == 2 && change.number == 1);
     CHECK(edgebpf_store_pin(&greatest, &pin) == EDGEBPF_DONE && edgebpf_version_info(&pin, &info) == EDGEBPF_DONE);
     CHECK(info.epoch == 1 && info.edges == MOST + COUNT(sources) - 2);
+    edgebpf_close_version(&pin);
+    marks[0] = marks[1] = 0;
+    for (uint32_t i = 0; i < COUNT(sources); i++) sources[i] = MOST - 1, targets[i] = APART * i;
+    CHECK(edgebpf_store_apply(&greatest, 3, sources, COUNT(sources), targets, COUNT(targets), marks, COUNT(marks), &change) == EDGEBPF_DONE);
+    CHECK(edgebpf_store_pin(&greatest, &pin) == EDGEBPF_DONE);
+    lends_what_it_copies(&pin);
     edgebpf_close_version(&pin);
     edgebpf_close_store(&greatest);
 }
