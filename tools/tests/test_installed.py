@@ -98,6 +98,17 @@ class Installed(unittest.TestCase):
         self.assertIn(facts["kit"], proved)
         self.assertIn(facts["sources of edgebpf"], proved)
 
+    def test_words_and_ends_that_fail(self):
+        """What the program says of a word that is no text, of an input that is a folder, and of an output that is full."""
+        for line, said, status in (
+            ('edgebpf "$(printf "\\377")"', "edgebpf: a word is not UTF-8\n", 2),
+            ("edgebpf < .", "edgebpf: read\n", 1),
+            ("echo graph 2 | edgebpf > /dev/full", "edgebpf: write\n", 1),
+        ):
+            room = {"PATH": f"{self.links}:/usr/bin:/bin", "HOME": str(self.work)}
+            run = subprocess.run(["sh", "-c", line], cwd=self.work, env=room, capture_output=True, text=True, **NOBODY)
+            self.assertEqual((run.stdout, run.stderr, run.returncode), ("", said, status))
+
     def test_help(self):
         for word in ("--help", "-h"):
             run = self.run_as_user("edgebpf", word)
