@@ -136,8 +136,14 @@ static void refuses_batches(void) {
     CHECK(edgebpf_store_pin(&store, &now) == EDGEBPF_DONE && edgebpf_version_info(&now, &info) == EDGEBPF_DONE);
     CHECK(info.number == 2 && info.edges == 5);
     edgebpf_close_version(&now);
-    for (uint32_t number = 3; number <= EDGEBPF_MOST_BATCHES; number++)
+    for (uint32_t number = 3; number <= EDGEBPF_MOST_BATCHES; number++) {
+        edgebpf_version shared = {{0}};
         CHECK(edgebpf_store_apply(&store, 0, many, 0, many, 0, marks, 0, &change) == EDGEBPF_DONE && change.number == number);
+        CHECK(edgebpf_store_pin(&store, &now) == EDGEBPF_DONE && edgebpf_version_share(&now, &shared) == EDGEBPF_DONE);
+        edgebpf_close_version(&now);
+        CHECK(edgebpf_version_info(&shared, &info) == EDGEBPF_DONE && info.number == number && info.edges == 5);
+        edgebpf_close_version(&shared);
+    }
     CHECK(edgebpf_store_apply(&store, 0, many, 0, many, 0, marks, 0, &change) == EDGEBPF_LOG_FULL);
     CHECK(edgebpf_store_pin(&store, &now) == EDGEBPF_DONE && edgebpf_version_info(&now, &info) == EDGEBPF_DONE);
     CHECK(info.number == EDGEBPF_MOST_BATCHES && info.edges == 5);
@@ -195,7 +201,7 @@ static void takes_the_longest_program(void) {
     CHECK(edgebpf_run(&last, &shared, EDGEBPF_NO_BYTES, 0, frontier, 3, EDGEBPF_MAX, values, 3, &totals) == EDGEBPF_DONE);
     CHECK(values[0] == 7 && values[1] == 7 && values[2] == 0 && totals.edges == 4 && totals.total == 7);
     edgebpf_close_program(&shared);
-    CHECK(edgebpf_explain(24, code, 8 * UNITS, text, 0, &again) == EDGEBPF_LENGTHS && again > sizeof start + sizeof end);
+    CHECK(edgebpf_explain(256, code, 8 * UNITS, text, 0, &again) == EDGEBPF_LENGTHS && again > sizeof start + sizeof end);
     CHECK(edgebpf_explain(16, code, 8 * UNITS, text, 0, &count) == EDGEBPF_LENGTHS && count > sizeof start + sizeof end);
     char *told = malloc(count);
     CHECK(told && edgebpf_explain(16, code, 8 * UNITS, (uint8_t *)told, count, &again) == EDGEBPF_DONE && again == count);
@@ -206,6 +212,18 @@ static void takes_the_longest_program(void) {
     memcpy(text + length + sizeof line - 1, "exit\n", 5);
     CHECK(edgebpf_assemble(text, sizeof text, code, sizeof code, &made) == EDGEBPF_WRONG_TEXT);
     CHECK(made.line == UNITS + 1 && made.cause == 6); /* TooLong */
+}
+
+/* Two million bytes of comments before two instructions. */
+static void takes_a_long_text(void) {
+    enum { COMMENTS = 500000 };
+    static const char rest[] = "mov r0, 7\nexit\nmov r0\n";
+    static uint8_t text[4 * COMMENTS + sizeof rest - 1], code[16];
+    edgebpf_assembled made;
+    for (size_t line = 0; line < COMMENTS; line++) memcpy(text + 4 * line, "; a\n", 4);
+    memcpy(text + 4 * COMMENTS, rest, sizeof rest - 1);
+    CHECK(edgebpf_assemble(text, sizeof text - 7, code, sizeof code, &made) == EDGEBPF_DONE && made.length == 16);
+    CHECK(edgebpf_assemble(text, sizeof text, code, sizeof code, &made) == EDGEBPF_WRONG_TEXT && made.line == COMMENTS + 3);
 }
 
 /* Of each vertex of a version the slices have the neighbours that are copied, at their places. */
@@ -334,6 +352,7 @@ int main(void) {
     reads_and_writes_texts();
     runs_programs();
     takes_the_longest_program();
+    takes_a_long_text();
     runs_over_the_longest_frontier();
     runs_with_the_longest_argument();
     refuses_batches();
