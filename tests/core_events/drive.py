@@ -5,27 +5,19 @@ The model shares nothing with the crates: a version is a dictionary of sets, and
 cut as the core cuts it. The same number always makes the same events."""
 
 import collections
-import os
+import pathlib
 import random
-import shutil
 import subprocess
 import sys
 import tempfile
 
-HERE = os.path.dirname(os.path.abspath(__file__))
-TOP = os.path.dirname(os.path.dirname(HERE))
+HERE = pathlib.Path(__file__).resolve().parent
+sys.path.insert(0, str(HERE.parent))
+from building import build  # noqa: E402
+
 USED = ["cursors", "migration", "past_model", "stream_core"]
 EVENTS = 100_000
 FEEDS = 4
-
-
-def crates_below(rows, names):
-    """These crates of the repository and all that they stand on, by the lines of crates.txt."""
-    found = set()
-    for name in names:
-        if name in rows:
-            found |= {name} | crates_below(rows, rows[name].split(":")[1].split())
-    return found
 
 
 class Model:
@@ -154,39 +146,15 @@ def script(numbers, count):
 
 
 def replies_of(lines):
-    """Builds the driver over the crates as they stand, and gives what it wrote. `rt try` takes but so much output, so
-    a few worlds go to each run."""
+    """Builds the driver over the crates as they stand, and gives what it writes."""
+    text = "".join(f"{line}\n" for _, line, _ in lines)
     with tempfile.TemporaryDirectory() as folder:
-        os.mkdir(f"{folder}/crates")
-        with open(f"{TOP}/crates.txt") as listed:
-            rows = {row.split(":")[0]: row for row in listed if ":" in row}
-        below = crates_below(rows, USED)
-        with open(f"{folder}/crates.txt", "w") as out:
-            out.writelines([row for name, row in rows.items() if name in below] + [f"driver: {' '.join(USED)}\n"])
-        for name in below:
-            shutil.copytree(f"{TOP}/crates/{name}", f"{folder}/crates/{name}", ignore=shutil.ignore_patterns("out"))
-        os.makedirs(f"{folder}/crates/driver/src")
-        shutil.copyfile(f"{HERE}/driver.rattle", f"{folder}/crates/driver/src/main.rt")
-        replies = []
-        for piece in pieces(lines):
-            done = subprocess.run(
-                ["rt", "try"], cwd=f"{folder}/crates/driver", input=piece, text=True, capture_output=True
-            )
-            if done.returncode != 0:
-                sys.exit(done.stderr)
-            replies += done.stdout.splitlines()
-    return replies
-
-
-def pieces(lines):
-    """The lines as texts, each of which begins with a world."""
-    text, count = "", 0
-    for event, line, _ in lines:
-        if event is None and count >= EVENTS // 4:
-            yield text
-            text, count = "", 0
-        text, count = text + line + "\n", count + 1
-    yield text
+        driver = pathlib.Path(folder) / "driver"
+        build(driver, HERE / "driver.rattle", USED)
+        done = subprocess.run([driver], input=text, text=True, capture_output=True)
+    if done.returncode != 0:
+        sys.exit(done.stderr)
+    return done.stdout.splitlines()
 
 
 def main():

@@ -7,15 +7,17 @@ the model replays the order in which batches were published. The same seed alway
 import argparse
 import collections
 import os
-import shutil
+import pathlib
 import subprocess
 import sys
 import tempfile
 import threading
 import time
 
-HERE = os.path.dirname(os.path.abspath(__file__))
-TOP = os.path.dirname(os.path.dirname(HERE))
+HERE = pathlib.Path(__file__).resolve().parent
+sys.path.insert(0, str(HERE.parent))
+from building import build  # noqa: E402
+
 USED = ["past_model", "store"]
 FEEDS = 4
 PLACES = 16
@@ -30,7 +32,6 @@ PATIENCE = 1800
 NAMES = {"place": "at", "last": "final"}
 KINDS = "batch published rebase log_full epochs_full pin at again another reader final left end".split()
 WORDS = {"true": 1, "false": 0}
-FOR_LINUX = ["--target=x86_64-unknown-linux-gnu", "--no-default-config"]
 
 
 class Different(Exception):
@@ -312,78 +313,6 @@ class Replay:
         return self.counts
 
 
-def built(folder, is_sanitized):
-    """Builds the driver over the crates as they stand: `rt try` makes its module, and clang a program of that."""
-    copy_crates(folder)
-    keep_module(folder)
-    run([f"{folder}/kit/bin/rt", "try"], cwd=f"{folder}/crates/driver", stdin=subprocess.DEVNULL)
-    module = max((f"{folder}/{name}" for name in os.listdir(folder) if name.endswith(".bc")), key=os.path.getsize)
-    compiler, linker, flags = [f"{kit()}/toolchain/bin/clang", *FOR_LINUX], "cc", ["-O2"]
-    if is_sanitized:
-        linker, flags = "clang-19", ["-O1", "-fsanitize=thread"]
-        module = for_threads(folder, compiler, module)
-    run([*compiler, *flags, "-fPIE", "-ffunction-sections", "-c", "-x", "ir", module, "-o", f"{folder}/driver.o"])
-    libraries = [f"{kit()}/c/{name}" for name in ("libos_c.a", "liblibc_c.a")]
-    run([linker, *flags, "-pie", "-pthread", "-Wl,--gc-sections", f"{folder}/driver.o", *libraries, "-o", f"{folder}/driver"])
-    return f"{folder}/driver"
-
-
-def for_threads(folder, compiler, module):
-    """The module with each function marked for ThreadSanitizer: `rt try` marks it for the one of addresses."""
-    text = f"{folder}/module.ll"
-    run([*compiler, "-S", "-emit-llvm", "-Xclang", "-disable-llvm-passes", "-x", "ir", module, "-o", text])
-    run(["sed", "-i", "s/ sanitize_address / sanitize_thread /", text])
-    return text
-
-
-def run(words, **how):
-    done = subprocess.run(words, capture_output=True, text=True, **how)
-    if done.returncode != 0:
-        sys.exit(done.stdout + done.stderr)
-
-
-def kit():
-    return os.path.dirname(os.path.dirname(os.path.realpath(shutil.which("rt"))))
-
-
-def copy_crates(folder):
-    with open(f"{TOP}/crates.txt") as listed:
-        rows = {row.split(":")[0]: row for row in listed if ":" in row}
-    below = crates_below(rows, USED)
-    with open(f"{folder}/crates.txt", "w") as out:
-        out.writelines([row for name, row in rows.items() if name in below] + [f"driver: {' '.join(USED)}\n"])
-    for name in below:
-        shutil.copytree(f"{TOP}/crates/{name}", f"{folder}/crates/{name}", ignore=shutil.ignore_patterns("out"))
-    os.makedirs(f"{folder}/crates/driver/src")
-    shutil.copyfile(f"{HERE}/driver.rattle", f"{folder}/crates/driver/src/main.rt")
-
-
-def crates_below(rows, names):
-    """These crates of the repository and all that they stand on, by the lines of crates.txt."""
-    found = set()
-    for name in names:
-        if name in rows:
-            found |= {name} | crates_below(rows, rows[name].split(":")[1].split())
-    return found
-
-
-def keep_module(folder):
-    """Makes a kit of links, whose clang also leaves each module in the folder: `rt try` compiles it without optimizing."""
-    made = f"{folder}/kit"
-    os.makedirs(f"{made}/bin")
-    os.makedirs(f"{made}/toolchain/bin")
-    for name in ("rt", "rtlib.py"):
-        shutil.copy(f"{kit()}/bin/{name}", f"{made}/bin/{name}")
-    clang = "toolchain/bin/clang"
-    with open(f"{made}/{clang}", "w") as script:
-        script.write(f'#!/bin/bash\n[ ! -f module.bc ] || cp module.bc "{folder}/$$.bc"\nexec -a "$0" "{kit()}/{clang}" "$@"\n')
-    os.chmod(f"{made}/{clang}", 0o755)
-    for part in (".", "bin", "toolchain", "toolchain/bin"):
-        for name in os.listdir(f"{kit()}/{part}"):
-            if not os.path.exists(f"{made}/{part}/{name}"):
-                os.symlink(f"{kit()}/{part}/{name}", f"{made}/{part}/{name}")
-
-
 class Driver:
     """The built driver, which holds a round for each line that it is given."""
 
@@ -448,7 +377,7 @@ def main():
     with tempfile.TemporaryDirectory() as folder:
         program = arguments.program or f"{folder}/program"
         if not os.path.exists(program):
-            shutil.move(built(folder, arguments.sanitize), program)
+            build(program, HERE / "driver.rattle", USED, arguments.sanitize)
         counts = hold_rounds(os.path.abspath(program), arguments.seed, arguments.seconds)
     for kind, count in sorted(counts.items()):
         print(f"{count:10} {kind}")

@@ -13,8 +13,13 @@ from collections import Counter
 from concurrent.futures import ProcessPoolExecutor
 from functools import partial
 
-from building import build
 from sources import of_repository, random_program
+
+HERE = pathlib.Path(__file__).resolve().parent
+sys.path.insert(0, str(HERE.parent))
+from building import build  # noqa: E402
+
+USED = ["anyhow", "bpf_blocks", "bpf_image", "bpf_machine", "bpf_runs", "graph_model", "hex", "verifier"]
 
 # Programs of one run of the driver.
 PIECE = 250
@@ -135,13 +140,14 @@ def run(said, driver):
 def main():
     said = arguments()
     if said.build:
-        build(said.build)
+        build(said.build, HERE / "driver.rattle", USED)
     elif said.driver:
         run(said, said.driver.resolve())
     else:
         with tempfile.TemporaryDirectory() as folder:
-            build(pathlib.Path(folder) / "driver")
-            run(said, pathlib.Path(folder) / "driver")
+            driver = pathlib.Path(folder) / "driver"
+            build(driver, HERE / "driver.rattle", USED)
+            run(said, driver)
 
 
 if __name__ == "__main__":
