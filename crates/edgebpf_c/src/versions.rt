@@ -1,6 +1,6 @@
 //! Versions, and what is asked of them.
 ghost use Rattle.std.specs.Prelude.{◌≡◌};
-ghost use Rattle.graph_model.specs.Graph.{degree};
+ghost use Rattle.graph_model.specs.Graph.{degree, neighbours};
 ghost use Rattle.graph_model.specs.Views.{is_edge};
 ghost use Rattle.past_model.specs.Past.{graph_of};
 ghost use Rattle.embedding.specs.declared.statuses.TheConstants.{DONE};
@@ -134,7 +134,7 @@ pub extern "C" fn edgebpf_version_lend(
 ) -> u32
     ensures kept { version.new.held ≡ version.old.held }
     ensures told { OnVersion version.old.held result ((slices.new ≡ slices.old) × (lent.new ≡ lent.old))
-        (λ p. (result ≡ DONE) × AreLent (degree (graph_of p) vertex) lent.new slices.old slices.new) }
+        (λ p. (result ≡ DONE) × AreLent (neighbours (graph_of p) vertex) lent.new slices.old slices.new) }
 {
     match version.take(alloc) {
         None => EMPTY,

@@ -1,6 +1,7 @@
 //! The slices in which a vertex's neighbours lie, lent where they lie.
-ghost use Rattle.std.specs.Prelude.{◌≡◌, ◌<◌, ◌≤◌, Some, length};
-ghost use Rattle.graph_model.specs.Graph.{degree};
+ghost use Rattle.std.specs.Prelude.{◌≡◌, ◌<◌, ◌≤◌, Some, length, slice_index_or};
+ghost use Rattle.std.specs.Ptr.{as_ptr};
+ghost use Rattle.graph_model.specs.Graph.{neighbours};
 ghost use Rattle.past_model.specs.Past.{graph_of};
 ghost use Rattle.embedding.specs.declared.statuses.TheConstants.{DONE};
 ghost use Rattle.embedding.specs.Holding.{OnVersion};
@@ -20,9 +21,18 @@ pub struct Slice {
     pub count: usize,
 }
 
+// The first of some words.
+fn first_of(words: &[u32]) -> &u32
+    requires { 0 < length words.now }
+    ensures { result.now ≡ slice_index_or words.now 0 0 }
+{
+    &words[0]
+}
+
 // A slice that begins with this word.
 fn slice_from(first: &u32, count: usize) -> Slice
-    ensures { result.count ≡ count }
+    ensures count { result.count ≡ count }
+    ensures at { result.at ≡ as_ptr first.entry }
 {
     Slice {
         at: std::ptr::from_ref(first),
@@ -32,7 +42,7 @@ fn slice_from(first: &u32, count: usize) -> Slice
 
 // Writes the slices of a vertex, as far as there is room, and returns how many.
 fn lend(version: &Version, vertex: u32, slices: &mut [Slice]) -> usize
-    ensures { AreLent (degree (graph_of version.now) vertex) result slices.old slices.new }
+    ensures { AreLent (neighbours (graph_of version.now) vertex) result slices.old slices.new }
 {
     let mut cursor = version.cursor(vertex);
     let mut lent = 0usize;
@@ -40,7 +50,7 @@ fn lend(version: &Version, vertex: u32, slices: &mut [Slice]) -> usize
         let Some(words) = cursor.next_slice() else {
             return lent;
         };
-        slices[lent] = slice_from(&words[0], words.len());
+        slices[lent] = slice_from(first_of(words), words.len());
         lent += 1;
     }
     lent
@@ -50,7 +60,7 @@ fn lend(version: &Version, vertex: u32, slices: &mut [Slice]) -> usize
 /// and fewer only where these are all. They stay where they are while any handle of the version is open.
 pub fn lend_held(held: &Held, vertex: u32, slices: &mut [Slice], lent: &mut usize) -> u32
     ensures { OnVersion (Some held.now) result ((slices.new ≡ slices.old) × (lent.new ≡ lent.old))
-        (λ p. (result ≡ DONE) × AreLent (degree (graph_of p) vertex) lent.new slices.old slices.new) }
+        (λ p. (result ≡ DONE) × AreLent (neighbours (graph_of p) vertex) lent.new slices.old slices.new) }
 {
     match held {
         Held::Version(version) => {
