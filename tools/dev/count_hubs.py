@@ -1,8 +1,8 @@
 #!/usr/bin/env python3
-"""Counts by callgrind what a rebase, and a batch at a vertex of many neighbours, cost: count_store.py hubs|rebases [PROGRAM]
+"""Counts by callgrind what a batch at a vertex of many neighbours costs: count_hubs.py [PROGRAM]
 
-A count is the instructions of a script less those of the same script without its measured lines, so it also has their text and what the
-end of the script frees more or less than without them. The same seed makes the same script.
+A count is the instructions of a script less those of the same script without the measured batches, so it has their text, too. The same seed
+makes the same script.
 """
 import pathlib
 import random
@@ -23,13 +23,6 @@ def instructions(program, lines):
 
 def batch(edits):
     return ["batch A", *edits, "end"]
-
-
-def batches(count, size, seed):
-    """Random insertions over all vertices."""
-    choice = random.Random(seed)
-    return [line for _ in range(count) for line in
-            batch(f"+ {choice.randrange(VERTICES)} {choice.randrange(VERTICES)}" for _ in range(size))]
 
 
 def hub(degree):
@@ -55,23 +48,5 @@ def count_hubs(program):
             print(f"{size} edits at {degree:,} targets: {sum(each) // len(each):,} a batch, by seed {each}", flush=True)
 
 
-def count_rebases(program):
-    graph, large = [f"graph {VERTICES}"], batches(64, MOST_EDITS, 7)
-    for name, lines in (
-        ("an empty graph", graph),
-        ("64 batches of 65,536, and no rebase before", graph + large),
-        ("right after that", graph + large + ["rebase"]),
-        ("64 batches of one after it", graph + large + ["rebase"] + batches(64, 1, 5)),
-        ("4,000 batches of one after it", graph + large + ["rebase"] + batches(4_000, 1, 5)),
-        ("64 batches of 65,536 after it", graph + large + ["rebase"] + batches(64, MOST_EDITS, 9)),
-    ):
-        print(f"{name}: {instructions(program, lines + ['rebase']) - instructions(program, lines):,}", flush=True)
-
-
-def main():
-    program = sys.argv[2] if len(sys.argv) > 2 else PROGRAM
-    {"hubs": count_hubs, "rebases": count_rebases}[sys.argv[1]](program)
-
-
 if __name__ == "__main__":
-    main()
+    count_hubs(sys.argv[1] if len(sys.argv) > 1 else PROGRAM)
