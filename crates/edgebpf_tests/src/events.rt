@@ -103,7 +103,7 @@ fn from_greatest(alloc: Global, letters: &str) -> Result<String, AllocError> {
 // A reader pins before a batch is published, and again after it; the same with a rebase and a batch more; a batch that is held over a rebase, and one of the last feed; where nothing has happened only the last of the next
 // events can; what cannot be submitted; a batch by the last feed; parts in either order, each of them tried once more or too early; and 65 batches, of
 // which the last has no room.
-const ROWS: [(&str, &str); 10] = [
+const ROWS: [(&str, &str); 11] = [
     ("stA0paAaa", "ddddded1e"),
     ("stA0prlt0paAaa", "ddddddddddedse"),
     ("strA0pAaa", "ddddddd1e"),
@@ -116,6 +116,10 @@ const ROWS: [(&str, &str); 10] = [
     (
         "sssssssssssssssssssssssssssssssssssssssssssssssssssssssssssssssss",
         "ddddddddddddddddddddddddddddddddddddddddddddddddddddddddddddddddr",
+    ),
+    (
+        "sssssssssssssssssssssssssssssssssssssssssssssssssssssssssssssssst0ps",
+        "dddddddddddddddddddddddddddddddddddddddddddddddddddddddddddddddddddd",
     ),
 ];
 

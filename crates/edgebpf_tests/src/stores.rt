@@ -122,13 +122,24 @@ fn others(alloc: Global, shop: &mut Shop) -> Result<usize, AllocError> {
     Ok(others.len())
 }
 
+// Publishes so many batches without an edit.
+fn publish_empty<R: Threads + Wait>(rt: &R, shop: &mut Shop, count: u32) -> Result<(), Fail> {
+    for _ in 0..count {
+        shop.publish(rt, 0, Batch::empty())?;
+    }
+    Ok(())
+}
+
 #[test]
 fn a_reader_that_is_gone_leaves_its_place(rt: HostRuntime) -> Result<(), Fail> {
     let alloc = rt.alloc();
     let mut shop = Shop::open(&rt, alloc, 4)?;
-    let counts = [others(alloc, &mut shop), others(alloc, &mut shop)];
+    let at_first = others(alloc, &mut shop);
+    let published = publish_empty(&rt, &mut shop, 20);
+    let later = others(alloc, &mut shop);
     shop.close(&rt);
-    assert_eq!(rt; counts, [Ok(15), Ok(15)]);
+    published?;
+    assert_eq!(rt; [at_first, later], [Ok(15), Ok(15)]);
     Ok(())
 }
 
