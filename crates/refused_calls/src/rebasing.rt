@@ -22,6 +22,8 @@ enum Told {
     Unchanged,
     /// A step was refused, and its batch was held over the rebase.
     HeldOver,
+    /// The same in the epoch that the first rebase began.
+    HeldOverLater,
     /// Something is not as it should be.
     Changed,
 }
@@ -51,9 +53,9 @@ fn is_at(publisher: &Publisher, reader: &mut Reader, state: State<'_>) -> bool {
         && pins_such(reader, state.epoch, state.number, state.neighbours)
 }
 
-/// Whether a receipt is of the first rebase.
-fn is_rebase(receipt: &Receipt) -> bool {
-    receipt.epoch() == 1
+/// Whether a receipt is of the rebase that begins this epoch.
+fn is_rebase(receipt: &Receipt, epoch: u64) -> bool {
+    receipt.epoch() == epoch
         && receipt.number() == 0
         && receipt.feed().is_none()
         && receipt.batch().is_none()
@@ -72,7 +74,7 @@ fn rebase<R: Threads + Wait>(
     ensures store { OneStore publisher.old.moment publisher.new.moment }
 {
     match publisher.rebase(rt) {
-        Ok(receipt) if is_rebase(&receipt) => return Told::Done,
+        Ok(receipt) if is_rebase(&receipt, 1) => return Told::Done,
         Err(RebaseError::OutOfMemory) => {}
         _ => return Told::Changed,
     }
@@ -80,7 +82,7 @@ fn rebase<R: Threads + Wait>(
         return Told::Changed;
     }
     match publisher.rebase(rt) {
-        Ok(receipt) if is_rebase(&receipt) => Told::Unchanged,
+        Ok(receipt) if is_rebase(&receipt, 1) => Told::Unchanged,
         _ => Told::Changed,
     }
 }
@@ -116,6 +118,42 @@ fn publish<R: Threads + Wait>(
     }
 }
 
+/// Publishes the second batch in epoch 1, which has none yet. If the step is refused, the batch is held over another rebase, which gets
+/// all memory that it asks for, and is published in epoch 2.
+fn publish_later<R: Threads + Wait>(
+    rt: &R,
+    publisher: &mut Publisher,
+    reader: &mut Reader,
+    rebased: State<'_>,
+) -> Told
+    ensures queue { publisher.new.queue ≡ publisher.old.queue }
+    ensures store { OneStore publisher.old.moment publisher.new.moment }
+{
+    match publisher.step(rt, Workers::one(), &OpenGate) {
+        Ok(Some(receipt)) if is_next(&receipt, 1, 1, 1) => return Told::Done,
+        Err(PublishError::OutOfMemory) => {}
+        _ => return Told::Changed,
+    }
+    let held = State {
+        held: Some(1),
+        ..rebased
+    };
+    if !is_at(publisher, reader, held) {
+        return Told::Changed;
+    }
+    match publisher.rebase(rt) {
+        Ok(receipt) if is_rebase(&receipt, 2) => {}
+        _ => return Told::Changed,
+    }
+    if !is_at(publisher, reader, State { epoch: 2, ..held }) {
+        return Told::Changed;
+    }
+    match publisher.step(rt, Workers::one(), &OpenGate) {
+        Ok(Some(receipt)) if is_next(&receipt, 2, 1, 1) => Told::HeldOverLater,
+        _ => Told::Changed,
+    }
+}
+
 /// Rebases after the first batch was published, and publishes the second.
 fn rebase_after<R: Threads + Wait>(rt: &R, publisher: &mut Publisher, reader: &mut Reader) -> Told
     ensures queue { publisher.new.queue ≡ publisher.old.queue }
@@ -136,7 +174,7 @@ fn rebase_after<R: Threads + Wait>(rt: &R, publisher: &mut Publisher, reader: &m
     if !is_at(publisher, reader, rebased) {
         return Told::Changed;
     }
-    both(told, publish(rt, publisher, reader, rebased, 1))
+    both(told, publish_later(rt, publisher, reader, rebased))
 }
 
 /// After the step of the first batch was refused, whose batch is held. The rebase gets all memory that it asks for, so it is done.
@@ -158,7 +196,7 @@ fn rebase_while_held<R: Threads + Wait>(
         return Told::Changed;
     }
     match publisher.rebase(rt) {
-        Ok(receipt) if is_rebase(&receipt) => publish_in_turn(rt, publisher, reader),
+        Ok(receipt) if is_rebase(&receipt, 1) => publish_in_turn(rt, publisher, reader),
         _ => Told::Changed,
     }
 }
@@ -225,7 +263,7 @@ fn rebase_at_first<R: Threads + Wait>(
         held: None,
     };
     match publisher.rebase(rt) {
-        Ok(receipt) if is_rebase(&receipt) => {
+        Ok(receipt) if is_rebase(&receipt, 1) => {
             let rebased = State { epoch: 1, ..state };
             publish(rt, publisher, reader, rebased, 0)
         }
@@ -264,11 +302,20 @@ pub(crate) fn rebase_before<R: Threads + Wait>(rt: &R, alloc: Global) -> Result<
     }
 }
 
+/// The epoch and the number of the last version, if all is as it should be.
+fn last_place(told: Told) -> (u64, u64) {
+    match told {
+        Told::HeldOver => (1, 2),
+        Told::HeldOverLater => (2, 1),
+        Told::Done | Told::Held | Told::Unchanged | Told::Changed => (1, 1),
+    }
+}
+
 /// Whether nothing is left of the batches, and both are published.
-fn is_done(finished: &Finished) -> bool {
+fn is_done(finished: &Finished, epoch: u64) -> bool {
     finished.held.is_none()
         && finished.left.is_empty()
-        && finished.last.epoch() == 1
+        && finished.last.epoch() == epoch
         && finished.last.edge_count() == 2
 }
 
@@ -288,14 +335,10 @@ pub(crate) fn rebase_between<R: Threads + Wait>(rt: &R, alloc: Global) -> Result
     let submitted = feeds[3].submit(first_batch, rt).is_ok()
         && feeds[1].submit(second_batch, rt).is_ok();
     let told = rebase_and_publish(rt, &mut publisher, &mut reader);
-    let last_is_pinned = pins_such(
-        &mut reader,
-        1,
-        if told == Told::HeldOver { 2 } else { 1 },
-        &[1, 2],
-    );
+    let (epoch, number) = last_place(told);
+    let last_is_pinned = pins_such(&mut reader, epoch, number, &[1, 2]);
     let finished = publisher.finish(feeds, rt);
-    if !submitted || !last_is_pinned || !is_done(&finished) {
+    if !submitted || !last_is_pinned || !is_done(&finished, epoch) {
         return Err(Stop::Wrong);
     }
     match told {
@@ -303,6 +346,7 @@ pub(crate) fn rebase_between<R: Threads + Wait>(rt: &R, alloc: Global) -> Result
         Told::Held => Err(Stop::NotPublished),
         Told::Unchanged => Err(Stop::NotRebased),
         Told::HeldOver => Err(Stop::HeldOver),
+        Told::HeldOverLater => Err(Stop::HeldOverLater),
         Told::Changed => Err(Stop::Wrong),
     }
 }

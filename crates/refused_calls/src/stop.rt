@@ -23,6 +23,8 @@ pub enum Stop {
     NotRebased,
     /// A step was refused, and its batch was held over a rebase. The next step published it in the new epoch.
     HeldOver,
+    /// The same in the epoch after the first rebase: another one follows.
+    HeldOverLater,
     /// `apply_batch` answered so.
     NotApplied,
     /// `run` answered so.
@@ -49,6 +51,7 @@ impl Stop {
             Stop::NotPublished => "not published",
             Stop::NotRebased => "not rebased",
             Stop::HeldOver => "held over",
+            Stop::HeldOverLater => "held over later",
             Stop::NotApplied => "not applied",
             Stop::NotRun => "not run",
             Stop::NotMapped => "not mapped",
