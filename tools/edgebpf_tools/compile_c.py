@@ -78,12 +78,12 @@ def linked(options, folder):
     compiled = f"{folder}/program.o"
     sys.stderr.write(clang.compile_to_bpf(options.file, compiled, [HEADERS], options.optimize))
     found = of_object(options, compiled)
-    table = tables.of_program(options, found[0]).hex()
+    table = tables.of_program(options, found[0])
     if explain.is_ready() and loses_an_index(options.length, found[2].code, table):
         again = f"{folder}/again.o"
         clang.compile_to_bpf(options.file, again, [HEADERS], options.optimize, has_opaque_indices=True)
         other = of_object(options, again)
-        if explain.explain(options.length, other[2].code.hex(), table=table)[1] == 0:
+        if told_of(options.length, other[2].code, table)[1] == 0:
             found = other
     warn_of_result(compiled, found[1].name)
     return found
@@ -95,10 +95,15 @@ def of_object(options, compiled):
     return objects, entry, link(objects, entry, options.length)
 
 
+def told_of(length, code, table):
+    """What is told of a program, without a table if that is empty, and the status."""
+    return explain.explain(length, code.hex(), table=table.hex() or None)
+
+
 def loses_an_index(length, code, table):
     """Whether a program is refused for an index of which too little is known, as far as the program that explains is there."""
     try:
-        return "\nrule 11:" in explain.explain(length, code.hex(), table=table)[0]
+        return "\nrule 11:" in told_of(length, code, table)[0]
     except Refusal:
         return False
 
@@ -108,7 +113,7 @@ def explained(words, name, length, code, table):
 
     def explain_refusal(verdict, meaning):
         if explain.is_ready():
-            told, _ = explain.explain(length, code.hex(), table=table.hex())
+            told, _ = told_of(length, code, table)
             if told:
                 lines = words.refusal(told)
                 return "\n".join([f"{name} is refused: {lines[0]}", *lines[1:]])
@@ -120,7 +125,7 @@ def explained(words, name, length, code, table):
 
 def show(options, words, code, table):
     """Prints the source with the verifier's state, or writes a page of it. Returns 1 for a refused program."""
-    told, status = explain.explain(options.length, code.hex(), table=table.hex())
+    told, status = told_of(options.length, code, table)
     if not told:
         raise Refusal("edgebpf_explain wrote nothing")
     if options.html:

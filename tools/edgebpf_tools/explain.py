@@ -30,7 +30,7 @@ def explain(length, code=None, text=None, is_asked_for=False, table=None):
     """What is told of code in hexadecimal digits or of assembler text, perhaps with a table, and the status: 1 of a refused program.
     Of what is no program nothing is told; the program's standard error, which says why, is passed on. Unless the user asked for it,
     the program does not say which build of it runs."""
-    words = [str(length)] + ([] if code is None else [code]) + (["--table", table] if table else [])
+    words = [str(length)] + ([] if code is None else [code]) + ([] if table is None else ["--table", table])
     environment = dict(os.environ) if is_asked_for else {"EDGEBPF_PROVED": "elsewhere", **os.environ}
     try:
         run = subprocess.run([*command(), *words], input=text or "", stdout=subprocess.PIPE, text=True, env=environment)

@@ -102,7 +102,7 @@ def pace_text(instructions, units):
         steps, here = steps + 1, {way for pc in here for way in ways_from(pc, *instructions[pc])}
     if units > 3 * steps:
         return f"runs edge by edge, since a run may execute only {steps} instructions of its {units} units"
-    return "runs in blocks of edges"
+    return "runs in blocks of edges, edge by edge where one gives up"
 
 
 def fills_slot(size, base, offset):

@@ -28,6 +28,7 @@ echo "rule 4: asked with $# words, $2, and the text $(tr '\\n' '/')"
 echo "what helps: a & b"
 exit 1
 """
+IN_BLOCKS = "runs in blocks of edges, edge by edge where one gives up"
 SOURCE = "lddw r6, 7\ncalllocal f  ; a call\n\nexit\nf:\njlt r1, 2 < 3\n"
 
 
@@ -134,7 +135,7 @@ class Explain(unittest.TestCase):
 
     def test_how_edges_run(self):
         """The last line of an accepted program: it stands in the page, too."""
-        for pace in ("runs in blocks of edges", "runs edge by edge, since the instruction at pc 1 calls gather"):
+        for pace in (IN_BLOCKS, "runs edge by edge, since the instruction at pc 1 calls gather"):
             text = f"program of 2 units, records of 16 bytes\n0: mov r0, 1\n1: exit\naccepted, bound 2, frames 1\n{pace}\n"
             self.assertEqual(read(text).end, ["accepted, bound 2, frames 1", pace])
             self.assertIn(f'<div class="verdict"><p>accepted, bound 2, frames 1</p><p>{pace}</p></div>', page(text))
@@ -175,9 +176,9 @@ class RealRefusals(unittest.TestCase):
         past = "ldxw r0, [r1+4]\njeq r0, 0, few\n{} end\nfew:\n" + "add r0, 1\n" * 9 + "end:\nexit\n"
         early = "ldxw r0, [r1+4]\njne r0, 0, many\nexit\nmany:\n" + "add r0, 1\n" * 7 + "exit\n"
         for text, table, pace in (
-            ("mov r0, 7\nneg r0\nexit\n", None, "runs in blocks of edges"),
-            ("ldxb r0, [r3+1]\nexit\n", "0102", "runs in blocks of edges"),
-            ("lddw r0, 7\nstdw [r10-8], 1\nstxdw [r10-128], r1\nexit\n", None, "runs in blocks of edges"),
+            ("mov r0, 7\nneg r0\nexit\n", None, IN_BLOCKS),
+            ("ldxb r0, [r3+1]\nexit\n", "0102", IN_BLOCKS),
+            ("lddw r0, 7\nstdw [r10-8], 1\nstxdw [r10-128], r1\nexit\n", None, IN_BLOCKS),
             ("mov r0, 7\nstdw [r10-136], 1\nexit\n", None, singly + "the instruction at pc 1 stores to memory"),
             ("lddw r0, 7\nstw [r10-8], 1\nstdw [r10-16], 1\nexit\n", None, singly + "the instruction at pc 2 stores to memory"),
             ("mov r0, 7\nstdw [r10-20], 1\nexit\n", None, singly + "the instruction at pc 1 stores to memory"),
@@ -189,7 +190,7 @@ class RealRefusals(unittest.TestCase):
             (past.format("ja"), None, singly + "a run may execute only 4 instructions of its 13 units"),
             (past.format("ja32"), None, singly + "a run may execute only 4 instructions of its 13 units"),
             (early, None, singly + "a run may execute only 3 instructions of its 11 units"),
-            (switch.replace("add r0, 1\n", "", 1), None, "runs in blocks of edges"),
+            (switch.replace("add r0, 1\n", "", 1), None, IN_BLOCKS),
         ):
             run = run_tool("edgebpf-explain", "16", *(["--table", table] if table else []), text=text)
             self.assertEqual((run.stderr, run.returncode), ("", 0))
@@ -216,6 +217,8 @@ class RealRefusals(unittest.TestCase):
             (["257", "9500000000000000"], None, "257"),
             (["16", "--table", "00" * 4097], "exit\n", "the table is not 1 to 4096 bytes"),
             (["16", "95", "--table", "00" * 4097], None, "whole units"),
+            (["16", "--table", ""], "exit\n", "the table is not 1 to 4096 bytes"),
+            (["16", ""], "exit\n", "the code is not 1 to 4096 whole units"),
             (["16", "9500000000000000", "--table", "000"], None, "hexadecimal"),
         ):
             run = run_tool("edgebpf-explain", *words, text=text)

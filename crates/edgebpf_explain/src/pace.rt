@@ -2,7 +2,7 @@
 use std::fmt;
 use verifier::WhySingly;
 
-/// How the edges of an accepted program run: in blocks, or one by one and why so. It is written as a line.
+/// How the edges of an accepted program run: in blocks, which may give up, or one by one and why so. It is written as a line.
 #[derive(Drop)]
 pub struct Pace {
     pub why_singly: Option<WhySingly>,
@@ -11,7 +11,10 @@ pub struct Pace {
 impl fmt::Display for Pace {
     fn fmt<W: fmt::Write>(&self, f: &mut fmt::Formatter<W>) -> fmt::Result {
         let Some(why) = self.why_singly else {
-            return writeln!(f, "runs in blocks of edges");
+            return writeln!(
+                f,
+                "runs in blocks of edges, edge by edge where one gives up"
+            );
         };
         write!(f, "runs edge by edge, since ")?;
         match why {
