@@ -15,8 +15,8 @@ VERTICES, MOST_EDITS = 1_048_576, 65_536
 SEEDS = (1, 2, 3)
 
 
-def instructions(program, lines):
-    command = ["valgrind", "--tool=callgrind", "--callgrind-out-file=/dev/null", program]
+def instructions(command, lines, *options):
+    command = ["valgrind", "--tool=callgrind", "--callgrind-out-file=/dev/null", *options, *command]
     run = subprocess.run(command, input="\n".join(lines).encode() + b"\n", stdout=subprocess.DEVNULL, stderr=subprocess.PIPE, check=True)
     return int(re.search(rb"Collected : (\d+)", run.stderr).group(1))
 
@@ -39,13 +39,35 @@ def hub_batches(degree, count, size, seed):
             batch(f"{choice.choice('+-')} 7 {choice.randrange(limit)}" for _ in range(size))]
 
 
+def half_changing(degree, count, size, seed):
+    """Edits of which half put in a target that is missing or take one out, and half change nothing."""
+    choice, there = random.Random(seed), set(range(degree))
+    lines = []
+    for _ in range(count):
+        edits = []
+        for _ in range(size):
+            target, changes = choice.randrange(VERTICES), choice.random() < 0.5
+            edits.append(f"{'+' if (target in there) != changes else '-'} 7 {target}")
+            if changes:
+                there ^= {target}
+        lines += batch(edits)
+    return lines
+
+
+def mean(program, graph, batches, count):
+    """The instructions of a batch with each seed's batches, and of them the mean."""
+    before = instructions([program], graph)
+    each = [(instructions([program], graph + batches(seed)) - before) // count for seed in SEEDS]
+    return f"{sum(each) // len(each):,} a batch, by seed {each}"
+
+
 def count_hubs(program):
     for size, count in ((1, 64), (64, 16)):
         for degree in (10_000, 100_000, 500_000, 1_000_000):
-            graph = hub(degree)
-            before = instructions(program, graph)
-            each = [(instructions(program, graph + hub_batches(degree, count, size, seed)) - before) // count for seed in SEEDS]
-            print(f"{size} edits at {degree:,} targets: {sum(each) // len(each):,} a batch, by seed {each}", flush=True)
+            each = mean(program, hub(degree), lambda seed: hub_batches(degree, count, size, seed), count)
+            print(f"{size} edits at {degree:,} targets: {each}", flush=True)
+    each = mean(program, hub(1_000_000), lambda seed: half_changing(1_000_000, 16, 64, seed), 16)
+    print(f"64 edits at 1,000,000 targets, of which half change the tree: {each}", flush=True)
 
 
 if __name__ == "__main__":

@@ -149,7 +149,8 @@ def first_words(path):
         said = (ast.get_docstring(ast.parse(text)) or "").split("\n\n")[0]
     else:
         said = re.match(r"/\* (.*?)(?: \*/|\Z)|// (?:Records of \d+ bytes\. )?(.*)", text, re.S)
-        said = (said[1] or said[2].split("\n")[0]) if said else ""
+        # Each further line of a comment in C begins with a star.
+        said = ((said[1] or "").replace("\n * ", "\n") or said[2].split("\n")[0]) if said else ""
     said = re.sub(rf": {path.name}.*", ".", " ".join(said.split()))
     return first_sentence(said)
 

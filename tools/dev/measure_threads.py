@@ -1,0 +1,118 @@
+#!/usr/bin/env python3
+"""Measures what workers gain, in milliseconds of wall time: measure_threads.py [PROGRAM]. All other work of the machine has to rest.
+
+A run is timed from its line to its first line of text, and a publication from `end` to its receipt. Each figure is a median.
+"""
+import random
+import statistics
+import subprocess
+import sys
+import time
+
+from count_hubs import MOST_EDITS, PROGRAM, VERTICES, batch
+
+WORKERS = (1, 2, 4)
+RUNS, BATCHES = 20, 16
+SOURCES, TARGETS, RANGE = 4_096, 1_000, 256
+# How long the program may take to read the edits that it was sent, in seconds.
+READING = 0.3
+# A filter of 21 units, and what it is asked.
+FILTER = ("code filter 32 6113000000000000611404000000000061150c0000000000611610000000000061171400000000007918180000000000b70000000000"
+          "0000ad650b0000000000bf30000000000000af400000000000005f700000000000001500040000000000270000001f0000000f800000000000007700"
+          "0000030000000500020000000000bf5000000000000067000000040000000f400000000000009500000000000000")
+RUN = "run filter a sum 100000000f000000e803000000000000"
+
+
+class Served:
+    """A program that is sent lines, and whose answers are waited for."""
+
+    def __init__(self, program, workers=1, **room):
+        words = [program, "--workers", str(workers)]
+        self.process = subprocess.Popen(words, stdin=subprocess.PIPE, stdout=subprocess.PIPE, bufsize=0, **room)
+        self.answers = open(self.process.stdout.fileno(), "rb", closefd=False)
+
+    def __enter__(self):
+        return self
+
+    def __exit__(self, *_):
+        self.process.stdin.close()
+        self.answers.read()
+        self.process.wait()
+
+    def send(self, *lines):
+        text = memoryview("".join(f"{line}\n" for line in lines).encode())
+        while text:
+            text = text[self.process.stdin.write(text):]
+
+    def until(self, word):
+        """Reads up to a line that begins with this word."""
+        while not (line := self.answers.readline()).startswith(word):
+            if not line:
+                sys.exit(f"the program ended before it said {word.decode()}")
+        return line
+
+    def rest(self):
+        """Waits until all lines are answered, and reads the answers."""
+        self.send("home 0")
+        self.until(b"home ")
+
+    def seconds(self, line, word):
+        """How long an answer to this line takes."""
+        begin = time.perf_counter()
+        self.send(line)
+        self.until(word)
+        return time.perf_counter() - begin
+
+    def publish(self, edits):
+        self.send(*batch(edits))
+        self.until(b"batch ")
+
+
+def loaded(program, workers, vertices):
+    """A graph of which some vertices have a thousand random edges each."""
+    choice, served = random.Random(1), Served(program, workers)
+    served.send(f"graph {vertices}")
+    edits = [f"+ {source} {target}" for source in range(SOURCES) for target in choice.sample(range(vertices), TARGETS)]
+    for start in range(0, len(edits), MOST_EDITS):
+        served.publish(edits[start:start + MOST_EDITS])
+    served.send(FILTER, "pin a")
+    served.until(b"pin ")
+    return served
+
+
+def run_seconds(program, workers, vertices):
+    times = []
+    with loaded(program, workers, vertices) as served:
+        for _ in range(RUNS):
+            served.rest()
+            times.append(served.seconds(RUN, b"run "))
+    return statistics.median(times)
+
+
+def publication_seconds(program, workers):
+    """Each batch has as many edits in each range."""
+    choice, edits = random.Random(2), MOST_EDITS * RANGE // VERTICES
+    with Served(program, workers) as served:
+        served.send(f"graph {VERTICES}")
+        times = []
+        for _ in range(BATCHES):
+            served.send("batch A", *(f"+ {first + choice.randrange(RANGE)} {choice.randrange(VERTICES)}"
+                                     for first in range(0, VERTICES, RANGE) for _ in range(edits)))
+            time.sleep(READING)
+            times.append(served.seconds("end", b"batch "))
+        return statistics.median(times)
+
+
+def measure(program):
+    for what, seconds in (
+        (f"a filter over {SOURCES * TARGETS:,} edges of {SOURCES:,} vertices", lambda workers: run_seconds(program, workers, SOURCES)),
+        (f"the same, of {VERTICES:,} vertices", lambda workers: run_seconds(program, workers, VERTICES)),
+        (f"the publication of {MOST_EDITS:,} edits in all ranges", lambda workers: publication_seconds(program, workers)),
+    ):
+        found = [seconds(workers) for workers in WORKERS]
+        times = ", ".join(f"{workers} {1000 * it:.1f}" for workers, it in zip(WORKERS, found))
+        print(f"{what}, ms by workers: {times}; the last by the first {found[-1] / found[0]:.2f}", flush=True)
+
+
+if __name__ == "__main__":
+    measure(sys.argv[1] if len(sys.argv) > 1 else PROGRAM)
