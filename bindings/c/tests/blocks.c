@@ -1,0 +1,38 @@
+/* Runs a program of two instructions over a graph of 300 vertices with 200 neighbours each, as a run and as numbers. The gate counts the
+   instructions of both calls: each edge's number is right also where no block of edges is used. */
+#include "check.h"
+
+enum { VERTICES = 4096, SOURCES = 300, DEGREE = 200, EDGES = SOURCES * DEGREE };
+
+static uint32_t sources[EDGES], targets[EDGES], frontier[SOURCES];
+static uint8_t removes[EDGES];
+static uint64_t numbers[EDGES], values[SOURCES];
+
+int main(void) {
+    edgebpf_store store = {{0}};
+    edgebpf_version version = {{0}};
+    edgebpf_program program = {{0}};
+    edgebpf_change change;
+    edgebpf_verdict verdict;
+    edgebpf_totals totals;
+    uint64_t sum = 0;
+    for (uint32_t at = 0; at < EDGES; at++) {
+        sources[at] = at / DEGREE;
+        targets[at] = (at / DEGREE * 7 + at % DEGREE * 13) % VERTICES;
+        frontier[at / DEGREE] = at / DEGREE;
+    }
+    CHECK(edgebpf_store_new(VERTICES, &store) == EDGEBPF_DONE);
+    CHECK(edgebpf_store_apply(&store, 0, sources, EDGES, targets, EDGES, removes, EDGES, &change) == EDGEBPF_DONE);
+    CHECK(change.added == EDGES);
+    CHECK(edgebpf_store_pin(&store, &version) == EDGEBPF_DONE);
+    CHECK(edgebpf_program_new(16, target_code, sizeof target_code, &verdict, &program) == EDGEBPF_DONE);
+    CHECK(edgebpf_run(&version, &program, EDGEBPF_NO_BYTES, 0, frontier, SOURCES, EDGEBPF_SUM, values, SOURCES, &totals) == EDGEBPF_DONE);
+    CHECK(edgebpf_numbers(&version, &program, EDGEBPF_NO_BYTES, 0, numbers, EDGES) == EDGEBPF_DONE);
+    for (uint32_t at = 0; at < EDGES; at++) sum += numbers[at];
+    CHECK(totals.edges == EDGES && totals.total == sum);
+    edgebpf_close_program(&program);
+    edgebpf_close_version(&version);
+    edgebpf_close_store(&store);
+    puts("all numbers are the run's");
+    return 0;
+}
