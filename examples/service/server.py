@@ -12,6 +12,7 @@ import json
 import pathlib
 import re
 import resource
+import signal
 import sys
 import tempfile
 import time
@@ -224,7 +225,7 @@ def application(store, has_c=False):
 
 
 async def serve(app, port):
-    """Serves until it is interrupted, and closes connections that stay too long."""
+    """Serves until it is cancelled, and closes connections that stay too long."""
     runner, stayed = web.AppRunner(app), set()
     await runner.setup()
     try:
@@ -239,6 +240,12 @@ async def serve(app, port):
         await runner.cleanup()
 
 
+async def serve_until_interrupted(app, port):
+    """Serves until SIGINT. This handler wakes the loop. Python's own only sets a flag, which a loop that just began to wait sees a minute late."""
+    asyncio.get_running_loop().add_signal_handler(signal.SIGINT, asyncio.current_task().cancel)
+    await serve(app, port)
+
+
 def main():
     parser = argparse.ArgumentParser(description=__doc__, formatter_class=argparse.RawDescriptionHelpFormatter)
     parser.add_argument("--vertices", type=int, default=100_000)
@@ -249,8 +256,8 @@ def main():
     # Connections that are left open are files; where no more may be opened, nobody is served.
     most = resource.getrlimit(resource.RLIMIT_NOFILE)[1]
     resource.setrlimit(resource.RLIMIT_NOFILE, (most, most))
-    with edgebpf.connect(options.vertices, options.workers) as store, contextlib.suppress(KeyboardInterrupt):
-        asyncio.run(serve(application(store, options.with_c), options.port))
+    with edgebpf.connect(options.vertices, options.workers) as store, contextlib.suppress(KeyboardInterrupt, asyncio.CancelledError):
+        asyncio.run(serve_until_interrupted(application(store, options.with_c), options.port))
 
 
 if __name__ == "__main__":
