@@ -6,11 +6,13 @@ import json
 import os
 import pathlib
 import random
+import shutil
 import signal
 import socket
 import struct
 import subprocess
 import sys
+import tempfile
 import threading
 import time
 import unittest
@@ -29,6 +31,37 @@ except ImportError as error:
 VERTICES, BATCHES = 300, 80
 REQUESTS = int(os.environ.get("SERVICE_REQUESTS", "2000"))
 READERS = 4
+# A library that has a program interrupted just before its first long wait, when it looks at no signal any more.
+INTERRUPTING = """
+#define _GNU_SOURCE
+#include <dlfcn.h>
+#include <signal.h>
+#include <sys/epoll.h>
+
+int epoll_wait(int set, struct epoll_event *events, int most, int milliseconds)
+{
+    static int is_sent;
+    int (*wait)(int, struct epoll_event *, int, int) = dlsym(RTLD_NEXT, "epoll_wait");
+    if (milliseconds > 20000 && !is_sent) {
+        is_sent = 1;
+        raise(SIGINT);
+    }
+    return wait(set, events, most, milliseconds);
+}
+"""
+
+
+def free_port():
+    with socket.socket() as free:
+        free.bind(("127.0.0.1", 0))
+        return free.getsockname()[1]
+
+
+def started(port, **environment):
+    words = ["sh", "-c", 'ulimit -Sn 64; exec "$@"', "sh"]
+    words += [sys.executable, HERE / "server.py", "--vertices", str(VERTICES), "--port", str(port)]
+    # Whoever runs this may ignore the signal that ends the server.
+    return subprocess.Popen(words, env={**os.environ, **environment}, preexec_fn=lambda: signal.signal(signal.SIGINT, signal.SIG_DFL))
 
 
 class Client:
@@ -51,13 +84,8 @@ class Client:
 @unittest.skipIf(MISSING, f"not there: {MISSING}")
 class Service(unittest.TestCase):
     def setUp(self):
-        with socket.socket() as free:
-            free.bind(("127.0.0.1", 0))
-            self.port = free.getsockname()[1]
-        words = ["sh", "-c", 'ulimit -Sn 64; exec "$@"', "sh"]
-        words += [sys.executable, HERE / "server.py", "--vertices", str(VERTICES), "--port", str(self.port)]
-        # Whoever runs this may ignore the signal that ends the server.
-        self.server = subprocess.Popen(words, preexec_fn=lambda: signal.signal(signal.SIGINT, signal.SIG_DFL))
+        self.port = free_port()
+        self.server = started(self.port)
         self.addCleanup(self.server.kill)
         for _ in range(200):
             client = Client(self.port)
@@ -225,10 +253,8 @@ class Service(unittest.TestCase):
         import server
 
         async def closed():
-            with server.edgebpf.connect(4) as store, socket.socket() as free:
-                free.bind(("127.0.0.1", 0))
-                port = free.getsockname()[1]
-                free.close()
+            port = free_port()
+            with server.edgebpf.connect(4) as store:
                 serving = asyncio.create_task(server.serve(server.application(store), port))
                 await asyncio.sleep(0.2)
                 reader, writer = await asyncio.open_connection("127.0.0.1", port)
@@ -245,6 +271,19 @@ class Service(unittest.TestCase):
         status, heads, body = self.client.ask("GET", "/")
         self.assertEqual((status, heads["Content-Type"].split(";")[0]), (200, "text/html"))
         self.assertIn(b"The greatest rows of a run", body)
+
+
+@unittest.skipIf(MISSING, f"not there: {MISSING}")
+@unittest.skipUnless(shutil.which("cc"), "not there: cc")
+class Interrupted(unittest.TestCase):
+    def test_just_before_the_wait(self):
+        """The signal comes after the loop's last look at signals, and before its wait, which is 60 seconds long."""
+        with tempfile.TemporaryDirectory() as folder:
+            library = f"{folder}/interrupting.so"
+            subprocess.run(["cc", "-shared", "-fPIC", "-x", "c", "-", "-o", library], input=INTERRUPTING, text=True, check=True)
+            server = started(free_port(), LD_PRELOAD=library)
+            self.addCleanup(server.kill)
+            self.assertEqual(server.wait(20), 0)
 
 
 if __name__ == "__main__":
