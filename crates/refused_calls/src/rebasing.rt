@@ -16,7 +16,7 @@ use store::{
 enum Told {
     /// It was done.
     Done,
-    /// A step was refused, its batch was held, and a later step published it.
+    /// A step was refused, and its batch was held, which a later step publishes.
     Held,
     /// A rebase was refused, the last version was as it was, and the next rebase was published.
     Unchanged,
@@ -46,6 +46,33 @@ struct State<'a> {
     neighbours: &'a [u32],
     /// The feed of the batch that is held.
     held: Option<u8>,
+}
+
+/// A store that published nothing yet.
+const EMPTY: State<'static> = State {
+    epoch: 0,
+    number: 0,
+    neighbours: &[],
+    held: None,
+};
+
+impl<'a> State<'a> {
+    /// The same, with the batch of this feed held.
+    fn holding(self, feed: u8) -> State<'a> {
+        State {
+            held: Some(feed),
+            ..self
+        }
+    }
+
+    /// The same edges and batch in the next epoch, which has no version but its first.
+    fn in_the_next_epoch(self) -> State<'a> {
+        State {
+            epoch: self.epoch.saturating_add(1),
+            number: 0,
+            ..self
+        }
+    }
 }
 
 fn is_at(publisher: &Publisher, reader: &mut Reader, state: State<'_>) -> bool {
@@ -87,9 +114,9 @@ fn rebase<R: Threads + Wait>(
     }
 }
 
-/// Publishes the next batch of a store that is at this state, which came by this feed. If the step is refused, the batch is held,
-/// and the next step publishes it.
-fn publish<R: Threads + Wait>(
+/// Tries to publish the next batch of a store that is at this state, which came by this feed. If the step is refused, the batch is
+/// held, and nothing else has changed.
+fn step<R: Threads + Wait>(
     rt: &R,
     publisher: &mut Publisher,
     reader: &mut Reader,
@@ -105,51 +132,77 @@ fn publish<R: Threads + Wait>(
         Err(PublishError::OutOfMemory) => {}
         _ => return Told::Changed,
     }
-    let held = State {
-        held: Some(feed),
-        ..state
-    };
-    if !is_at(publisher, reader, held) {
-        return Told::Changed;
-    }
-    match publisher.step(rt, Workers::one(), &OpenGate) {
-        Ok(Some(receipt)) if is_next(&receipt, state.epoch, number, feed) => Told::Held,
-        _ => Told::Changed,
+    if is_at(publisher, reader, state.holding(feed)) {
+        Told::Held
+    } else {
+        Told::Changed
     }
 }
 
-/// Publishes the second batch in epoch 1, which has none yet. If the step is refused, the batch is held over another rebase, which gets
-/// all memory that it asks for, and is published in epoch 2.
-fn publish_later<R: Threads + Wait>(
+/// Publishes the next batch of a store that is at this state, by a second step where the first one is refused.
+fn publish<R: Threads + Wait>(
     rt: &R,
     publisher: &mut Publisher,
     reader: &mut Reader,
-    rebased: State<'_>,
+    state: State<'_>,
+    feed: u8,
 ) -> Told
     ensures queue { publisher.new.queue ≡ publisher.old.queue }
     ensures store { OneStore publisher.old.moment publisher.new.moment }
 {
-    match publisher.step(rt, Workers::one(), &OpenGate) {
-        Ok(Some(receipt)) if is_next(&receipt, 1, 1, 1) => return Told::Done,
-        Err(PublishError::OutOfMemory) => {}
-        _ => return Told::Changed,
+    let first = step(rt, publisher, reader, state, feed);
+    if first != Told::Held {
+        return first;
     }
-    let held = State {
-        held: Some(1),
-        ..rebased
-    };
-    if !is_at(publisher, reader, held) {
-        return Told::Changed;
+    match step(rt, publisher, reader, state.holding(feed), feed) {
+        Told::Done => Told::Held,
+        _ => Told::Changed,
     }
+}
+
+/// Rebases a store that holds a batch, after a refused allocation: the rebase gets all memory that it asks for. It leaves the batch and
+/// the edges as they were, and returns the state that the store is at then; `None` if it is at another.
+fn rebase_over<'a, R: Threads + Wait>(
+    rt: &R,
+    publisher: &mut Publisher,
+    reader: &mut Reader,
+    held: State<'a>,
+) -> Option<State<'a>>
+    ensures queue { publisher.new.queue ≡ publisher.old.queue }
+    ensures store { OneStore publisher.old.moment publisher.new.moment }
+{
+    let rebased = held.in_the_next_epoch();
     match publisher.rebase(rt) {
-        Ok(receipt) if is_rebase(&receipt, 2) => {}
-        _ => return Told::Changed,
+        Ok(receipt) if is_rebase(&receipt, rebased.epoch) => {}
+        _ => return None,
     }
-    if !is_at(publisher, reader, State { epoch: 2, ..held }) {
+    if is_at(publisher, reader, rebased) {
+        Some(rebased)
+    } else {
+        None
+    }
+}
+
+/// Publishes the second batch in epoch 1, which has none yet. If the step is refused, the batch is held over another rebase, and is
+/// published in epoch 2.
+fn publish_later<R: Threads + Wait>(
+    rt: &R,
+    publisher: &mut Publisher,
+    reader: &mut Reader,
+    state: State<'_>,
+) -> Told
+    ensures queue { publisher.new.queue ≡ publisher.old.queue }
+    ensures store { OneStore publisher.old.moment publisher.new.moment }
+{
+    let first = step(rt, publisher, reader, state, 1);
+    if first != Told::Held {
+        return first;
+    }
+    let Some(rebased) = rebase_over(rt, publisher, reader, state.holding(1)) else {
         return Told::Changed;
-    }
-    match publisher.step(rt, Workers::one(), &OpenGate) {
-        Ok(Some(receipt)) if is_next(&receipt, 2, 1, 1) => Told::HeldOverLater,
+    };
+    match step(rt, publisher, reader, rebased, 1) {
+        Told::Done => Told::HeldOverLater,
         _ => Told::Changed,
     }
 }
@@ -166,65 +219,32 @@ fn rebase_after<R: Threads + Wait>(rt: &R, publisher: &mut Publisher, reader: &m
         held: None,
     };
     let told = rebase(rt, publisher, reader, state);
-    let rebased = State {
-        epoch: 1,
-        number: 0,
-        ..state
-    };
+    let rebased = state.in_the_next_epoch();
     if !is_at(publisher, reader, rebased) {
         return Told::Changed;
     }
     both(told, publish_later(rt, publisher, reader, rebased))
 }
 
-/// After the step of the first batch was refused, whose batch is held. The rebase gets all memory that it asks for, so it is done.
+/// Rebases while the first batch is held, whose step was refused, and publishes it and the second one.
 fn rebase_while_held<R: Threads + Wait>(
     rt: &R,
     publisher: &mut Publisher,
     reader: &mut Reader,
+    held: State<'_>,
 ) -> Told
     ensures queue { publisher.new.queue ≡ publisher.old.queue }
     ensures store { OneStore publisher.old.moment publisher.new.moment }
 {
-    let state = State {
-        epoch: 0,
-        number: 0,
-        neighbours: &[],
-        held: Some(3),
-    };
-    if !is_at(publisher, reader, state) {
+    let Some(rebased) = rebase_over(rt, publisher, reader, held) else {
         return Told::Changed;
-    }
-    match publisher.rebase(rt) {
-        Ok(receipt) if is_rebase(&receipt, 1) => publish_in_turn(rt, publisher, reader),
-        _ => Told::Changed,
-    }
-}
-
-/// Publishes the batch that was held over the rebase, and the second one.
-fn publish_in_turn<R: Threads + Wait>(
-    rt: &R,
-    publisher: &mut Publisher,
-    reader: &mut Reader,
-) -> Told
-    ensures queue { publisher.new.queue ≡ publisher.old.queue }
-    ensures store { OneStore publisher.old.moment publisher.new.moment }
-{
-    let rebased = State {
-        epoch: 1,
-        number: 0,
-        neighbours: &[],
-        held: Some(3),
     };
-    if !is_at(publisher, reader, rebased) {
-        return Told::Changed;
-    }
     let first = publish(rt, publisher, reader, rebased, 3);
     let next = State {
-        epoch: 1,
         number: 1,
         neighbours: &[0, 2],
         held: None,
+        ..rebased
     };
     let second = publish(rt, publisher, reader, next, 1);
     both(both(first, second), Told::HeldOver)
@@ -239,9 +259,9 @@ fn rebase_and_publish<R: Threads + Wait>(
     ensures queue { publisher.new.queue ≡ publisher.old.queue }
     ensures store { OneStore publisher.old.moment publisher.new.moment }
 {
-    match publisher.step(rt, Workers::one(), &OpenGate) {
-        Ok(Some(receipt)) if is_next(&receipt, 0, 1, 3) => rebase_after(rt, publisher, reader),
-        Err(PublishError::OutOfMemory) => rebase_while_held(rt, publisher, reader),
+    match step(rt, publisher, reader, EMPTY, 3) {
+        Told::Done => rebase_after(rt, publisher, reader),
+        Told::Held => rebase_while_held(rt, publisher, reader, EMPTY.holding(3)),
         _ => Told::Changed,
     }
 }
@@ -256,19 +276,12 @@ fn rebase_at_first<R: Threads + Wait>(
     ensures queue { publisher.new.queue ≡ publisher.old.queue }
     ensures store { OneStore publisher.old.moment publisher.new.moment }
 {
-    let state = State {
-        epoch: 0,
-        number: 0,
-        neighbours: &[],
-        held: None,
-    };
     match publisher.rebase(rt) {
         Ok(receipt) if is_rebase(&receipt, 1) => {
-            let rebased = State { epoch: 1, ..state };
-            publish(rt, publisher, reader, rebased, 0)
+            publish(rt, publisher, reader, EMPTY.in_the_next_epoch(), 0)
         }
-        Err(RebaseError::OutOfMemory) if is_at(publisher, reader, state) => {
-            both(publish(rt, publisher, reader, state, 0), Told::Unchanged)
+        Err(RebaseError::OutOfMemory) if is_at(publisher, reader, EMPTY) => {
+            both(publish(rt, publisher, reader, EMPTY, 0), Told::Unchanged)
         }
         _ => Told::Changed,
     }
