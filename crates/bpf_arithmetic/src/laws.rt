@@ -40,12 +40,34 @@ pub fn signs_extend_from_their_bit() -> (u64, u64)
 }
 
 /// A swap keeps the low bytes alone, in the order that is asked for.
-pub fn swaps_keep_the_low_bytes() -> (u64, u64)
-    ensures { result ≡ (13330, 4660) }
+pub fn swaps_keep_the_low_bytes() -> (u64, u64, u64)
+    ensures { result ≡ (13330, 4660, 873616896) }
 {
-    let x = 0x56_1234;
+    let x = 0x78_0056_1234;
     (
         swap(ByteOrder::Big, SwapBits::Low16, x),
         swap(ByteOrder::Little, SwapBits::Low16, x),
+        swap(ByteOrder::Big, SwapBits::Low32, x),
+    )
+}
+
+/// A quotient by zero is zero, and a remainder by zero is the dividend.
+pub fn division_by_zero_has_a_result() -> (u64, u64)
+    ensures { result ≡ (0, 7) }
+{
+    (
+        calculate(Width::Bits64, Operation::Divide, 7, 0),
+        calculate(Width::Bits64, Operation::Modulo, 7, 0),
+    )
+}
+
+/// The highest number is less than 1 with a sign, and greater without one.
+pub fn signs_decide_signed_comparisons() -> (bool, bool)
+    ensures { result ≡ (false, true) }
+{
+    let (x, y) = (u64::MAX, 1);
+    (
+        holds(Width::Bits64, Comparison::GreaterSigned, x, y),
+        holds(Width::Bits64, Comparison::Greater, x, y),
     )
 }

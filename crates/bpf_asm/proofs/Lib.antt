@@ -12,6 +12,7 @@ pub mod Lines
 pub mod LinesLeft
 pub mod LinesRead
 pub mod ListedLines
+pub mod OutLaws
 pub mod Operands
 pub mod Parts
 pub mod Placing

@@ -1,7 +1,13 @@
-//! The law of both directions. The function does nothing: its contract is the law.
+//! The law of both directions, and of the calls. The function of the first does nothing: its contract is the law. Each
+//! of the others only makes a public call, and is proved from its contract alone.
+ghost use Rattle.std.specs.Prelude.{◌≡◌, ◌≢◌, IsErrAnd};
 ghost use Rattle.bpf_asm.specs.Laws.{ProgramHasText, TextMeansCode};
 
+use crate::errors::{AssembleError, DisassembleError, TextCause};
+use crate::reading::assembler::assemble;
+use crate::writing::disassembler::disassemble;
 use bpf_isa::laws::decoded_is_code;
+use std::alloc::Global;
 
 /// Assembling the disassembly gives the code again.
 pub fn disassembly_assembles(code: &[u8])
@@ -12,4 +18,24 @@ pub fn disassembly_assembles(code: &[u8])
     ensures text { TextMeansCode code.now }
 {
     decoded_is_code(code);
+}
+
+/// A label that no line has is reported with the line that goes there, where there is memory.
+pub fn unknown_label_is_told_with_its_line(alloc: Global) -> Result<Vec<u8>, AssembleError>
+    ensures { IsErrAnd result (λ e. e.cause ≢ TextCause.OutOfMemory
+        → e ≡ record { line = 2; cause = TextCause.UnknownLabel }) }
+{
+    assemble(alloc, "exit\nja x")
+}
+
+/// A jump into the second unit of a load of 64 bits goes where no instruction starts.
+pub fn jump_into_a_second_unit_is_refused(alloc: Global) -> Result<String, DisassembleError>
+    ensures { IsErrAnd result (λ e. e ≢ DisassembleError.OutOfMemory → e ≡ DisassembleError.JumpOut 0) }
+{
+    // ja +1, lddw r0, 0, exit
+    let code = [
+        0x05, 0, 1, 0, 0, 0, 0, 0, 0x18, 0, 0, 0, 0, 0, 0, 0, 0, 0, 0, 0, 0, 0, 0, 0, 0x95, 0, 0,
+        0, 0, 0, 0, 0,
+    ];
+    disassemble(alloc, &code)
 }

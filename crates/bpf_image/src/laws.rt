@@ -5,7 +5,7 @@ ghost use Rattle.bpf_image.specs.Laws.{OneImage, ImagesLoad};
 
 use crate::image::Image;
 use crate::image_error::ImageError;
-use crate::limits::{LEAST_RECORD_LENGTH, MOST_RECORD_LENGTH};
+use crate::limits::{LEAST_RECORD_LENGTH, MOST_RECORD_LENGTH, MOST_TABLE_LENGTH};
 use bpf_isa::MOST_CODE_BYTES;
 use std::alloc::Global;
 
@@ -43,6 +43,15 @@ pub fn longest_code_is_allowed(code: Vec<u8>) -> bool
     ensures { result ≡ true }
 {
     Image::new(MOST_RECORD_LENGTH, code).is_ok()
+}
+
+/// A table of 4,096 bytes is allowed.
+pub fn longest_table_is_allowed(code: Vec<u8>, table: Vec<u8>) -> bool
+    requires code { length code.items ≡ MOST_CODE_BYTES }
+    requires table { length table.items ≡ MOST_TABLE_LENGTH }
+    ensures { result ≡ true }
+{
+    Image::with_table(MOST_RECORD_LENGTH, code, table).is_ok()
 }
 
 /// No byte of the code is lost, whether it makes an image or not.

@@ -52,3 +52,21 @@ pub fn fields_are_tested_before_registers() -> Result<(Instruction, usize), Deco
 {
     decode_at(&[0x95, 11, 0, 0, 0, 0, 0, 0], 0)
 }
+
+/// An unused field that is not zero is reported whatever the instruction: a move that extends a sign, with an immediate.
+pub fn unused_immediate_is_reported() -> Result<(Instruction, usize), DecodeError>
+    ensures { result ≡ Err DecodeError.UnusedField }
+{
+    decode_at(&[0xbf, 0x10, 8, 0, 1, 0, 0, 0], 0)
+}
+
+/// A load of 64 bits that is encoded is decoded as itself, whatever its number.
+pub fn wide_is_decoded_as_itself(value: u64) -> Result<(Instruction, usize), DecodeError>
+    ensures { result ≡ Ok (Instruction.Wide Register.R3 value, 2) }
+{
+    let (bytes, length) = encode(&Instruction::Wide {
+        destination: Register::R3,
+        value,
+    });
+    decode_at(&bytes[..length], 0)
+}

@@ -11,7 +11,7 @@ use Rattle.verifier.specs.declared.refusal.Refusal.{Refusal}
 use Rattle.abstract_state.specs.States.{AbstractState, most_callers}
 use Rattle.verifier.specs.Rules.{Ways, transfer}
 use Rattle.verifier.specs.Listing.{instruction_at}
-use Rattle.verifier.specs.Equations.{Passage, Calls, Outcome, main_passage, opening, outcome_at, states, refused, refused_within, refusal_at, first_refusal, exit_state, unless_refused_within, outcome, called, calls_of}
+use Rattle.verifier.specs.Equations.{Passage, Calls, Outcome, main_passage, opening, outcome_at, states, refused, refused_within, refusal_at, first_refusal, exit_state, unless_refused_within, called, calls_of}
 use Rattle.verifier.specs.Walks.{longest, deepest, pairs}
 use Rattle.verifier.specs.Verdict.{first_fault, fault_after, decoding_fault, flow_fault, frames_fault, length_fault, pairs_fault, rule_refusal, Verdict, unless_refused, verdict, most_counted, most_pairs, Accepted, Refused}
 

@@ -8,6 +8,7 @@ mod explaining;
 mod instructions;
 mod judgement;
 mod labels;
+pub mod laws;
 mod listing;
 mod source;
 mod values;

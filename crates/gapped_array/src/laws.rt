@@ -27,3 +27,14 @@ pub fn closing_closes_one_list(alloc: Global) -> Result<(bool, bool), AllocError
     array.close_run(0);
     Ok((array.is_open(0), array.is_open(1)))
 }
+
+/// A word counts once: the second time it was there.
+pub fn words_count_once(alloc: Global) -> Result<(bool, bool, bool), AllocError>
+    ensures { IfOk result (λ found. found ≡ (true, false, true)) }
+{
+    let mut array = GappedArray::empty(alloc);
+    array.push(&[6])?;
+    let first = array.insert(0, 5)?;
+    let second = array.insert(0, 5)?;
+    Ok((first, second, array.remove(0, 5)))
+}

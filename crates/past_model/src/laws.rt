@@ -8,7 +8,7 @@ ghost use Rattle.past_model.specs.EpochLaws.{RebaseChangesNothing, PastsAreInOrd
 use crate::batch::Batch;
 use crate::edit::Edit;
 use crate::entry::Entry;
-use crate::home::{ARRAY_MOST, BLOCK_MOST, Home};
+use crate::home::{ARRAY_MOST, ARRAY_RETURN, BLOCK_MOST, Home};
 use std::alloc::{AllocError, Global};
 
 /// One edit decides its own pair and leaves every other.
@@ -74,6 +74,16 @@ pub fn lists_stay_at_the_last_degree() -> (Home, Home)
     (
         Home::Block.after(BLOCK_MOST),
         Home::Gapped.after(ARRAY_MOST),
+    )
+}
+
+/// A list leaves its tree at the last degree where it may, and not before.
+pub fn trees_return_in_time() -> (Home, Home)
+    ensures { result ≡ (Home.Gapped, Home.Tree) }
+{
+    (
+        Home::Tree.after(ARRAY_RETURN),
+        Home::Tree.after(ARRAY_RETURN + 1),
     )
 }
 
