@@ -20,8 +20,8 @@ pub fn disassembly_assembles(code: &[u8])
     decoded_is_code(code);
 }
 
-/// A label that no line has is reported with the line that goes there, where there is memory.
-pub fn unknown_label_is_told_with_its_line(alloc: Global) -> Result<Vec<u8>, AssembleError>
+/// A label that no line defines is reported with the line that jumps to it, if memory lasts.
+pub fn unknown_label_is_reported_with_its_line(alloc: Global) -> Result<Vec<u8>, AssembleError>
     ensures { IsErrAnd result (λ e. e.cause ≢ TextCause.OutOfMemory
         → e ≡ record { line = 2; cause = TextCause.UnknownLabel }) }
 {

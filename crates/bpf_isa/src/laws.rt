@@ -53,7 +53,8 @@ pub fn fields_are_tested_before_registers() -> Result<(Instruction, usize), Deco
     decode_at(&[0x95, 11, 0, 0, 0, 0, 0, 0], 0)
 }
 
-/// An unused field that is not zero is reported whatever the instruction: a move that extends a sign, with an immediate.
+/// An unused field that is not zero is reported also if the offset chooses the instruction: a move that extends a sign,
+/// with an immediate.
 pub fn unused_immediate_is_reported() -> Result<(Instruction, usize), DecodeError>
     ensures { result ≡ Err DecodeError.UnusedField }
 {
