@@ -1,5 +1,5 @@
 import numpy as np
-import edgebpf                                              # pip install bindings/python
+import edgebpf                                              # PYTHONPATH=bindings/python
 
 with edgebpf.Store(vertices=4) as store:
     store.batch("A", inserts=(np.array([0, 0, 1]), np.array([1, 2, 2])))

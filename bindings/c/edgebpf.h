@@ -1,5 +1,5 @@
 /* edgebpf in process: a store of a graph that changes, versions of it that stay, and verified programs over their edges.
-   README.md beside this file says who owns what, and which threads may do what. */
+   docs/EMBEDDING.md says who owns what, and which threads may do what. */
 #ifndef EDGEBPF_H
 #define EDGEBPF_H
 
@@ -10,7 +10,7 @@
 extern "C" {
 #endif
 
-/* What a call answers: 0 where it is done, and else why nothing was done. */
+/* What a call returns: 0 if it is done, else why nothing was done. */
 enum {
     EDGEBPF_DONE = 0,
     EDGEBPF_NO_MEMORY = 1,
@@ -86,7 +86,7 @@ typedef struct edgebpf_slice { const uint32_t *at; size_t count; } edgebpf_slice
 /* What the verifier says: the most instructions and stack frames of a run, or the broken rule and the unit that breaks it. */
 typedef struct edgebpf_verdict { uint32_t bound, frames, cause, pc; } edgebpf_verdict;
 
-/* What came of a text: the bytes of its code, or the line (from 1) and the fault; line 0 where it is no UTF-8. */
+/* What came of a text: the bytes of its code, or the line (from 1) and the fault; line 0 if it is no UTF-8. */
 typedef struct edgebpf_assembled { size_t length, line; uint32_t cause; } edgebpf_assembled;
 
 /* What all edges of a run have together. */
@@ -98,15 +98,15 @@ enum { EDGEBPF_SUM = 0, EDGEBPF_MIN = 1, EDGEBPF_MAX = 2 };
 uint32_t edgebpf_store_new(uint32_t vertices, edgebpf_store *out);
 
 /* Applies a batch of edits in their order, of feed 0 to 3: an edge from each source to the target at its place, which is taken
-   out where `removes` is not 0. LENGTHS, TOO_MANY_EDITS, VERTEX_RANGE, LOG_FULL, FEED, tested in this order. Where the
-   answer is not 0 the store is as it was; after NO_MEMORY the same call may be made again. */
+   out if `removes` is not 0. LENGTHS, TOO_MANY_EDITS, VERTEX_RANGE, LOG_FULL, FEED, tested in this order. If the result is
+   not 0, the store is as it was; after NO_MEMORY the same call may be made again. */
 uint32_t edgebpf_store_apply(edgebpf_store *store, uint8_t feed, const uint32_t *sources, size_t source_count,
                              const uint32_t *targets, size_t target_count, const uint8_t *removes, size_t remove_count,
                              edgebpf_change *change);
 
 /* Forgets the batches that made the last version, whose memory is free once no older version is open: the graph stays as it
    is, and is version 0 of the next epoch, which has room for 4,096 batches. `epoch` is how many rebases there were with this
-   one. EPOCHS_FULL after 1,024 of them. Where the answer is not 0 the store is as it was; after NO_MEMORY the same call may be
+   one. EPOCHS_FULL after 1,024 of them. If the result is not 0, the store is as it was; after NO_MEMORY the same call may be
    made again. */
 uint32_t edgebpf_store_rebase(edgebpf_store *store, uint64_t *epoch);
 
@@ -124,7 +124,7 @@ uint32_t edgebpf_version_degree(edgebpf_version *version, uint32_t vertex, uint3
 uint32_t edgebpf_version_has_edge(edgebpf_version *version, uint32_t source, uint32_t target, uint32_t *answer);
 uint32_t edgebpf_version_neighbour(edgebpf_version *version, uint32_t vertex, uint32_t place, uint32_t *neighbour);
 
-/* The slices in which a vertex's neighbours lie, as many as there is room for: where `lent` is less than `room`, these are
+/* The slices in which a vertex's neighbours lie, as many as there is room for: if `lent` is less than `room`, these are
    all. Nobody may write to them, and they end with the last handle of the version. */
 uint32_t edgebpf_version_lend(edgebpf_version *version, uint32_t vertex, edgebpf_slice *slices, size_t room, size_t *lent);
 
@@ -132,22 +132,24 @@ uint32_t edgebpf_version_lend(edgebpf_version *version, uint32_t vertex, edgebpf
 uint32_t edgebpf_version_copy(edgebpf_version *version, uint64_t *starts, size_t start_count, uint32_t *targets,
                               size_t target_count);
 
-/* Verifies a program for records of 16 to 256 bytes. RECORD_LENGTH, CODE_LENGTH, REFUSED (then `verdict` says why). */
+/* Verifies a program without a table, for records of 16 to 256 bytes. RECORD_LENGTH, CODE_LENGTH, REFUSED (then `verdict` says
+   why). */
 uint32_t edgebpf_program_new(uint16_t record_length, const uint8_t *code, size_t code_length, edgebpf_verdict *verdict,
                              edgebpf_program *out);
 
 /* Another handle of the same program, for another thread. */
 uint32_t edgebpf_program_share(edgebpf_program *program, edgebpf_program *out);
 
-/* The code that a text means. WRONG_TEXT; LENGTHS where there is less room than `told->length`. */
+/* The code that a text means. WRONG_TEXT; LENGTHS if there is less room than `told->length`. */
 uint32_t edgebpf_assemble(const uint8_t *text, size_t text_length, uint8_t *code, size_t room, edgebpf_assembled *told);
 
-/* What the verifier knows of a program, as text. RECORD_LENGTH, CODE_LENGTH; LENGTHS where there is less room than `count`. */
+/* What the verifier knows of a program, as text. RECORD_LENGTH, CODE_LENGTH; LENGTHS if there is less room than `count`. */
 uint32_t edgebpf_explain(uint16_t record_length, const uint8_t *code, size_t code_length, uint8_t *text, size_t room,
                          size_t *count);
 
 /* Runs a program on each edge of the vertices of a frontier, which may name vertices in any order, at most 1,048,576 of them.
-   `values` has one place for each. REDUCTION, LENGTHS, ARGUMENT_LENGTH, tested in this order. */
+   `values` has one place for each: the reduction over its edges. A vertex without neighbours, or outside the graph, has 0, and
+   2^64 - 1 for MIN. REDUCTION, LENGTHS, ARGUMENT_LENGTH, tested in this order. */
 uint32_t edgebpf_run(edgebpf_version *version, edgebpf_program *program, const uint8_t *argument, size_t argument_length,
                      const uint32_t *frontier, size_t frontier_count, uint32_t reduction, uint64_t *values,
                      size_t value_count, edgebpf_totals *totals);
@@ -156,7 +158,7 @@ uint32_t edgebpf_run(edgebpf_version *version, edgebpf_program *program, const u
 uint32_t edgebpf_numbers(edgebpf_version *version, edgebpf_program *program, const uint8_t *argument,
                          size_t argument_length, uint64_t *numbers, size_t number_count);
 
-/* Lets go of what a handle holds, and leaves it empty. An empty one may be closed. */
+/* Drops what a handle holds, and leaves it empty. An empty one may be closed. */
 void edgebpf_close(edgebpf_handle *handle);
 
 static inline void edgebpf_close_store(edgebpf_store *store) { edgebpf_close(&store->handle); }

@@ -111,7 +111,7 @@ class Store:
         return Version(pin)
 
     def close(self) -> None:
-        """Lets the store go; its versions stay. May be called twice."""
+        """Drops the store; its versions stay. May be called twice."""
         self._handle = None
 
     def __enter__(self) -> Store:
@@ -123,7 +123,7 @@ class Store:
 
 class Version:
     """A version of a store's graph. `epoch` is how many rebases there were before it, `number` how many batches there were since then,
-    `vertices` and `edges` how large it is. It is let go where it is closed, or with the last view of it."""
+    `vertices` and `edges` how large it is. Its memory is freed once it is closed and no view of it is left."""
 
     def __init__(self, handle: library.Handle) -> None:
         info = library.new("info *")

@@ -120,9 +120,12 @@ def assemble(text: str, record: int = EDGE_BYTES) -> Program:
 def compile_c(path: str | os.PathLike[str], function: str, record: int = EDGE_BYTES) -> Program:
     """The program of a function in C, `u64 FUNCTION(struct edge *edge, u64 length)`, by `edgebpf-c` and clang.
 
-    Raises `Error` with the compiler's or the linker's words, and `Refused`.
+    Raises `Error` with the compiler's or the linker's words, and if the program has a table; and `Refused`.
     """
     run = subprocess.run([command("edgebpf-c"), str(path), function, str(record)], capture_output=True, text=True)
     if run.returncode or not run.stdout:
         raise Error(run.stderr.strip())
-    return Program(bytes.fromhex(run.stdout.split()[3]), record)
+    word, *words = run.stdout.split()
+    if word == "image":
+        raise Error(f"{function} has a table, which only the programs of a script have: pass its bytes as the argument of the run")
+    return Program(bytes.fromhex(words[2]), record)

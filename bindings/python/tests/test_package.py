@@ -399,6 +399,10 @@ class Package(unittest.TestCase):
             mutual = edgebpf.compile_c(source, "score")
             with self.assertRaises(edgebpf.Error):
                 edgebpf.compile_c(source, "missing")
+            source.write_text("#include <edgebpf.h>\nTABLE static const u32 weights[2] = {3, 1};\n"
+                              "u64 score(struct edge *edge, u64 length, const u32 table[2]) { return table[edge->target & 1]; }\n")
+            with self.assertRaisesRegex(edgebpf.Error, "score has a table"):
+                edgebpf.compile_c(source, "score")
         store = self.store(3)
         store.batch("A", ([0, 1, 2], [1, 0, 0]))
         self.assertEqual(store.pin().run(mutual).values.tolist(), [1, 1, 0])

@@ -10,7 +10,7 @@ pub enum Error {
     NoMemory,
     /// A graph has 1 to 1,048,576 vertices.
     VertexCount,
-    /// An edit or a frontier names a vertex that the graph does not have.
+    /// An edit names a vertex that the graph does not have.
     VertexRange,
     /// A batch has at most 65,536 edits.
     TooManyEdits,

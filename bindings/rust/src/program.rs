@@ -21,7 +21,7 @@ pub struct Verdict {
 }
 
 impl Program {
-    /// Verifies code for records of 16 to 256 bytes.
+    /// Verifies code, without a table, for records of 16 to 256 bytes.
     pub fn verify(record_length: u16, code: &[u8]) -> Result<Program, Refusal> {
         let mut verdict = RawVerdict::default();
         let handle = Handle::empty();

@@ -92,7 +92,7 @@ unset_from slots j (suc n) = unset_from (slice_set slots j Unset) (j + 1) n
 abbrev pub slots_touched : ℕ → ℕ → ℕ
 slots_touched k size = (k + size - 1) / 8 + 1 - k / 8
 
--- nor of all slots that the bytes touch
+-- what was spilled is no longer known of any slot that the bytes touch
 abbrev pub without_spills : List AbstractValue → ℕ → ℕ → List AbstractValue
 without_spills slots k size = unset_from slots (k / 8) (slots_touched k size)
 

@@ -213,7 +213,7 @@ fn end_registers(registers: &mut [AbstractValue; 11], kept: [AbstractValue; 4], 
 }
 
 /// What is known after the exit of a function that was called by one that runs in a frame: R0 is its answer, nothing
-/// is known of R1 to R5, the caller has its R6 to R10, and of the frame that is dropped no pointer stays.
+/// is known of R1 to R5, the caller has its R6 to R10, and no slot holds a pointer into the frame that is dropped.
 #[inline(never)]
 pub fn leave_call(state: &mut AbstractState, caller: u8)
     requires few { caller < MOST_CALLERS }

@@ -64,8 +64,8 @@ fn keeps_address(value: AbstractValue, other: AbstractValue) -> bool
     }
 }
 
-/// Goes on from a value that is not seen at once to stay, and returns from where on the others are left: it passes over the
-/// addresses there that stay, or joins the one value. It is a call, so that numbers take few instructions.
+/// Joins from a place on at which neither loop of the caller goes further, and returns the next place: it passes over addresses
+/// that stay, or else joins this one value. It is a call, so that numbers take few instructions.
 #[inline(never)]
 fn join_from(values: &mut [AbstractValue], others: &[AbstractValue], from: usize) -> usize
     requires long { length values.old ≡ length others.now }

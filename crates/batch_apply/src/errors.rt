@@ -16,7 +16,7 @@ pub enum ApplyError {
     /// There are more than 65,536 edits.
     #[error("there are more than 65536 edits")]
     TooManyEdits = 2,
-    /// There is no memory for the edited shards or the table.
+    /// There is no memory for it.
     #[error("out of memory")]
     OutOfMemory = 3,
     /// A thread could not be started.

@@ -6,7 +6,7 @@ use crate::arithmetic::{calculate, extend_sign, negate, swap};
 use crate::comparison::holds;
 use bpf_isa::{ByteOrder, Comparison, Extension, Operation, SwapBits, Width};
 
-/// A comparison of 64 bits looks at all bits, and one of 32 bits at the low ones.
+/// 2^32 is greater than 1 in 64 bits, and not in 32, where its low bits are 0.
 pub fn comparisons_look_at_their_width() -> (bool, bool)
     ensures { result ≡ (true, false) }
 {
@@ -17,7 +17,7 @@ pub fn comparisons_look_at_their_width() -> (bool, bool)
     )
 }
 
-/// A result of 32 bits has a zero upper half.
+/// In 32 bits the negative of 2^32 + 1 is 2^32 - 1, and 1 more is 0.
 pub fn short_results_are_short() -> (u64, u64)
     ensures { result ≡ (2 ^ 32 - 1, 0) }
 {
@@ -29,7 +29,7 @@ pub fn short_results_are_short() -> (u64, u64)
     )
 }
 
-/// A sign extends from the highest bit that is taken, and from no other.
+/// Of 16 bits 0x8000 extends with its sign, and 0x80 stays 128.
 pub fn signs_extend_from_their_bit() -> (u64, u64)
     ensures { result ≡ (2 ^ 64 - 2 ^ 15, 128) }
 {
@@ -39,7 +39,7 @@ pub fn signs_extend_from_their_bit() -> (u64, u64)
     )
 }
 
-/// A swap keeps the low bytes alone, in the order that is asked for.
+/// Swaps of the low 16 bits of a number, to both orders, and of its low 32 bits: the bytes above are dropped.
 pub fn swaps_keep_the_low_bytes() -> (u64, u64, u64)
     ensures { result ≡ (13330, 4660, 873616896) }
 {
@@ -51,7 +51,7 @@ pub fn swaps_keep_the_low_bytes() -> (u64, u64, u64)
     )
 }
 
-/// A quotient by zero is zero, and a remainder by zero is the dividend.
+/// 7 divided by 0 is 0, and leaves 7.
 pub fn division_by_zero_has_a_result() -> (u64, u64)
     ensures { result ≡ (0, 7) }
 {

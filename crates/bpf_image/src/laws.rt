@@ -32,8 +32,8 @@ pub fn record_length_is_tested_first(code: Vec<u8>) -> Result<Image, (Vec<u8>, I
     ensures { IsErrAnd result (λ e. e.1 ≡ ImageError.RecordLength) }
 {
     match Image::new(LEAST_RECORD_LENGTH - 1, code) {
-        Ok(image) => Ok(image),
-        Err((code, _)) => Image::new(MOST_RECORD_LENGTH + 1, code),
+        Err((code, ImageError::RecordLength)) => Image::new(MOST_RECORD_LENGTH + 1, code),
+        other => other,
     }
 }
 
@@ -54,8 +54,8 @@ pub fn longest_table_is_allowed(code: Vec<u8>, table: Vec<u8>) -> bool
     Image::with_table(MOST_RECORD_LENGTH, code, table).is_ok()
 }
 
-/// No byte of the code is lost, whether it makes an image or not.
-pub fn code_is_kept(code: Vec<u8>) -> usize
+/// The code keeps its length, whether it makes an image or not.
+pub fn code_keeps_its_length(code: Vec<u8>) -> usize
     ensures { result ≡ length code.items }
 {
     match Image::new(LEAST_RECORD_LENGTH, code) {

@@ -40,10 +40,10 @@ pub enum Cause {
     /// A stack byte is read that may not be set.
     #[error("an unset stack byte is read")]
     UnsetStackByte = 12,
-    /// An argument of a helper is not as the helper wants it.
+    /// An argument of a helper is not what it has to be.
     #[error("an argument of a helper is not as it has to be")]
     HelperArgument = 13,
-    /// A helper is called that there is not.
+    /// A helper is called that does not exist.
     #[error("there is no such helper")]
     UnknownHelper = 14,
     /// The result of a function is a pointer.

@@ -1,7 +1,8 @@
 //! Why a run stopped.
-/// Why a run stopped without an exit number. If several apply to one instruction, the lowest number is given, with two
-/// exceptions: `ReadOnly` ranks as `OutsideMemory`, in place of which it is given, and a room that gather may not have
-/// (`RoomNotAllowed`) ranks before the bytes that it would write to.
+/// Why a run stopped without an exit number. If several apply to one instruction, the lowest number is given, with three
+/// exceptions: an exit while R0 is not set is `UnsetResult`, and never `UnsetRegister`; `ReadOnly` ranks as `OutsideMemory`, in
+/// place of which it is given; and a room that gather may not have (`RoomNotAllowed`) ranks before the bytes that it would
+/// write to.
 #[derive(Clone, Copy, Debug, PartialEq, Eq)]
 pub enum TrapKind {
     /// No instruction stands at the pc.
@@ -18,9 +19,9 @@ pub enum TrapKind {
     FrameRegister = 6,
     /// A function is called while eight frames are live.
     NinthFrame = 7,
-    /// A helper is called that there is not.
+    /// A helper is called that does not exist.
     UnknownHelper = 8,
-    /// The helper gather is lent so many bytes as it may not have.
+    /// The room that gather is lent is no multiple of 4 from 4 to 256.
     RoomNotAllowed = 9,
     /// The function exits while R0 is not set.
     UnsetResult = 10,

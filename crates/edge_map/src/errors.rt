@@ -14,7 +14,7 @@ pub enum MapError {
     /// The frontier does not strictly ascend, or has a vertex that the graph does not have.
     #[error("the frontier does not ascend, or has a vertex outside the graph")]
     Frontier = 2,
-    /// There is no memory for the rows.
+    /// There is no memory for the map.
     #[error("out of memory")]
     OutOfMemory = 3,
     /// A thread could not be started.

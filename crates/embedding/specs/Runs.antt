@@ -35,9 +35,10 @@ run_status p argument frontier values (Some r) =
     then (if length argument + EDGE_BYTES == p.record_length then DONE else ARGUMENT_LENGTH)
     else LENGTHS
 
--- the status is that of the first test that fails, unless there is no memory; a run that is done writes its numbers, and else
--- nothing is written
+-- the status is that of the first test that fails; if none fails, there may be no memory. A run that is done writes its numbers,
+-- and else nothing is written
 pub record IsRun (g : Graph) (p : Program) (argument frontier : List ℕ) (reduction : ℕ) (status : ℕ) (values : List ℕ) (totals : Totals) (new_values : List ℕ) (new_totals : Totals) : Type 0 where
   pub status_is : status ≢ NO_MEMORY → status ≡ run_status p argument frontier values (reduction_at reduction)
+  pub memory : status ≡ NO_MEMORY → run_status p argument frontier values (reduction_at reduction) ≡ DONE
   pub done : (r : Reduction) → reduction_at reduction ≡ Some r → status ≡ DONE → IsTold g p argument frontier r new_values new_totals
   pub left : status ≢ DONE → (new_values ≡ values) × (new_totals ≡ totals)

@@ -1,5 +1,5 @@
-//! What a host in another language holds of this one: a store, its versions and verified programs behind handles, and the
-//! calls on what handles hold. Each call answers a status, and none asks its caller for anything.
+//! What a host in another language holds of this one: a store, its versions and verified programs in handles, and the
+//! calls on what handles hold. Each call that `edgebpf_c` makes on them answers a status and has no precondition.
 #![tactic(auto)]
 
 mod changes;

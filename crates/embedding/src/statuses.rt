@@ -18,7 +18,7 @@ pub const TOO_MANY_EDITS: u32 = 6;
 pub const LOG_FULL: u32 = 7;
 /// There is no such feed: they are 0 to 3.
 pub const FEED: u32 = 8;
-/// Arrays whose lengths do not fit together, or one with too little room.
+/// Arrays whose lengths do not fit together, one with too little room, or a frontier of more than 1,048,576 vertices.
 pub const LENGTHS: u32 = 9;
 /// The verifier refuses the program.
 pub const REFUSED: u32 = 10;

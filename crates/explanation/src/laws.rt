@@ -23,7 +23,7 @@ pub fn bound_and_frames_are_the_verifiers(
     Ok((told.judgement, accepted.bound(), accepted.frames()))
 }
 
-/// Lines are counted from 1, those of labels too, and what stands in a comment is not said.
+/// Lines are counted from 1, those of labels too, and a comment is left out.
 pub fn statements_have_their_lines(alloc: Global) -> Result<Vec<SourceLine<'static>>, AllocError>
     ensures { IfOk result (λ lines. map as_numbered lines.items ≡ record { number = 2; said = codes "exit" } ∷ []) }
 {

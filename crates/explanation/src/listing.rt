@@ -25,7 +25,7 @@ use bpf_image::Image;
 use std::alloc::AllocError;
 use verifier::KnownPassage;
 
-/// What is known at a pc, if any run comes there.
+/// What is known at a pc, if it is walked.
 fn known_at(states: &[Option<AbstractState>], pc: usize) -> Option<&AbstractState>
     ensures { option_map (λ s. s.now) result ≡ state_at states.now pc }
 {

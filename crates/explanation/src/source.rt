@@ -10,7 +10,7 @@ use std::alloc::{AllocError, Global};
 pub struct SourceLine<'a> {
     /// Which line it is, from 1.
     pub number: u64,
-    /// What stands there, without blanks at both ends and without a comment.
+    /// What stands there, without white space at both ends and without a comment.
     pub text: &'a str,
 }
 

@@ -65,7 +65,7 @@ impl GappedArray {
         })
     }
 
-    /// Another array of the same lists, with no room beyond theirs.
+    /// Another array of the same lists, with no room beyond its cells.
     pub fn copy(&self, alloc: Global) -> Result<GappedArray, AllocError>
         ensures { IfOk result (λ array. array ≡ self.now) }
     {

@@ -11,7 +11,7 @@ pub fn neighbours_are_targets()
     ensures { NeighboursAreTargets }
 {}
 
-/// An edge is asked for between two numbers exactly where the second is a neighbour of the first.
+/// There is an edge from one number to another exactly if the second is a neighbour of the first.
 pub fn edges_are_neighbours()
     ensures { EdgesAreNeighbours }
 {}

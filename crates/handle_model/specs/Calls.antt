@@ -1,5 +1,5 @@
--- Which events the calls of handles are. Each word speaks of every store of which the handle's sight is: after
--- these events, each of them done, the handle's sight is the later one.
+-- Which events the calls of handles are. Each definition is about every store that the handle may be seeing: these events can
+-- happen there, and after them the handle sees what the call says.
 use Rattle.std.specs.Prelude.{◌≡◌, ◌==◌, ℕ, ◌<◌, Bool, true, false, not, ◌&&◌, List, [], ◌∷◌, ◌++◌, length, drop, map, slice_set, Option, Some, None, Vec}
 use Rattle.std.specs.declared.alloc.Global.{Global}
 use Rattle.std.specs.List.{list_any, insert}

@@ -49,8 +49,8 @@ pub fn woven_publications()
     ensures { WovenPublications }
 {}
 
-/// Whatever the order of the calls of feeds and publisher, they are a list of events: each law of lists of events is one
-/// of them.
+/// Whatever the order of the calls of feeds and publisher, they are a list of events, so each law of lists of events holds
+/// for them.
 pub fn histories_are_runs()
     ensures { HistoriesAreRuns }
 {}

@@ -17,7 +17,7 @@ decision es u p v = unwrap_or (last_word es u v) (p v)
 abbrev pub AreEditsFrom : ℕ → ℕ → List Edit → Type 0
 AreEditsFrom u n es = AllByRecursion (λ e. (source_of e ≡ u) × (target_of e < n)) es
 
--- edits of a vertex in another order, by which the same is decision
+-- edits of a vertex in another order, which decide the same
 pub record IsSameWord (u n : ℕ) (es fs : List Edit) : Type 0 where
   pub own : AreEditsFrom u n fs
   pub words : (v : ℕ) → last_word fs u v ≡ last_word es u v

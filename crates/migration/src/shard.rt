@@ -73,7 +73,7 @@ impl Shard {
 
     /// The range after a batch of edits of its vertices, to vertices that a graph may have, and what the
     /// edits did. This shard stays, and the next one shares the pages that no edit is of. It takes one
-    /// pass over the edited pages and the edits, and makes each changed list once.
+    /// pass over an edited page, and a second one if its copy cannot keep a list where it stands.
     pub fn apply(&self, alloc: Global, edits: &[Edit]) -> Result<(Shard, Counts), AllocError>
         requires { AreEditsOf self.now edits.now }
         ensures after { IfOk result (λ next. IsPartAfter edits.now self.now next.0) }

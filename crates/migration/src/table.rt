@@ -219,8 +219,8 @@ impl Table {
         Ok(lists)
     }
 
-    /// Drops the table, by so many threads, each of which has the shards of ranges that lie so far apart, as those who made them had. This
-    /// thread drops all of it where one is asked for or there is no memory for more, and the part of a thread that cannot be started.
+    /// Drops the table. The shards that no other table has are dealt in turn to so many threads. This thread drops all of them if
+    /// fewer than two threads are asked for or there is no memory to deal them, and the part of a thread that cannot be started.
     pub fn let_go<R: Threads>(self, rt: &R, alloc: Global, hands: usize) {
         if hands < 2 {
             return;

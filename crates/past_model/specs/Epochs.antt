@@ -51,7 +51,7 @@ pub record IsOfEndedEpoch (a b : Past) : Type 0 where
 abbrev pub IsBefore : Past → Past → Type 0
 IsBefore a b = (b.vertex_count ≡ a.vertex_count) × (IsBeforeInEpoch a b ⊎ IsOfEndedEpoch a b)
 
--- of all these batches, the ones since the last rebase: before them came as many of each feed as the marks count
+-- of all these batches, those that no ended epoch has: before them came as many of each feed as the marks count
 pub record AreSince (marks : List (List ℕ)) (all since : List Entry) : Type 0 where
   pub ended : List Entry
   pub whole : ended ++ since ≡ all

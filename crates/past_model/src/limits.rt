@@ -7,7 +7,7 @@ pub const MOST_VERTICES: u32 = 1_048_576;
 /// have fewer.
 pub const RANGE_VERTICES: u32 = 256;
 
-/// How many ranges a graph may have: its vertices' numbers divided by those of a range.
+/// How many ranges a graph may have: `MOST_VERTICES` divided by `RANGE_VERTICES`.
 pub const MOST_RANGES: u32 = 4_096;
 
 /// How many feeds hand in batches: A is 0, and D is 3.

@@ -68,8 +68,8 @@ impl Script {
 
     /// Executes the next line, its end left out, by the crew's workers. What it says, or its fault, goes to the end of
     /// the text: the same for each number of workers, gate and order in which threads run. The lines of the edges that
-    /// it lists, of which there may be many, are left to the caller. `Store` comes at a line alone whose answer only the
-    /// store gives: the end of a batch, a pin, a home or a rebase.
+    /// it lists, of which there may be many, are left to the caller. `Store` comes only at a line whose answer the store
+    /// alone gives: the end of a batch, a pin, a home or a rebase.
     pub fn execute<Ga: Gate, R: Threads + Wait>(
         &mut self,
         crew: &Crew<'_, R, Ga>,

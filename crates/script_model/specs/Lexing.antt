@@ -65,7 +65,7 @@ hex_pairs [] = Some []
 hex_pairs (a ∷ []) = None
 hex_pairs (a ∷ b ∷ digits) = onto (hex_byte (hex_digit a) (hex_digit b)) (hex_pairs digits)
 
--- a word that is no byte is written `-`
+-- no byte at all is written `-`
 abbrev pub is_dash : List ℕ → Bool
 is_dash [] = false
 is_dash (b ∷ []) = b == 45

@@ -199,11 +199,12 @@ impl Serving {
 /// `Complete`: the input is at its end, and every line was executed. `Fault`: a line has a fault, and
 /// what was written ends with it. After an error, what was written begins what the script writes, and
 /// `Read` and `Write` come only where a read or a write failed, which is not tried again. Bytes are read
-/// and written in blocks, and so are the edges that a line lists, with the text of a block of them at once; a line is
-/// executed once all of it was read, and one without end is a fault once it is too long. Batches and runs are done by workers, and neither their number, nor their gate, nor the order
-/// in which threads run changes what is written; a piece of a batch is a range of 256 vertices, one of a run 64 places
-/// of its frontier. `WorkerRefused` comes where a thread could not be started; one worker needs none. `Store` comes only
-/// at a line whose answer the store alone gives: the end of a batch, a pin, a home or a rebase.
+/// and written in blocks; the edges that a line lists are run, and their lines written, block by block. A line is
+/// executed once all of it was read, and one without end is a fault once it is too long. Batches and runs are made by
+/// workers, and neither their number, nor their gate, nor the order in which threads run changes what is written; a piece
+/// of a batch is a range of 256 vertices, one of a run 64 places of its frontier. `WorkerRefused` comes if a thread could not
+/// be started; one worker needs none. `Store` comes only at a line whose answer the store alone gives: the end of a batch, a
+/// pin, a home or a rebase.
 pub fn serve<I: Input, O: Output, Ga: Gate, R: Threads + Wait>(
     input: &mut I,
     output: &mut O,

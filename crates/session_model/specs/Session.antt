@@ -15,8 +15,8 @@ pub record KeptPin : Type 0 where
   pub name : List ℕ
   pub past : Past
 
--- the last version of the graph, where there is a graph; the batch that its store took and could not publish, for want
--- of memory or of a worker, if there is one; programs and pins in the order of their making
+-- the last version of the graph, if there is a graph; the batch that its store took and could not publish, for lack of
+-- memory or of a worker, if there is one; programs and pins in the order of their making
 pub record Session : Type 0 where
   pub past : Option Past
   pub held : Option Entry

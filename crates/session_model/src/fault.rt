@@ -3,7 +3,7 @@
 use thiserror::Error;
 
 /// What is wrong with a command. The numbers are part of the script language, and a command's faults are
-/// tested in their order, save that a name which has to be there is looked for before what is asked of it.
+/// tested in their order.
 #[derive(Clone, Copy, Debug, PartialEq, Eq, Error)]
 pub enum Fault {
     /// A command before there is a graph, or a second graph.

@@ -99,7 +99,7 @@ abbrev pub IsTurned : Committing → Result Publication Turn → Committing → 
 IsTurned old (Ok p) new = (p ≡ rebase_of old.moment) × (new ≡ at_rest p.moment)
 IsTurned old (Err t) new = (new.moment ≡ old.moment) × IsTurn new t
 
--- a publication is reported, and nothing is held; or the batch is held again, for want of what is reported
+-- a publication is reported, and nothing is held; or the batch is held again, for lack of what is reported
 abbrev pub IsNoted : Result Publication Stopped → Result (Option Publication) PublishError → Option Held → Type 0
 IsNoted (Ok p) told held = (told ≡ Ok (Some p)) × (held ≡ None)
 IsNoted (Err s) told held = (told ≡ Err (refused_as s.want)) × (held ≡ Some s.held)

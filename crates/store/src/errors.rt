@@ -36,7 +36,7 @@ impl<T: Drop> From<AllocFailed<T>> for StoreError {
     }
 }
 
-/// What was wrong with a batch, or with the moment.
+/// Why a batch was not submitted.
 #[derive(Clone, Copy, Debug, PartialEq, Eq, Error)]
 pub enum SubmitCause {
     /// 64 batches wait in the queue.
@@ -50,7 +50,7 @@ pub enum SubmitCause {
     TooManyEdits = 3,
 }
 
-/// Why a batch was not submitted, and the batch.
+/// The reason why a batch was not submitted, and the batch.
 #[derive(Debug, Drop)]
 pub struct SubmitError {
     /// Why it was not submitted.

@@ -3,7 +3,7 @@ use past_model::Entry;
 use std::sync::Arc;
 use version::Version;
 
-/// What a store leaves after.
+/// What a store leaves when it ends.
 pub struct Finished {
     /// The last version.
     pub last: Arc<Version>,

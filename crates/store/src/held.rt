@@ -35,7 +35,7 @@ pub enum Turn {
     Ready(Recorded, Recorded),
 }
 
-/// A held batch that could not be gone on with, and what it is in want of.
+/// A held batch whose publication stopped, and what was refused.
 #[derive(Drop)]
 pub struct Stopped {
     pub held: Held,
@@ -43,7 +43,7 @@ pub struct Stopped {
 }
 
 impl Stopped {
-    /// It is in lack of memory.
+    /// It stopped for lack of memory.
     pub(crate) fn for_memory(held: Held) -> Stopped
         ensures held { result.held ≡ held }
         ensures want { result.want ≡ OutOfMemory }

@@ -29,7 +29,7 @@ pub struct KnownPassage {
     pub entry: usize,
     /// The last pc that was gone over: the one that breaks a rule, or whose call does, and else the function's last.
     pub last: usize,
-    /// What is known before each unit from `entry` to `last`: nothing where no run comes.
+    /// What is known before each unit from `entry` to `last`: nothing if no walked way comes there, and then no run does.
     pub states: Vec<Option<AbstractState>>,
 }
 

@@ -16,12 +16,17 @@ pub fn words_stand_in_order() -> VertexBlock
 }
 
 /// A removed word is no longer there, and the others are.
-pub fn removal_takes_one_word() -> (bool, bool, bool)
-    ensures { result ≡ (true, false, true) }
+pub fn removal_takes_one_word() -> (bool, bool, bool, bool)
+    ensures { result ≡ (true, true, false, true) }
 {
     let mut block = VertexBlock::of(&[3, 5, 7]);
     let removed = block.remove(5);
-    (removed, block.contains(5), block.contains(7))
+    (
+        removed,
+        block.contains(3),
+        block.contains(5),
+        block.contains(7),
+    )
 }
 
 /// Eleven words leave a place, and twelve do not.

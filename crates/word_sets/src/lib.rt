@@ -1,4 +1,4 @@
-//! The words of a set, in which the homes of neighbour lists speak: ascending lists, membership, one word
+//! Sets of words, as the contracts of the homes of neighbour lists name them: ascending lists, membership, one word
 //! more and one word less. Here stand the definitions (in `specs/`), their laws, and the search for a word.
 #![tactic(auto)]
 

@@ -7,7 +7,7 @@ use std::thread;
 const TURNS: u32 = 10_000_000;
 
 /// A gate for tests. It holds each piece until so many were entered, so that as many threads have to be inside at once, and
-/// keeps how often pieces were entered and left: a digit of 16 for each of the first 16 numbers.
+/// keeps how often pieces were entered and left: a hexadecimal digit for each of the first 16 numbers.
 #[derive(Debug, Drop)]
 pub struct HoldingGate {
     until: u64,
@@ -34,12 +34,12 @@ impl HoldingGate {
         }
     }
 
-    /// How often each piece was entered, a digit of 16 for each.
+    /// How often each piece was entered, a hexadecimal digit for each.
     pub fn entered(&self) -> u64 {
         self.entered.load(Ordering::SeqCst)
     }
 
-    /// How often each piece was left, a digit of 16 for each.
+    /// How often each piece was left, a hexadecimal digit for each.
     pub fn left(&self) -> u64 {
         self.left.load(Ordering::SeqCst)
     }

@@ -4,7 +4,8 @@ ghost use Rattle.workers.specs.declared.limits.TheConstants.{MOST_WORKERS};
 
 use crate::limits::MOST_WORKERS;
 
-/// How many threads work, that of the caller among them: from 1 to 16.
+/// How many threads work, from 1 to 16. One worker is the caller's own thread. Of several that make a run one is, too;
+/// several that apply a batch are all new threads, and the caller waits.
 #[derive(Clone, Copy, Debug)]
 pub struct Workers {
     count: u8,

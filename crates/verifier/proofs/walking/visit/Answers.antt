@@ -27,7 +27,7 @@ returns-in-Err c = record {
       let found : instruction_at c.args.image.now c.args.pc ≡ Some c.in-Some.instruction = sym c.in-Some.ensures.exact in
       let known : states c.args.image.now (calls_of c.args.image.now v) v c.args.pc ≡ Some c.in-Some-take.state = has_come c.args.image.now (calls_of c.args.image.now v) v old c.args.states.now.items c.args.pc last c.args.exits.now c.in-Some-take.state c.requires.inside h (sym here) in
       let exits_here : instruction_at c.args.image.now c.args.pc ≡ Some Exit = found ∙ ap (λ i. some_instruction i) c.in-Exit.is in
-      let step = c.in-Err.ensures (lengths_of c.args.image.now) c.args.pc in
+      let step = c.in-Err.ensures.ways (lengths_of c.args.image.now) c.args.pc in
       let fails : transfer (lengths_of c.args.image.now) c.args.pc Exit c.in-Some-take.state ≡ Err c.in-Err.cause = step in
       inr (rule_broken c.args.image.now v old c.args.states.now.items c.args.pc last c.args.exits.now Exit c.in-Some-take.state c.in-Err.cause h exits_here known fails);
 }
@@ -71,7 +71,7 @@ returns-then-frame-eq0 c = record {
       let long : length (set c.args.states.now.items c.args.pc c.take.new.self) ≡ length c.args.states.now.items = length-set c.args.states.now.items c.args.pc c.take.new.self in
       let taken : (q : ℕ) → state_at (set c.args.states.now.items c.args.pc c.take.new.self) q ≡ state_at (set c.args.states.now.items c.args.pc None) q = λ q. ap (λ o. state_at (set c.args.states.now.items c.args.pc o) q) after in
       let exits_here : instruction_at c.args.image.now c.args.pc ≡ Some Exit = found ∙ ap (λ i. some_instruction i) c.in-Exit.is in
-      let step = c.in_default-exit.ensures (lengths_of c.args.image.now) c.args.pc in
+      let step = c.in_default-exit.ensures.ways (lengths_of c.args.image.now) c.args.pc in
       let goes : transfer (lengths_of c.args.image.now) c.args.pc Exit c.in-Some-take.state ≡ ok (ways_onward c.args.pc Exit c.in_default-exit.field-0 c.in-Some-take.state) = step in
       let none : v.frame ≡ 0 = frame ∙ c.if-frame-eq0.true in
       let left : c.args.exits.now ≡ left_by v.frame c.args.exits.now c.in-Some-take.state = rw none refl in
@@ -90,7 +90,7 @@ returns-else-frame-eq0 c = record {
       let long : length (set c.args.states.now.items c.args.pc c.take.new.self) ≡ length c.args.states.now.items = length-set c.args.states.now.items c.args.pc c.take.new.self in
       let taken : (q : ℕ) → state_at (set c.args.states.now.items c.args.pc c.take.new.self) q ≡ state_at (set c.args.states.now.items c.args.pc None) q = λ q. ap (λ o. state_at (set c.args.states.now.items c.args.pc o) q) after in
       let exits_here : instruction_at c.args.image.now c.args.pc ≡ Some Exit = found ∙ ap (λ i. some_instruction i) c.in-Exit.is in
-      let step = c.in_default-exit.ensures (lengths_of c.args.image.now) c.args.pc in
+      let step = c.in_default-exit.ensures.ways (lengths_of c.args.image.now) c.args.pc in
       let goes : transfer (lengths_of c.args.image.now) c.args.pc Exit c.in-Some-take.state ≡ ok (ways_onward c.args.pc Exit c.in_default-exit.field-0 c.in-Some-take.state) = step in
       let caller : v.frame ≡ suc (c.args.frame - 1) = (let some = c.if-frame-eq0.false in omega (arith, frame, some)) in
       let leaves : c.leave_call.new.state ≡ left_state (c.args.frame - 1) c.in-Some-take.state = c.leave_call.ensures in
