@@ -60,7 +60,7 @@ def lines_of(object_file):
     objdump = newest("llvm-objdump")
     if objdump is None:
         return {}
-    run = subprocess.run([objdump, "-d", "-l", object_file], capture_output=True, text=True)
+    run = subprocess.run([objdump, "-d", "-l", object_file], capture_output=True, text=True, errors="replace")
     lines, section, line = {}, None, None
     for text in run.stdout.splitlines():
         if found := re.match(r"Disassembly of section (\S+):", text):
@@ -78,7 +78,7 @@ def type_of_result(object_file, function):
     dwarfdump = newest("llvm-dwarfdump")
     if dwarfdump is None:
         return None
-    run = subprocess.run([dwarfdump, object_file], capture_output=True, text=True)
+    run = subprocess.run([dwarfdump, object_file], capture_output=True, text=True, errors="replace")
     entries, entry = {}, {}
     for text in run.stdout.splitlines():
         if found := re.match(r"(0x[0-9a-f]+):\s+(DW_TAG_\w+)", text):

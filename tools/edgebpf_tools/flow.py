@@ -4,7 +4,7 @@ import struct
 from dataclasses import dataclass, field
 from functools import lru_cache
 
-from edgebpf_tools.blocks import CALL, EXIT, LOCAL_CALL, WIDE, is_branch
+from edgebpf_tools.blocks import CALL, EXIT, JUMP, JUMP_CLASSES, LOCAL_CALL, LONG_JUMP, UNIT, WIDE, is_branch
 from edgebpf_tools.values import ALL_32, ALL_64, ANYTHING, NUMBER, RECORD, STACK, UNSET, Value, computed, constant, extended, joined, narrowed, number, settled
 
 FRAME_REGISTER = 10
@@ -21,6 +21,11 @@ REGISTER_STORES = {0x63: 4, 0x6B: 2, 0x73: 1, 0x7B: 8}
 HELPER_ANSWERS = {1: ALL_32, 2: 1, 4: ALL_32, 5: 64}
 HELPER_ARGUMENTS = {1: 1, 2: 2, 3: 2, 4: 0, 5: 4}
 DOUBLE_LOAD, DOUBLE_STORE = 0x79, 0x7B
+# The opcodes of RFC 9669's groups base64 and divmul64, and from how many bits `mov` extends a sign.
+OPCODES = {code << 4 | source | kind for kind in (4, 7) for code in (*OPERATIONS, *(code for code, _ in CHOSEN)) for source in (0, 8)}
+OPCODES |= {code << 4 | source | kind for kind in JUMP_CLASSES for code in COMPARISONS for source in (0, 8)}
+OPCODES |= {0x84, 0x87, 0xD4, 0xDC, 0xD7, WIDE, JUMP, LONG_JUMP, CALL, EXIT} | {*LOADS, *SIGNED_LOADS, *STORES, *REGISTER_STORES}
+SIGN_BITS = (0, 8, 16, 32)
 GATHER = 5
 MOST_ROOM = 256
 
@@ -68,6 +73,15 @@ class Fields:
     @property
     def comparison(self):
         return COMPARISONS[self.opcode >> 4]
+
+
+def is_instruction(units):
+    """Whether units are an instruction, as far as its opcode, its registers and its length say."""
+    fields = Fields.of(units)
+    is_whole = len(units) == (2 * UNIT if fields.opcode == WIDE else UNIT)
+    has_registers = fields.destination <= FRAME_REGISTER and fields.source <= FRAME_REGISTER
+    is_move = fields.is_arithmetic and OPERATIONS.get(fields.opcode >> 4) == "mov"
+    return is_whole and has_registers and fields.opcode in OPCODES and (not is_move or fields.offset in SIGN_BITS)
 
 
 def access_of(fields):
@@ -365,9 +379,10 @@ def _addressing(instruction, after):
     kept = after - writes_of(instruction)
     if access := access_of(fields):
         base, offset, _ = access
-        if base == FRAME_REGISTER and fields.opcode == DOUBLE_LOAD:
+        is_in_frame = base == FRAME_REGISTER and offset < 0
+        if is_in_frame and fields.opcode == DOUBLE_LOAD:
             return kept | {offset} if fields.destination in after else kept
-        if base == FRAME_REGISTER and fields.opcode == DOUBLE_STORE:
+        if is_in_frame and fields.opcode == DOUBLE_STORE:
             return kept - {offset} | ({fields.source} if offset in after else set())
         return kept | {base}
     if fields.opcode == CALL:

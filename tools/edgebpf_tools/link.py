@@ -1,10 +1,12 @@
 """Takes one function, with those that it calls, out of an object file that clang made for BPF."""
 import dataclasses
 import functools
+import io
+import pathlib
 
 from edgebpf_tools.blocks import CALL, LOCAL_CALL, UNIT, Circle, Instruction, Stray, cut, in_order, joined, placed
 from edgebpf_tools.clang import lines_of
-from edgebpf_tools.flow import Flow, called_state, entry_state
+from edgebpf_tools.flow import Flow, called_state, entry_state, is_instruction
 from edgebpf_tools.refusal import Refusal, needs_package
 from edgebpf_tools.rewriting import Rewriting
 from edgebpf_tools.tables import SECTION as TABLE_SECTION
@@ -59,11 +61,18 @@ class ObjectFile:
         except ImportError:
             raise needs_package("pyelftools, which reads object files,", "python3-pyelftools") from None
         self.path = path
-        with open(path, "rb") as stream:
+        # In memory, where no size and no place that a damaged file claims is too large to be asked for.
+        stream = io.BytesIO(pathlib.Path(path).read_bytes())
+        try:
             elf = ELFFile(stream)
             if elf.header["e_machine"] not in ("EM_BPF", EM_BPF):
                 raise Refusal(f"{path} is an object file of another machine; compile it with -target bpf")
             self._read(elf)
+        except (Refusal, MemoryError):
+            raise
+        except Exception:
+            # The package meets a damaged file with errors of many kinds.
+            raise Refusal(f"{path} is a damaged object file") from None
 
     def _read(self, elf):
         table = elf.get_section_by_name(".symtab")
@@ -206,8 +215,10 @@ def _refuse_circle(objects, function, circle):
 
 def _blocks(objects, function):
     """The blocks of a function that a run reaches."""
-    code = objects.code[function.section][function.start : function.start + function.size]
+    code = objects.code.get(function.section, b"")[function.start : function.start + function.size]
     blocks = cut(code, lambda at: UNIT * at)
+    if not blocks:
+        raise Refusal(f"the function {function.name} has no code in the object file")
     try:
         order = in_order(blocks)
     except Circle as circle:
@@ -215,7 +226,7 @@ def _blocks(objects, function):
     except Stray as stray:
         where = objects.place(function, stray.block.end_place or (stray.block.body or [Instruction(b"", 0)])[-1].place)
         raise Refusal(
-            f"{where}{function.name} goes on behind its end here: it lacks a return, or does what C leaves undefined"
+            f"{where}{function.name} goes on after its end here: it lacks a return, or does what C leaves undefined"
         ) from None
     for label in order:
         for instruction in blocks[label].instructions:
@@ -229,6 +240,8 @@ def _look_at(objects, function, instruction):
     symbol = objects.relocations.get(function.section, {}).get(function.start + offset)
     if unit[0] in OUTSIDE:
         raise Refusal(f"{objects.place(function, offset)}{OUTSIDE[unit[0]]}, which edgebpf does not have")
+    if not is_instruction(unit):
+        raise Refusal(f"{objects.place(function, offset)}no instruction of RFC 9669 stands here: the object file is damaged")
     if unit[0] == CALL and unit[1] >> 4 == LOCAL_CALL:
         instruction.callee = _callee(objects, function, offset, unit)
     elif symbol is not None:

@@ -1,6 +1,7 @@
 """edgebpf-c: what it takes out of C, and what it refuses in words."""
 import os
 import pathlib
+import random
 import subprocess
 import tempfile
 import unittest
@@ -10,6 +11,30 @@ from sample_programs import GRAPH, RUNS, SOURCE
 from tools_here import MISSING, TOOLS, run_tool
 
 from edgebpf_tools.clang import newest
+from edgebpf_tools.link import ObjectFile, link
+from edgebpf_tools.refusal import Refusal
+
+# Functions with a branch, a call, a loop, a helper and a table.
+SMALL = """
+#include <edgebpf.h>
+TABLE static const u32 weights[4] = {3, 1, 4, 1};
+FUNCTION u64 twice(u64 x, u64 y) { return x * 2 + y / 3; }
+u64 score(struct edge *edge, u64 length, const u32 table[4]) {
+    u64 sum = 0;
+    for (int i = 0; i < 4; i++) if (edge->target > (u32)i) sum += table[i] * has_edge(edge->target, i);
+    return sum > 0x100000000ULL ? twice(sum, edge->place) : twice(edge->source, sum); }
+"""
+
+
+def damaged(whole, chance):
+    """The bytes of a file that ends early, or in which a few bytes are others."""
+    if chance.randrange(3) == 0:
+        return whole[:chance.randrange(len(whole))]
+    changed = bytearray(whole)
+    for _ in range(chance.choice((1, 1, 2, 8))):
+        changed[chance.randrange(len(whole))] = chance.randrange(256)
+    return bytes(changed)
+
 
 @unittest.skipIf(MISSING, f"not there: {MISSING}")
 class EdgebpfC(unittest.TestCase):
@@ -95,6 +120,25 @@ class EdgebpfC(unittest.TestCase):
         other = f"{self.folder.name}/other.o"
         subprocess.run([newest("clang"), "-c", "-x", "c", "/dev/null", "-o", other], check=True)
         self.assertIn("of another machine", run_tool("edgebpf-c", other, "target", "16").stderr)
+
+    def test_damaged_object_files(self):
+        """Each is linked or refused in words."""
+        source, path, chance = f"{self.folder.name}/small.c", f"{self.folder.name}/damaged.o", random.Random(7)
+        pathlib.Path(source).write_text(SMALL)
+        subprocess.run([newest("clang"), "-O2", "-target", "bpf", f"-I{TOOLS}", "-c", source, "-o", path], check=True, capture_output=True)
+        whole, refused = pathlib.Path(path).read_bytes(), 0
+        for _ in range(300):
+            pathlib.Path(path).write_bytes(damaged(whole, chance))
+            try:
+                objects = ObjectFile(path)
+                link(objects, objects.function_named("score"), 16)
+                objects.table()
+            except Refusal:
+                refused += 1
+        self.assertGreater(refused, 100)
+        pathlib.Path(path).write_bytes(whole[:100])
+        run = run_tool("edgebpf-c", path, "score", "16")
+        self.assertEqual((run.returncode, run.stderr), (1, f"edgebpf-c: {path} is a damaged object file\n"))
 
     def test_faults_in_words(self):
         for words, said in (
