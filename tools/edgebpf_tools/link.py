@@ -241,7 +241,7 @@ def _look_at(objects, function, instruction):
     if unit[0] in OUTSIDE:
         raise Refusal(f"{objects.place(function, offset)}{OUTSIDE[unit[0]]}, which edgebpf does not have")
     if not is_instruction(unit):
-        raise Refusal(f"{objects.place(function, offset)}no instruction of RFC 9669 stands here: the object file is damaged")
+        raise Refusal(f"{objects.place(function, offset)}no instruction of RFC 9669's groups base64 and divmul64 stands here")
     if unit[0] == CALL and unit[1] >> 4 == LOCAL_CALL:
         instruction.callee = _callee(objects, function, offset, unit)
     elif symbol is not None:
