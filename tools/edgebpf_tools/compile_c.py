@@ -7,11 +7,11 @@ import tempfile
 
 from edgebpf_tools import clang, ends, explain, tables
 from edgebpf_tools.c_words import CWords
+from edgebpf_tools.language import LEAST_LENGTH, MOST_LENGTH
 from edgebpf_tools.link import ObjectFile, link
 from edgebpf_tools.refusal import Refusal
 from edgebpf_tools.run_c import Run, argument_words, run_on
 
-LEAST_LENGTH, MOST_LENGTH = 16, 256
 NAME = re.compile(r"[A-Za-z0-9_-]{1,32}")
 HEADERS = pathlib.Path(__file__).resolve().parent.parent
 

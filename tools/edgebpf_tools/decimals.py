@@ -1,9 +1,23 @@
-"""Decimal numbers in arrays of bytes, many at a time."""
+"""Decimal numbers: one as a word, and many at a time in arrays of bytes."""
 from edgebpf_tools import packages
+
+# Python's `int` refuses words of more than 4,300 digits. One of more digits than these, zeros in front apart, is a number above all limits.
+MOST_DIGITS, ABOVE_ALL = 30, 10**30
 
 # The digits of the greatest vertex.
 WIDTH = 7
 NONE, TEN, ZERO = 0, 10, ord("0")
+
+
+def is_number(word):
+    """Whether a word is decimal digits."""
+    return word.isascii() and word.isdecimal()
+
+
+def value(word):
+    """The number of a word of decimal digits, of which there may be many."""
+    digits = word.lstrip("0") or "0"
+    return int(digits) if len(digits) <= MOST_DIGITS else ABOVE_ALL
 
 
 def edits(sources, targets):

@@ -152,9 +152,9 @@ class EdgeFile:
         self.is_symmetric = self.is_symmetric or words[4] != "general"
 
     def _take_size(self, words):
-        if len(words) != 3 or not all(word.isdecimal() for word in words):
+        if len(words) != 3 or not all(map(decimals.is_number, words)):
             raise self.fault(self.line, "a Matrix Market file has a line of rows, columns and entries before its edges")
-        rows, columns, entries = map(int, words)
+        rows, columns, entries = map(decimals.value, words)
         if rows != columns and self.rectangle is None:
             raise self.fault(
                 self.line,
@@ -169,7 +169,7 @@ class EdgeFile:
         if len(words) > 2:
             self._take_more(self.line)
         for word in words[:2]:
-            if not (word.isascii() and word.isdecimal() and int(word) <= MOST_ID):
+            if not (decimals.is_number(word) and decimals.value(word) <= MOST_ID):
                 shown = word if len(word) <= 40 else word[:40] + ".."
                 raise self.fault(self.line, f"`{shown}` is no id: ids are decimal numbers from 0 to 2^63 - 1")
-        return int(words[0]), int(words[1])
+        return decimals.value(words[0]), decimals.value(words[1])

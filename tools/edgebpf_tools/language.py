@@ -2,8 +2,12 @@
 import re
 from dataclasses import dataclass, field
 
+from edgebpf_tools import decimals
+
 MOST_VERTICES, MOST_EDITS, MOST_BATCHES, MOST_EPOCHS, MOST_NAMES = 1_048_576, 65_536, 4_096, 1_024, 256
 MOST_BYTES, MOST_PROGRAM_LINES = 80_000, 65_536
+# The bytes of a record, of which the argument has all but the least.
+LEAST_LENGTH, MOST_LENGTH = 16, 256
 FEEDS = ("A", "B", "C", "D")
 NAME = re.compile(r"[A-Za-z0-9_-]{1,32}")
 HEX = re.compile(r"-|([0-9a-fA-F]{2})+")
@@ -58,11 +62,12 @@ def _edits_of(*vertices):
 
 def number(words, place, what, least, most):
     """The number that a word is, within its limits."""
-    if not (words[place].isascii() and words[place].isdecimal()):
+    if not decimals.is_number(words[place]):
         raise Complaint(f"{what} is a number in decimal digits", place)
-    if not least <= int(words[place]) <= most:
+    found = decimals.value(words[place])
+    if not least <= found <= most:
         raise Complaint(f"{what} is {least} to {most}", place)
-    return int(words[place])
+    return found
 
 
 def name(words, place):
@@ -144,7 +149,7 @@ class Language:
         name(words, 1)
         if len(words) == 4:
             digits(words, 3)
-        number(words, 2, "the length of a record", 16, 256)
+        number(words, 2, "the length of a record", LEAST_LENGTH, MOST_LENGTH)
         self._check_new_program(words)
 
     _check_code = _check_program
@@ -175,8 +180,8 @@ class Language:
             raise Complaint("no program has this name", 1)
         if words[2] not in self.pins:
             raise Complaint("no pin has this name", 2)
-        if length != self.programs[words[1]] - 16:
-            raise Complaint(f"this program's argument has {self.programs[words[1]] - 16} bytes", place)
+        if length != self.programs[words[1]] - LEAST_LENGTH:
+            raise Complaint(f"this program's argument has {self.programs[words[1]] - LEAST_LENGTH} bytes", place)
 
     def _check_list(self, words):
         self._check_argument(words, 3)
@@ -225,7 +230,7 @@ class Language:
         """Takes note of what was answered to lines that were sent."""
         words, said = lines[0].split(), reply.split()
         if words[0] == "graph":
-            self.vertices = int(words[1])
+            self.vertices = decimals.value(words[1])
             self.edits = edits_below(self.vertices)
         elif words[0] == "batch":
             self.batches += 1
@@ -234,7 +239,7 @@ class Language:
         elif words[0] == "pin":
             self.pins.add(words[1])
         elif words[0] in ("code", "program") and said[0] == "program":
-            self.programs[words[1]] = int(words[2])
+            self.programs[words[1]] = decimals.value(words[2])
         elif words[0] == "image" and said[0] == "program":
             # The length of a record stands in the image, in two bytes from the fourth on.
             self.programs[words[1]] = int.from_bytes(bytes.fromhex(words[2][8:12]), "little")

@@ -72,8 +72,8 @@ class Cutter:
     def _part_of_other(self, line, place):
         """For which part another line is; refuses one that makes no graph."""
         words = line.decode("utf-8", "replace").split()
-        if words and words[0] in ("+", "-") and len(words) == 3 and words[1].isascii() and words[1].isdecimal():
-            vertex = int(words[1])
+        if words and words[0] in ("+", "-") and len(words) == 3 and decimals.is_number(words[1]):
+            vertex = decimals.value(words[1])
             if vertex < MOST_VERTICES:
                 self.is_source[vertex] = True
             return part_of(vertex, self.count)

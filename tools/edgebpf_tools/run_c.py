@@ -4,7 +4,7 @@ import subprocess
 import sys
 from dataclasses import dataclass
 
-from edgebpf_tools import store
+from edgebpf_tools import decimals, store
 from edgebpf_tools.refusal import Refusal
 from edgebpf_tools.words import in_words
 
@@ -57,9 +57,9 @@ def argument_words(options):
     given = 0 if argument == "-" else len(argument) // 2
     if given != room:
         raise Refusal(f"--argument has {given} bytes; records of {options.length} bytes have an argument of {room}")
-    if not all(vertex.isascii() and vertex.isdecimal() for vertex in options.vertices):
+    if not all(map(decimals.is_number, options.vertices)):
         raise Refusal("--vertices are numbers in decimal digits")
-    numbers = [int(vertex) for vertex in options.vertices]
+    numbers = [decimals.value(vertex) for vertex in options.vertices]
     if any(one >= other for one, other in zip(numbers, numbers[1:])):
         raise Refusal("--vertices ascend, and none stands twice")
     return " ".join([options.reduce, argument, *map(str, numbers)])

@@ -8,7 +8,7 @@ import subprocess
 import sys
 import time
 
-from edgebpf_tools import ends, explain, owned
+from edgebpf_tools import decimals, ends, explain, owned
 from edgebpf_tools.journal import Journal
 from edgebpf_tools.language import FORMS, Complaint, Language
 from edgebpf_tools.live_store import LiveStore
@@ -212,8 +212,8 @@ class Shell:
         self.language.block = None
 
     def _top(self, words):
-        self._wants(words, len(words) == 2 and words[1].isdecimal())
-        self.top = int(words[1])
+        self._wants(words, len(words) == 2 and decimals.is_number(words[1]))
+        self.top = decimals.value(words[1])
 
     def _timer(self, words):
         self._wants(words, words[1:] in (["on"], ["off"]))

@@ -7,7 +7,8 @@ import sys
 import time
 from dataclasses import dataclass
 
-from edgebpf_tools import ends, owned, parts, store, workers
+from edgebpf_tools import decimals, ends, owned, parts, store, workers
+from edgebpf_tools.language import LEAST_LENGTH, MOST_LENGTH
 from edgebpf_tools.own_source import asks_of_others
 from edgebpf_tools.refusal import Refusal
 from edgebpf_tools.words import in_words
@@ -46,8 +47,10 @@ def code_line(path):
     """The name, the code and the line of a program."""
     lines = [line for line in pathlib.Path(path).read_text().splitlines() if line.strip()]
     words = lines[0].split() if len(lines) == 1 else []
-    if len(words) != 4 or words[0] != "code" or not (words[2].isascii() and words[2].isdecimal()):
+    if len(words) != 4 or words[0] != "code" or not decimals.is_number(words[2]):
         raise Refusal(f"{path} has to be one line: code NAME LENGTH HEX")
+    if not LEAST_LENGTH <= decimals.value(words[2]) <= MOST_LENGTH:
+        raise Refusal(f"{path}: a record has {LEAST_LENGTH} to {MOST_LENGTH} bytes")
     try:
         return words[1], bytes.fromhex(words[3].replace("-", "")), lines[0]
     except ValueError:
@@ -123,8 +126,7 @@ class Times:
 def served_results(options, folder):
     """The name of the program, its results over all parts, and the times."""
     name, code, line = code_line(options.program)
-    length = int(line.split()[2])
-    argument = options.argument or ("-" if length <= 16 else "00" * (length - 16))
+    argument = options.argument or "00" * (decimals.value(line.split()[2]) - LEAST_LENGTH) or "-"
     run = f"run {name} last {options.reduce} {argument}"
     test_program(name, line, run)
     is_whole = takes_whole(options, name, code)

@@ -114,6 +114,8 @@ class EdgebpfImport(unittest.TestCase):
         self.refused("0 1\n2 -3\n", "line 2: `-3` is no id")
         self.refused("0 1\n2\n3 4 5\n", "line 2: an edge is two ids")
         self.refused("0 1\n2 9223372036854775808\n", "line 2")
+        self.refused(f"0 1\n2 {'9' * 5000}\n", f"line 2: `{'9' * 40}..` is no id")
+        self.assertEqual(self.made(f"1 2\n0 2\n0 {'0' * 5000}1\n").stdout, FIRST)
         self.refused("# nothing\n", "has no edge")
         self.refused("", "has no edge")
         many = "".join(f"{vertex} {vertex + 1}\n" for vertex in range(0, 1_048_578, 2)) + "1048577 0\n"

@@ -52,6 +52,7 @@ class EdgebpfShell(unittest.TestCase):
             ("run t b sum -", "      ^ no pin has this name"),
             ("run t a sun -", "        ^^^ numbers are reduced"),
             ("home 4", "     ^ a vertex is 0 to 3"),
+            (f"home {'4' * 5000}", f"     {'^' * 5000} a vertex is 0 to 3"),
             ("list t b -", "       ^ no pin has this name"),
             ("list t a 00", "         ^^ this program's argument has 0 bytes"),
         ]
