@@ -1,6 +1,7 @@
 //! What the two calls promise together with the verifier's, and of a small text. Each function only makes public calls,
 //! and is proved from their contracts alone.
 ghost use Rattle.std.specs.Prelude.{◌≡◌, ◌∷◌, [], map, codes, IfOk};
+ghost use Rattle.verifier.specs.Walks.{longest, IsDeepest};
 ghost use Rattle.explanation.specs.SourceLines.{as_numbered};
 
 use crate::explaining::explain;
@@ -17,7 +18,9 @@ pub fn bound_and_frames_are_the_verifiers(
     accepted: &Verified,
 ) -> Result<(Judgement, u32, u8), AllocError>
     requires { accepted.now ≡ image }
-    ensures { IfOk result (λ told. told.0 ≡ Judgement.Accepted told.1 told.2) }
+    ensures same { IfOk result (λ told. told.0 ≡ Judgement.Accepted told.1 told.2) }
+    ensures bound { IfOk result (λ told. told.1 ≡ longest accepted.now) }
+    ensures frames { IfOk result (λ told. IsDeepest accepted.now 0 told.2) }
 {
     let told = explain(alloc, image, &[])?;
     Ok((told.judgement, accepted.bound(), accepted.frames()))

@@ -1,6 +1,6 @@
 //! What follows of a tree's calls, one after another. Each function only makes public calls, and is proved from their
 //! contracts alone.
-ghost use Rattle.std.specs.Prelude.{◌≡◌, ◌<◌, true, false, IfOk, OnOk};
+ghost use Rattle.std.specs.Prelude.{◌≡◌, ◌<◌, true, false, not, IfOk, OnOk};
 ghost use Rattle.word_sets.specs.Words.{has_word};
 
 use crate::tree::NeighbourTree;
@@ -22,20 +22,22 @@ pub fn inserted_is_contained(
     Ok((tree.contains(word), other.contains(word)))
 }
 
-/// Removing an inserted word that was not there before gives the words from before.
+/// Removing an inserted word that was not there before gives the words from before. Each of the two reports a change
+/// exactly if it was not there.
 pub fn removal_undoes_insertion(
     tree: &mut NeighbourTree,
     alloc: Global,
     word: u32,
-) -> Result<(), AllocError>
+) -> Result<(bool, bool), AllocError>
     requires { word < WORD_LIMIT }
-    ensures { OnOk result (tree.new ≡ tree.old) }
+    ensures undone { OnOk result (tree.new ≡ tree.old) }
+    ensures inserted { IfOk result (λ changes. changes.0 ≡ not (has_word word tree.old)) }
+    ensures removed { IfOk result (λ changes. changes.1 ≡ not (has_word word tree.old)) }
 {
     tree.len();
-    if tree.insert(alloc, word)? {
-        tree.remove(alloc, word)?;
-    }
-    Ok(())
+    let inserted = tree.insert(alloc, word)?;
+    let removed = inserted && tree.remove(alloc, word)?;
+    Ok((inserted, removed))
 }
 
 /// A new tree has the change, and the tree that it was made of does not.
