@@ -142,7 +142,7 @@ def run_nothing(chance, _):
 
 def paths(chance, _):
     path, *statuses = chance.choice([
-        ("/neighbours/300", 422), ("/neighbours/" + "9" * 5_000, 400), ("/neighbours/-1", 404), ("/neighbours/%D9%A1", 404),
+        ("/neighbours/300", 422), ("/neighbours/" + "9" * 5_000, 400), ("/neighbours/-1", 404), ("/neighbours/%d9%a1", 404),
         ("/neighbours/0/0", 404), ("/neighbours/", 404), ("/neighbours/1.5", 404), ("/versions/99", 404), ("/../../../etc/passwd", 404),
         ("/%2e%2e/server.py", 404), ("/..%2f..%2fserver.py", 404), ("//etc/passwd", 404), ("/page.html", 404), ("/server.py", 404),
         ("/" + "a" * 9_000, 400), ("*", 404),

@@ -27,8 +27,8 @@ pub fn two_claim_all(alloc: Global) -> Result<(u64, u64, u64), AllocError>
     Ok((first, second, count))
 }
 
-/// The second number of a claimant is not 0, its first.
-pub fn second_claim_is_not_the_first(alloc: Global) -> Result<u64, AllocError>
+/// The second number of a claimant is not 0.
+pub fn second_claim_is_not_zero(alloc: Global) -> Result<u64, AllocError>
     ensures { IfOk result (λ second. 1 ≤ second) }
 {
     let (counter, mut claimant) = Counter::new(alloc)?;
