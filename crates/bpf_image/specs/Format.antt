@@ -3,7 +3,8 @@ use Rattle.std.specs.Prelude.{◌≡◌, ◌≢◌, ℕ, ◌+◌, ◌*◌, ◌<�
 use Rattle.std.specs.List.{starts_with}
 use Rattle.std.specs.Int.{w16, to_le_bytes, from_le_bytes}
 use Rattle.bpf_isa.specs.declared.limits.TheConstants.{MOST_UNITS}
-use Rattle.bpf_image.specs.Program.{Program, units, IsRecordLength, IsTableLength}
+use Rattle.bpf_image.specs.declared.limits.TheConstants.{MOST_TABLE_LENGTH}
+use Rattle.bpf_image.specs.Program.{Program, units, IsRecordLength, IsCodeLength, IsTableLength}
 use Rattle.bpf_image.specs.declared.image_error.ImageError.{ImageError}
 use Rattle.bpf_image.specs.declared.image_error.ImageError.TheVariants.{Magic, Length, RecordLength, CodeLength, OutOfMemory, TableLength}
 
@@ -83,3 +84,12 @@ IsFault bytes CodeLength =
 IsFault bytes OutOfMemory = IsWhole bytes
 IsFault bytes TableLength =
     HasHeader bytes × IsRecordLength (record_field bytes) × IsUnitCount (units_field bytes) × ¬ HasTableLength bytes
+
+-- why there is no image of a record, code and a table of these lengths: the first that no image has. Without a table its length is 0
+abbrev pub IsWrongLength : (record_length code_length table_length : ℕ) → ImageError → Type 0
+IsWrongLength n m t RecordLength = ¬ IsRecordLength n
+IsWrongLength n m t CodeLength = IsRecordLength n × ¬ IsCodeLength m
+IsWrongLength n m t TableLength = IsRecordLength n × IsCodeLength m × (MOST_TABLE_LENGTH < t)
+IsWrongLength n m t Magic = ⊥
+IsWrongLength n m t Length = ⊥
+IsWrongLength n m t OutOfMemory = ⊥

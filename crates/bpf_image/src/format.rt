@@ -3,9 +3,8 @@ ghost use Rattle.std.specs.Prelude.{◌≡◌, ◌≤◌, length};
 ghost use Rattle.bpf_image.specs.Format.{has_table, front_length, units_field, table_field};
 ghost use Rattle.bpf_image.specs.Reading.{header_of};
 
+use crate::image::Image;
 use crate::image_error::ImageError;
-use crate::limits::{LEAST_RECORD_LENGTH, MOST_RECORD_LENGTH, MOST_TABLE_LENGTH};
-use bpf_isa::MOST_UNITS;
 use byteorder::{ByteOrder, LittleEndian};
 
 /// The bytes that an image without a table begins with.
@@ -65,18 +64,15 @@ pub(crate) fn read_header(bytes: &[u8]) -> Result<u16, ImageError>
         return Err(ImageError::Length);
     }
     let record_length = LittleEndian::read_u16(&bytes[4..6]);
-    if record_length < LEAST_RECORD_LENGTH || record_length > MOST_RECORD_LENGTH {
-        return Err(ImageError::RecordLength);
+    let code_length = 8 * unit_count(bytes);
+    let table_length = table_length(bytes);
+    if let Some(error) = Image::wrong_length(record_length, code_length, table_length) {
+        return Err(error);
     }
-    let units = unit_count(bytes);
-    if units == 0 || units > MOST_UNITS {
-        return Err(ImageError::CodeLength);
-    }
-    let table = table_length(bytes);
-    if has_table && (table == 0 || table > MOST_TABLE_LENGTH) {
+    if has_table && table_length == 0 {
         return Err(ImageError::TableLength);
     }
-    if bytes.len() != front + 8 * units + table {
+    if bytes.len() != front + code_length + table_length {
         return Err(ImageError::Length);
     }
     Ok(record_length)

@@ -1,7 +1,8 @@
 //! A program's code with its record length and its table.
-ghost use Rattle.std.specs.Prelude.{◌≡◌, ◌≢◌, ◌≤◌, ◌↔◌, length, drop, IfOk, IfErr, IsErrAnd, IsErrOf, IsOk};
+ghost use Rattle.std.specs.Prelude.{◌≡◌, ◌≢◌, ◌≤◌, ◌↔◌, length, drop, IfOk, IfErr, IsErrAnd, IsErrOf, IsOk, MatchOption};
 ghost use Rattle.bpf_image.specs.Program.{Program, without_table, table_bytes, lengths_of, IsRecordLength, IsCodeLength, IsTableLength, IsImage};
-ghost use Rattle.bpf_image.specs.Format.{image_bytes, record_field, IsWhole, IsFault};
+ghost use Rattle.bpf_image.specs.Format.{image_bytes, record_field, IsWhole, IsFault, IsWrongLength};
+ghost use Rattle.bpf_image.specs.declared.limits.TheConstants.{MOST_TABLE_LENGTH};
 
 use crate::format::{MAGIC, TABLE_MAGIC, code_start, read_header, unit_count};
 use crate::image_error::ImageError;
@@ -73,6 +74,29 @@ impl Model for Image {
 }
 
 impl Image {
+    /// The first of these lengths that no image has, as the error that names it. Without a table `table_length` is 0.
+    pub fn wrong_length(
+        record_length: u16,
+        code_length: usize,
+        table_length: usize,
+    ) -> Option<ImageError>
+        ensures { MatchOption result
+            (IsRecordLength record_length × IsCodeLength code_length × (table_length ≤ MOST_TABLE_LENGTH))
+            (IsWrongLength record_length code_length table_length) }
+    {
+        if record_length < LEAST_RECORD_LENGTH || record_length > MOST_RECORD_LENGTH {
+            return Some(ImageError::RecordLength);
+        }
+        let units = code_length / 8;
+        if code_length % 8 != 0 || units == 0 || units > MOST_UNITS {
+            return Some(ImageError::CodeLength);
+        }
+        if table_length > MOST_TABLE_LENGTH {
+            return Some(ImageError::TableLength);
+        }
+        None
+    }
+
     /// An image of this code without a table, for records of `record_length` bytes. On an error the
     /// code is handed back.
     pub fn new(record_length: u16, code: Vec<u8>) -> Result<Image, (Vec<u8>, ImageError)>
@@ -88,18 +112,14 @@ impl Image {
         // On an error the code comes back.
         ensures kept { IfErr result (λ e. e.0 ≡ code) }
     {
-        if record_length < LEAST_RECORD_LENGTH || record_length > MOST_RECORD_LENGTH {
-            return Err((code, ImageError::RecordLength));
+        match Image::wrong_length(record_length, code.len(), 0) {
+            Some(error) => Err((code, error)),
+            None => Ok(Image {
+                record_length,
+                code,
+                table: None,
+            }),
         }
-        let units = code.len() / 8;
-        if code.len() % 8 != 0 || units == 0 || units > MOST_UNITS {
-            return Err((code, ImageError::CodeLength));
-        }
-        Ok(Image {
-            record_length,
-            code,
-            table: None,
-        })
     }
 
     /// An image of this code and this table, for records of `record_length` bytes. On an error both
@@ -125,21 +145,15 @@ impl Image {
         // On an error code and table come back.
         ensures kept { IfErr result (λ e. (e.0 ≡ code) × (e.1 ≡ table)) }
     {
-        if record_length < LEAST_RECORD_LENGTH || record_length > MOST_RECORD_LENGTH {
-            return Err((code, table, ImageError::RecordLength));
+        match Image::wrong_length(record_length, code.len(), table.len()) {
+            Some(error) => Err((code, table, error)),
+            None if table.is_empty() => Err((code, table, ImageError::TableLength)),
+            None => Ok(Image {
+                record_length,
+                code,
+                table: Some(table),
+            }),
         }
-        let units = code.len() / 8;
-        if code.len() % 8 != 0 || units == 0 || units > MOST_UNITS {
-            return Err((code, table, ImageError::CodeLength));
-        }
-        if table.is_empty() || table.len() > MOST_TABLE_LENGTH {
-            return Err((code, table, ImageError::TableLength));
-        }
-        Ok(Image {
-            record_length,
-            code,
-            table: Some(table),
-        })
     }
 
     /// How many bytes the record has that each run is lent, 16 to 256.
