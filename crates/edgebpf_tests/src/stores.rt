@@ -4,6 +4,7 @@ use crate::shop::Shop;
 use std::alloc::{AllocError, Global};
 use std::sync::Wait;
 use std::test::Fail;
+use std::thread;
 use std::thread::Threads;
 use store::{Batch, Edit, PinError, Reader, SubmitCause};
 use store_model::READERS;
@@ -140,6 +141,60 @@ fn a_reader_that_is_gone_leaves_its_place(rt: HostRuntime) -> Result<(), Fail> {
     shop.close(&rt);
     published?;
     assert_eq!(rt; [at_first, later], [Ok(15), Ok(15)]);
+    Ok(())
+}
+
+// How many threads make readers and drop them.
+const MAKERS: usize = 4;
+
+// How many each of them makes.
+const MADE: u32 = 2_000;
+
+// As many readers as threads, or those for which there was a place.
+fn makers(alloc: Global, shop: &mut Shop) -> Result<Vec<Reader>, AllocError> {
+    let mut makers = Vec::new(alloc);
+    for _ in 0..MAKERS {
+        if let Some(maker) = another(shop) {
+            makers.push(maker)?;
+        }
+    }
+    Ok(makers)
+}
+
+// Makes readers and drops them. Another thread may be in the way of the first, and none of the second.
+fn make_and_drop(maker: &mut Reader) {
+    for _ in 0..MADE {
+        drop(maker.another());
+    }
+}
+
+// How many readers made others, and how many can be made once all these are gone.
+fn places_after_makers<R: Threads + Wait + Sync>(
+    rt: &R,
+    alloc: Global,
+    shop: &mut Shop,
+) -> Result<(usize, usize), AllocError> {
+    let mut makers = makers(alloc, shop)?;
+    thread::for_each_mut(
+        rt,
+        &mut makers,
+        MAKERS,
+        &|_, maker: &mut Reader| {
+            make_and_drop(maker);
+        },
+    );
+    let count = makers.len();
+    drop(makers);
+    Ok((count, others(alloc, shop)?))
+}
+
+#[test]
+fn readers_dropped_at_the_same_time_leave_their_places(rt: HostRuntime) -> Result<(), Fail> {
+    let alloc = rt.alloc();
+    let mut shop = Shop::open(&rt, alloc, 4)?;
+    let places = places_after_makers(&rt, alloc, &mut shop);
+    shop.close(&rt);
+    assert_eq!(rt; places, Ok((MAKERS, 15)));
     Ok(())
 }
 

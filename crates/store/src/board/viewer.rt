@@ -1,6 +1,9 @@
 //! A reader's side: pins, lessons, and readers beside it.
-ghost use Rattle.std.specs.Prelude.{◌≡◌, ◌⊎◌, IfOk, IfErr};
+ghost use Rattle.std.specs.Prelude.{◌≡◌, ◌⊎◌, false, IfOk, IfErr};
+ghost use Rattle.left_right.specs.Sides.{view as board_view_of};
+ghost use Rattle.crossbeam_queue.specs.Passes.{view as member_of, IsPassOf};
 ghost use Rattle.history.specs.Moment.{OneStore, Begins};
+ghost use Rattle.store.specs.BoardViews.{Knows};
 
 use crate::board::errors::{NoPlace, PinError};
 use crate::board::pool::{Back, Lend, Membership, Pool, Twin};
@@ -9,6 +12,11 @@ use crate::recorded::Recorded;
 use history::{Known, compare};
 use std::marker::Model;
 use std::sync::Arc;
+use std::thread;
+
+/// How often a reader that is dropped tries to give its place back. Others may be in its way for moments, unless the system
+/// keeps one of them from running just then.
+const MOST_TRIES: u32 = 1_000_000;
 
 /// A reader's side of the board. Contracts see it as the moment that it saw last.
 pub(crate) struct Viewer {
@@ -117,6 +125,22 @@ impl Viewer {
     }
 }
 
+// Gives a reader back. The pool has room for all, so a try fails only where another thread is in the way.
+fn give_back(pool: &Pool, membership: &mut Membership, reader: Inner)
+    requires pass { IsPassOf pool.now membership.old }
+    requires shared { (member_of membership.old).sole ≡ false }
+    requires knows { Knows (member_of membership.old).of (board_view_of reader.place) }
+{
+    let mut reader = reader;
+    'tries: for _ in 0..MOST_TRIES {
+        match pool.try_push_as::<Back>(membership, reader) {
+            Ok(()) => return,
+            Err(back) => reader = back,
+        }
+        thread::yield_now();
+    }
+}
+
 impl Drop for Viewer {
     // Its place is free again.
     fn drop(self) {
@@ -128,8 +152,8 @@ impl Drop for Viewer {
             pool,
             mut membership,
         } = self;
-        if let Some(inner) = inner {
-            let _ = pool.try_push_as::<Back>(&mut membership, inner);
+        if let Some(reader) = inner {
+            give_back(&pool, &mut membership, reader);
         }
     }
 }

@@ -2,12 +2,12 @@ use Rattle.left_right.specs.Sides.{view}
 use Rattle.crossbeam_queue.specs.Passes.{view as member_of}
 use Rattle.history.specs.Moment.{moment_of}
 use Rattle.store.specs.BoardViews.{Knows}
-use Rattle.store.proofs.Pooling.{pushes, knows_as}
+use Rattle.store.proofs.Pooling.{knows_as}
 use Rattle.store.proofs.board.viewer.Viewer.drop.Goals as goal
 
-pub try_push_as-requires-clause-rule : goal.try_push_as-requires-clause-rule
-try_push_as-requires-clause-rule c =
+pub give_back-requires-clause-knows : goal.give_back-requires-clause-knows
+give_back-requires-clause-knows c =
     let member = c.self.invariant.3 in
     let mine = moment_of c.self.inside.vertex_count c.self.inside.known in
-    let knows : Knows mine (view c.in-Some.inner.place) = rw c.in-Some.is at c.self.invariant.1 in
-    pushes (λ r. view r.place) _ _ _ _ member.0 (knows_as mine (member_of c.self.inside.membership).of (view c.in-Some.inner.place) member.1 knows)
+    let knows : Knows mine (view c.in-Some.reader.place) = rw c.in-Some.is at c.self.invariant.1 in
+    knows_as mine (member_of c.self.inside.membership).of (view c.in-Some.reader.place) member.1 knows
