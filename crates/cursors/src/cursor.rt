@@ -61,7 +61,7 @@ impl<'a> Cursor<'a> {
 
     /// The neighbours of a vertex from a place on, both by 64-bit numbers, of which none is cut. A vertex
     /// outside has none.
-    pub(crate) fn from_place(shard: Option<&'a Shard>, vertex: u64, first: u64) -> Cursor<'a>
+    pub fn from_place(shard: Option<&'a Shard>, vertex: u64, first: u64) -> Cursor<'a>
         ensures left { (g : Graph) → IsShardOf g vertex shard.entry → result ≡ drop first (neighbours g vertex) }
         ensures small { length result ≤ MOST_VERTICES }
     {

@@ -8,20 +8,13 @@ use cursors::Cursor;
 use migration::{Shard, shard_of};
 use std::sync::Arc;
 
-/// The next words of a vertex's neighbours from a place on, as they lie in one slice: whole slices before
-/// the place are passed over. There are none past the end.
+/// The next words of a vertex's neighbours from a place on, as they lie in one slice. There are none past the end.
 pub(crate) fn lent_from(shards: &[Arc<Shard>], vertex: u32, place: usize) -> Option<&[u32]>
     ensures { (g : Graph) → IsTable g (parts_of shards.now)
         → MatchOption result (drop place (neighbours g vertex) ≡ [])
         (λ words. (0 < length words.now) × IsBeginning words.now (drop place (neighbours g vertex))) }
 {
-    let mut cursor = Cursor::over(shard_of(shards, u64::from(vertex)), vertex);
-    let mut before = place;
-    while let Some(slice) = cursor.next_slice() {
-        if before < slice.len() {
-            return Some(&slice[before..]);
-        }
-        before -= slice.len();
-    }
-    None
+    let vertex = u64::from(vertex);
+    let mut cursor = Cursor::from_place(shard_of(shards, vertex), vertex, place as u64);
+    cursor.next_slice()
 }
