@@ -125,7 +125,7 @@ class CWords:
             lines.append(f"{number:5} | {self.source(path, number)}")
             first = instructions[0]
             units = f"{len(instructions)} instruction{'s' if len(instructions) > 1 else ''} from unit {first.pc}"
-            known = "no run comes here" if not first.is_reached else self.state(first.known, first.pc)
+            known = first.unreached or self.state(first.known, first.pc)
             lines.append(f"      |     [{units}] {known}")
         end = read(told).end
         return "\n".join(lines + (end[:1] if end[0].startswith("refused") else self.accepted(told))) + "\n"

@@ -46,6 +46,10 @@ show(document.querySelector("li.refused") || document.querySelector("ol li"));
 """
 
 
+# What stands in place of a state.
+UNREACHED = ("no run comes here", "this call does not come here")
+
+
 @dataclass
 class Instruction:
     """An instruction of the listing. What is known before it is None where nothing is told of it."""
@@ -54,7 +58,8 @@ class Instruction:
     line: int | None
     text: str
     known: list[tuple[str, str]] | None = None
-    is_reached: bool = True
+    # Why nothing is known, where no run comes, or none by the call that is listed.
+    unreached: str | None = None
     # Of a function's first instruction the call that is told.
     called_at: int | None = None
 
@@ -98,8 +103,8 @@ def read(text):
             told.end = lines[number:]
             break
         if line.startswith("    "):
-            if line.strip() == "no run comes here":
-                told.listing[-1].is_reached = False
+            if line.strip() in UNREACHED:
+                told.listing[-1].unreached = line.strip()
             else:
                 told.listing[-1].known = known_things(line)
         elif line.startswith("called at "):
@@ -182,8 +187,8 @@ def known_text(instruction):
     head = f"<h2>Before {instruction.pc}: <code>{html.escape(instruction.text)}</code></h2>"
     if instruction.called_at is not None:
         head += f'<p class="note">A function begins here, called at {instruction.called_at}.</p>'
-    if not instruction.is_reached:
-        return head + '<p class="note">No run comes here.</p>'
+    if instruction.unreached:
+        return head + f'<p class="note">{instruction.unreached.capitalize()}.</p>'
     if instruction.known is None:
         return head + '<p class="note">Nothing is told of this place.</p>'
     things = "".join(f"<dt>{html.escape(name)}</dt><dd>{html.escape(value)}</dd>" for name, value in instruction.known)
@@ -191,7 +196,7 @@ def known_text(instruction):
 
 
 def row_text(instruction, refused_at):
-    kinds = [name for name, holds in (("refused", instruction.pc == refused_at), ("unreached", not instruction.is_reached)) if holds]
+    kinds = [name for name, holds in (("refused", instruction.pc == refused_at), ("unreached", instruction.unreached)) if holds]
     marks = f' class="{" ".join(kinds)}"' if kinds else ""
     line = f'<span class="line">line {instruction.line}</span>' if instruction.line else ""
     return (

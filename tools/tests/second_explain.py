@@ -82,7 +82,8 @@ def walk(code, length, table):
                 print(f"called at {caller}")
         print(f"{pc}: {instruction}")
         if states is not None and pc <= end:
-            print("    " + (state_text(states[pc]) if pc in states else "no run comes here"))
+            nowhere = "this call does not come here" if caller is not None else "no run comes here"
+            print("    " + (state_text(states[pc]) if pc in states else nowhere))
     return (instructions[refused.pc][0], telling.open[-1][2][refused.pc]) if refused else (None, None)
 
 

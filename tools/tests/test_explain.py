@@ -102,7 +102,7 @@ class Explain(unittest.TestCase):
         known = [("r1", "record+0"), ("r6", "7"), ("r10", "stack[0]+0"), ("bytes[0]", "-8 to -5"), ("byte[0]", "-1"), ("slot[0] -16", "stack[0]-8")]
         self.assertEqual(told.listing[1].known, known)
         self.assertEqual([one.called_at for one in told.listing], [None, None, None, 2])
-        self.assertFalse(told.listing[2].is_reached)
+        self.assertEqual(told.listing[2].unreached, "no run comes here")
         self.assertIsNone(told.listing[3].known)
         self.assertEqual(len(told.end), 3)
 

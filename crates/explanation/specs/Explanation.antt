@@ -34,7 +34,7 @@ use Rattle.explanation.specs.declared.judgement.Judgement.TheVariants.{Accepted,
 use Rattle.explanation.specs.declared.labels.Label.TheVariants as labels
 use Rattle.explanation.specs.Labels.{label_text}
 use Rattle.explanation.specs.Starts.{starts_below}
-use Rattle.explanation.specs.Judging.{is_told, is_of_the_whole}
+use Rattle.explanation.specs.Judging.{lists_states, is_of_the_whole}
 use Rattle.explanation.specs.Advice.{advice_for}
 use Rattle.explanation.specs.Pieces.{newline, pieces_to}
 use Rattle.explanation.specs.Values.{state_text, frame_text, register_line}
@@ -64,9 +64,10 @@ instruction_line p source pc ordinal =
 
 -- ---- what is known before it
 
-abbrev pub state_line : Option AbstractState → List ℕ
-state_line None = codes "    no run comes here\n"
-state_line (Some s) = state_text s
+-- nothing is known where no run comes, or, in a function, none by the call that is listed; another one may come there
+abbrev pub state_line : (entry : ℕ) → Option AbstractState → List ℕ
+state_line entry None = if entry == 0 then codes "    no run comes here\n" else codes "    this call does not come here\n"
+state_line entry (Some s) = state_text s
 
 -- a passage comes to a pc
 abbrev pub comes_to : KnownPassage → ℕ → Bool
@@ -74,14 +75,14 @@ comes_to t pc = nat_le t.entry pc && nat_le pc t.last
 
 abbrev pub passage_line : (pc : ℕ) → Option KnownPassage → List ℕ
 passage_line pc None = []
-passage_line pc (Some t) = if comes_to t pc then state_line (state_at t.states.items pc) else []
+passage_line pc (Some t) = if comes_to t pc then state_line t.entry (state_at t.states.items pc) else []
 
 -- what is known in each passage that comes to a pc
 abbrev pub known_piece : List KnownPassage → (pc k : ℕ) → List ℕ
-known_piece told pc k = passage_line pc (slice_get told k)
+known_piece passages pc k = passage_line pc (slice_get passages k)
 
 abbrev pub known_lines : List KnownPassage → ℕ → List ℕ
-known_lines told pc = pieces_to (known_piece told pc) (length told)
+known_lines passages pc = pieces_to (known_piece passages pc) (length passages)
 
 -- where a function begins, the call: it stands at the last pc of the passage before
 abbrev pub call_line : (pc : ℕ) → (before after : Option KnownPassage) → List ℕ
@@ -90,18 +91,18 @@ call_line pc (Some t) None = []
 call_line pc None after = []
 
 abbrev pub call_piece : List KnownPassage → (pc k : ℕ) → List ℕ
-call_piece told pc k = call_line pc (slice_get told k) (slice_get told (k + 1))
+call_piece passages pc k = call_line pc (slice_get passages k) (slice_get passages (k + 1))
 
 abbrev pub call_lines : List KnownPassage → ℕ → List ℕ
-call_lines told pc = pieces_to (call_piece told pc) (length told)
+call_lines passages pc = pieces_to (call_piece passages pc) (length passages)
 
-abbrev pub if_told : Bool → List ℕ → List ℕ
-if_told is_told text = if is_told then text else []
+abbrev pub if_listed : Bool → List ℕ → List ℕ
+if_listed is_listed text = if is_listed then text else []
 
 -- what is listed at a pc: nothing at the second unit of a wide instruction
 abbrev pub pc_text : Program → List SourceLine → Judgement → List KnownPassage → ℕ → List ℕ
-pc_text p source judgement told pc =
-    if is_start p pc then if_told (is_told judgement) (call_lines told pc) ++ (instruction_line p source pc (starts_below p pc) ++ if_told (is_told judgement) (known_lines told pc))
+pc_text p source judgement passages pc =
+    if is_start p pc then if_listed (lists_states judgement) (call_lines passages pc) ++ (instruction_line p source pc (starts_below p pc) ++ if_listed (lists_states judgement) (known_lines passages pc))
     else []
 
 -- ---- what is said of the program
@@ -177,18 +178,18 @@ end_state None = None
 end_state (Some t) = state_at t.states.items t.last
 
 abbrev pub broken_state : List KnownPassage → Option AbstractState
-broken_state told = end_state (slice_get told (length told - 1))
+broken_state passages = end_state (slice_get passages (length passages - 1))
 
 abbrev pub refused_text : Program → List SourceLine → List KnownPassage → Refusal → List ℕ
-refused_text p source told r =
-    refused_line p source r ++ (rule_line r.cause ++ (broken_lines r.cause (decoded_at p r.pc) (broken_state told) ++ advice_line (advice_for r.cause (decoded_at p r.pc) (broken_state told))))
+refused_text p source passages r =
+    refused_line p source r ++ (rule_line r.cause ++ (broken_lines r.cause (decoded_at p r.pc) (broken_state passages) ++ advice_line (advice_for r.cause (decoded_at p r.pc) (broken_state passages))))
 
 abbrev pub accepted_text : (bound frames : ℕ) → List ℕ
 accepted_text bound frames = label_text labels.Accepted ++ decimal bound ++ label_text labels.Frames ++ decimal frames ++ newline
 
 abbrev pub end_text : Program → List SourceLine → List KnownPassage → Judgement → List ℕ
-end_text p source told (Accepted bound frames) = accepted_text bound frames
-end_text p source told (Refused r) = refused_text p source told r
+end_text p source passages (Accepted bound frames) = accepted_text bound frames
+end_text p source passages (Refused r) = refused_text p source passages r
 
 -- ---- all of it
 
@@ -196,8 +197,8 @@ abbrev pub head_text : Program → List ℕ
 head_text p = label_text labels.Program ++ decimal (units p) ++ label_text labels.Records ++ decimal p.record_length ++ label_text labels.Bytes
 
 abbrev pub explanation_text : Program → List SourceLine → List KnownPassage → Judgement → List ℕ
-explanation_text p source told judgement =
-    head_text p ++ (pieces_to (pc_text p source judgement told) (units p) ++ end_text p source told judgement)
+explanation_text p source passages judgement =
+    head_text p ++ (pieces_to (pc_text p source judgement passages) (units p) ++ end_text p source passages judgement)
 
 -- the verdict that a judgement stands for
 abbrev pub verdict_of : Judgement → Verdict
@@ -206,7 +207,7 @@ verdict_of (Refused r) = verdicts.Refused r
 
 -- a text and a judgement explain a program: the judgement is its verdict, and the text says it with what is known at the pcs
 pub record Explains (p : Program) (source : List SourceLine) (text : List ℕ) (judgement : Judgement) : Type 0 where
-  pub told : List KnownPassage
-  pub is_known : IsKnown p told
+  pub passages : List KnownPassage
+  pub is_known : IsKnown p passages
   pub is_verdict : verdict p ≡ verdict_of judgement
-  pub is_told_so : text ≡ explanation_text p source told judgement
+  pub is_text : text ≡ explanation_text p source passages judgement

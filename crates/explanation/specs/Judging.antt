@@ -27,9 +27,9 @@ judges_values causes.ReadOnly = true
 judges_values causes.TooManyPairs = false
 
 -- what is known is listed for an accepted program, and for one that breaks a rule of values
-abbrev pub is_told : Judgement → Bool
-is_told (Accepted bound frames) = true
-is_told (Refused r) = judges_values r.cause
+abbrev pub lists_states : Judgement → Bool
+lists_states (Accepted bound frames) = true
+lists_states (Refused r) = judges_values r.cause
 
 -- a rule of the program as a whole
 abbrev pub is_of_the_whole : Cause → Bool

@@ -293,15 +293,15 @@ fn put_refusal(
     text: &mut String,
     image: &Image,
     source: &[SourceLine<'_>],
-    told: &[KnownPassage],
+    passages: &[KnownPassage],
     refusal: Refusal,
 ) -> Result<(), AllocError>
     requires { refusal.pc < units image.now }
     ensures { OnOk result (string_bytes text.new
-        ≡ string_bytes text.old ++ refused_text image.now source.now told.now refusal) }
+        ≡ string_bytes text.old ++ refused_text image.now source.now passages.now refusal) }
 {
     let instruction = decoded(image, refusal.pc);
-    let state = known_at_end(told);
+    let state = known_at_end(passages);
     put_refused_place(text, image, source, refusal)?;
     put_rule(text, refusal.cause)?;
     put_broken(text, refusal.cause, instruction, state)?;
@@ -323,15 +323,15 @@ pub(crate) fn put_end(
     text: &mut String,
     image: &Image,
     source: &[SourceLine<'_>],
-    told: &[KnownPassage],
+    passages: &[KnownPassage],
     judgement: Judgement,
 ) -> Result<(), AllocError>
     requires { StandsInside (units image.now) judgement }
     ensures { OnOk result (string_bytes text.new
-        ≡ string_bytes text.old ++ end_text image.now source.now told.now judgement) }
+        ≡ string_bytes text.old ++ end_text image.now source.now passages.now judgement) }
 {
     match judgement {
         Judgement::Accepted { bound, frames } => put_accepted(text, bound, frames),
-        Judgement::Refused(refusal) => put_refusal(text, image, source, told, refusal),
+        Judgement::Refused(refusal) => put_refusal(text, image, source, passages, refusal),
     }
 }

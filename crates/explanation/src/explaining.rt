@@ -1,7 +1,6 @@
 //! The whole text.
-ghost use Rattle.std.specs.Prelude.{◌≡◌, ◌≢◌, ◌++◌, IfOk, OnOk, string_bytes};
+ghost use Rattle.std.specs.Prelude.{◌≡◌, ◌++◌, IfOk, OnOk, string_bytes};
 ghost use Rattle.bpf_image.specs.Program.{units};
-ghost use Rattle.verifier.specs.Verdict.{no_memory};
 ghost use Rattle.explanation.specs.Judging.{StandsInside};
 ghost use Rattle.explanation.specs.Explanation.{head_text, explanation_text, Explains};
 
@@ -12,19 +11,8 @@ use crate::listing::put_listing;
 use crate::source::SourceLine;
 use crate::values::{put, put_field};
 use bpf_image::Image;
-use bpf_model::Cause;
 use std::alloc::{AllocError, Global};
-use verifier::{KnownPassage, Refusal, known_states, verify};
-
-/// A refusal for lack of memory is an error here. Any other is none: it says something of the program.
-fn rule_or_memory(refusal: Refusal) -> Result<(), AllocError>
-    ensures { IfOk result (λ _. refusal ≢ no_memory) }
-{
-    match refusal.cause {
-        Cause::OutOfMemory => Err(AllocError),
-        _ => Ok(()),
-    }
-}
+use verifier::{KnownPassage, known_states, verify};
 
 /// How many units a program has.
 fn units_of(image: &Image) -> u64
@@ -51,17 +39,17 @@ fn write_all(
     alloc: Global,
     image: &Image,
     source: &[SourceLine<'_>],
-    told: &[KnownPassage],
+    passages: &[KnownPassage],
     judgement: Judgement,
 ) -> Result<String, AllocError>
     requires { StandsInside (units image.now) judgement }
     ensures { IfOk result (λ text. string_bytes text
-        ≡ explanation_text image.now source.now told.now judgement) }
+        ≡ explanation_text image.now source.now passages.now judgement) }
 {
     let mut text = String::new(alloc);
     put_head(&mut text, image)?;
-    put_listing(&mut text, image, source, judgement, told)?;
-    put_end(&mut text, image, source, told, judgement)?;
+    put_listing(&mut text, image, source, judgement, passages)?;
+    put_end(&mut text, image, source, passages, judgement)?;
     Ok(text)
 }
 
@@ -82,24 +70,24 @@ pub fn explain(
     image: Image,
     source: &[SourceLine<'_>],
 ) -> Result<Explanation, AllocError>
-    ensures { IfOk result (λ told. Explains image source.now (string_bytes told.text) told.judgement) }
+    ensures { IfOk result (λ explained. Explains image source.now (string_bytes explained.text) explained.judgement) }
 {
     // An image has code, so that a unit which is refused stands in it.
     let _code = image.code();
-    let told = known_states(alloc, &image)?;
+    let passages = known_states(alloc, &image)?;
     match verify(alloc, image) {
         Ok(verified) => {
             let judgement = Judgement::Accepted {
                 bound: verified.bound(),
                 frames: verified.frames(),
             };
-            let text = write_all(alloc, verified.image(), source, &told, judgement)?;
+            let text = write_all(alloc, verified.image(), source, &passages, judgement)?;
             Ok(Explanation { text, judgement })
         }
         Err((image, refusal)) => {
-            rule_or_memory(refusal)?;
+            refusal.rule_or_memory()?;
             let judgement = Judgement::Refused(refusal);
-            let text = write_all(alloc, &image, source, &told, judgement)?;
+            let text = write_all(alloc, &image, source, &passages, judgement)?;
             Ok(Explanation { text, judgement })
         }
     }

@@ -1,6 +1,6 @@
 //! What the verifier answers.
 ghost use Rattle.std.specs.Prelude.{◌≡◌};
-ghost use Rattle.explanation.specs.Judging.{judges_values as judges_values_of, is_of_the_whole as is_of_the_whole_of, is_told};
+ghost use Rattle.explanation.specs.Judging.{judges_values as judges_values_of, is_of_the_whole as is_of_the_whole_of, lists_states as lists_states_of};
 
 use bpf_model::Cause;
 use verifier::Refusal;
@@ -49,8 +49,8 @@ pub(crate) fn is_of_the_whole(cause: Cause) -> bool
 
 impl Judgement {
     /// Whether the state at each pc is listed.
-    pub(crate) fn tells(self) -> bool
-        ensures { result ≡ is_told self }
+    pub(crate) fn lists_states(self) -> bool
+        ensures { result ≡ lists_states_of self }
     {
         match self {
             Judgement::Accepted { .. } => true,

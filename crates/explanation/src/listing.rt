@@ -39,29 +39,34 @@ fn known_at(states: &[Option<AbstractState>], pc: usize) -> Option<&AbstractStat
 }
 
 /// The passage of a number, if there is one.
-fn passage_at(told: &[KnownPassage], k: usize) -> Option<&KnownPassage>
-    ensures { option_map (λ t. t.now) result ≡ slice_get told.now k }
+fn passage_at(passages: &[KnownPassage], k: usize) -> Option<&KnownPassage>
+    ensures { option_map (λ t. t.now) result ≡ slice_get passages.now k }
 {
-    told.get(k)
+    passages.get(k)
 }
 
 /// What is known where the last passage ends.
-pub(crate) fn known_at_end(told: &[KnownPassage]) -> Option<&AbstractState>
-    ensures { option_map (λ s. s.now) result ≡ broken_state told.now }
+pub(crate) fn known_at_end(passages: &[KnownPassage]) -> Option<&AbstractState>
+    ensures { option_map (λ s. s.now) result ≡ broken_state passages.now }
 {
-    match passage_at(told, told.len().saturating_sub(1)) {
+    match passage_at(passages, passages.len().saturating_sub(1)) {
         None => None,
         Some(passage) => known_at(&passage.states, passage.last),
     }
 }
 
-/// Writes what is known somewhere, on a line of its own.
-fn put_known_line(text: &mut String, state: Option<&AbstractState>) -> Result<(), AllocError>
+/// Writes what is known at a pc of a passage, on a line of its own.
+fn put_known_line(
+    text: &mut String,
+    begins: usize,
+    state: Option<&AbstractState>,
+) -> Result<(), AllocError>
     ensures { OnOk result (string_bytes text.new
-        ≡ string_bytes text.old ++ state_line (option_map (λ s. s.now) state.entry)) }
+        ≡ string_bytes text.old ++ state_line begins (option_map (λ s. s.now) state.entry)) }
 {
     match state {
-        None => put(text, "    no run comes here\n"),
+        None if begins == 0 => put(text, "    no run comes here\n"),
+        None => put(text, "    this call does not come here\n"),
         Some(state) => put_state(text, state),
     }
 }
@@ -77,7 +82,7 @@ fn put_passage_line(
 {
     match passage {
         Some(passage) if passage.entry <= pc && pc <= passage.last => {
-            put_known_line(text, known_at(&passage.states, pc))
+            put_known_line(text, passage.entry, known_at(&passage.states, pc))
         }
         _ => Ok(()),
     }
@@ -85,11 +90,15 @@ fn put_passage_line(
 
 /// Writes what is known at a pc in each passage that comes there.
 #[tactic(auto, using(crate::proofs::Written::pieces_none, crate::proofs::Written::written_more))]
-fn put_known_lines(text: &mut String, told: &[KnownPassage], pc: usize) -> Result<(), AllocError>
-    ensures { OnOk result (string_bytes text.new ≡ string_bytes text.old ++ known_lines told.now pc) }
+fn put_known_lines(
+    text: &mut String,
+    passages: &[KnownPassage],
+    pc: usize,
+) -> Result<(), AllocError>
+    ensures { OnOk result (string_bytes text.new ≡ string_bytes text.old ++ known_lines passages.now pc) }
 {
-    for k in 0..told.len() {
-        put_passage_line(text, passage_at(told, k), pc)?;
+    for k in 0..passages.len() {
+        put_passage_line(text, passage_at(passages, k), pc)?;
     }
     Ok(())
 }
@@ -115,11 +124,16 @@ fn put_call_line(
 
 /// Writes from where the function is called that begins at a pc, if a passage of it is listed.
 #[tactic(auto, using(crate::proofs::Written::pieces_none, crate::proofs::Written::written_more))]
-fn put_call_lines(text: &mut String, told: &[KnownPassage], pc: usize) -> Result<(), AllocError>
-    ensures { OnOk result (string_bytes text.new ≡ string_bytes text.old ++ call_lines told.now pc) }
+fn put_call_lines(text: &mut String, passages: &[KnownPassage], pc: usize) -> Result<(), AllocError>
+    ensures { OnOk result (string_bytes text.new ≡ string_bytes text.old ++ call_lines passages.now pc) }
 {
-    for k in 0..told.len() {
-        put_call_line(text, passage_at(told, k), passage_at(told, k + 1), pc)?;
+    for k in 0..passages.len() {
+        put_call_line(
+            text,
+            passage_at(passages, k),
+            passage_at(passages, k + 1),
+            pc,
+        )?;
     }
     Ok(())
 }
@@ -131,24 +145,24 @@ fn put_pc(
     image: &Image,
     source: &[SourceLine<'_>],
     judgement: Judgement,
-    told: &[KnownPassage],
+    passages: &[KnownPassage],
     pc: usize,
     cursor: Cursor,
 ) -> Result<(), AllocError>
     requires { IsAt image.now pc cursor }
     ensures { OnOk result (string_bytes text.new
-        ≡ string_bytes text.old ++ pc_text image.now source.now judgement told.now pc) }
+        ≡ string_bytes text.old ++ pc_text image.now source.now judgement passages.now pc) }
 {
     if cursor.next != pc {
         return Ok(());
     }
-    let tells = judgement.tells();
-    if tells {
-        put_call_lines(text, told, pc)?;
+    let is_listed = judgement.lists_states();
+    if is_listed {
+        put_call_lines(text, passages, pc)?;
     }
     put_instruction(text, image, source, pc, cursor.ordinal)?;
-    if tells {
-        put_known_lines(text, told, pc)?;
+    if is_listed {
+        put_known_lines(text, passages, pc)?;
     }
     Ok(())
 }
@@ -160,15 +174,15 @@ pub(crate) fn put_listing(
     image: &Image,
     source: &[SourceLine<'_>],
     judgement: Judgement,
-    told: &[KnownPassage],
+    passages: &[KnownPassage],
 ) -> Result<(), AllocError>
     ensures { OnOk result (string_bytes text.new
         ≡ string_bytes text.old
-        ++ pieces_to (pc_text image.now source.now judgement told.now) (units image.now)) }
+        ++ pieces_to (pc_text image.now source.now judgement passages.now) (units image.now)) }
 {
     let mut cursor = Cursor::first();
     for pc in 0..image.code().len() / 8 {
-        put_pc(text, image, source, judgement, told, pc, cursor)?;
+        put_pc(text, image, source, judgement, passages, pc, cursor)?;
         cursor = cursor.past(image, pc);
     }
     Ok(())

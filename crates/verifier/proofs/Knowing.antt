@@ -13,7 +13,7 @@ use Rattle.verifier.specs.Equations.{Passage, passage_at, opening, outcome_at, c
 use Rattle.verifier.specs.Tables.{Table, state_at, IsGoneTo, IsAtCall}
 use Rattle.verifier.specs.declared.known.KnownPassage.{KnownPassage}
 use Rattle.verifier.specs.Functions.{function_end}
-use Rattle.verifier.specs.Known.{IsKnownOf, IsBrokenAt, IsOpenAt, IsBrokenBy, IsDoneAt, TellsWithin, Tells}
+use Rattle.verifier.specs.Known.{IsKnownOf, IsBrokenAt, IsOpenAt, IsBrokenBy, IsDoneAt, ListsWithin, Lists}
 use Rattle.verifier.proofs.Arrivals.{States}
 use Rattle.verifier.proofs.Passages.{refused_here}
 use Rattle.verifier.proofs.Passing.{call_broken}
@@ -81,7 +81,7 @@ some_refusal : Refusal → Option Refusal
 some_refusal r = Some r
 
 -- what is told of it goes on with what is told of the function that is called
-pub told_within : (p : Program) (v w : Passage) (n : ℕ) (ts : List KnownPassage) → IsBrokenBy p v n w → Tells p w (first_refusal p (calls_of p w) w (units p)) ts → TellsWithin p v n (first_refusal p (calls_of p v) v (units p)) ts
+pub told_within : (p : Program) (v w : Passage) (n : ℕ) (ts : List KnownPassage) → IsBrokenBy p v n w → Lists p w (first_refusal p (calls_of p w) w (units p)) ts → ListsWithin p v n (first_refusal p (calls_of p v) v (units p)) ts
 told_within p v w n [] h told = absurd told
 told_within p v w n (t ∷ ts) h told =
     let r = h.refusal in
@@ -90,7 +90,7 @@ told_within p v w n (t ∷ ts) h told =
     let comes : outcome_at (calls_of p v) (opening v n (CallLocal h.opens.distance) h.opens.state) ≡ Err h.refusal = ap (outcome_at (calls_of p v)) h.opens.opens ∙ deeper p v w h.deep next ∙ h.breaks in
     let whole = call_broken p (calls_of p v) v n h.opens.distance h.opens.state h.refusal h.inside h.opens.fine h.opens.found h.opens.walked comes in
     let one : first_refusal p (calls_of p v) v (units p) ≡ Some h.refusal = breaks_one p (calls_of p v) v h.refusal whole in
-    subst (λ o. TellsWithin p v n o (t ∷ ts)) (sym one) (w, h.opens, told.0, subst (λ o. TellsWithin p w t.last o ts) within told.1)
+    subst (λ o. ListsWithin p v n o (t ∷ ts)) (sym one) (w, h.opens, told.0, subst (λ o. ListsWithin p w t.last o ts) within told.1)
   where
     opened_frame : (v : Passage) (n : ℕ) (z : ℤ) (s : AbstractState) (w : Passage) → opening v n (CallLocal z) s ≡ Some w → w.frame ≡ suc v.frame
     opened_frame v n z s w is = (let e : passage_at (unsigned_abs (target n z)) (suc v.frame) (callee_state v.frame s) ≡ w = cc in ap (λ (x : Passage). x.frame) (sym e))
@@ -101,8 +101,8 @@ ok_map (Err e) P Q f h = tt
 
 -- and so is all that is told of the passage
 pub told_all : (p : Program) (v w : Passage) (passage : KnownPassage) (before pushed after : List KnownPassage) (r : Result (Unit {0}) AllocError) → IsKnownOf p v passage → IsBrokenBy p v passage.last w → pushed ≡ before ++ (passage ∷ [])
-    → IfOk r (λ x. (told : List KnownPassage) × (after ≡ pushed ++ told) × Tells p w (first_refusal p (calls_of p w) w (units p)) told)
-    → IfOk r (λ x. (told : List KnownPassage) × (after ≡ before ++ told) × Tells p v (first_refusal p (calls_of p v) v (units p)) told)
+    → IfOk r (λ x. (told : List KnownPassage) × (after ≡ pushed ++ told) × Lists p w (first_refusal p (calls_of p w) w (units p)) told)
+    → IfOk r (λ x. (told : List KnownPassage) × (after ≡ before ++ told) × Lists p v (first_refusal p (calls_of p v) v (units p)) told)
 told_all p v w passage before pushed after r known broken pushes tells =
-    ok_map r (λ x. (told : List KnownPassage) × (after ≡ pushed ++ told) × Tells p w (first_refusal p (calls_of p w) w (units p)) told) (λ x. (told : List KnownPassage) × (after ≡ before ++ told) × Tells p v (first_refusal p (calls_of p v) v (units p)) told)
+    ok_map r (λ x. (told : List KnownPassage) × (after ≡ pushed ++ told) × Lists p w (first_refusal p (calls_of p w) w (units p)) told) (λ x. (told : List KnownPassage) × (after ≡ before ++ told) × Lists p v (first_refusal p (calls_of p v) v (units p)) told)
     (λ x h. (passage ∷ h.0, h.1 ∙ ap (λ xs. xs ++ h.0) pushes ∙ append_assoc before (passage ∷ []) h.0, (known, told_within p v w passage.last h.0 broken h.2))) tells

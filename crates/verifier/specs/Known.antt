@@ -43,20 +43,20 @@ IsDoneAt p v pc (Some r) = IsBrokenAt p v pc r
 
 -- of the passages that are open where a rule is broken each is listed, each one after that which calls it; where none is
 -- broken there is no other passage
-abbrev pub TellsWithin : Program → Passage → ℕ → Option Refusal → List KnownPassage → Type 0
-TellsWithin p v pc r [] = IsDoneAt p v pc r
-TellsWithin p v pc None (t ∷ ts) = ⊥
-TellsWithin p v pc (Some r) (t ∷ ts) = (w : Passage) × IsOpenAt p v pc w × IsKnownOf p w t × TellsWithin p w t.last (Some r) ts
+abbrev pub ListsWithin : Program → Passage → ℕ → Option Refusal → List KnownPassage → Type 0
+ListsWithin p v pc r [] = IsDoneAt p v pc r
+ListsWithin p v pc None (t ∷ ts) = ⊥
+ListsWithin p v pc (Some r) (t ∷ ts) = (w : Passage) × IsOpenAt p v pc w × IsKnownOf p w t × ListsWithin p w t.last (Some r) ts
 
-abbrev pub Tells : Program → Passage → Option Refusal → List KnownPassage → Type 0
-Tells p v r [] = ⊥
-Tells p v r (t ∷ ts) = IsKnownOf p v t × TellsWithin p v t.last r ts
+abbrev pub Lists : Program → Passage → Option Refusal → List KnownPassage → Type 0
+Lists p v r [] = ⊥
+Lists p v r (t ∷ ts) = IsKnownOf p v t × ListsWithin p v t.last r ts
 
 -- of a program that can be walked the main passage is listed, and those within it that are open where the first rule is
 -- broken, which breaks it by the instruction at the last pc listed; of any other program nothing is listed
-pub record IsKnown (p : Program) (told : List KnownPassage) : Type 0 where
-  pub nothing : is_walkable p ≡ false → told ≡ []
-  pub tells : is_walkable p ≡ true → Tells p (main_passage p) (rule_refusal p) told
+pub record IsKnown (p : Program) (passages : List KnownPassage) : Type 0 where
+  pub nothing : is_walkable p ≡ false → passages ≡ []
+  pub listed : is_walkable p ≡ true → Lists p (main_passage p) (rule_refusal p) passages
 
 -- for the code: a function that is called at a pc of a passage breaks a rule
 pub record IsBrokenBy (p : Program) (v : Passage) (pc : ℕ) (w : Passage) : Type 0 where

@@ -1,13 +1,13 @@
 //! What is known at the pcs of a program, for a person who wants to see why it is refused.
-ghost use Rattle.std.specs.Prelude.{◌≡◌, ◌≢◌, ◌<◌, ◌≤◌, ◌+◌, ℕ, ◌++◌, List, false, None, IfOk, MatchOption, length};
+ghost use Rattle.std.specs.Prelude.{◌≡◌, ◌<◌, ◌≤◌, ◌+◌, ℕ, ◌++◌, List, false, None, IfOk, MatchOption, length};
 ghost use Rattle.bpf_image.specs.Program.{units};
 ghost use Rattle.abstract_state.specs.States.{most_callers};
-ghost use Rattle.verifier.specs.declared.known.KnownPassage.{KnownPassage as Told};
+ghost use Rattle.verifier.specs.declared.known.KnownPassage.{KnownPassage as Listed};
 ghost use Rattle.verifier.specs.Listing.{listing_of};
 ghost use Rattle.verifier.specs.Equations.{passage_at, calls_of, first_refusal};
-ghost use Rattle.verifier.specs.Verdict.{first_fault, decoding_fault, flow_fault, pairs_fault, no_memory};
+ghost use Rattle.verifier.specs.Verdict.{first_fault, decoding_fault, flow_fault, pairs_fault};
 ghost use Rattle.verifier.specs.Tables.{HasEnds};
-ghost use Rattle.verifier.specs.Known.{is_walkable, IsKnownOf, IsBrokenBy, IsDoneAt, Tells, IsKnown};
+ghost use Rattle.verifier.specs.Known.{is_walkable, IsKnownOf, IsBrokenBy, IsDoneAt, Lists, IsKnown};
 
 use crate::flow::find_flow_fault;
 use crate::functions::{find_ends, has_calls};
@@ -29,18 +29,9 @@ pub struct KnownPassage {
     pub entry: usize,
     /// The last pc that was gone over: the one that breaks a rule, or whose call does, and else the function's last.
     pub last: usize,
-    /// What is known before each unit from `entry` to `last`: nothing if no walked way comes there, and then no run does.
+    /// What is known before each unit from `entry` to `last`: nothing if no walked way of this call comes there, and then no run
+    /// of it does.
     pub states: Vec<Option<AbstractState>>,
-}
-
-/// A refusal for lack of memory is an error here. Any other is none: it says something of the program.
-fn rule_or_memory(refusal: Refusal) -> Result<(), AllocError>
-    ensures { IfOk result (λ _. refusal ≢ no_memory) }
-{
-    match refusal.cause {
-        Cause::OutOfMemory => Err(AllocError),
-        _ => Ok(()),
-    }
 }
 
 /// What starts at each pc, and where its function ends.
@@ -63,7 +54,7 @@ fn lay_out(alloc: Global, image: &Image) -> Result<Option<Layout>, AllocError>
     let listing = match list(alloc, image) {
         Ok(listing) => listing,
         Err(refusal) => {
-            rule_or_memory(refusal)?;
+            refusal.rule_or_memory()?;
             return Ok(None);
         }
     };
@@ -77,7 +68,7 @@ fn lay_out(alloc: Global, image: &Image) -> Result<Option<Layout>, AllocError>
     match check_pairs(alloc, image, &listing, &ends, calls) {
         Ok(()) => Ok(Some(Layout { listing, ends })),
         Err(refusal) => {
-            rule_or_memory(refusal)?;
+            refusal.rule_or_memory()?;
             Ok(None)
         }
     }
@@ -113,11 +104,11 @@ fn go_over(
     requires ends { HasEnds image.now ends.now }
     requires inside { entry < units image.now }
     requires frame { frame ≤ most_callers }
-    ensures known { IfOk result (λ told. IsKnownOf image.now (passage_at entry frame known) told.0) }
-    ensures stopped { IfOk result (λ told. MatchOption told.1
-        (IsDoneAt image.now (passage_at entry frame known) told.0.last
+    ensures known { IfOk result (λ listed. IsKnownOf image.now (passage_at entry frame known) listed.0) }
+    ensures stopped { IfOk result (λ listed. MatchOption listed.1
+        (IsDoneAt image.now (passage_at entry frame known) listed.0.last
         (first_refusal image.now (calls_of image.now (passage_at entry frame known)) (passage_at entry frame known) (units image.now)))
-        (λ call. IsBrokenBy image.now (passage_at entry frame known) told.0.last (passage_at call.0 (frame + 1) call.1))) }
+        (λ call. IsBrokenBy image.now (passage_at entry frame known) listed.0.last (passage_at call.0 (frame + 1) call.1))) }
 {
     let mut kept = no_states(alloc, image.code().len() / 8)?;
     let mut states = no_states(alloc, image.code().len() / 8)?;
@@ -128,7 +119,7 @@ fn go_over(
         kept[pc] = copy_of(alloc, &states[pc])?;
         let opened = match visit(alloc, image, listing, &mut states, &mut exits, pc, frame) {
             Err(refusal) => {
-                rule_or_memory(refusal)?;
+                refusal.rule_or_memory()?;
                 return Ok((
                     KnownPassage {
                         entry,
@@ -153,7 +144,7 @@ fn go_over(
                 known,
             ) {
                 Err(refusal) => {
-                    rule_or_memory(refusal)?;
+                    refusal.rule_or_memory()?;
                     return Ok((
                         KnownPassage {
                             entry,
@@ -178,7 +169,7 @@ fn go_over(
 }
 
 /// Lists a passage, and those that are open within it where a rule is broken.
-fn tell(
+fn list_passages(
     alloc: Global,
     image: &Image,
     layout: &Layout,
@@ -193,9 +184,9 @@ fn tell(
     requires ends { HasEnds image.now layout.now.ends.items }
     requires inside { entry < units image.now }
     requires frame { frame ≤ most_callers }
-    ensures { IfOk result (λ _. (told : List Told) × (passages.new.items ≡ passages.old.items ++ told)
-        × Tells image.now (passage_at entry frame known)
-        (first_refusal image.now (calls_of image.now (passage_at entry frame known)) (passage_at entry frame known) (units image.now)) told) }
+    ensures { IfOk result (λ _. (listed : List Listed) × (passages.new.items ≡ passages.old.items ++ listed)
+        × Lists image.now (passage_at entry frame known)
+        (first_refusal image.now (calls_of image.now (passage_at entry frame known)) (passage_at entry frame known) (units image.now)) listed) }
 {
     let (passage, called) = go_over(
         alloc,
@@ -209,22 +200,30 @@ fn tell(
     passages.push(passage)?;
     match called {
         None => Ok(()),
-        Some((begins, known)) => tell(alloc, image, layout, passages, begins, frame + 1, known),
+        Some((begins, known)) => list_passages(
+            alloc,
+            image,
+            layout,
+            passages,
+            begins,
+            frame + 1,
+            known,
+        ),
     }
 }
 
-/// What is known before each unit of a program, of every run that comes there. It is for a person who asks why a program
-/// is refused, so a program may break rules: nothing is listed where its code does not decode or flow, or where too many
-/// instructions would be gone through. Else the main passage is listed, from the first pc on, and after it each function
-/// that is open where the first rule is broken: the call stands at the last pc of the passage before, and the broken
-/// rule at the last pc of the last passage.
+/// What is known before each unit of a program, of every run that comes there by the calls that are listed. It is for a
+/// person who asks why a program is refused, so a program may break rules: nothing is listed where its code does not decode
+/// or flow, or where too many instructions would be gone through. Else the main passage is listed, from the first pc on, and
+/// after it each call of a function that is open where the first rule is broken: it stands at the last pc of the passage
+/// before, and the broken rule at the last pc of the last passage.
 pub fn known_states(alloc: Global, image: &Image) -> Result<Vec<KnownPassage>, AllocError>
-    ensures { IfOk result (λ told. IsKnown image.now told.items) }
+    ensures { IfOk result (λ listed. IsKnown image.now listed.items) }
 {
     let mut passages = Vec::new(alloc);
     if let Some(layout) = lay_out(alloc, image)? {
         let entry = AbstractState::entry(alloc, image.lengths())?;
-        tell(alloc, image, &layout, &mut passages, 0, 0, entry)?;
+        list_passages(alloc, image, &layout, &mut passages, 0, 0, entry)?;
     }
     Ok(passages)
 }

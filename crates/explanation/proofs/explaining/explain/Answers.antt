@@ -27,10 +27,10 @@ returns c =
       | inr rule ↦ rule
     ]) in
     let told : string_bytes c.in_ok-text-in-Err.text ≡ explanation_text c.in-Err.image c.args.source.now c.deref-in-Err.result.now (Refused c.in-Err.refusal) = c.in_ok-text-in-Err.ensures in
-    let of_states : string_bytes c.in_ok-text-in-Err.text ≡ explanation_text c.in-Err.image c.args.source.now c.in_ok-told.told.items (Refused c.in-Err.refusal) = subst (λ (told : List KnownPassage). string_bytes c.in_ok-text-in-Err.text ≡ explanation_text c.in-Err.image c.args.source.now told (Refused c.in-Err.refusal)) c.deref-in-Err.ensures.value told in
+    let of_states : string_bytes c.in_ok-text-in-Err.text ≡ explanation_text c.in-Err.image c.args.source.now c.in_ok-passages.passages.items (Refused c.in-Err.refusal) = subst (λ (told : List KnownPassage). string_bytes c.in_ok-text-in-Err.text ≡ explanation_text c.in-Err.image c.args.source.now told (Refused c.in-Err.refusal)) c.deref-in-Err.ensures.value told in
     record {
-      told = c.in_ok-told.told.items;
-      is_known = c.in_ok-told.ensures;
+      passages = c.in_ok-passages.passages.items;
+      is_known = c.in_ok-passages.ensures;
       is_verdict = refused;
-      is_told_so = subst (λ (p : Program). string_bytes c.in_ok-text-in-Err.text ≡ explanation_text p c.args.source.now c.in_ok-told.told.items (Refused c.in-Err.refusal)) c.in-Err.ensures.back of_states;
+      is_text = subst (λ (p : Program). string_bytes c.in_ok-text-in-Err.text ≡ explanation_text p c.args.source.now c.in_ok-passages.passages.items (Refused c.in-Err.refusal)) c.in-Err.ensures.back of_states;
     }

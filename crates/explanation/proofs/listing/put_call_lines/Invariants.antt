@@ -5,4 +5,4 @@ use Rattle.explanation.specs.Explanation.{call_piece}
 use Rattle.explanation.proofs.listing.put_call_lines.Given as goal
 
 abbrev pub invariant-loop-k : goal.invariant-loop-k
-invariant-loop-k l = string_bytes l.text ≡ string_bytes l.fn.text ++ pieces_to (call_piece l.told l.pc) l.k
+invariant-loop-k l = string_bytes l.text ≡ string_bytes l.fn.text ++ pieces_to (call_piece l.passages l.pc) l.k
