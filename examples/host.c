@@ -20,7 +20,7 @@ int main(void) {
     if (!status) status = edgebpf_store_pin(&store, &version);
     if (!status) status = edgebpf_version_lend(&version, 0, &slice, 1, &lent);
     if (!status) printf("0 has %zu neighbours: %u and %u\n", slice.count, slice.at[0], slice.at[1]);
-    if (!status) status = edgebpf_program_new(16, code, sizeof code, &verdict, &program);
+    if (!status) status = edgebpf_program_new(16, code, sizeof code, EDGEBPF_NO_BYTES, 0, &verdict, &program);
     if (!status) status = edgebpf_run(&version, &program, EDGEBPF_NO_BYTES, 0, frontier, 2, EDGEBPF_SUM, values, 2, &totals);
     if (!status) printf("total %llu\n", (unsigned long long)totals.total);
     if (status) fprintf(stderr, "%s\n", edgebpf_words(status));

@@ -29,7 +29,8 @@ enum {
     EDGEBPF_REDUCTION = 14,
     EDGEBPF_WRONG_TEXT = 15,
     EDGEBPF_NO_NEIGHBOUR = 16,
-    EDGEBPF_EPOCHS_FULL = 17
+    EDGEBPF_EPOCHS_FULL = 17,
+    EDGEBPF_TABLE_LENGTH = 18
 };
 
 /* The same in words. */
@@ -53,6 +54,7 @@ static inline const char *edgebpf_words(uint32_t status) {
         "the text means no code",
         "the vertex has no neighbour at this place",
         "1024 rebases were made, and there is room for no more",
+        "the table has more than 4096 bytes",
     };
     return status < sizeof words / sizeof *words ? words[status] : "there is no such status";
 }
@@ -132,20 +134,22 @@ uint32_t edgebpf_version_lend(edgebpf_version *version, uint32_t vertex, edgebpf
 uint32_t edgebpf_version_copy(edgebpf_version *version, uint64_t *starts, size_t start_count, uint32_t *targets,
                               size_t target_count);
 
-/* Verifies a program without a table, for records of 16 to 256 bytes. RECORD_LENGTH, CODE_LENGTH, REFUSED (then `verdict` says
-   why). */
-uint32_t edgebpf_program_new(uint16_t record_length, const uint8_t *code, size_t code_length, edgebpf_verdict *verdict,
-                             edgebpf_program *out);
+/* Verifies a program for records of 16 to 256 bytes. Its runs read the table of 1 to 4,096 bytes from the address that R3 holds when
+   they begin; with EDGEBPF_NO_BYTES and 0 there is none. RECORD_LENGTH, CODE_LENGTH, TABLE_LENGTH, REFUSED (then `verdict` says
+   why), tested in this order. */
+uint32_t edgebpf_program_new(uint16_t record_length, const uint8_t *code, size_t code_length, const uint8_t *table,
+                             size_t table_length, edgebpf_verdict *verdict, edgebpf_program *out);
 
 /* Another handle of the same program, for another thread. */
 uint32_t edgebpf_program_share(edgebpf_program *program, edgebpf_program *out);
 
-/* The code that a text means. WRONG_TEXT; LENGTHS if there is less room than `told->length`. */
-uint32_t edgebpf_assemble(const uint8_t *text, size_t text_length, uint8_t *code, size_t room, edgebpf_assembled *told);
+/* The code that a text means. WRONG_TEXT; LENGTHS if there is less room than `assembled->length`. */
+uint32_t edgebpf_assemble(const uint8_t *text, size_t text_length, uint8_t *code, size_t room, edgebpf_assembled *assembled);
 
-/* What the verifier knows of a program, as text. RECORD_LENGTH, CODE_LENGTH; LENGTHS if there is less room than `count`. */
-uint32_t edgebpf_explain(uint16_t record_length, const uint8_t *code, size_t code_length, uint8_t *text, size_t room,
-                         size_t *count);
+/* What the verifier knows of a program, as text. RECORD_LENGTH, CODE_LENGTH, TABLE_LENGTH; LENGTHS if there is less room than
+   `count`. */
+uint32_t edgebpf_explain(uint16_t record_length, const uint8_t *code, size_t code_length, const uint8_t *table,
+                         size_t table_length, uint8_t *text, size_t room, size_t *count);
 
 /* Runs a program on each edge of the vertices of a frontier, which may name vertices in any order, at most 1,048,576 of them.
    `values` has one place for each: the reduction over its edges. A vertex without neighbours, or outside the graph, has 0, and

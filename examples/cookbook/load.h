@@ -39,7 +39,7 @@ static inline edgebpf_program assembled(const char *text) {
     edgebpf_verdict verdict;
     edgebpf_program program = {{0}};
     check(edgebpf_assemble((const uint8_t *)text, strlen(text), code, sizeof code, &told));
-    check(edgebpf_program_new(16, code, told.length, &verdict, &program));
+    check(edgebpf_program_new(16, code, told.length, EDGEBPF_NO_BYTES, 0, &verdict, &program));
     return program;
 }
 

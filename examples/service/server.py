@@ -79,7 +79,8 @@ class Service:
         return web.json_response({"version": counts.version, "added": counts.added, "removed": counts.removed})
 
     async def program(self, request):
-        """Keeps a program under a name: {"name": "score", "record": 16} with "text", "code" in hexadecimal digits, or "c"."""
+        """Keeps a program under a name: {"name": "score", "record": 16} with "text" or "code" in hexadecimal digits, and perhaps "table" in
+        such digits, or with "c"."""
         asked = await fields(request)
         name, record = text_of(asked, "name"), asked.get("record", 16)
         if not NAME.fullmatch(name) or type(record) is not int:
@@ -97,7 +98,7 @@ class Service:
     def kept(self, name, program):
         """The program of a name, which stays the first that had it: others run it."""
         first = self.programs.get(name, program)
-        if (first.code, first.text, first.record) != (program.code, program.text, program.record):
+        if (first.code, first.text, first.record, first.table) != (program.code, program.text, program.record, program.table):
             raise web.HTTPConflict(text="another program has this name")
         if name not in self.programs and len(self.programs) >= MOST_PROGRAMS:
             raise edgebpf.TooManyNames(f"the service keeps {MOST_PROGRAMS} programs")
@@ -143,10 +144,13 @@ class Service:
 
 def verified(asked, name, record):
     """The program of a request, by the one of its three forms."""
+    table = bytes.fromhex(text_of(asked, "table")) if "table" in asked else b""
     if "text" in asked:
-        return edgebpf.assemble(text_of(asked, "text"), record)
+        return edgebpf.assemble(text_of(asked, "text"), record, table)
     if "code" in asked:
-        return edgebpf.Program(bytes.fromhex(text_of(asked, "code")), record)
+        return edgebpf.Program(bytes.fromhex(text_of(asked, "code")), record, table)
+    if table:
+        raise ValueError("the table of a program in C is its object marked TABLE")
     with tempfile.TemporaryDirectory() as folder:
         source = pathlib.Path(folder) / "program.c"
         source.write_text(text_of(asked, "c"))

@@ -211,6 +211,16 @@ class Service(unittest.TestCase):
             self.assertEqual(self.client.ask("POST", "/programs", {"name": name, "text": before + "ldxw r0, [r1+4]; exit"})[0], 201)
             self.assertEqual(self.client.told("POST", "/runs", {"program": name, "frontier": [0]})[1]["values"], [7])
 
+    def test_tables(self):
+        """A program has the table that comes with it, which its name keeps, too."""
+        self.client.told("POST", "/batches", {"inserts": [[0, 1], [0, 3]]})
+        code = "6112040000000000570200000300000067020000020000000f2300000000000061300000000000009500000000000000"
+        table = "280000000a000000140000001e010000"
+        self.assertEqual(self.client.told("POST", "/programs", {"name": "weighed", "code": code, "table": table})[0], 201)
+        self.assertEqual(self.client.told("POST", "/runs", {"program": "weighed", "frontier": [0]})[1]["values"], [10 + 286])
+        for name, other, status in (("weighed", table[:-2] + "02", 409), ("p", table[:-2], 422), ("p", "0", 400), ("p", "00" * 4_097, 400)):
+            self.assertEqual(self.client.ask("POST", "/programs", {"name": name, "code": code, "table": other})[0], status)
+
     def test_names(self):
         """A name keeps its program, and programs up to the limit leave room for all that the service itself runs."""
         self.client.told("POST", "/batches", {"inserts": [[0, 7]]})

@@ -69,7 +69,7 @@ int main(void) {
     done(edgebpf_version_info(&version, &info));
     printf("share and close a version: %.1f ns\n", 1e9 * BEST(CALLS, done(edgebpf_version_share(&version, &other)); edgebpf_close_version(&other)));
     printf("lend the slices of a vertex at random: %.1f ns\n", 1e9 * BEST(CALLS, done(edgebpf_version_lend(&version, chance(), slices, ROOM, &lent))));
-    done(edgebpf_program_new(16, code, sizeof code, &verdict, &program));
+    done(edgebpf_program_new(16, code, sizeof code, EDGEBPF_NO_BYTES, 0, &verdict, &program));
     for (uint32_t at = 0; at < VERTICES; at++) frontier[at] = at;
     double edges = (double)info.edges;
     printf("a run over all edges: %.2f ns an edge\n",

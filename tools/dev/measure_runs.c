@@ -140,7 +140,7 @@ static void print_dpdk(const uint8_t *code, size_t length, uint64_t wanted) { (v
 static double time_of_run(edgebpf_version *version, const uint8_t *code, size_t length, uint64_t wanted) {
     edgebpf_verdict verdict;
     edgebpf_program accepted = {{0}};
-    done(edgebpf_program_new(RECORD, code, length, &verdict, &accepted));
+    done(edgebpf_program_new(RECORD, code, length, EDGEBPF_NO_BYTES, 0, &verdict, &accepted));
     double time = BEST(wanted, sum_of_run(version, &accepted));
     edgebpf_close_program(&accepted);
     return time;

@@ -25,7 +25,7 @@ int main(void) {
     CHECK(edgebpf_store_apply(&store, 0, sources, EDGES, targets, EDGES, removes, EDGES, &change) == EDGEBPF_DONE);
     CHECK(change.added == EDGES);
     CHECK(edgebpf_store_pin(&store, &version) == EDGEBPF_DONE);
-    CHECK(edgebpf_program_new(16, target_code, sizeof target_code, &verdict, &program) == EDGEBPF_DONE);
+    CHECK(edgebpf_program_new(16, target_code, sizeof target_code, EDGEBPF_NO_BYTES, 0, &verdict, &program) == EDGEBPF_DONE);
     CHECK(edgebpf_run(&version, &program, EDGEBPF_NO_BYTES, 0, frontier, SOURCES, EDGEBPF_SUM, values, SOURCES, &totals) == EDGEBPF_DONE);
     CHECK(edgebpf_numbers(&version, &program, EDGEBPF_NO_BYTES, 0, numbers, EDGES) == EDGEBPF_DONE);
     for (uint32_t at = 0; at < EDGES; at++) sum += numbers[at];

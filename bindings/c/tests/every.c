@@ -64,14 +64,14 @@ static void verifies_programs(void) {
     const uint8_t unset[] = {0xbf, 0x50, 0, 0, 0, 0, 0, 0, 0x95, 0, 0, 0, 0, 0, 0, 0}; /* mov r0, r5; exit */
     edgebpf_verdict verdict;
     edgebpf_program other = {{0}};
-    CHECK(edgebpf_program_new(16, target_code, 16, &verdict, &targets_of) == EDGEBPF_DONE);
+    CHECK(edgebpf_program_new(16, target_code, 16, EDGEBPF_NO_BYTES, 0, &verdict, &targets_of) == EDGEBPF_DONE);
     CHECK(verdict.bound == 2 && verdict.frames == 1);
-    CHECK(edgebpf_program_new(16, unset, 16, &verdict, &other) == EDGEBPF_REFUSED && !other.handle.at);
+    CHECK(edgebpf_program_new(16, unset, 16, EDGEBPF_NO_BYTES, 0, &verdict, &other) == EDGEBPF_REFUSED && !other.handle.at);
     CHECK(verdict.cause == 8 && verdict.pc == 0); /* UnsetRegister */
-    CHECK(edgebpf_program_new(15, target_code, 16, &verdict, &other) == EDGEBPF_RECORD_LENGTH);
-    CHECK(edgebpf_program_new(257, target_code, 16, &verdict, &other) == EDGEBPF_RECORD_LENGTH);
-    CHECK(edgebpf_program_new(16, target_code, 12, &verdict, &other) == EDGEBPF_CODE_LENGTH);
-    CHECK(edgebpf_program_new(16, target_code, 0, &verdict, &other) == EDGEBPF_CODE_LENGTH);
+    CHECK(edgebpf_program_new(15, target_code, 16, EDGEBPF_NO_BYTES, 0, &verdict, &other) == EDGEBPF_RECORD_LENGTH);
+    CHECK(edgebpf_program_new(257, target_code, 16, EDGEBPF_NO_BYTES, 0, &verdict, &other) == EDGEBPF_RECORD_LENGTH);
+    CHECK(edgebpf_program_new(16, target_code, 12, EDGEBPF_NO_BYTES, 0, &verdict, &other) == EDGEBPF_CODE_LENGTH);
+    CHECK(edgebpf_program_new(16, target_code, 0, EDGEBPF_NO_BYTES, 0, &verdict, &other) == EDGEBPF_CODE_LENGTH);
     CHECK(edgebpf_program_share(&targets_of, &other) == EDGEBPF_DONE && other.handle.at);
     edgebpf_close_program(&other);
     CHECK(!other.handle.at);
@@ -89,11 +89,11 @@ static void reads_and_writes_texts(void) {
     CHECK(made.line == 3 && made.cause == 2); /* UnknownName */
     CHECK(edgebpf_assemble((const uint8_t *)"\xff", 1, code, sizeof code, &made) == EDGEBPF_WRONG_TEXT);
     CHECK(made.line == 0 && made.cause == 0);
-    CHECK(edgebpf_explain(16, target_code, 16, code, 0, &count) == EDGEBPF_LENGTHS && count > 0);
+    CHECK(edgebpf_explain(16, target_code, 16, EDGEBPF_NO_BYTES, 0, code, 0, &count) == EDGEBPF_LENGTHS && count > 0);
     told = malloc(count);
-    CHECK(told && edgebpf_explain(16, target_code, 16, told, count, &again) == EDGEBPF_DONE && again == count);
+    CHECK(told && edgebpf_explain(16, target_code, 16, EDGEBPF_NO_BYTES, 0, told, count, &again) == EDGEBPF_DONE && again == count);
     free(told);
-    CHECK(edgebpf_explain(16, target_code, 9, code, sizeof code, &count) == EDGEBPF_CODE_LENGTH);
+    CHECK(edgebpf_explain(16, target_code, 9, EDGEBPF_NO_BYTES, 0, code, sizeof code, &count) == EDGEBPF_CODE_LENGTH);
 }
 
 static void runs_programs(void) {
@@ -174,6 +174,59 @@ static void rebases(void) {
     edgebpf_close_version(&based);
 }
 
+/* A table of four words, of which each edge has the one that its target names. */
+static void reads_tables(void) {
+    const char *text = "ldxw r2, [r1+4]\nand r2, 3\nlsh r2, 2\nadd r3, r2\nldxw r0, [r3+0]\nexit\n";
+    const uint8_t weights[] = {40, 0, 0, 0, 10, 0, 0, 0, 20, 0, 0, 0, 30, 1, 0, 0};
+    const uint64_t wanted[] = {10, 20, 286, 40, 286};
+    uint8_t code[64];
+    uint64_t numbers[5];
+    edgebpf_program weighed = {{0}}, shared = {{0}};
+    edgebpf_assembled made;
+    edgebpf_verdict verdict;
+    CHECK(edgebpf_assemble((const uint8_t *)text, strlen(text), code, sizeof code, &made) == EDGEBPF_DONE);
+    CHECK(edgebpf_program_new(16, code, made.length, weights, sizeof weights, &verdict, &weighed) == EDGEBPF_DONE);
+    CHECK(verdict.bound == 6 && verdict.frames == 1);
+    CHECK(edgebpf_numbers(&last, &weighed, EDGEBPF_NO_BYTES, 0, numbers, 5) == EDGEBPF_DONE);
+    CHECK(!memcmp(numbers, wanted, sizeof wanted));
+    CHECK(edgebpf_program_share(&weighed, &shared) == EDGEBPF_DONE);
+    edgebpf_close_program(&weighed);
+    memset(numbers, 0, sizeof numbers);
+    CHECK(edgebpf_numbers(&last, &shared, EDGEBPF_NO_BYTES, 0, numbers, 5) == EDGEBPF_DONE);
+    CHECK(!memcmp(numbers, wanted, sizeof wanted));
+    edgebpf_close_program(&shared);
+    CHECK(edgebpf_program_new(16, code, made.length, weights, 15, &verdict, &shared) == EDGEBPF_REFUSED);
+    CHECK(verdict.cause == 11 && verdict.pc == 4); /* OutOfRange */
+}
+
+/* Where a table ends, that nobody writes to it, and the order in which lengths are tested. */
+static void keeps_tables(void) {
+    const uint8_t load[] = {0x61, 0x30, 0, 0, 0, 0, 0, 0, 0x95, 0, 0, 0, 0, 0, 0, 0}; /* ldxw r0, [r3+0]; exit */
+    const uint8_t load_last[] = {0x61, 0x30, 0xfc, 0x0f, 0, 0, 0, 0, 0x95, 0, 0, 0, 0, 0, 0, 0}; /* ldxw r0, [r3+4092]; exit */
+    const uint8_t store_first[] = {0x62, 3, 0, 0, 0, 0, 0, 0, 0x95, 0, 0, 0, 0, 0, 0, 0}; /* stw [r3+0], 0; exit */
+    static uint8_t table[4097], text[1024];
+    uint64_t numbers[5];
+    edgebpf_program other = {{0}};
+    edgebpf_verdict verdict;
+    size_t count = 0;
+    table[4092] = 7;
+    CHECK(edgebpf_program_new(16, load_last, 16, table, 4095, &verdict, &other) == EDGEBPF_REFUSED && verdict.cause == 11);
+    CHECK(edgebpf_program_new(16, store_first, 16, table, 4, &verdict, &other) == EDGEBPF_REFUSED);
+    CHECK(verdict.cause == 17 && verdict.pc == 0); /* ReadOnly */
+    CHECK(edgebpf_program_new(16, load, 16, EDGEBPF_NO_BYTES, 0, &verdict, &other) == EDGEBPF_REFUSED);
+    CHECK(verdict.cause == 8 && verdict.pc == 0 && !other.handle.at); /* UnsetRegister */
+    CHECK(edgebpf_program_new(16, load_last, 16, table, 4096, &verdict, &other) == EDGEBPF_DONE);
+    CHECK(edgebpf_numbers(&last, &other, EDGEBPF_NO_BYTES, 0, numbers, 5) == EDGEBPF_DONE && numbers[0] == 7 && numbers[4] == 7);
+    CHECK(edgebpf_program_new(16, load, 16, table, 4097, &verdict, &other) == EDGEBPF_TABLE_LENGTH && other.handle.at);
+    CHECK(edgebpf_program_new(16, load, 15, table, 4097, &verdict, &other) == EDGEBPF_CODE_LENGTH);
+    CHECK(edgebpf_program_new(15, load, 15, table, 4097, &verdict, &other) == EDGEBPF_RECORD_LENGTH);
+    edgebpf_close_program(&other);
+    CHECK(edgebpf_explain(16, load, 16, table, 4097, text, sizeof text, &count) == EDGEBPF_TABLE_LENGTH);
+    CHECK(edgebpf_explain(16, load, 16, table, 4, text, sizeof text - 1, &count) == EDGEBPF_DONE && count < sizeof text);
+    text[count] = 0;
+    CHECK(strstr((const char *)text, "accepted, bound 2, frames 1\n"));
+}
+
 /* 4,096 units, the most that code may have: all but the last give 7, which is then the number of each edge. */
 static void takes_the_longest_program(void) {
     enum { UNITS = 4096 };
@@ -191,7 +244,7 @@ static void takes_the_longest_program(void) {
     memcpy(text + length, "exit\n", 5);
     CHECK(edgebpf_assemble(text, length + 5, code, sizeof code, &made) == EDGEBPF_DONE && made.length == 8 * UNITS);
     for (size_t unit = 0; unit < UNITS; unit++) CHECK(!memcmp(code + 8 * unit, unit < UNITS - 1 ? seven : leave, 8));
-    CHECK(edgebpf_program_new(16, code, 8 * UNITS, &verdict, &longest) == EDGEBPF_DONE);
+    CHECK(edgebpf_program_new(16, code, 8 * UNITS, EDGEBPF_NO_BYTES, 0, &verdict, &longest) == EDGEBPF_DONE);
     CHECK(verdict.bound == UNITS && verdict.frames == 1);
     CHECK(edgebpf_run(&last, &longest, EDGEBPF_NO_BYTES, 0, frontier, 3, EDGEBPF_SUM, values, 3, &totals) == EDGEBPF_DONE);
     CHECK(values[0] == 7 && values[1] == 21 && values[2] == 0 && totals.edges == 4 && totals.total == 28);
@@ -201,13 +254,13 @@ static void takes_the_longest_program(void) {
     CHECK(edgebpf_run(&last, &shared, EDGEBPF_NO_BYTES, 0, frontier, 3, EDGEBPF_MAX, values, 3, &totals) == EDGEBPF_DONE);
     CHECK(values[0] == 7 && values[1] == 7 && values[2] == 0 && totals.edges == 4 && totals.total == 7);
     edgebpf_close_program(&shared);
-    CHECK(edgebpf_explain(256, code, 8 * UNITS, text, 0, &again) == EDGEBPF_LENGTHS && again > sizeof start + sizeof end);
-    CHECK(edgebpf_explain(16, code, 8 * UNITS, text, 0, &count) == EDGEBPF_LENGTHS && count > sizeof start + sizeof end);
+    CHECK(edgebpf_explain(256, code, 8 * UNITS, EDGEBPF_NO_BYTES, 0, text, 0, &again) == EDGEBPF_LENGTHS && again > sizeof start + sizeof end);
+    CHECK(edgebpf_explain(16, code, 8 * UNITS, EDGEBPF_NO_BYTES, 0, text, 0, &count) == EDGEBPF_LENGTHS && count > sizeof start + sizeof end);
     char *told = malloc(count);
-    CHECK(told && edgebpf_explain(16, code, 8 * UNITS, (uint8_t *)told, count, &again) == EDGEBPF_DONE && again == count);
+    CHECK(told && edgebpf_explain(16, code, 8 * UNITS, EDGEBPF_NO_BYTES, 0, (uint8_t *)told, count, &again) == EDGEBPF_DONE && again == count);
     CHECK(!memcmp(told, start, sizeof start - 1) && !memcmp(told + count - (sizeof end - 1), end, sizeof end - 1));
     free(told);
-    CHECK(edgebpf_program_new(16, code, 8 * (UNITS + 1), &verdict, &longest) == EDGEBPF_CODE_LENGTH && !longest.handle.at);
+    CHECK(edgebpf_program_new(16, code, 8 * (UNITS + 1), EDGEBPF_NO_BYTES, 0, &verdict, &longest) == EDGEBPF_CODE_LENGTH && !longest.handle.at);
     memcpy(text + length, line, sizeof line - 1);
     memcpy(text + length + sizeof line - 1, "exit\n", 5);
     CHECK(edgebpf_assemble(text, sizeof text, code, sizeof code, &made) == EDGEBPF_WRONG_TEXT);
@@ -302,7 +355,7 @@ static void runs_with_the_longest_argument(void) {
     edgebpf_verdict verdict;
     edgebpf_totals totals;
     argument[239] = 7;
-    CHECK(edgebpf_program_new(256, last_byte, 16, &verdict, &longest) == EDGEBPF_DONE && verdict.bound == 2);
+    CHECK(edgebpf_program_new(256, last_byte, 16, EDGEBPF_NO_BYTES, 0, &verdict, &longest) == EDGEBPF_DONE && verdict.bound == 2);
     CHECK(edgebpf_run(&last, &longest, argument, 240, frontier, 3, EDGEBPF_SUM, values, 3, &totals) == EDGEBPF_DONE);
     CHECK(values[0] == 7 && values[1] == 21 && values[2] == 0 && totals.edges == 4 && totals.total == 28);
     CHECK(edgebpf_numbers(&last, &longest, argument, 240, numbers, 5) == EDGEBPF_DONE);
@@ -339,9 +392,10 @@ static void tells_what_handles_hold(void) {
     static const char *const words[] = {
         "done", "memory", "empty", "another kind", "number of vertices", "an edit names", "65536 edits", "4096 batches",
         "feed", "lengths", "refuses", "record length", "code is not", "argument", "reduction", "means no code", "neighbour", "1024 rebases",
+        "the table has more than 4096",
     };
     for (uint32_t status = 0; status < COUNT(words); status++) CHECK(strstr(edgebpf_words(status), words[status]));
-    CHECK(!strcmp(edgebpf_words(EDGEBPF_EPOCHS_FULL + 1), "there is no such status"));
+    CHECK(!strcmp(edgebpf_words(EDGEBPF_TABLE_LENGTH + 1), "there is no such status"));
 }
 
 int main(void) {
@@ -351,6 +405,8 @@ int main(void) {
     verifies_programs();
     reads_and_writes_texts();
     runs_programs();
+    reads_tables();
+    keeps_tables();
     takes_the_longest_program();
     takes_a_long_text();
     runs_over_the_longest_frontier();

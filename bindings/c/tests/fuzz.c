@@ -7,7 +7,7 @@
 #include <stdlib.h>
 #include <string.h>
 
-enum { MOST = 64, HANDLES = 4, EDITS = 40, ROOM = 16, TEXT = 4096, CODE = 256 };
+enum { MOST = 64, HANDLES = 4, EDITS = 40, ROOM = 16, TEXT = 4096, CODE = 256, TABLE = 4096 };
 
 typedef struct { const uint8_t *at, *end; } input;
 typedef struct { uint32_t vertices; uint64_t epoch, number, rows[MOST]; } graph;
@@ -174,19 +174,26 @@ static void new_program(input *in) {
     one->is_target = byte(in) & 1;
     for (size_t at = 0; at < length; at++) code[at] = (uint8_t)byte(in);
     if (one->is_target) memcpy(code, target, length = sizeof target);
+    static uint8_t table[TABLE + 2];
+    uint32_t chosen = byte(in);
+    size_t table_length = chosen < 100 ? 0 : chosen < 240 ? byte(in) % 32 : chosen < 250 ? TABLE - 1 + chosen % 2 : TABLE + 1 + chosen % 2;
+    for (size_t at = 0; at < 32; at++) table[at] = (uint8_t)byte(in);
     edgebpf_verdict verdict = {0, 0, 0, 0};
     edgebpf_close_program(&one->handle);
     one->length = 0;
-    uint32_t status = CALL(edgebpf_program_new(record, code, length, &verdict, &one->handle));
+    uint32_t status = CALL(edgebpf_program_new(record, code, length, table, table_length, &verdict, &one->handle));
     int fits = record >= 16 && record <= 256;
     MUST(fits ? status != EDGEBPF_RECORD_LENGTH : status == EDGEBPF_RECORD_LENGTH);
     MUST(!fits || (status == EDGEBPF_CODE_LENGTH) == (length % 8 || !length));
+    fits = fits && status != EDGEBPF_CODE_LENGTH;
+    MUST(!fits || (status == EDGEBPF_TABLE_LENGTH) == (table_length > TABLE));
     MUST(status != EDGEBPF_REFUSED || (verdict.cause >= 1 && verdict.cause <= 18 && !one->is_target));
     if (!status) one->length = record;
     static uint8_t text[TEXT];
     size_t count = 0;
-    status = CALL(edgebpf_explain(record, code, length, text, byte(in) < 128 ? 0 : TEXT, &count));
-    MUST(status == EDGEBPF_DONE || status == EDGEBPF_LENGTHS || status == EDGEBPF_RECORD_LENGTH || status == EDGEBPF_CODE_LENGTH);
+    status = CALL(edgebpf_explain(record, code, length, table, table_length, text, byte(in) < 128 ? 0 : TEXT, &count));
+    MUST(fits && table_length <= TABLE ? status == EDGEBPF_DONE || status == EDGEBPF_LENGTHS
+                                       : status == EDGEBPF_RECORD_LENGTH || status == EDGEBPF_CODE_LENGTH || status == EDGEBPF_TABLE_LENGTH);
 }
 
 static void assemble(input *in) {

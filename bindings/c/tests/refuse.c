@@ -81,7 +81,8 @@ static void apply_all(edgebpf_store *store) {
 }
 
 static void run_all(edgebpf_store *store) {
-    const char *text = "ldxw r0, [r1+4]\nexit\n";
+    const char *text = "ldxw r0, [r1+4]\nldxb r2, [r3+3]\nadd r0, r2\nexit\n";
+    const uint8_t table[4] = {1, 2, 3, 4};
     edgebpf_version pin = {{0}}, shared = {{0}};
     edgebpf_program program = {{0}}, other = {{0}};
     edgebpf_verdict verdict;
@@ -93,9 +94,9 @@ static void run_all(edgebpf_store *store) {
     while (again(edgebpf_store_pin(store, &pin))) continue;
     while (again(edgebpf_version_share(&pin, &shared))) continue;
     while (again(edgebpf_assemble((const uint8_t *)text, strlen(text), code, sizeof code, &made))) continue;
-    while (again(edgebpf_program_new(16, code, made.length, &verdict, &program))) CHECK(!program.handle.at);
+    while (again(edgebpf_program_new(16, code, made.length, table, sizeof table, &verdict, &program))) CHECK(!program.handle.at);
     while (again(edgebpf_program_share(&program, &other))) continue;
-    while (again(edgebpf_explain(16, code, made.length, told, sizeof told, &count))) continue;
+    while (again(edgebpf_explain(16, code, made.length, table, sizeof table, told, sizeof told, &count))) continue;
     while (again(edgebpf_run(&pin, &program, EDGEBPF_NO_BYTES, 0, frontier, VERTICES, EDGEBPF_SUM, values, VERTICES, &totals)))
         continue;
     edgebpf_close_version(&pin);
@@ -110,10 +111,12 @@ static void check_lengths(void) {
     edgebpf_program program = {{0}};
     edgebpf_verdict verdict;
     size_t count;
-    CHECK(edgebpf_program_new(16, code, sizeof code, &verdict, &program) == EDGEBPF_CODE_LENGTH);
-    CHECK(edgebpf_program_new(15, code, sizeof code, &verdict, &program) == EDGEBPF_RECORD_LENGTH);
-    CHECK(edgebpf_explain(16, code, 9, told, sizeof told, &count) == EDGEBPF_CODE_LENGTH);
-    CHECK(edgebpf_explain(257, code, 9, told, sizeof told, &count) == EDGEBPF_RECORD_LENGTH);
+    CHECK(edgebpf_program_new(16, code, sizeof code, EDGEBPF_NO_BYTES, 0, &verdict, &program) == EDGEBPF_CODE_LENGTH);
+    CHECK(edgebpf_program_new(15, code, sizeof code, EDGEBPF_NO_BYTES, 0, &verdict, &program) == EDGEBPF_RECORD_LENGTH);
+    CHECK(edgebpf_explain(16, code, 9, EDGEBPF_NO_BYTES, 0, told, sizeof told, &count) == EDGEBPF_CODE_LENGTH);
+    CHECK(edgebpf_explain(257, code, 9, EDGEBPF_NO_BYTES, 0, told, sizeof told, &count) == EDGEBPF_RECORD_LENGTH);
+    CHECK(edgebpf_program_new(16, code, 8, code, 4097, &verdict, &program) == EDGEBPF_TABLE_LENGTH);
+    CHECK(edgebpf_explain(16, code, 8, code, 4097, told, sizeof told, &count) == EDGEBPF_TABLE_LENGTH);
     CHECK(asked == 0);
 }
 

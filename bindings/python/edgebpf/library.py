@@ -21,7 +21,7 @@ DIST = HERE.parents[3] / "dist"
 NAME = "libedgebpf.so"
 DONE, NO_MEMORY, EMPTY = 0, 1, 2
 VERTEX_RANGE, TOO_MANY_EDITS, LOG_FULL, REFUSED, RECORD_LENGTH, CODE_LENGTH, ARGUMENT_LENGTH, WRONG_TEXT = 5, 6, 7, 10, 11, 12, 13, 15
-EPOCHS_FULL = 17
+EPOCHS_FULL, TABLE_LENGTH = 17, 18
 ERRORS: dict[int, tuple[type[Exception], str]] = {
     NO_MEMORY: (NoMemory, "there is no memory; nothing was changed"),
     EMPTY: (Closed, "it is closed"),
@@ -31,6 +31,7 @@ ERRORS: dict[int, tuple[type[Exception], str]] = {
     EPOCHS_FULL: (EpochsFull, "1,024 rebases were made"),
     RECORD_LENGTH: (ValueError, "a record has 16 to 256 bytes"),
     CODE_LENGTH: (ValueError, "code has 1 to 4,096 whole units of 8 bytes"),
+    TABLE_LENGTH: (ValueError, "a table has at most 4,096 bytes"),
     ARGUMENT_LENGTH: (ArgumentLength, "the argument does not have the record's length less 16 bytes"),
 }
 # What bindings/c/edgebpf.h declares, as far as this package calls it. A slice's address is a number here.
@@ -49,7 +50,7 @@ uint32_t edgebpf_store_pin(handle *, handle *);
 uint32_t edgebpf_version_info(handle *, info *);
 uint32_t edgebpf_version_lend(handle *, uint32_t, slice *, size_t, size_t *);
 uint32_t edgebpf_version_copy(handle *, uint64_t *, size_t, uint32_t *, size_t);
-uint32_t edgebpf_program_new(uint16_t, const uint8_t *, size_t, verdict *, handle *);
+uint32_t edgebpf_program_new(uint16_t, const uint8_t *, size_t, const uint8_t *, size_t, verdict *, handle *);
 uint32_t edgebpf_assemble(const uint8_t *, size_t, uint8_t *, size_t, assembled *);
 uint32_t edgebpf_run(handle *, handle *, const uint8_t *, size_t, const uint32_t *, size_t, uint32_t, uint64_t *, size_t, totals *);
 uint32_t edgebpf_numbers(handle *, handle *, const uint8_t *, size_t, uint64_t *, size_t);

@@ -4,6 +4,7 @@ from __future__ import annotations
 import os
 import pathlib
 import shutil
+import struct
 import subprocess
 
 from edgebpf import library
@@ -11,7 +12,13 @@ from edgebpf.errors import Error, Refused, WrongText
 
 EDGE_BYTES = 16
 MOST_RECORD = 256
+UNIT = 8
 MOST_UNITS = 4_096
+MOST_TABLE = 4_096
+WRONG_CODE = "code has 1 to 4,096 whole units of 8 bytes"
+# The bytes of an image with a table before its code: what it begins with, and the lengths of record, code (in units) and table.
+IMAGE = struct.Struct("<4sHHH")
+IMAGE_BEGINS = b"BPE2"
 CHECKOUT = pathlib.Path(__file__).resolve().parents[3]
 
 
@@ -32,27 +39,42 @@ class Program:
     """A verified program.
 
     code: bytes of RFC 9669 instructions, in units of 8. record: the length of the record of each run, 16 to 256 bytes.
-    The argument of a run has the bytes from 16 on. `bound` is the greatest number of instructions that a run executes, and
-    `frames` the greatest number of functions that are live at once. Raises `Refused`.
+    The argument of a run has the bytes from 16 on. table: up to 4,096 bytes, which each run reads from the address that `r3`
+    holds when it begins; an array gives the bytes of its items, and without a byte there is no table. `bound` is the greatest
+    number of instructions that a run executes, and `frames` the greatest number of functions that are live at once. Raises
+    `Refused`.
     """
 
-    def __init__(self, code: bytes, record: int = EDGE_BYTES) -> None:
-        self._take(bytes(code), None, record)
+    def __init__(self, code: bytes, record: int = EDGE_BYTES, table: bytes = b"") -> None:
+        self._take(bytes(code), None, record, table)
 
     @classmethod
-    def _of_text(cls, text: str, record: int) -> Program:
+    def _of_text(cls, text: str, record: int, table: bytes) -> Program:
         program = cls.__new__(cls)
-        program._take(None, text, record)
+        program._take(None, text, record, table)
         return program
 
-    def _take(self, code: bytes | None, text: str | None, record: int) -> None:
+    @classmethod
+    def _of_image(cls, image: bytes) -> Program:
+        """The program of an image with a table, as `edgebpf-c` prints it."""
+        _, record, units, _ = IMAGE.unpack_from(image)
+        end = IMAGE.size + UNIT * units
+        return cls(image[IMAGE.size:end], record, image[end:])
+
+    def _take(self, code: bytes | None, text: str | None, record: int, table: bytes) -> None:
         if not EDGE_BYTES <= record <= MOST_RECORD:
             raise ValueError(f"a record has {EDGE_BYTES} to {MOST_RECORD} bytes, not {record}")
-        self.code, self.text, self.record = code, text, record
+        if code is not None and (len(code) % UNIT or not UNIT <= len(code) <= MOST_UNITS * UNIT):
+            raise ValueError(WRONG_CODE)
+        self.code, self.text, self.record, self.table = code, text, record, memoryview(table).tobytes()
+        if len(self.table) > MOST_TABLE:
+            raise ValueError(f"a table has at most {MOST_TABLE} bytes, not {len(self.table)}")
         self._handle: library.Handle | None = None
         if library.path():
             self._verify()
             return
+        if text is not None and self.table:
+            raise Error(f"the assembler takes a table in this process alone, and {library.NAME} or cffi is not there: pass the code")
         run = subprocess.run([command("edgebpf")], input=b"graph 1\n" + self._lines("p"), capture_output=True)
         words = run.stdout.decode().splitlines()[-1].split() if run.stdout else []
         if words[:2] == ["program", "p"]:
@@ -62,7 +84,7 @@ class Program:
         elif words[:2] == ["assembler", "p"]:
             raise WrongText(int(words[3]), int(words[5]))
         elif words[:2] == ["image", "p"]:
-            raise ValueError("code has 1 to 4,096 whole units of 8 bytes")
+            raise ValueError(WRONG_CODE)
         else:
             raise Error(f"edgebpf could not verify the program: {run.stderr.decode().strip() or ' '.join(words)}")
 
@@ -70,7 +92,8 @@ class Program:
         """Verifies the program by the library, and returns its handle."""
         code, verdict = self._bytes(), library.new("verdict *")
         handle = library.Handle()
-        status = library.load().edgebpf_program_new(self.record, code, len(code), verdict, handle.at)
+        given = code, len(code), self.table, len(self.table)
+        status = library.load().edgebpf_program_new(self.record, *given, verdict, handle.at)
         if status == library.REFUSED:
             raise Refused(verdict.cause, verdict.pc, self)
         library.check(status)
@@ -81,31 +104,35 @@ class Program:
         """The code, by the library's assembler where the program is a text."""
         if self.code is not None:
             return self.code
-        told, text = library.new("assembled *"), (self.text or "").encode()
-        code = library.foreign().new("uint8_t[]", 8 * MOST_UNITS)
-        status = library.load().edgebpf_assemble(text, len(text), code, len(code), told)
+        assembled, text = library.new("assembled *"), (self.text or "").encode()
+        code = library.foreign().new("uint8_t[]", UNIT * MOST_UNITS)
+        status = library.load().edgebpf_assemble(text, len(text), code, len(code), assembled)
         if status == library.WRONG_TEXT:
-            raise WrongText(told.cause, told.line)
+            raise WrongText(assembled.cause, assembled.line)
         library.check(status)
-        return bytes(library.foreign().buffer(code, told.length))
+        return bytes(library.foreign().buffer(code, assembled.length))
 
     def _lines(self, name: str) -> bytes:
         """The lines of a script that load the program under a name. They have the code of a text that the library assembled: some of its
         lines may be too long for a script, and a process ends at such a line."""
         code = self._bytes() if self._handle else self.code
+        if code is not None and self.table:
+            front = IMAGE.pack(IMAGE_BEGINS, self.record, len(code) // UNIT, len(self.table))
+            return f"image {name} {(front + code + self.table).hex()}\n".encode()
         if code is not None:
             return f"code {name} {self.record} {code.hex() or '-'}\n".encode()
         return f"program {name} {self.record}\n{self.text}\nend\n".encode()
 
     def _explain(self) -> str:
-        words = [command("edgebpf-explain"), str(self.record)]
+        words = [command("edgebpf-explain"), str(self.record)] + ([self.code.hex()] if self.code is not None else [])
+        words += ["--table", self.table.hex()] if self.table else []
         given = None if self.text is None else self.text + "\n"
-        run = subprocess.run(words + ([self.code.hex()] if self.code is not None else []), input=given, capture_output=True, text=True)
+        run = subprocess.run(words, input=given, capture_output=True, text=True)
         return run.stdout or run.stderr
 
 
-def assemble(text: str, record: int = EDGE_BYTES) -> Program:
-    """The program of an assembler text, whose statements stand one on a line or between semicolons.
+def assemble(text: str, record: int = EDGE_BYTES, table: bytes = b"") -> Program:
+    """The program of an assembler text, whose statements stand one on a line or between semicolons, with a table as `Program` has it.
 
     Raises `WrongText`, whose line counts statements so, and `Refused`.
     """
@@ -114,18 +141,19 @@ def assemble(text: str, record: int = EDGE_BYTES) -> Program:
         raise ValueError("a line `end` would end the program; a label of that name is written `end:`")
     if not text.isascii():
         raise ValueError("a program's text is ASCII")
-    return Program._of_text("\n".join(lines), record)
+    return Program._of_text("\n".join(lines), record, table)
 
 
 def compile_c(path: str | os.PathLike[str], function: str, record: int = EDGE_BYTES) -> Program:
-    """The program of a function in C, `u64 FUNCTION(struct edge *edge, u64 length)`, by `edgebpf-c` and clang.
+    """The program of a function in C, `u64 FUNCTION(struct edge *edge, u64 length)`, by `edgebpf-c` and clang. Its table is the object
+    marked `TABLE`, if there is one.
 
-    Raises `Error` with the compiler's or the linker's words, and if the program has a table; and `Refused`.
+    Raises `Error` with the compiler's or the linker's words, and `Refused`.
     """
     run = subprocess.run([command("edgebpf-c"), str(path), function, str(record)], capture_output=True, text=True)
     if run.returncode or not run.stdout:
         raise Error(run.stderr.strip())
     word, *words = run.stdout.split()
     if word == "image":
-        raise Error(f"{function} has a table, which only the programs of a script have: pass its bytes as the argument of the run")
+        return Program._of_image(bytes.fromhex(words[1]))
     return Program(bytes.fromhex(words[2]), record)

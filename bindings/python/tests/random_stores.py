@@ -3,8 +3,9 @@
 
     random_stores.py [--batches N] [--seed S]
 
-Some batches come after a rebase. After each batch the counts are those of a set, the arrays those of scipy, and one random program is verified, run and asked for each edge's
-number, all as the second implementation has it. It ends with status 1 at the first difference.
+Some batches come after a rebase. After each batch the counts are those of a set, the arrays those of scipy, and one random program, half of the
+time with a table, is verified, run and asked for each edge's number, all as the second implementation has it. It ends with status 1 at the first
+difference.
 """
 import argparse
 import pathlib
@@ -83,23 +84,25 @@ class Trial:
 
     def compare_program(self, version):
         record = self.chance.choice([EDGE, EDGE, EDGE + 8])
-        code = self.programs.code(record)
-        wanted = judged(code, record)
+        table = self.chance.randbytes(self.chance.choice([0, 0, 0, 1, 16, 300]))
+        code = self.programs.code(record, table)
+        wanted = judged(code, record, table)
         try:
-            program = edgebpf.Program(code, record)
+            program = edgebpf.Program(code, record, table)
         except edgebpf.Refused as refused:
             same("refusal", (refused.cause, refused.unit), getattr(wanted, "args", wanted))
             return
         same("verdict", (program.bound, program.frames), wanted[:2] if isinstance(wanted, tuple) else wanted.args)
         if program.bound <= MOST_STEPS:
-            self.compare_runs(version, program, code, self.chance.randbytes(record - EDGE))
+            self.compare_runs(version, program, self.chance.randbytes(record - EDGE))
 
-    def compare_runs(self, version, program, code, argument):
+    def compare_runs(self, version, program, argument):
         ordered, targets = sorted(self.edges), {}
         for one, other in ordered:
             targets.setdefault(one, []).append(other)
         graph = bpf.Graph(self.vertices, targets, len(ordered))
-        numbers = {one: [bpf.run(code, record_of((one, other), place, len(all_of), argument), graph, MOST_STEPS) for place, other in enumerate(all_of)] for one, all_of in targets.items()}
+        run = lambda record: bpf.run(program.code, record, graph, MOST_STEPS, program.table)
+        numbers = {one: [run(record_of((one, other), place, len(all_of), argument)) for place, other in enumerate(all_of)] for one, all_of in targets.items()}
         flat = [number for one in sorted(numbers) for number in numbers[one]]
         same("numbers", version.numbers(program, argument).tolist(), flat)
         reduction = self.chance.choice(list(REDUCE))

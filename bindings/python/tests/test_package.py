@@ -185,12 +185,48 @@ class Package(unittest.TestCase):
                 edgebpf.assemble(text)
         calls = edgebpf.assemble("calllocal f;exit;f:;mov r0, 1;exit")
         self.assertEqual((calls.bound, calls.frames), (4, 2))
-        for code in (b"", bytes(7), bytes(8 * 4_097)):
-            with self.assertRaises(ValueError):
-                edgebpf.Program(code)
+        for code in (b"", bytes(7), bytes(8 * 4_097), bytes(8 * 70_000)):
+            for table in (b"", b"\x07"):
+                with self.assertRaisesRegex(ValueError, "code has 1 to 4,096"):
+                    edgebpf.Program(code, table=table)
         for record in (15, 257):
             with self.assertRaises(ValueError):
                 edgebpf.assemble(TARGET, record)
+
+    def test_tables(self):
+        """Each edge has the word of the table at its target; what is read past the end, written or there without a table is refused."""
+        words = np.array([40, 10, 20, 286], np.uint32)
+        code = bytes.fromhex("6112040000000000570200000300000067020000020000000f2300000000000061300000000000009500000000000000")
+        store = self.store(4)
+        store.batch("A", ([0, 0, 2], [1, 3, 0]))
+        version = store.pin()
+        for table in (words, words.tobytes()):
+            program = edgebpf.Program(code, table=table)
+            self.assertEqual((program.bound, program.frames, program.table), (6, 1, words.tobytes()))
+            self.assertEqual(version.numbers(program).tolist(), [10, 286, 40])
+            self.assertEqual(version.run(program, "max").values.tolist(), [286, 0, 40, 0])
+        with self.assertRaises(edgebpf.Refused) as refused:
+            edgebpf.Program(code, table=words.tobytes()[:15])
+        self.assertEqual((refused.exception.cause, refused.exception.unit), (11, 4))
+        self.assertIn("known of r3: table+0 to 12", refused.exception.explain())
+        with self.assertRaises(edgebpf.Refused) as refused:
+            edgebpf.Program(code)
+        self.assertEqual((refused.exception.cause, refused.exception.unit), (8, 3))
+        write = bytes.fromhex("62030000000000009500000000000000")
+        with self.assertRaises(edgebpf.Refused) as refused:
+            edgebpf.Program(write, table=bytes(4))
+        self.assertEqual((refused.exception.cause, refused.exception.unit), (17, 0))
+        last = bytes.fromhex("7130ff0f000000009500000000000000")
+        self.assertEqual(version.run(edgebpf.Program(last, table=bytes(4_095) + b"\x07")).total, 21)
+        for wrong in (bytes(4_097), "00"):
+            with self.assertRaises((ValueError, TypeError)):
+                edgebpf.Program(last, table=wrong)
+        if edgebpf.library.path() is None:
+            with self.assertRaisesRegex(edgebpf.Error, "pass the code"):
+                edgebpf.assemble("ldxb r0, [r3+0]; exit", table=b"\x09")
+        else:
+            byte = edgebpf.assemble("ldxb r0, [r3+0]; exit", table=b"\x09")
+            self.assertEqual(version.run(byte).total, 27)
 
     def test_numbers_of_errors(self):
         """Each cause and each error of a text has words, and the library's statuses are those of the header."""
@@ -401,11 +437,12 @@ class Package(unittest.TestCase):
                 edgebpf.compile_c(source, "missing")
             source.write_text("#include <edgebpf.h>\nTABLE static const u32 weights[2] = {3, 1};\n"
                               "u64 score(struct edge *edge, u64 length, const u32 table[2]) { return table[edge->target & 1]; }\n")
-            with self.assertRaisesRegex(edgebpf.Error, "score has a table"):
-                edgebpf.compile_c(source, "score")
+            weighed = edgebpf.compile_c(source, "score")
+        self.assertEqual(weighed.table, bytes([3, 0, 0, 0, 1, 0, 0, 0]))
         store = self.store(3)
         store.batch("A", ([0, 1, 2], [1, 0, 0]))
         self.assertEqual(store.pin().run(mutual).values.tolist(), [1, 1, 0])
+        self.assertEqual(store.pin().numbers(weighed).tolist(), [1, 3, 3])
 
     def test_installed(self):
         """`pip install` needs no network, and gives the same package, with the library if there is a C compiler."""

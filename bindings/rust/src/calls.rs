@@ -96,6 +96,8 @@ extern "C" {
         record_length: u16,
         code: *const u8,
         code_length: usize,
+        table: *const u8,
+        table_length: usize,
         verdict: *mut RawVerdict,
         out: *mut RawHandle,
     ) -> u32;
@@ -105,12 +107,14 @@ extern "C" {
         text_length: usize,
         code: *mut u8,
         room: usize,
-        told: *mut RawAssembled,
+        assembled: *mut RawAssembled,
     ) -> u32;
     pub(crate) fn edgebpf_explain(
         record_length: u16,
         code: *const u8,
         code_length: usize,
+        table: *const u8,
+        table_length: usize,
         text: *mut u8,
         room: usize,
         count: *mut usize,

@@ -24,6 +24,8 @@ pub enum Error {
     RecordLength,
     /// Code has 1 to 4,096 units of 8 bytes.
     CodeLength,
+    /// A table has at most 4,096 bytes.
+    TableLength,
     /// The argument of a run is as long as the record less 16 bytes.
     ArgumentLength,
     /// The library answered a status of which this crate knows nothing.
@@ -48,6 +50,7 @@ impl Error {
             LENGTHS => Error::Lengths,
             11 => Error::RecordLength,
             12 => Error::CodeLength,
+            18 => Error::TableLength,
             13 => Error::ArgumentLength,
             other => Error::Unknown(other),
         }
@@ -75,6 +78,7 @@ impl fmt::Display for Error {
             Error::Lengths => to.write_str("the lengths of the arrays do not fit together"),
             Error::RecordLength => to.write_str("the record length is not from 16 to 256"),
             Error::CodeLength => to.write_str("the code is not 1 to 4096 units of 8 bytes"),
+            Error::TableLength => to.write_str("the table has more than 4096 bytes"),
             Error::ArgumentLength => to.write_str("the argument is not as long as the record less 16 bytes"),
             Error::Unknown(status) => write!(to, "the library answered {status}"),
         }
@@ -88,7 +92,7 @@ impl std::error::Error for Error {}
 pub enum Refusal {
     /// The verifier refuses it.
     Refused(Refused),
-    /// `RecordLength`, `CodeLength` or `NoMemory`.
+    /// `RecordLength`, `CodeLength`, `TableLength` or `NoMemory`.
     Error(Error),
 }
 
@@ -112,12 +116,13 @@ pub struct Refused {
     pub pc: u32,
     pub(crate) record_length: u16,
     pub(crate) code: Vec<u8>,
+    pub(crate) table: Vec<u8>,
 }
 
 impl Refused {
     /// What the verifier knows at each instruction, why it refuses the program, and what helps.
     pub fn explain(&self) -> Result<String, Error> {
-        explain(self.record_length, &self.code)
+        explain(self.record_length, &self.code, &self.table)
     }
 }
 
@@ -165,7 +170,7 @@ mod tests {
     fn errors_are_the_statuses_of_the_header() {
         let header = include_str!("../../c/edgebpf.h");
         let words: Vec<&str> =
-            header.split("words[] = {").nth(1).unwrap().split('"').skip(1).step_by(2).take(18).collect();
+            header.split("words[] = {").nth(1).unwrap().split('"').skip(1).step_by(2).take(19).collect();
         for (status, error) in [
             (1, Error::NoMemory),
             (4, Error::VertexCount),
@@ -176,6 +181,7 @@ mod tests {
             (12, Error::CodeLength),
             (13, Error::ArgumentLength),
             (17, Error::EpochsFull),
+            (18, Error::TableLength),
         ] {
             assert_eq!((Error::of(status), error.to_string().as_str()), (error, words[status as usize]));
         }

@@ -21,13 +21,28 @@ pub struct Verdict {
 }
 
 impl Program {
-    /// Verifies code, without a table, for records of 16 to 256 bytes.
+    /// Verifies code for records of 16 to 256 bytes.
     pub fn verify(record_length: u16, code: &[u8]) -> Result<Program, Refusal> {
+        Program::with_table(record_length, code, &[])
+    }
+
+    /// Verifies code with a table of at most 4,096 bytes, which each run reads from the address that R3 holds when it begins.
+    /// Without a byte there is no table.
+    pub fn with_table(record_length: u16, code: &[u8], table: &[u8]) -> Result<Program, Refusal> {
         let mut verdict = RawVerdict::default();
         let handle = Handle::empty();
-        // SAFETY: the code is as long as said, and `handle` is empty.
-        let status =
-            unsafe { edgebpf_program_new(record_length, code.as_ptr(), code.len(), &mut verdict, handle.at()) };
+        // SAFETY: code and table are as long as said, and `handle` is empty.
+        let status = unsafe {
+            edgebpf_program_new(
+                record_length,
+                code.as_ptr(),
+                code.len(),
+                table.as_ptr(),
+                table.len(),
+                &mut verdict,
+                handle.at(),
+            )
+        };
         match status {
             DONE => Ok(Program { handle, verdict: Verdict { bound: verdict.bound, frames: verdict.frames } }),
             REFUSED => Err(Refusal::Refused(Refused {
@@ -35,6 +50,7 @@ impl Program {
                 pc: verdict.pc,
                 record_length,
                 code: code.to_vec(),
+                table: table.to_vec(),
             })),
             other => Err(Refusal::Error(Error::of(other))),
         }
@@ -58,30 +74,39 @@ impl Program {
 pub fn assemble(text: &str) -> Result<Vec<u8>, NotAssembled> {
     let mut code = vec![0; 8 * (1 + text.lines().count())];
     loop {
-        let mut told = RawAssembled::default();
+        let mut assembled = RawAssembled::default();
         // SAFETY: the text and the code are as long as said.
-        let status = unsafe { edgebpf_assemble(text.as_ptr(), text.len(), code.as_mut_ptr(), code.len(), &mut told) };
+        let status = unsafe { edgebpf_assemble(text.as_ptr(), text.len(), code.as_mut_ptr(), code.len(), &mut assembled) };
         match status {
             DONE => {
-                code.truncate(told.length);
+                code.truncate(assembled.length);
                 return Ok(code);
             }
-            LENGTHS => code.resize(told.length, 0),
-            WRONG_TEXT => return Err(NotAssembled::WrongText { line: told.line, cause: told.cause }),
+            LENGTHS => code.resize(assembled.length, 0),
+            WRONG_TEXT => return Err(NotAssembled::WrongText { line: assembled.line, cause: assembled.cause }),
             _ => return Err(NotAssembled::NoMemory),
         }
     }
 }
 
-/// What the verifier knows of a program at each instruction, as text, whether it accepts it or not. `RecordLength`, `CodeLength`
-/// and `NoMemory`.
-pub fn explain(record_length: u16, code: &[u8]) -> Result<String, Error> {
+/// What the verifier knows of a program at each instruction, as text, whether it accepts it or not. Without a byte of a table it has
+/// none. `RecordLength`, `CodeLength`, `TableLength` and `NoMemory`.
+pub fn explain(record_length: u16, code: &[u8], table: &[u8]) -> Result<String, Error> {
     let mut text = vec![0; 256 + 16 * code.len()];
     loop {
         let mut count = 0;
-        // SAFETY: the code and the text are as long as said.
+        // SAFETY: code, table and text are as long as said.
         let status = unsafe {
-            edgebpf_explain(record_length, code.as_ptr(), code.len(), text.as_mut_ptr(), text.len(), &mut count)
+            edgebpf_explain(
+                record_length,
+                code.as_ptr(),
+                code.len(),
+                table.as_ptr(),
+                table.len(),
+                text.as_mut_ptr(),
+                text.len(),
+                &mut count,
+            )
         };
         if status == LENGTHS {
             text.resize(count, 0);

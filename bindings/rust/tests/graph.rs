@@ -127,13 +127,34 @@ fn a_batch_may_be_cleared() {
     assert_eq!(EDGE_BYTES, 16);
 }
 
+/// Each edge has the word of the table at its target.
+#[test]
+fn a_program_reads_its_table() {
+    let mut store = Store::new(4).unwrap();
+    store.apply(Feed::A, &Batch::from_iter([(0, 1), (0, 3), (2, 0)])).unwrap();
+    let version = store.pin().unwrap();
+    let code = assemble("ldxw r2, [r1+4]\nand r2, 3\nlsh r2, 2\nadd r3, r2\nldxw r0, [r3+0]\nexit").unwrap();
+    let table: Vec<u8> = [40u32, 10, 20, 286].iter().flat_map(|word| word.to_le_bytes()).collect();
+    let weighed = Program::with_table(16, &code, &table).unwrap();
+    assert_eq!(weighed.verdict().bound, 6);
+    let mut values = [9; 3];
+    let totals = version.run(&weighed.share().unwrap(), &[], &[0, 1, 2], Reduction::Max, &mut values).unwrap();
+    assert_eq!((values, totals.total), ([286, 0, 40], 286));
+    let Err(Refusal::Refused(refused)) = Program::with_table(16, &code, &table[..15]) else { panic!("it ends before") };
+    assert_eq!((refused.cause, refused.pc), (11, 4));
+    assert_eq!(refused.explain().unwrap(), explain(16, &code, &table[..15]).unwrap());
+    assert_ne!(refused.explain(), explain(16, &code, &table));
+    let Err(Refusal::Refused(refused)) = Program::verify(16, &code) else { panic!("there is no table") };
+    assert_eq!((refused.cause, refused.pc), (8, 3));
+}
+
 #[test]
 fn programs_are_refused_and_explained() {
     let outside = assemble("ldxw r0, [r1+13]\nexit ; the byte after the record").unwrap();
     let Err(Refusal::Refused(refused)) = Program::verify(16, &outside) else { panic!("it is outside the record") };
     assert_eq!((refused.cause, refused.pc), (11, 0));
     assert_eq!(refused.to_string(), "the verifier refuses the program: cause 11 at 0");
-    assert_eq!(refused.explain().unwrap(), explain(16, &outside).unwrap());
+    assert_eq!(refused.explain().unwrap(), explain(16, &outside, &[]).unwrap());
     assert!(refused.explain().unwrap().contains("ldxw"));
     let later = assemble("mov r2, 1\nldxw r0, [r1+21]\nexit").unwrap();
     let Err(Refusal::Refused(refused)) = Program::verify(24, &later) else { panic!("it is outside the record") };
@@ -141,15 +162,18 @@ fn programs_are_refused_and_explained() {
     assert!(refused.explain().unwrap().starts_with("program of 3 units, records of 24 bytes\n"));
     let longest = assemble(&("mov r0, 7\n".repeat(4095) + "exit")).unwrap();
     assert_eq!(Program::verify(16, &longest).unwrap().verdict().bound, 4096);
-    assert!(explain(16, &longest).unwrap().ends_with("\naccepted, bound 4096, frames 1\n"));
+    assert!(explain(16, &longest, &[]).unwrap().ends_with("\naccepted, bound 4096, frames 1\n"));
     // An explanation that is longer than what it is first given room for: each instruction knows twenty slots.
     let slots: String = (1..=20).map(|slot| format!("stdw [r10-{}], {slot}\n", 8 * slot)).collect();
     let spilled = assemble(&(slots + &"mov r0, 1\n".repeat(40) + "exit")).unwrap();
-    let told = explain(16, &spilled).unwrap();
+    let told = explain(16, &spilled, &[]).unwrap();
     assert!(told.len() > 256 + 16 * spilled.len() && told.ends_with("\naccepted, bound 61, frames 1\n"));
     assert!(matches!(Program::verify(15, &outside), Err(Refusal::Error(Error::RecordLength))));
     assert!(matches!(Program::verify(16, &outside[1..]), Err(Refusal::Error(Error::CodeLength))));
     assert!(matches!(Program::verify(16, &[]), Err(Refusal::Error(Error::CodeLength))));
+    let longer = [0; 4097];
+    assert!(matches!(Program::with_table(16, &outside, &longer), Err(Refusal::Error(Error::TableLength))));
+    assert_eq!(explain(16, &outside, &longer), Err(Error::TableLength));
     let wrong = assemble("mov r0, 1\nja x").unwrap_err();
     assert_eq!(wrong, NotAssembled::WrongText { line: 2, cause: 4 });
     assert_eq!(wrong.to_string(), "the text means no code: error 4 in line 2");

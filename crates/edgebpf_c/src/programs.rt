@@ -1,35 +1,42 @@
 //! Programs.
-ghost use Rattle.std.specs.Prelude.{◌≡◌, ◌≢◌, ◌⊎◌, length};
-ghost use Rattle.bpf_image.specs.Program.{without_table};
-ghost use Rattle.embedding.specs.declared.statuses.TheConstants.{DONE, NO_MEMORY, LENGTHS, REFUSED, RECORD_LENGTH, CODE_LENGTH};
+ghost use Rattle.std.specs.Prelude.{◌≡◌, ◌≢◌, ◌⊎◌};
+ghost use Rattle.bpf_image.specs.Program.{IsImage};
+ghost use Rattle.embedding.specs.declared.statuses.TheConstants.{DONE, NO_MEMORY, LENGTHS, REFUSED};
 ghost use Rattle.embedding.specs.Holding.{OnProgram, HoldsProgram};
 ghost use Rattle.embedding.specs.Batches.{IsHandedOut};
-ghost use Rattle.embedding.specs.Programs.{AreImageLengths, TellsLengths, IsAccepted, IsRefused};
+ghost use Rattle.embedding.specs.Programs.{program_of, NamesLength, IsOfLength, IsAccepted, IsRefused};
 ghost use Rattle.embedding.specs.Texts.{IsAssembled, IsExplained};
 
 use embedding::{
-    Assembled, EMPTY, Handle, Verdict, assemble_into, explain_into, new_program, share_program_held,
+    Assembled, EMPTY, Handle, ProgramBytes, Verdict, assemble_into, explain_into, new_program,
+    share_program_held,
 };
 use std::alloc::Global;
 
-/// Verifies a program of this code for records of this length.
+/// Verifies a program of this code for records of this length. Without a byte of a table it has none.
 #[unsafe(no_mangle)]
 pub extern "C" fn edgebpf_program_new(
     alloc: Global,
     record_length: u16,
     code: &[u8],
+    table: &[u8],
     verdict: &mut Verdict,
     out: &mut Handle,
 ) -> u32
-    ensures lengths { TellsLengths record_length (length code.now) result }
-    ensures image { (result ≡ DONE) ⊎ (result ≡ REFUSED) → AreImageLengths record_length (length code.now) }
-    ensures others { result ≢ DONE → result ≢ REFUSED → result ≢ RECORD_LENGTH → result ≢ CODE_LENGTH → result ≡ NO_MEMORY }
-    ensures made { result ≡ DONE → HoldsProgram out.new.held (without_table code.now record_length) }
-    ensures told { result ≡ DONE → IsAccepted (without_table code.now record_length) verdict.new }
-    ensures refused { result ≡ REFUSED → IsRefused (without_table code.now record_length) verdict.new }
+    ensures lengths { NamesLength (program_of record_length code.now table.now) result }
+    ensures image { (result ≡ DONE) ⊎ (result ≡ REFUSED) → IsImage (program_of record_length code.now table.now) }
+    ensures others { result ≢ DONE → result ≢ REFUSED → (IsOfLength result → ⊥) → result ≡ NO_MEMORY }
+    ensures made { result ≡ DONE → HoldsProgram out.new.held (program_of record_length code.now table.now) }
+    ensures accepted { result ≡ DONE → IsAccepted (program_of record_length code.now table.now) verdict.new }
+    ensures refused { result ≡ REFUSED → IsRefused (program_of record_length code.now table.now) verdict.new }
     ensures left { result ≢ DONE → out.new.held ≡ out.old.held }
 {
-    new_program(alloc, record_length, code, verdict, out)
+    let bytes = ProgramBytes {
+        record_length,
+        code,
+        table,
+    };
+    new_program(alloc, &bytes, verdict, out)
 }
 
 /// Another handle of the same program, for another thread.
@@ -40,7 +47,7 @@ pub extern "C" fn edgebpf_program_share(
     out: &mut Handle,
 ) -> u32
     ensures kept { program.new.held ≡ program.old.held }
-    ensures told { OnProgram program.old.held result (out.new.held ≡ out.old.held)
+    ensures answered { OnProgram program.old.held result (out.new.held ≡ out.old.held)
         (λ p. IsHandedOut result (HoldsProgram out.new.held p) (out.new.held ≡ out.old.held)) }
 {
     match program.take(alloc) {
@@ -59,11 +66,11 @@ pub extern "C" fn edgebpf_assemble(
     alloc: Global,
     text: &[u8],
     code: &mut [u8],
-    told: &mut Assembled,
+    assembled: &mut Assembled,
 ) -> u32
-    ensures { IsAssembled text.now code.old result told.new code.new }
+    ensures { IsAssembled text.now code.old result assembled.new code.new }
 {
-    assemble_into(alloc, text, code, told)
+    assemble_into(alloc, text, code, assembled)
 }
 
 /// A text that explains a program to a person: what the verifier knows of it, and why it is refused.
@@ -72,14 +79,20 @@ pub extern "C" fn edgebpf_explain(
     alloc: Global,
     record_length: u16,
     code: &[u8],
+    table: &[u8],
     text: &mut [u8],
     count: &mut usize,
 ) -> u32
     ensures explained { (result ≡ DONE) ⊎ (result ≡ LENGTHS)
-        → IsExplained (without_table code.now record_length) text.old result text.new count.new }
-    ensures lengths { TellsLengths record_length (length code.now) result }
-    ensures others { result ≢ DONE → result ≢ LENGTHS → result ≢ RECORD_LENGTH → result ≢ CODE_LENGTH → result ≡ NO_MEMORY }
+        → IsExplained (program_of record_length code.now table.now) text.old result text.new count.new }
+    ensures lengths { NamesLength (program_of record_length code.now table.now) result }
+    ensures others { result ≢ DONE → result ≢ LENGTHS → (IsOfLength result → ⊥) → result ≡ NO_MEMORY }
     ensures left { result ≢ DONE → text.new ≡ text.old }
 {
-    explain_into(alloc, record_length, code, text, count)
+    let bytes = ProgramBytes {
+        record_length,
+        code,
+        table,
+    };
+    explain_into(alloc, &bytes, text, count)
 }

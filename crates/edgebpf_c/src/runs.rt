@@ -23,7 +23,7 @@ pub extern "C" fn edgebpf_run(
 ) -> u32
     ensures version { version.new.held ≡ version.old.held }
     ensures program { program.new.held ≡ program.old.held }
-    ensures told { OnBoth version.old.held program.old.held result ((values.new ≡ values.old) × (totals.new ≡ totals.old))
+    ensures answered { OnBoth version.old.held program.old.held result ((values.new ≡ values.old) × (totals.new ≡ totals.old))
         (λ past p. IsRun (graph_of past) p argument.now frontier.now reduction result values.old totals.old values.new totals.new) }
 {
     let Some(graph) = version.take(alloc) else {
@@ -52,7 +52,7 @@ pub extern "C" fn edgebpf_numbers(
 ) -> u32
     ensures version { version.new.held ≡ version.old.held }
     ensures program { program.new.held ≡ program.old.held }
-    ensures told { OnBoth version.old.held program.old.held result (numbers.new ≡ numbers.old)
+    ensures answered { OnBoth version.old.held program.old.held result (numbers.new ≡ numbers.old)
         (λ past p. AreNumbers (graph_of past) p argument.now result numbers.old numbers.new) }
 {
     let Some(graph) = version.take(alloc) else {

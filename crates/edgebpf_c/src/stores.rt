@@ -68,7 +68,7 @@ pub extern "C" fn edgebpf_store_rebase(alloc: Global, store: &mut Handle, epoch:
 #[unsafe(no_mangle)]
 pub extern "C" fn edgebpf_store_pin(alloc: Global, store: &mut Handle, out: &mut Handle) -> u32
     ensures kept { store.new.held ≡ store.old.held }
-    ensures told { OnStore store.old.held result (out.new.held ≡ out.old.held)
+    ensures answered { OnStore store.old.held result (out.new.held ≡ out.old.held)
         (λ p. IsHandedOut result (HoldsVersion out.new.held p) (out.new.held ≡ out.old.held)) }
 {
     match store.take(alloc) {

@@ -24,7 +24,7 @@ pub extern "C" fn edgebpf_version_share(
     out: &mut Handle,
 ) -> u32
     ensures kept { version.new.held ≡ version.old.held }
-    ensures told { OnVersion version.old.held result (out.new.held ≡ out.old.held)
+    ensures answered { OnVersion version.old.held result (out.new.held ≡ out.old.held)
         (λ p. IsHandedOut result (HoldsVersion out.new.held p) (out.new.held ≡ out.old.held)) }
 {
     match version.take(alloc) {
@@ -41,7 +41,7 @@ pub extern "C" fn edgebpf_version_share(
 #[unsafe(no_mangle)]
 pub extern "C" fn edgebpf_version_info(alloc: Global, version: &mut Handle, info: &mut Info) -> u32
     ensures kept { version.new.held ≡ version.old.held }
-    ensures told { OnVersion version.old.held result (info.new ≡ info.old)
+    ensures answered { OnVersion version.old.held result (info.new ≡ info.old)
         (λ p. (result ≡ DONE) × (info.new ≡ info_of p)) }
 {
     match version.take(alloc) {
@@ -63,7 +63,7 @@ pub extern "C" fn edgebpf_version_degree(
     count: &mut u32,
 ) -> u32
     ensures kept { version.new.held ≡ version.old.held }
-    ensures told { OnVersion version.old.held result (count.new ≡ count.old)
+    ensures answered { OnVersion version.old.held result (count.new ≡ count.old)
         (λ p. (result ≡ DONE) × (count.new ≡ degree (graph_of p) vertex)) }
 {
     match version.take(alloc) {
@@ -86,7 +86,7 @@ pub extern "C" fn edgebpf_version_has_edge(
     answer: &mut u32,
 ) -> u32
     ensures kept { version.new.held ≡ version.old.held }
-    ensures told { OnVersion version.old.held result (answer.new ≡ answer.old)
+    ensures answered { OnVersion version.old.held result (answer.new ≡ answer.old)
         (λ p. (result ≡ DONE) × (answer.new ≡ answer_of (is_edge (graph_of p) source target))) }
 {
     match version.take(alloc) {
@@ -109,7 +109,7 @@ pub extern "C" fn edgebpf_version_neighbour(
     neighbour: &mut u32,
 ) -> u32
     ensures kept { version.new.held ≡ version.old.held }
-    ensures told { OnVersion version.old.held result (neighbour.new ≡ neighbour.old)
+    ensures answered { OnVersion version.old.held result (neighbour.new ≡ neighbour.old)
         (λ p. IsNeighbour (graph_of p) vertex place result neighbour.old neighbour.new) }
 {
     match version.take(alloc) {
@@ -133,7 +133,7 @@ pub extern "C" fn edgebpf_version_lend(
     lent: &mut usize,
 ) -> u32
     ensures kept { version.new.held ≡ version.old.held }
-    ensures told { OnVersion version.old.held result ((slices.new ≡ slices.old) × (lent.new ≡ lent.old))
+    ensures answered { OnVersion version.old.held result ((slices.new ≡ slices.old) × (lent.new ≡ lent.old))
         (λ p. (result ≡ DONE) × AreLent (neighbours (graph_of p) vertex) lent.new slices.old slices.new) }
 {
     match version.take(alloc) {
@@ -155,7 +155,7 @@ pub extern "C" fn edgebpf_version_copy(
     targets: &mut [u32],
 ) -> u32
     ensures kept { version.new.held ≡ version.old.held }
-    ensures told { OnVersion version.old.held result ((starts.new ≡ starts.old) × (targets.new ≡ targets.old))
+    ensures answered { OnVersion version.old.held result ((starts.new ≡ starts.old) × (targets.new ≡ targets.old))
         (λ past. IsCopy (graph_of past) result starts.old targets.old starts.new targets.new) }
 {
     match version.take(alloc) {

@@ -9,30 +9,30 @@ use Rattle.embedding.specs.declared.held.Held.TheVariants as held
 
 -- of a store whose last version has this past, what is reported
 abbrev pub OnStore : Option Held → ℕ → Type 0 → (Past → Type 0) → Type 0
-OnStore None status same told = (status ≡ EMPTY) × same
-OnStore (Some (held.Store s)) status same told = told s
-OnStore (Some (held.Version v)) status same told = (status ≡ OTHER_KIND) × same
-OnStore (Some (held.Program c)) status same told = (status ≡ OTHER_KIND) × same
+OnStore None status same answer = (status ≡ EMPTY) × same
+OnStore (Some (held.Store s)) status same answer = answer s
+OnStore (Some (held.Version v)) status same answer = (status ≡ OTHER_KIND) × same
+OnStore (Some (held.Program c)) status same answer = (status ≡ OTHER_KIND) × same
 
 -- of a version of this past
 abbrev pub OnVersion : Option Held → ℕ → Type 0 → (Past → Type 0) → Type 0
-OnVersion None status same told = (status ≡ EMPTY) × same
-OnVersion (Some (held.Store s)) status same told = (status ≡ OTHER_KIND) × same
-OnVersion (Some (held.Version v)) status same told = told (arc_value v)
-OnVersion (Some (held.Program c)) status same told = (status ≡ OTHER_KIND) × same
+OnVersion None status same answer = (status ≡ EMPTY) × same
+OnVersion (Some (held.Store s)) status same answer = (status ≡ OTHER_KIND) × same
+OnVersion (Some (held.Version v)) status same answer = answer (arc_value v)
+OnVersion (Some (held.Program c)) status same answer = (status ≡ OTHER_KIND) × same
 
 -- of a verified program
 abbrev pub OnProgram : Option Held → ℕ → Type 0 → (Program → Type 0) → Type 0
-OnProgram None status same told = (status ≡ EMPTY) × same
-OnProgram (Some (held.Store s)) status same told = (status ≡ OTHER_KIND) × same
-OnProgram (Some (held.Version v)) status same told = (status ≡ OTHER_KIND) × same
-OnProgram (Some (held.Program c)) status same told = told c
+OnProgram None status same answer = (status ≡ EMPTY) × same
+OnProgram (Some (held.Store s)) status same answer = (status ≡ OTHER_KIND) × same
+OnProgram (Some (held.Version v)) status same answer = (status ≡ OTHER_KIND) × same
+OnProgram (Some (held.Program c)) status same answer = answer c
 
 -- of a version and a program; an empty handle is reported first
 abbrev pub OnBoth : Option Held → Option Held → ℕ → Type 0 → (Past → Program → Type 0) → Type 0
-OnBoth None b status same told = (status ≡ EMPTY) × same
-OnBoth (Some x) None status same told = (status ≡ EMPTY) × same
-OnBoth (Some x) (Some y) status same told = OnVersion (Some x) status same (λ p. OnProgram (Some y) status same (told p))
+OnBoth None b status same answer = (status ≡ EMPTY) × same
+OnBoth (Some x) None status same answer = (status ≡ EMPTY) × same
+OnBoth (Some x) (Some y) status same answer = OnVersion (Some x) status same (λ p. OnProgram (Some y) status same (answer p))
 
 -- a handle holds a store whose last version has this past, or a version, or a program
 abbrev pub HoldsStore : Option Held → Past → Type 0

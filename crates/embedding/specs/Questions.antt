@@ -15,9 +15,9 @@ answer_of true = 1
 answer_of false = 0
 
 -- the neighbour there is written; or there is none, and then nothing is written
-abbrev pub told_neighbour : Option ℕ → ℕ → ℕ → ℕ → Type 0
-told_neighbour (Some v) status before after = (status ≡ DONE) × (after ≡ v)
-told_neighbour None status before after = (status ≡ NO_NEIGHBOUR) × (after ≡ before)
+abbrev pub found_neighbour : Option ℕ → ℕ → ℕ → ℕ → Type 0
+found_neighbour (Some v) status before after = (status ≡ DONE) × (after ≡ v)
+found_neighbour None status before after = (status ≡ NO_NEIGHBOUR) × (after ≡ before)
 
 abbrev pub IsNeighbour : Graph → ℕ → ℕ → ℕ → ℕ → ℕ → Type 0
-IsNeighbour g vertex place status before after = told_neighbour (slice_get (neighbours g vertex) place) status before after
+IsNeighbour g vertex place status before after = found_neighbour (slice_get (neighbours g vertex) place) status before after

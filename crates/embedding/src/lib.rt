@@ -24,7 +24,7 @@ pub use edits::Arrays;
 pub use handle::{Handle, hand_out};
 pub use held::Held;
 pub use numbers::number_held;
-pub use programs::{Verdict, new_program, share_program_held};
+pub use programs::{ProgramBytes, Verdict, new_program, share_program_held};
 pub use questions::{
     Info, degree_held, has_edge_held, info_held, neighbour_held, share_version_held,
 };
@@ -33,8 +33,8 @@ pub use runs::{Totals, run_held};
 pub use slices::{Slice, lend_held};
 pub use statuses::{
     ARGUMENT_LENGTH, CODE_LENGTH, DONE, EMPTY, EPOCHS_FULL, FEED, LENGTHS, LOG_FULL, NO_MEMORY,
-    NO_NEIGHBOUR, OTHER_KIND, RECORD_LENGTH, REDUCTION, REFUSED, TOO_MANY_EDITS, VERTEX_COUNT,
-    VERTEX_RANGE, WRONG_TEXT,
+    NO_NEIGHBOUR, OTHER_KIND, RECORD_LENGTH, REDUCTION, REFUSED, TABLE_LENGTH, TOO_MANY_EDITS,
+    VERTEX_COUNT, VERTEX_RANGE, WRONG_TEXT,
 };
 pub use store::{Change, Store};
 pub use texts::{Assembled, assemble_into, explain_into};

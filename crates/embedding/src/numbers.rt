@@ -18,7 +18,7 @@ fn number_all(
     numbers: &mut [u64],
 ) -> u32
     ensures program { program.new ≡ program.old }
-    ensures told { AreNumbers (graph_of version.now) program.old argument.now result numbers.old numbers.new }
+    ensures answered { AreNumbers (graph_of version.now) program.old argument.now result numbers.old numbers.new }
 {
     if numbers.len() as u64 != version.edge_count() {
         return LENGTHS;
@@ -35,7 +35,7 @@ fn number_all(
 /// less 16 bytes.
 pub fn number_held(graph: &Held, code: &mut Held, argument: &[u8], numbers: &mut [u64]) -> u32
     ensures program { code.new ≡ code.old }
-    ensures told { OnBoth (Some graph.now) (Some code.old) result (numbers.new ≡ numbers.old)
+    ensures answered { OnBoth (Some graph.now) (Some code.old) result (numbers.new ≡ numbers.old)
         (λ past p. AreNumbers (graph_of past) p argument.now result numbers.old numbers.new) }
 {
     let version = match graph {

@@ -1,20 +1,21 @@
 //! Programs, which are verified before they can be run.
-ghost use Rattle.std.specs.Prelude.{◌≡◌, ◌≢◌, ◌⊎◌, min, length, Some, MatchOption};
+ghost use Rattle.std.specs.Prelude.{◌≡◌, ◌≢◌, ◌⊎◌, min, Some, IfOk, MatchOption};
 ghost use Rattle.bpf_isa.specs.declared.limits.TheConstants.{MOST_UNITS};
-ghost use Rattle.bpf_image.specs.Program.{without_table};
+ghost use Rattle.bpf_image.specs.Program.{IsImage};
 ghost use Rattle.explanation.specs.Words.{cause_number};
-ghost use Rattle.embedding.specs.declared.statuses.TheConstants.{DONE, NO_MEMORY, RECORD_LENGTH, CODE_LENGTH, REFUSED};
+ghost use Rattle.embedding.specs.declared.statuses.TheConstants.{DONE, NO_MEMORY, REFUSED};
 ghost use Rattle.embedding.specs.Holding.{OnProgram, HoldsProgram};
 ghost use Rattle.embedding.specs.Batches.{IsHandedOut};
-ghost use Rattle.embedding.specs.Programs.{AreImageLengths, IsImageOf, TellsLengths, IsAccepted, IsRefused};
+ghost use Rattle.embedding.specs.Programs.{IsImageOf, IsOfLength, NamesLength, IsAccepted, IsRefused};
 
 use crate::handle::{Handle, hand_out};
 use crate::held::Held;
 use crate::runnable::Runnable;
-use crate::statuses::{CODE_LENGTH, NO_MEMORY, OTHER_KIND, RECORD_LENGTH, REFUSED};
-use bpf_image::{Image, LEAST_RECORD_LENGTH, MOST_RECORD_LENGTH};
+use crate::statuses::{CODE_LENGTH, NO_MEMORY, OTHER_KIND, RECORD_LENGTH, REFUSED, TABLE_LENGTH};
+use bpf_image::{Image, ImageError};
 use bpf_isa::MOST_UNITS;
-use std::alloc::Global;
+use std::alloc::{AllocError, Global};
+use std::marker::Model;
 use verifier::{Cause, Refusal, Verified, verify};
 
 /// What the verifier says of a program: the bound and the frames of one that it accepts, the cause and the place of one that
@@ -32,34 +33,67 @@ pub struct Verdict {
     pub pc: u32,
 }
 
-/// The status of the first length that no image has, tested before code is copied, of which there may be much.
-fn length_status(record_length: u16, code_length: usize) -> Option<u32>
-    ensures { MatchOption result (AreImageLengths record_length code_length)
-        (λ status. TellsLengths record_length code_length status × ((status ≡ RECORD_LENGTH) ⊎ (status ≡ CODE_LENGTH))) }
-{
-    if record_length < LEAST_RECORD_LENGTH || record_length > MOST_RECORD_LENGTH {
-        return Some(RECORD_LENGTH);
-    }
-    let units = code_length / 8;
-    if code_length % 8 != 0 || units == 0 || units > MOST_UNITS {
-        return Some(CODE_LENGTH);
-    }
-    None
+/// A program as a host hands it in. Contracts see the program of these bytes.
+#[derive(Drop)]
+pub struct ProgramBytes<'a> {
+    /// How many bytes the record of a run has.
+    pub record_length: u16,
+    /// The instructions.
+    pub code: &'a [u8],
+    /// The table that runs read. Without a byte there is none.
+    pub table: &'a [u8],
 }
 
-/// The image of this code, or why there is none: its status.
-pub(crate) fn image_of(alloc: Global, record_length: u16, code: &[u8]) -> Result<Image, u32>
-    ensures { IsImageOf code.now record_length result }
+impl<'a> Model for ProgramBytes<'a> {
+    ghost use Rattle.bpf_image.specs.Program.{Program};
+    ghost use Rattle.embedding.specs.Programs.{program_of};
+
+    ghost Value = { Program };
+
+    ghost view = { λ b. program_of b.record_length b.code.now b.table.now };
+}
+
+/// The status of the first length that no image has. Lengths are tested before bytes are copied, of which there may be many.
+fn length_status(bytes: &ProgramBytes<'_>) -> Option<u32>
+    ensures { MatchOption result (IsImage bytes.now) (λ status. NamesLength bytes.now status × IsOfLength status) }
 {
-    if let Some(status) = length_status(record_length, code.len()) {
-        return Err(status);
+    match Image::wrong_length(bytes.record_length, bytes.code.len(), bytes.table.len())? {
+        ImageError::RecordLength => Some(RECORD_LENGTH),
+        ImageError::CodeLength => Some(CODE_LENGTH),
+        ImageError::TableLength => Some(TABLE_LENGTH),
+        ImageError::Magic | ImageError::Length | ImageError::OutOfMemory => unreachable!(),
     }
-    let Ok(code) = Vec::from_slice(alloc, code) else {
-        return Err(NO_MEMORY);
-    };
-    match Image::new(record_length, code) {
+}
+
+/// The image of bytes that have the lengths of one.
+fn copy_of(alloc: Global, bytes: &ProgramBytes<'_>) -> Result<Image, AllocError>
+    requires { IsImage bytes.now }
+    ensures { IfOk result (λ image. image ≡ bytes.now) }
+{
+    let code = Vec::from_slice(alloc, bytes.code)?;
+    if bytes.table.is_empty() {
+        match Image::new(bytes.record_length, code) {
+            Ok(image) => return Ok(image),
+            Err(_) => unreachable!(),
+        }
+    }
+    let table = Vec::from_slice(alloc, bytes.table)?;
+    match Image::with_table(bytes.record_length, code, table) {
         Ok(image) => Ok(image),
         Err(_) => unreachable!(),
+    }
+}
+
+/// The image of these bytes, or why there is none: its status.
+pub(crate) fn image_of(alloc: Global, bytes: &ProgramBytes<'_>) -> Result<Image, u32>
+    ensures { IsImageOf bytes.now result }
+{
+    if let Some(status) = length_status(bytes) {
+        return Err(status);
+    }
+    match copy_of(alloc, bytes) {
+        Ok(image) => Ok(image),
+        Err(_) => Err(NO_MEMORY),
     }
 }
 
@@ -90,23 +124,22 @@ fn refused(refusal: Refusal) -> Verdict
 }
 
 /// Verifies a program, and writes a handle of it if it is accepted. The status is that of the first test that fails: of the
-/// record length, of the code's length, of the verifier; or `NO_MEMORY`.
+/// record length, of the code's length, of the table's length, of the verifier; or `NO_MEMORY`.
 pub fn new_program(
     alloc: Global,
-    record_length: u16,
-    code: &[u8],
+    bytes: &ProgramBytes<'_>,
     verdict: &mut Verdict,
     out: &mut Handle,
 ) -> u32
-    ensures lengths { TellsLengths record_length (length code.now) result }
-    ensures image { (result ≡ DONE) ⊎ (result ≡ REFUSED) → AreImageLengths record_length (length code.now) }
-    ensures others { result ≢ DONE → result ≢ REFUSED → result ≢ RECORD_LENGTH → result ≢ CODE_LENGTH → result ≡ NO_MEMORY }
-    ensures made { result ≡ DONE → HoldsProgram out.new.held (without_table code.now record_length) }
-    ensures told { result ≡ DONE → IsAccepted (without_table code.now record_length) verdict.new }
-    ensures refused { result ≡ REFUSED → IsRefused (without_table code.now record_length) verdict.new }
+    ensures lengths { NamesLength bytes.now result }
+    ensures image { (result ≡ DONE) ⊎ (result ≡ REFUSED) → IsImage bytes.now }
+    ensures others { result ≢ DONE → result ≢ REFUSED → (IsOfLength result → ⊥) → result ≡ NO_MEMORY }
+    ensures made { result ≡ DONE → HoldsProgram out.new.held bytes.now }
+    ensures accepted { result ≡ DONE → IsAccepted bytes.now verdict.new }
+    ensures refused { result ≡ REFUSED → IsRefused bytes.now verdict.new }
     ensures left { result ≢ DONE → out.new.held ≡ out.old.held }
 {
-    let image = match image_of(alloc, record_length, code) {
+    let image = match image_of(alloc, bytes) {
         Ok(image) => image,
         Err(status) => return status,
     };

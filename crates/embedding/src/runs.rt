@@ -75,7 +75,7 @@ fn run(
     totals: &mut Totals,
 ) -> u32
     ensures program { program.new ≡ program.old }
-    ensures told { IsRun (graph_of version.now) program.old argument.now frontier.now reduction result values.old totals.old values.new totals.new }
+    ensures answered { IsRun (graph_of version.now) program.old argument.now frontier.now reduction result values.old totals.old values.new totals.new }
 {
     let Some(reduction) = reduction_from(reduction) else {
         return REDUCTION;
@@ -111,7 +111,7 @@ pub fn run_held(
     totals: &mut Totals,
 ) -> u32
     ensures program { code.new ≡ code.old }
-    ensures told { OnBoth (Some graph.now) (Some code.old) result ((values.new ≡ values.old) × (totals.new ≡ totals.old))
+    ensures answered { OnBoth (Some graph.now) (Some code.old) result ((values.new ≡ values.old) × (totals.new ≡ totals.old))
         (λ past p. IsRun (graph_of past) p argument.now frontier.now reduction result values.old totals.old values.new totals.new) }
 {
     let version = match graph {

@@ -36,3 +36,5 @@ pub const WRONG_TEXT: u32 = 15;
 pub const NO_NEIGHBOUR: u32 = 16;
 /// 1,024 rebases were made, and there is room for no more.
 pub const EPOCHS_FULL: u32 = 17;
+/// The table has more than 4,096 bytes.
+pub const TABLE_LENGTH: u32 = 18;

@@ -126,9 +126,9 @@ impl Store {
             return fault;
         }
         match self.next(entry) {
-            Ok((version, told)) => {
+            Ok((version, made)) => {
                 self.current = version;
-                *change = told;
+                *change = made;
                 DONE
             }
             Err(_) => NO_MEMORY,

@@ -1,11 +1,10 @@
 //! Programs as text, and what the verifier knows of them as text.
-ghost use Rattle.std.specs.Prelude.{◌≡◌, ◌≢◌, ◌⊎◌, length};
-ghost use Rattle.bpf_image.specs.Program.{without_table};
-ghost use Rattle.embedding.specs.declared.statuses.TheConstants.{DONE, NO_MEMORY, LENGTHS, RECORD_LENGTH, CODE_LENGTH};
-ghost use Rattle.embedding.specs.Programs.{TellsLengths};
+ghost use Rattle.std.specs.Prelude.{◌≡◌, ◌≢◌, ◌⊎◌};
+ghost use Rattle.embedding.specs.declared.statuses.TheConstants.{DONE, NO_MEMORY, LENGTHS};
+ghost use Rattle.embedding.specs.Programs.{NamesLength, IsOfLength};
 ghost use Rattle.embedding.specs.Texts.{IsWritten, IsAssembled, IsExplained};
 
-use crate::programs::image_of;
+use crate::programs::{ProgramBytes, image_of};
 use crate::statuses::{DONE, LENGTHS, NO_MEMORY, WRONG_TEXT};
 use bpf_asm::{TextCause, assemble};
 use explanation::explain;
@@ -38,10 +37,10 @@ fn write_out(bytes: &[u8], out: &mut [u8], count: &mut usize) -> u32
 
 /// Writes the code that a text means, and how many bytes it has. `WRONG_TEXT` where it means none; `LENGTHS` where there is
 /// too little room, and then no code is written.
-pub fn assemble_into(alloc: Global, text: &[u8], code: &mut [u8], told: &mut Assembled) -> u32
-    ensures { IsAssembled text.now code.old result told.new code.new }
+pub fn assemble_into(alloc: Global, text: &[u8], code: &mut [u8], assembled: &mut Assembled) -> u32
+    ensures { IsAssembled text.now code.old result assembled.new code.new }
 {
-    *told = Assembled {
+    *assembled = Assembled {
         length: 0,
         line: 0,
         cause: 0,
@@ -50,11 +49,11 @@ pub fn assemble_into(alloc: Global, text: &[u8], code: &mut [u8], told: &mut Ass
         return WRONG_TEXT;
     };
     match assemble(alloc, text) {
-        Ok(bytes) => write_out(&bytes, code, &mut told.length),
+        Ok(bytes) => write_out(&bytes, code, &mut assembled.length),
         Err(error) if error.cause == TextCause::OutOfMemory => NO_MEMORY,
         Err(error) => {
-            told.line = error.line;
-            told.cause = error.cause as u32;
+            assembled.line = error.line;
+            assembled.cause = error.cause as u32;
             WRONG_TEXT
         }
     }
@@ -64,23 +63,21 @@ pub fn assemble_into(alloc: Global, text: &[u8], code: &mut [u8], told: &mut Ass
 /// and then no text is written.
 pub fn explain_into(
     alloc: Global,
-    record_length: u16,
-    code: &[u8],
+    bytes: &ProgramBytes<'_>,
     text: &mut [u8],
     count: &mut usize,
 ) -> u32
-    ensures explained { (result ≡ DONE) ⊎ (result ≡ LENGTHS)
-        → IsExplained (without_table code.now record_length) text.old result text.new count.new }
-    ensures lengths { TellsLengths record_length (length code.now) result }
-    ensures others { result ≢ DONE → result ≢ LENGTHS → result ≢ RECORD_LENGTH → result ≢ CODE_LENGTH → result ≡ NO_MEMORY }
+    ensures explained { (result ≡ DONE) ⊎ (result ≡ LENGTHS) → IsExplained bytes.now text.old result text.new count.new }
+    ensures lengths { NamesLength bytes.now result }
+    ensures others { result ≢ DONE → result ≢ LENGTHS → (IsOfLength result → ⊥) → result ≡ NO_MEMORY }
     ensures left { result ≢ DONE → text.new ≡ text.old }
 {
-    let image = match image_of(alloc, record_length, code) {
+    let image = match image_of(alloc, bytes) {
         Ok(image) => image,
         Err(status) => return status,
     };
     match explain(alloc, image, &[]) {
-        Ok(told) => write_out(told.text.as_bytes(), text, count),
+        Ok(explained) => write_out(explained.text.as_bytes(), text, count),
         Err(_) => NO_MEMORY,
     }
 }
