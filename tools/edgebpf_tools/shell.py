@@ -8,7 +8,7 @@ import subprocess
 import sys
 import time
 
-from edgebpf_tools import decimals, ends, explain, owned
+from edgebpf_tools import decimals, ends, explain, owned, tables
 from edgebpf_tools.journal import Journal
 from edgebpf_tools.language import FORMS, Complaint, Language
 from edgebpf_tools.live_store import LiveStore
@@ -41,10 +41,8 @@ NOTE = b"\n(edgebpf is at work: its answer will be dropped, and its graph stays.
 
 def parts_of(image):
     """The length of records, the code and the table in an image's bytes, as `_program` tells them."""
-    length, units = (int.from_bytes(image[place : place + 2], "little") for place in (4, 6))
-    front = 10 if image[:4] == b"BPE2" else 8
-    end = front + 8 * units
-    return str(length), image[front:end].hex(), None, image[end:].hex() or None
+    length, code, table = tables.parts_of(image)
+    return str(length), code.hex(), None, table.hex() or None
 
 
 class Shell:

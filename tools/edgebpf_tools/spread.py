@@ -7,7 +7,7 @@ import sys
 import time
 from dataclasses import dataclass
 
-from edgebpf_tools import decimals, ends, owned, parts, store, workers
+from edgebpf_tools import decimals, ends, owned, parts, store, tables, workers
 from edgebpf_tools.language import LEAST_LENGTH, MOST_LENGTH
 from edgebpf_tools.own_source import asks_of_others
 from edgebpf_tools.refusal import Refusal
@@ -30,7 +30,8 @@ def arguments(words):
         "--own-source-only says so. Needs Dask's scheduler: apt-get install python3-distributed",
     )
     parser.add_argument("graph", metavar="GRAPH", help="a script that makes a graph, as edgebpf-import writes it")
-    parser.add_argument("program", metavar="PROGRAM", help="a file whose line is `code NAME LENGTH HEX`, as of edgebpf-c")
+    parser.add_argument("program", metavar="PROGRAM", help="a file whose line is `code NAME LENGTH HEX` or `image NAME HEX`, as of "
+                        "edgebpf-c")
     parser.add_argument("--processes", type=int, default=2, metavar="K", help="how many parts, 1 to 64; else 2")
     parser.add_argument("--reduce", default="sum", choices=sorted(parts.JOIN), help="else sum")
     parser.add_argument("--argument", default=None, metavar="HEX", help="the record's end; else zeros")
@@ -43,18 +44,20 @@ def arguments(words):
     return parser.parse_args(words)
 
 
-def code_line(path):
-    """The name, the code and the line of a program."""
+def program_line(path):
+    """The name, the record length, the code and the line of a program."""
     lines = [line for line in pathlib.Path(path).read_text().splitlines() if line.strip()]
     words = lines[0].split() if len(lines) == 1 else []
-    if len(words) != 4 or words[0] != "code" or not decimals.is_number(words[2]):
-        raise Refusal(f"{path} has to be one line: code NAME LENGTH HEX")
-    if not LEAST_LENGTH <= decimals.value(words[2]) <= MOST_LENGTH:
-        raise Refusal(f"{path}: a record has {LEAST_LENGTH} to {MOST_LENGTH} bytes")
+    if (words[:1], len(words)) not in ((["image"], 3), (["code"], 4)) or (len(words) == 4 and not decimals.is_number(words[2])):
+        raise Refusal(f"{path} has to be one line: code NAME LENGTH HEX, or image NAME HEX")
     try:
-        return words[1], bytes.fromhex(words[3].replace("-", "")), lines[0]
+        given = bytes.fromhex(words[-1].replace("-", ""))
     except ValueError:
         raise Refusal(f"{path}: the code is not pairs of hexadecimal digits") from None
+    length, code = tables.parts_of(given)[:2] if len(words) == 3 else (decimals.value(words[2]), given)
+    if not LEAST_LENGTH <= length <= MOST_LENGTH:
+        raise Refusal(f"{path}: a record has {LEAST_LENGTH} to {MOST_LENGTH} bytes")
+    return words[1], length, code, lines[0]
 
 
 def takes_whole(options, name, code):
@@ -125,8 +128,8 @@ class Times:
 
 def served_results(options, folder):
     """The name of the program, its results over all parts, and the times."""
-    name, code, line = code_line(options.program)
-    argument = options.argument or "00" * (decimals.value(line.split()[2]) - LEAST_LENGTH) or "-"
+    name, length, code, line = program_line(options.program)
+    argument = options.argument or "00" * (length - LEAST_LENGTH) or "-"
     run = f"run {name} last {options.reduce} {argument}"
     test_program(name, line, run)
     is_whole = takes_whole(options, name, code)

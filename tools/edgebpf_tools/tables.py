@@ -52,3 +52,11 @@ def line_of(name, length, code, table):
         return f"code {name} {length} {code.hex()}"
     front = b"BPE2" + struct.pack("<HHH", length, len(code) // 8, len(table))
     return f"image {name} {(front + code + table).hex()}"
+
+
+def parts_of(image):
+    """The record length, the code and the table of an image's bytes, as its numbers say."""
+    length, units = (int.from_bytes(image[place : place + 2], "little") for place in (4, 6))
+    front = 10 if image[:4] == b"BPE2" else 8
+    end = front + 8 * units
+    return length, image[front:end], image[end:]

@@ -17,6 +17,9 @@ TARGET = "code t 16 61100400000000009500000000000000\n"
 DEGREE = "code d 16 611104000000000085000000010000009500000000000000\n"
 # The same of its source.
 OWN_DEGREE = "code o 16 611100000000000085000000010000009500000000000000\n"
+# The word of a table of four words at the place that the low two bits of its target name.
+WEIGHED = ("image w 42504532100006001000" "6112040000000000570200000300000067020000020000000f2300000000000061300000000000009500000000000000"
+           "280000000a000000140000001e010000\n")
 # The edges 0-1, 70-2, 299-3 and 299-4, and 256-0 that goes again.
 EDITS = ["batch A", "+ 0 1", "+ 299 4", "+ 256 0", "end", "batch B", "# more", "- 256 0", "+ 70 2", "+ 299 3", "end"]
 GRAPH = "\n".join(["graph 300", *EDITS[:6], *EDITS[7:], ""])
@@ -58,6 +61,17 @@ class EdgebpfSpread(unittest.TestCase):
         self.assertEqual(own.stdout, SUM)
         # Of Dask nothing is said.
         self.assertRegex(own.stderr, r"^edgebpf-spread: on one machine `edgebpf --workers 2` is faster: .*\n$")
+
+    def test_tables(self):
+        """A program with a table, which asks about no vertex, runs on parts."""
+        run = self.spread("--processes", "3", program=WEIGHED)
+        self.assertEqual((run.stdout, run.returncode), ("run w last edges 4 total 356\nrow 0 10\nrow 70 20\nrow 299 326\n", 0), run.stderr)
+        self.assertNotIn("whole graph", run.stderr)
+        for program, words in ((WEIGHED[:-3] + "\n", "another length|more or fewer bytes"), (WEIGHED[:-2] + "\n", "pairs of hexadecimal digits"),
+                               (WEIGHED.replace("4532100006", "4532000006"), "a record has 16 to 256 bytes"), ("image w -\n", "16 to 256")):
+            run = self.spread(program=program)
+            self.assertEqual((run.stdout, run.returncode), ("", 1))
+            self.assertRegex(run.stderr, words)
 
     def test_reductions(self):
         least = "run t last edges 4 total 1\nrow 0 1\nrow 70 2\nrow 299 3\n"
