@@ -3,7 +3,8 @@ use crate::blocks::Blocks;
 use crate::kept::Kept;
 use verifier::Verified;
 
-/// What runs over edges work on. It is made once for many maps of a program: nothing in it is cleared between them.
+/// What runs over edges work on. It is made once for many maps of a program. Between them only the kept
+/// numbers are forgotten.
 #[derive(Drop)]
 pub struct Memory {
     pub(crate) run: bpf_runs::Memory,

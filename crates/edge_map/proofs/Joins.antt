@@ -7,7 +7,7 @@ use Rattle.map_model.specs.EdgeMap.{exit_numbers, all_numbers, row_of, rows_of}
 use Rattle.verifier.specs.Walks.{longest}
 use Rattle.edge_fold.specs.declared.outcome.MapOutcome.{MapOutcome}
 use Rattle.edge_fold.specs.Numbers.{combination}
-use Rattle.edge_fold.specs.Rows.{told_rows}
+use Rattle.edge_fold.specs.Rows.{reported_rows}
 use Rattle.edge_fold.proofs.Reductions.{total_more}
 use Rattle.edge_fold.proofs.RowFacts.{told_append}
 use Rattle.map_model.specs.declared.row.Row.{Row}
@@ -30,14 +30,14 @@ begun_more t k out part next begun is edges total rows =
     let more : take (64 * (k + 1)) t.frontier ≡ early ++ own = ap (λ n. take n t.frontier) (omega arith) ∙ take-add (64 * k) 64 t.frontier in
     let numbers : all_numbers p (longest p) g t.argument (take (64 * (k + 1)) t.frontier) ≡ all_numbers p (longest p) g t.argument early ++ all_numbers p (longest p) g t.argument own =
     ap (all_numbers p (longest p) g t.argument) more ∙ flat_map-append (exit_numbers p (longest p) g t.argument) early own in
-    let told : List ℕ → List Row = (λ frontier. told_rows t.rows g (rows_of p (longest p) g t.reduction t.argument frontier)) in
+    let told : List ℕ → List Row = (λ frontier. reported_rows t.rows g (rows_of p (longest p) g t.reduction t.argument frontier)) in
     let listed : told (take (64 * (k + 1)) t.frontier) ≡ told early ++ told own =
-    ap told more ∙ ap (told_rows t.rows g) (map-append (row_of p (longest p) g t.reduction t.argument) early own)
+    ap told more ∙ ap (reported_rows t.rows g) (map-append (row_of p (longest p) g t.reduction t.argument) early own)
     ∙ told_append t.rows g (rows_of p (longest p) g t.reduction t.argument early) (rows_of p (longest p) g t.reduction t.argument own) in
     record {
       edges = edges ∙ omega (arith, begun.edges, is.right.edges, ap length numbers, length-append (all_numbers p (longest p) g t.argument early) (all_numbers p (longest p) g t.argument own));
       total = total_more t.reduction out.total part.total next.total (all_numbers p (longest p) g t.argument early) (all_numbers p (longest p) g t.argument own) _ begun.total is.right.total numbers total;
-      told = rows ∙ ap (λ l. l ++ part.rows.items) begun.told ∙ ap (λ l. told early ++ l) is.right.told ∙ sym listed;
+      reported = rows ∙ ap (λ l. l ++ part.rows.items) begun.reported ∙ ap (λ l. told early ++ l) is.right.reported ∙ sym listed;
     }
 
 -- all pieces are the whole

@@ -9,7 +9,7 @@ use Rattle.map_model.specs.declared.limits.TheConstants.{EDGE_BYTES}
 use Rattle.verifier.specs.Walks.{longest}
 use Rattle.edge_fold.specs.declared.outcome.MapOutcome.{MapOutcome}
 use Rattle.edge_fold.specs.declared.rows.Rows.{Rows}
-use Rattle.edge_fold.specs.Rows.{told_rows}
+use Rattle.edge_fold.specs.Rows.{reported_rows}
 use Rattle.edge_map.specs.declared.errors.MapError.{MapError}
 use Rattle.edge_map.specs.declared.errors.MapError.TheVariants.{ArgumentLength, Frontier, OutOfMemory, WorkerRefused}
 
@@ -17,7 +17,7 @@ use Rattle.edge_map.specs.declared.errors.MapError.TheVariants.{ArgumentLength, 
 pub record IsMap (rows : Rows) (p : Program) (g : Graph) (r : Reduction) (argument frontier : List ℕ) (out : MapOutcome) : Type 0 where
   pub edges : out.edges ≡ length (all_numbers p (longest p) g argument frontier)
   pub total : out.total ≡ reduction_of_numbers r (all_numbers p (longest p) g argument frontier)
-  pub told : out.rows.items ≡ told_rows rows g (rows_of p (longest p) g r argument frontier)
+  pub reported : out.rows.items ≡ reported_rows rows g (rows_of p (longest p) g r argument frontier)
 
 -- vertices of a graph with so many, each below the next one
 abbrev pub IsFrontier : ℕ → List ℕ → Type 0

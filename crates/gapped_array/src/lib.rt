@@ -1,4 +1,4 @@
-//! The neighbours of 256 vertices in one packed array, in runs of segments of 32 places.
+//! The neighbours of up to 256 vertices in one packed array, in runs of segments of 32 places.
 #![tactic(auto)]
 
 mod array;

@@ -9,7 +9,7 @@ use Rattle.past_model.specs.Past.{Past}
 use Rattle.past_model.specs.declared.edit.Edit.{Edit}
 use Rattle.past_model.specs.declared.edit.Edit.TheVariants.{Insert, Remove}
 use Rattle.session_model.specs.Session.{Session}
-use Rattle.session_model.specs.Commands.{Command, MakeGraph, PublishBatch, LoadProgram, LoadImage, TakePin, RunProgram, TellHome, Rebase, ListEdges}
+use Rattle.session_model.specs.Commands.{Command, MakeGraph, PublishBatch, LoadProgram, LoadImage, TakePin, RunProgram, ReportHome, Rebase, ListEdges}
 use Rattle.session_model.specs.Faults.{is_vertex_count, is_record_length, AreFewVertices, HasFewVertices}
 use Rattle.session_model.specs.Responses.{response, graph_response, load_response, run_response, home_response}
 use Rattle.script_model.specs.State.{OpenBatch, Script}
@@ -116,7 +116,7 @@ response-cut (LoadImage name bytes) s few = refl
 response-cut (TakePin name) s few = refl
 response-cut (RunProgram program pin reduction argument frontier) s few =
     run_at program pin reduction argument frontier s s.past refl few
-response-cut (TellHome v) s few = home_at v s s.past refl few
+response-cut (ReportHome v) s few = home_at v s s.past refl few
 response-cut Rebase s few = refl
 response-cut (ListEdges program pin argument) s few = refl
 

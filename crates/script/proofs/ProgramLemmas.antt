@@ -17,7 +17,7 @@ use Rattle.script_model.specs.Execution.{Execution, one_line, inside_program}
 use Rattle.script.specs.declared.error.LineError.{LineError}
 use Rattle.script.specs.declared.error.LineError.TheVariants as errors
 use Rattle.map_model.specs.declared.listed_edge.ListedEdge.{ListedEdge}
-use Rattle.script.specs.Executes.{Executes, Tells, whole_of}
+use Rattle.script.specs.Executes.{Executes, Prints, whole_of}
 use Rattle.script.specs.Kept.{is_text_byte}
 
 -- ---- text
@@ -78,6 +78,6 @@ program_line bytes text begun s t r other added =
     subst (λ (x : Execution). Executes x r text text t) line (silent (one_line bytes begun s) r text t added)
 
 -- a line all of whose text is written
-pub whole_tells : (x : Execution) (r : Result (Unit {0}) LineError) (o : Result (Option (List ListedEdge)) LineError) (old new : List ℕ) (s : Script) → o ≡ whole_of r → Executes x r old new s → Tells x o old new s
+pub whole_tells : (x : Execution) (r : Result (Unit {0}) LineError) (o : Result (Option (List ListedEdge)) LineError) (old new : List ℕ) (s : Script) → o ≡ whole_of r → Executes x r old new s → Prints x o old new s
 whole_tells x (Ok _) o old new s is h = rw is h
 whole_tells x (Err e) o old new s is h = rw is h

@@ -45,11 +45,11 @@ Executes x (Ok _) old new s = (text : List ℕ) × (new ≡ old ++ text) × (x �
 Executes x (Err e) old new s = Fails x e old new
 
 -- the same, where some edges may be left whose lines still have to be written
-abbrev pub Tells : Execution → Result (Option (List ListedEdge)) LineError → (old new : List ℕ) → Script → Type 0
-Tells x (Ok None) old new s = (text : List ℕ) × (new ≡ old ++ text) × (x ≡ Says text s)
-Tells x (Ok (Some edges)) old new s =
+abbrev pub Prints : Execution → Result (Option (List ListedEdge)) LineError → (old new : List ℕ) → Script → Type 0
+Prints x (Ok None) old new s = (text : List ℕ) × (new ≡ old ++ text) × (x ≡ Says text s)
+Prints x (Ok (Some edges)) old new s =
     (text : List ℕ) × (new ≡ old ++ text) × (x ≡ Says (text ++ flat_map edge_text edges) s)
-Tells x (Err e) old new s = Fails x e old new
+Prints x (Err e) old new s = Fails x e old new
 
 -- no edges are left
 abbrev pub whole_of : Result (Unit {0}) LineError → Result (Option (List ListedEdge)) LineError

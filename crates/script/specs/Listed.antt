@@ -1,6 +1,6 @@
 -- The lines of a list, which are written apart from its first one.
 use Rattle.std.specs.Prelude.{ℕ, List}
-use Rattle.session_model.specs.Commands.{Answer, GraphMade, BatchPublished, ProgramAccepted, ProgramRefused, NoImage, PinTaken, EdgesMapped, HomeTold, Rebased, EdgesListed}
+use Rattle.session_model.specs.Commands.{Answer, GraphMade, BatchPublished, ProgramAccepted, ProgramRefused, NoImage, PinTaken, EdgesMapped, HomeReported, Rebased, EdgesListed}
 use Rattle.script_model.specs.Texts.{answer_text, list_text}
 
 -- the lines of an answer, but for those of the edges that it lists
@@ -13,5 +13,5 @@ first_text (ProgramRefused name refusal) = answer_text (ProgramRefused name refu
 first_text (NoImage name error) = answer_text (NoImage name error)
 first_text (PinTaken name number edges) = answer_text (PinTaken name number edges)
 first_text (EdgesMapped program pin edges total rows) = answer_text (EdgesMapped program pin edges total rows)
-first_text (HomeTold v home degree) = answer_text (HomeTold v home degree)
+first_text (HomeReported v home degree) = answer_text (HomeReported v home degree)
 first_text (Rebased epoch edges) = answer_text (Rebased epoch edges)

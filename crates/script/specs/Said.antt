@@ -3,7 +3,7 @@ use Rattle.std.specs.Prelude.{ℕ, ◌-◌, ◌^◌, min, if◌then◌else◌, L
 use Rattle.bpf_image.specs.Program.{Program, without_table}
 use Rattle.past_model.specs.declared.edit.Edit.{Edit}
 use Rattle.past_model.specs.declared.edit.Edit.TheVariants.{Insert, Remove}
-use Rattle.session_model.specs.Commands.{Command, MakeGraph, PublishBatch, LoadProgram, LoadImage, TakePin, RunProgram, TellHome, Rebase, ListEdges}
+use Rattle.session_model.specs.Commands.{Command, MakeGraph, PublishBatch, LoadProgram, LoadImage, TakePin, RunProgram, ReportHome, Rebase, ListEdges}
 use Rattle.script_model.specs.Parsing.{Statement, Asks, BeginBatch, BeginProgram, statement, BatchLine, OneEdit, EndBatch}
 use Rattle.script_model.specs.Execution.{is_comment}
 use Rattle.script.specs.declared.reading.line.BatchLine.{BatchLine as CodeBatchLine}
@@ -36,7 +36,7 @@ cut_command (LoadImage name bytes) = LoadImage name bytes
 cut_command (TakePin name) = TakePin name
 cut_command (RunProgram program pin reduction argument frontier) =
     RunProgram program pin reduction argument (map cut_number frontier)
-cut_command (TellHome v) = TellHome (cut_number v)
+cut_command (ReportHome v) = ReportHome (cut_number v)
 cut_command Rebase = Rebase
 cut_command (ListEdges program pin argument) = ListEdges program pin argument
 
@@ -61,7 +61,7 @@ said_statement (statements.Program name record_length) = BeginProgram name.now r
 said_statement (statements.Pin name) = Asks (TakePin name.now)
 said_statement (statements.Run program pin reduction argument frontier) =
     Asks (RunProgram program.now pin.now reduction argument.items frontier.items)
-said_statement (statements.Home v) = Asks (TellHome v)
+said_statement (statements.Home v) = Asks (ReportHome v)
 said_statement statements.Rebase = Asks Rebase
 said_statement (statements.List program pin argument) = Asks (ListEdges program.now pin.now argument.items)
 

@@ -45,7 +45,7 @@ pub(crate) fn put_answer(text: &mut Vec<u8>, answer: &Answer) -> Result<(), Allo
             put_run(text, program, pin, *edges, *total)?;
             put_rows(text, rows)
         }
-        Answer::HomeTold {
+        Answer::HomeReported {
             vertex,
             home,
             degree,

@@ -8,7 +8,7 @@ ghost use Rattle.session_model.specs.Faults.{HasFewVertices};
 ghost use Rattle.session.specs.Edits.{edit_of};
 ghost use Rattle.script.specs.Said.{said_batch_line, cut_batch_line};
 ghost use Rattle.script.specs.Kept.{open_batch, HasBatch};
-ghost use Rattle.script.specs.Executes.{Executes, Tells};
+ghost use Rattle.script.specs.Executes.{Executes, Prints};
 
 use crate::block::{BegunBatch, Block};
 use crate::error::LineError;
@@ -73,7 +73,7 @@ impl Script {
     ) -> Result<Option<Listing>, LineError>
         requires { HasBatch self.old }
         ensures executed { (begun : OpenBatch) → self.old.block ≡ Some (BatchBlock begun)
-            → Tells (batch_step EndBatch begun self.old) result text.old.items text.new.items self.new }
+            → Prints (batch_step EndBatch begun self.old) result text.old.items text.new.items self.new }
         ensures line { self.new.line ≡ self.old.line }
     {
         match self.block.take() {
@@ -100,7 +100,7 @@ impl Script {
         requires { HasBatch self.old }
         ensures executed { (words : List (List ℕ)) (begun : OpenBatch) → self.old.block ≡ Some (BatchBlock begun)
             → option_map said_batch_line said ≡ option_map cut_batch_line (batch_line words)
-            → Tells (inside_batch words begun self.old) result text.old.items text.new.items self.new }
+            → Prints (inside_batch words begun self.old) result text.old.items text.new.items self.new }
         ensures line { self.new.line ≡ self.old.line }
     {
         match said {

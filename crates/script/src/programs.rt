@@ -9,7 +9,7 @@ ghost use Rattle.script_model.specs.State.{Script as ScriptState, ProgramBlock};
 ghost use Rattle.script_model.specs.Execution.{begin_program, one_line, end_program, inside_program, inside};
 ghost use Rattle.script_model.specs.Texts.{assembler_text};
 ghost use Rattle.script.specs.Kept.{open_program, HasText};
-ghost use Rattle.script.specs.Executes.{Executes, Tells};
+ghost use Rattle.script.specs.Executes.{Executes, Prints};
 
 use crate::block::{BegunProgram, Block};
 use crate::error::LineError;
@@ -85,7 +85,7 @@ impl Script {
         requires program { HasText begun }
         requires plain { list_all is_plain bytes.now ≡ true }
         requires closed { self.old.block ≡ None }
-        ensures executed { Tells (inside_program bytes.now
+        ensures executed { Prints (inside_program bytes.now
             (open_program begun) self.old) result text.old.items text.new.items self.new }
         ensures line { self.new.line ≡ self.old.line }
     {
@@ -110,7 +110,7 @@ impl Script {
     ) -> Result<Option<Listing>, LineError>
         requires program { HasText begun.now }
         requires closed { self.old.block ≡ None }
-        ensures executed { Tells (end_program (open_program begun.now) self.old) result text.old.items
+        ensures executed { Prints (end_program (open_program begun.now) self.old) result text.old.items
             text.new.items self.new }
         ensures line { self.new.line ≡ self.old.line }
     {

@@ -8,7 +8,7 @@ ghost use Rattle.script_model.specs.declared.limits.TheConstants.{MOST_LINE_BYTE
 ghost use Rattle.script_model.specs.Execution.{execution, block_execution};
 ghost use Rattle.script_model.specs.Script.{end_meaning, next_line};
 ghost use Rattle.script_model.specs.Texts.{fault_text};
-ghost use Rattle.script.specs.Executes.{Tells, Steps, AsksStore, OnStore};
+ghost use Rattle.script.specs.Executes.{Prints, Steps, AsksStore, OnStore};
 ghost use Rattle.script.specs.Kept.{HasBatch};
 
 use crate::block::Block;
@@ -168,7 +168,7 @@ impl Script {
     ) -> Result<Option<Listing>, LineError>
         requires plain { list_all is_plain bytes.now ≡ true }
         requires no_batch { ¬ HasBatch self.old }
-        ensures executed { Tells (block_execution self.old.block bytes.now self.old) result text.old.items
+        ensures executed { Prints (block_execution self.old.block bytes.now self.old) result text.old.items
             text.new.items self.new }
         ensures line { self.new.line ≡ self.old.line }
     {
@@ -192,7 +192,7 @@ impl Script {
     ) -> Result<Option<Listing>, LineError>
         requires open { HasBatch self.old }
         requires short { length bytes.now ≤ MOST_LINE_BYTES }
-        ensures executed { Tells (execution self.old bytes.now) result text.old.items text.new.items self.new }
+        ensures executed { Prints (execution self.old bytes.now) result text.old.items text.new.items self.new }
         ensures line { self.new.line ≡ self.old.line }
     {
         self.execute_in_batch(crew, text, batch_line(bytes))
@@ -206,7 +206,7 @@ impl Script {
         text: &mut Vec<u8>,
         bytes: &[u8],
     ) -> Result<Option<Listing>, LineError>
-        ensures executed { Tells (execution self.old bytes.now) result text.old.items text.new.items self.new }
+        ensures executed { Prints (execution self.old bytes.now) result text.old.items text.new.items self.new }
         ensures line { self.new.line ≡ self.old.line }
     {
         if bytes.len() > MOST_LINE_BYTES {

@@ -6,7 +6,7 @@ ghost use Rattle.session_model.specs.Faults.{HasFewVertices};
 ghost use Rattle.session.specs.Kept.{command_of};
 ghost use Rattle.script_model.specs.Execution.{execution_of, statement_execution};
 ghost use Rattle.script.specs.Said.{said_statement, said_line};
-ghost use Rattle.script.specs.Executes.{Tells, whole_of, line_of};
+ghost use Rattle.script.specs.Executes.{Prints, whole_of, line_of};
 
 use crate::answers::put_answer;
 use crate::error::LineError;
@@ -36,7 +36,7 @@ impl Script {
         command: Command,
     ) -> Result<Option<Listing>, LineError>
         requires { self.old.block ≡ None }
-        ensures executed { Tells (execution_of (response
+        ensures executed { Prints (execution_of (response
             (command_of command.entry) self.old.session) self.old) result text.old.items text.new.items self.new }
         ensures line { self.new.line ≡ self.old.line }
     {
@@ -53,7 +53,7 @@ impl Script {
         statement: Statement,
     ) -> Result<Option<Listing>, LineError>
         requires { self.old.block ≡ None }
-        ensures executed { Tells (statement_execution
+        ensures executed { Prints (statement_execution
             (said_statement statement.entry) self.old) result text.old.items text.new.items self.new }
         ensures line { self.new.line ≡ self.old.line }
     {
@@ -104,7 +104,7 @@ impl Script {
                     frontier: &frontier,
                 },
             ),
-            Statement::Home { vertex } => self.perform(crew, text, Command::TellHome { vertex }),
+            Statement::Home { vertex } => self.perform(crew, text, Command::ReportHome { vertex }),
             Statement::Rebase => self.perform(crew, text, Command::Rebase),
             Statement::List {
                 program,
@@ -130,7 +130,7 @@ impl Script {
         said: Line,
     ) -> Result<Option<Listing>, LineError>
         requires { self.old.block ≡ None }
-        ensures executed { Tells (line_of (said_line said.entry) self.old) result text.old.items text.new.items
+        ensures executed { Prints (line_of (said_line said.entry) self.old) result text.old.items text.new.items
             self.new }
         ensures line { self.new.line ≡ self.old.line }
         ensures few { HasFewVertices self.old.session }

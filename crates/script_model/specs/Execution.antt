@@ -101,7 +101,7 @@ statement_execution (Asks command) s = execution_of (response command s.session)
 statement_execution (BeginBatch feed) s = begin_batch feed s
 statement_execution (BeginProgram name record_length) s = begin_program name record_length s
 
--- a line outside blocks; one without a word, or whose first word begins with `#`, is skipped
+-- a word that begins with `#`
 abbrev pub is_comment : List ℕ → Bool
 is_comment [] = false
 is_comment (b ∷ bytes) = b == 35

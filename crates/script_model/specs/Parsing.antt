@@ -5,7 +5,7 @@ use Rattle.past_model.specs.declared.edit.Edit.{Edit}
 use Rattle.past_model.specs.declared.edit.Edit.TheVariants.{Insert, Remove}
 use Rattle.map_model.specs.declared.reduction.Reduction.{Reduction}
 use Rattle.map_model.specs.declared.reduction.Reduction.TheVariants.{Min, Max, Sum}
-use Rattle.session_model.specs.Commands.{Command, MakeGraph, LoadProgram, LoadImage, TakePin, RunProgram, TellHome, Rebase, ListEdges}
+use Rattle.session_model.specs.Commands.{Command, MakeGraph, LoadProgram, LoadImage, TakePin, RunProgram, ReportHome, Rebase, ListEdges}
 use Rattle.script_model.specs.Lexing.{number, is_name, hex, same_bytes}
 
 pub data Statement : Type 0 where
@@ -80,7 +80,7 @@ run_statement (program ∷ pin ∷ reducer ∷ digits ∷ frontier) =
 run_statement _ = None
 
 abbrev pub home_statement : List (List ℕ) → Option Statement
-home_statement (v ∷ []) = option_then (number v) (λ vertex. Some (Asks (TellHome vertex)))
+home_statement (v ∷ []) = option_then (number v) (λ vertex. Some (Asks (ReportHome vertex)))
 home_statement _ = None
 
 abbrev pub rebase_statement : List (List ℕ) → Option Statement

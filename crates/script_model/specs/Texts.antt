@@ -16,7 +16,7 @@ use Rattle.past_model.specs.declared.home.Home.{Home}
 use Rattle.past_model.specs.declared.home.Home.TheVariants.{Block, Gapped, Tree}
 use Rattle.session_model.specs.declared.fault.Fault.{Fault}
 use Rattle.session_model.specs.declared.fault.Fault.TheVariants as faults
-use Rattle.session_model.specs.Commands.{Answer, GraphMade, BatchPublished, ProgramAccepted, ProgramRefused, NoImage, PinTaken, EdgesMapped, HomeTold, Rebased, EdgesListed}
+use Rattle.session_model.specs.Commands.{Answer, GraphMade, BatchPublished, ProgramAccepted, ProgramRefused, NoImage, PinTaken, EdgesMapped, HomeReported, Rebased, EdgesListed}
 use Rattle.script_model.specs.declared.line_fault.LineFault.{LineFault}
 use Rattle.script_model.specs.declared.line_fault.LineFault.TheVariants as line_faults
 
@@ -150,7 +150,7 @@ answer_text (ProgramRefused name refusal) = refused_text name refusal
 answer_text (NoImage name error) = image_text name error
 answer_text (PinTaken name number edges) = pin_text name number edges
 answer_text (EdgesMapped program pin edges total rows) = run_text program pin edges total ++ flat_map row_text rows
-answer_text (HomeTold v home degree) = home_text v home degree
+answer_text (HomeReported v home degree) = home_text v home degree
 answer_text (Rebased epoch edges) = rebase_text epoch edges
 answer_text (EdgesListed program pin edges listed) = list_text program pin edges ++ flat_map edge_text listed
 

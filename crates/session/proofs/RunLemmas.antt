@@ -22,7 +22,7 @@ use Rattle.session_model.specs.Responses.{Answers, Fails, run_response, found_re
 use Rattle.session.specs.declared.answer.Answer.{Answer as GivenAnswer}
 use Rattle.session.specs.declared.error.CommandError.{CommandError}
 use Rattle.session.specs.Performs.{Performs}
-use Rattle.session.specs.Runs.{IsToldOf}
+use Rattle.session.specs.Runs.{IsAnswerOf}
 use Rattle.session.proofs.Frontiers.{frontier_ascends, frontier_is_below, ascends_back, below_back}
 
 pub run_outside : (program pin : List ℕ) (r : Reduction) (argument frontier : List ℕ) (s : Session) (last : Past) → s.past ≡ Some last → list_all (λ v. nat_lt v last.vertex_count) frontier ≡ false → run_response program pin r argument frontier s ≡ Fails faults.Range
@@ -62,10 +62,10 @@ frontier_fails frontier g none = elim (cases_Bool (is_frontier g.vertex_count fr
 ]
 
 mapped_answer : (program pin : List ℕ) (p : Program) (g : Graph) (r : Reduction) (argument frontier : List ℕ) (out : MapOutcome) → IsMap OfSources p g r argument frontier out → map_answer program pin p g r argument frontier ≡ EdgesMapped program pin out.edges out.total out.rows.items
-mapped_answer program pin p g r argument frontier out is = rw (is.edges, is.total, is.told) refl
+mapped_answer program pin p g r argument frontier out is = rw (is.edges, is.total, is.reported) refl
 
 -- what a map gave is the response to the run
-pub run_told : (program pin : List ℕ) (r : Reduction) (argument frontier : List ℕ) (p : Program) (past : Past) (s : Session) (told : Result MapOutcome MapError) (result : Result GivenAnswer CommandError) → IsMapped OfSources p (graph_of past) r argument (frontier_of frontier (graph_of past)) told → IsToldOf program pin told result → Performs (map_response program pin r argument frontier p past s) result s s
+pub run_told : (program pin : List ℕ) (r : Reduction) (argument frontier : List ℕ) (p : Program) (past : Past) (s : Session) (told : Result MapOutcome MapError) (result : Result GivenAnswer CommandError) → IsMapped OfSources p (graph_of past) r argument (frontier_of frontier (graph_of past)) told → IsAnswerOf program pin told result → Performs (map_response program pin r argument frontier p past s) result s s
 run_told program pin r argument frontier p past s (Ok out) (Ok answer) is said =
     let g = graph_of past in
     let passes : is_frontier past.vertex_count frontier ≡ true = subst (λ n. is_frontier n frontier ≡ true) (vertex_count-graph_of past) (frontier_passes frontier g is.0.1) in

@@ -11,7 +11,7 @@ use Rattle.past_model.specs.declared.entry.Entry.{Entry}
 use Rattle.past_model.specs.Past.{Past}
 use Rattle.history.specs.Moment.{Moment}
 use Rattle.session_model.specs.Session.{KeptProgram, KeptPin, Session}
-use Rattle.session_model.specs.Commands.{Command, MakeGraph, PublishBatch, LoadProgram, LoadImage, TakePin, RunProgram, TellHome, Rebase, ListEdges, Answer, GraphMade, BatchPublished, ProgramAccepted, ProgramRefused, NoImage, PinTaken, EdgesMapped, HomeTold, Rebased, EdgesListed}
+use Rattle.session_model.specs.Commands.{Command, MakeGraph, PublishBatch, LoadProgram, LoadImage, TakePin, RunProgram, ReportHome, Rebase, ListEdges, Answer, GraphMade, BatchPublished, ProgramAccepted, ProgramRefused, NoImage, PinTaken, EdgesMapped, HomeReported, Rebased, EdgesListed}
 use Rattle.session.specs.Handles.{StoreState}
 use Rattle.session.specs.declared.kept.NamedProgram.{NamedProgram}
 use Rattle.session.specs.declared.kept.NamedPin.{NamedPin}
@@ -61,7 +61,7 @@ command_of (commands.LoadImage name bytes) = LoadImage name.now bytes.items
 command_of (commands.TakePin name) = TakePin name.now
 command_of (commands.RunProgram program pin reduction argument frontier) =
     RunProgram program.now pin.now reduction argument.now frontier.now
-command_of (commands.TellHome vertex) = TellHome vertex
+command_of (commands.ReportHome vertex) = ReportHome vertex
 command_of commands.Rebase = Rebase
 command_of (commands.ListEdges program pin argument) = ListEdges program.now pin.now argument.items
 
@@ -73,7 +73,7 @@ answer_of (answers.ProgramRefused name refusal) = ProgramRefused name.now refusa
 answer_of (answers.NoImage name error) = NoImage name.now error
 answer_of (answers.PinTaken name number edges) = PinTaken name.now number edges
 answer_of (answers.EdgesMapped program pin edges total rows) = EdgesMapped program.now pin.now edges total rows.items
-answer_of (answers.HomeTold vertex home degree) = HomeTold vertex home degree
+answer_of (answers.HomeReported vertex home degree) = HomeReported vertex home degree
 answer_of (answers.Rebased epoch edges) = Rebased epoch edges
 answer_of (answers.EdgesListed program pin edges listing) = EdgesListed program.now pin.now edges listing
 
@@ -87,5 +87,5 @@ listing_of (answers.ProgramRefused name refusal) = None
 listing_of (answers.NoImage name error) = None
 listing_of (answers.PinTaken name number edges) = None
 listing_of (answers.EdgesMapped program pin edges total rows) = None
-listing_of (answers.HomeTold vertex home degree) = None
+listing_of (answers.HomeReported vertex home degree) = None
 listing_of (answers.Rebased epoch edges) = None

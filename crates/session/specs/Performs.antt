@@ -2,7 +2,7 @@
 use Rattle.std.specs.Prelude.{◌≡◌, ◌⊎◌, Some, None, Result, Ok, Err, ⊤}
 use Rattle.past_model.specs.declared.entry.Entry.{Entry}
 use Rattle.session_model.specs.Session.{Session}
-use Rattle.session_model.specs.Commands.{Command, PublishBatch, Answer, BatchPublished, PinTaken, HomeTold, Rebased}
+use Rattle.session_model.specs.Commands.{Command, PublishBatch, Answer, BatchPublished, PinTaken, HomeReported, Rebased}
 use Rattle.session_model.specs.Responses.{Response, Answers, Fails}
 use Rattle.session.specs.declared.answer.Answer.{Answer as GivenAnswer}
 use Rattle.session.specs.declared.error.CommandError.{CommandError}
@@ -13,7 +13,7 @@ use Rattle.session.specs.Kept.{answer_of}
 abbrev pub IsAskedOfStore : Answer → Type 0
 IsAskedOfStore (BatchPublished feed number gained lost) = ⊤
 IsAskedOfStore (PinTaken name number edges) = ⊤
-IsAskedOfStore (HomeTold vertex home degree) = ⊤
+IsAskedOfStore (HomeReported vertex home degree) = ⊤
 IsAskedOfStore (Rebased epoch edges) = ⊤
 IsAskedOfStore answer = ⊥
 

@@ -17,8 +17,8 @@ map_error_of map.OutOfMemory = errors.OutOfMemory
 map_error_of map.WorkerRefused = errors.WorkerRefused
 
 -- what a map gave, with the names of its program and its pin; or why it gave nothing
-abbrev pub IsToldOf : (program pin : List ℕ) → Result MapOutcome MapError → Result GivenAnswer CommandError → Type 0
-IsToldOf program pin (Ok out) (Ok answer) = answer_of answer ≡ EdgesMapped program pin out.edges out.total out.rows.items
-IsToldOf program pin (Ok out) (Err e) = ⊥
-IsToldOf program pin (Err want) (Ok answer) = ⊥
-IsToldOf program pin (Err want) (Err e) = e ≡ map_error_of want
+abbrev pub IsAnswerOf : (program pin : List ℕ) → Result MapOutcome MapError → Result GivenAnswer CommandError → Type 0
+IsAnswerOf program pin (Ok out) (Ok answer) = answer_of answer ≡ EdgesMapped program pin out.edges out.total out.rows.items
+IsAnswerOf program pin (Ok out) (Err e) = ⊥
+IsAnswerOf program pin (Err want) (Ok answer) = ⊥
+IsAnswerOf program pin (Err want) (Err e) = e ≡ map_error_of want

@@ -56,7 +56,7 @@ pub enum Answer<'a> {
         rows: Vec<Row>,
     },
     /// Where the last version keeps a vertex's neighbours, and how many they are.
-    HomeTold {
+    HomeReported {
         vertex: u64,
         home: Home,
         degree: u32,

@@ -40,7 +40,7 @@ pub enum Command<'a> {
         frontier: &'a [u64],
     },
     /// Where the last version keeps a vertex's neighbours.
-    TellHome {
+    ReportHome {
         vertex: u64,
     },
     /// The last version's graph becomes the base of a new epoch, whose log is empty.

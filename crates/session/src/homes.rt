@@ -11,7 +11,7 @@ use session_model::Fault;
 
 impl Session {
     /// Reports where the last version keeps a vertex's neighbours, and how many they are.
-    pub(crate) fn tell_home<'a>(&mut self, vertex: u64) -> Result<Answer<'a>, CommandError>
+    pub(crate) fn report_home<'a>(&mut self, vertex: u64) -> Result<Answer<'a>, CommandError>
         ensures performed { Performs (home_response vertex self.old) result self.old self.new }
         ensures kept { IfErr result (λ _. self.new ≡ self.old) }
     {
@@ -23,7 +23,7 @@ impl Session {
         }
         let pin = store.pin()?;
         let version = pin.version();
-        Ok(Answer::HomeTold {
+        Ok(Answer::HomeReported {
             vertex,
             home: version.home(vertex),
             degree: version.degree(vertex),

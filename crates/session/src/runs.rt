@@ -7,7 +7,7 @@ ghost use Rattle.session_model.specs.Session.{Session as SessionState};
 ghost use Rattle.session_model.specs.Responses.{run_response, found_response, map_response, frontier_of};
 ghost use Rattle.session.specs.Kept.{program_of, past_of};
 ghost use Rattle.session.specs.Performs.{Performs};
-ghost use Rattle.session.specs.Runs.{IsToldOf};
+ghost use Rattle.session.specs.Runs.{IsAnswerOf};
 
 use crate::answer::Answer;
 use crate::error::CommandError;
@@ -59,7 +59,7 @@ fn answer_to<'a>(
     run: &Run<'a>,
     told: Result<MapOutcome, MapError>,
 ) -> Result<Answer<'a>, CommandError>
-    ensures { IsToldOf run.now.program.now run.now.pin.now told result }
+    ensures { IsAnswerOf run.now.program.now run.now.pin.now told result }
 {
     let outcome = told?;
     Ok(Answer::EdgesMapped {

@@ -92,7 +92,7 @@ impl Session {
                     frontier,
                 },
             ),
-            Command::TellHome { vertex } => self.tell_home(vertex),
+            Command::ReportHome { vertex } => self.report_home(vertex),
             Command::Rebase => self.rebase(crew.rt),
             Command::ListEdges {
                 program,

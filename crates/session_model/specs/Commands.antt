@@ -23,7 +23,7 @@ pub data Command : Type 0 where
   -- a program mapped over the edges of a pin; an empty frontier stands for all vertices
   RunProgram : (program pin : List ℕ) (reduction : Reduction) (argument frontier : List ℕ) → Command
   -- where the last version keeps a vertex's neighbours
-  TellHome : (vertex : ℕ) → Command
+  ReportHome : (vertex : ℕ) → Command
   -- the last version's graph becomes the base of a new epoch
   Rebase : Command
   -- all edges of a pin, each with the number that a program exits with for it
@@ -38,7 +38,7 @@ pub data Answer : Type 0 where
   NoImage : (name : List ℕ) → ImageError → Answer
   PinTaken : (name : List ℕ) (number edges : ℕ) → Answer
   EdgesMapped : (program pin : List ℕ) (edges total : ℕ) → List Row → Answer
-  HomeTold : (vertex : ℕ) → Home → (degree : ℕ) → Answer
+  HomeReported : (vertex : ℕ) → Home → (degree : ℕ) → Answer
   Rebased : (epoch edges : ℕ) → Answer
   -- how many edges there are, and then each with its number
   EdgesListed : (program pin : List ℕ) (edges : ℕ) → List ListedEdge → Answer

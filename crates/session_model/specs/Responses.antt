@@ -20,7 +20,7 @@ use Rattle.session_model.specs.declared.fault.Fault.{Fault}
 use Rattle.session_model.specs.declared.fault.Fault.TheVariants as faults
 use Rattle.session_model.specs.Session.{Session, program_named, pin_named}
 use Rattle.session_model.specs.Images.{loaded}
-use Rattle.session_model.specs.Commands.{Command, MakeGraph, PublishBatch, LoadProgram, LoadImage, TakePin, RunProgram, TellHome, Rebase, ListEdges, Answer, GraphMade, BatchPublished, ProgramAccepted, ProgramRefused, NoImage, PinTaken, EdgesMapped, HomeTold, Rebased, EdgesListed}
+use Rattle.session_model.specs.Commands.{Command, MakeGraph, PublishBatch, LoadProgram, LoadImage, TakePin, RunProgram, ReportHome, Rebase, ListEdges, Answer, GraphMade, BatchPublished, ProgramAccepted, ProgramRefused, NoImage, PinTaken, EdgesMapped, HomeReported, Rebased, EdgesListed}
 use Rattle.session_model.specs.Faults.{graph_fault, batch_fault, program_fault, image_fault, pin_fault, vertices_fault, home_fault, rebase_fault, argument_fault, length_fault}
 
 -- an answer with the session after it, or a fault
@@ -122,7 +122,7 @@ run_response program pin reduction argument frontier s =
 
 -- where a vertex's neighbours are kept in a version, and how many they are
 abbrev pub home_answer : ℕ → Past → Answer
-home_answer v past = HomeTold v (home_of past v) (degree (graph_of past) v)
+home_answer v past = HomeReported v (home_of past v) (degree (graph_of past) v)
 
 abbrev pub home_response : ℕ → Session → Response
 home_response v s =
@@ -163,6 +163,6 @@ response (LoadImage name bytes) s = image_response name bytes s
 response (TakePin name) s = pin_response name s
 response (RunProgram program pin reduction argument frontier) s =
     run_response program pin reduction argument frontier s
-response (TellHome v) s = home_response v s
+response (ReportHome v) s = home_response v s
 response Rebase s = rebase_response s
 response (ListEdges program pin argument) s = list_response program pin argument s

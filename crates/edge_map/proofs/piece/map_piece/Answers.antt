@@ -11,7 +11,7 @@ returns-clause-part c =
     let from = c.args.number * 64 in
     let until = c.min-until.result in
     let part = take (until - from) (drop from t.frontier) in
-    let here : IsMap t.rows t.program t.graph t.reduction t.argument part out = record { edges = c.in_ok-outcome.ensures.edges; total = c.in_ok-outcome.ensures.total; told = c.in_ok-outcome.ensures.rows } in
+    let here : IsMap t.rows t.program t.graph t.reduction t.argument part out = record { edges = c.in_ok-outcome.ensures.edges; total = c.in_ok-outcome.ensures.total; reported = c.in_ok-outcome.ensures.rows } in
     let few : until - from ≤ 64 = omega (arith, c.min-until.ensures) in
     record {
       right = subst (λ xs. IsMap t.rows t.program t.graph t.reduction t.argument xs out) (piece_places t.frontier c.args.number until c.min-until.ensures) here;
