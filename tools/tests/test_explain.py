@@ -103,8 +103,16 @@ class Explain(unittest.TestCase):
         self.assertEqual(told.listing[1].known, known)
         self.assertEqual([one.called_at for one in told.listing], [None, None, None, 2])
         self.assertEqual(told.listing[2].unreached, "no run comes here")
+        self.assertEqual([one.unreached for one in (told.listing[1], told.listing[3])], [None, None])
         self.assertIsNone(told.listing[3].known)
         self.assertEqual(len(told.end), 3)
+
+    def test_what_only_another_call_reaches(self):
+        """The listing, the page and the lines of C say so in the same words."""
+        text = self.told().replace("4, line 6: jlt r1, 2 < 3\n", "4, line 6: jlt r1, 2 < 3\n    this call does not come here\n")
+        told = read(text)
+        self.assertEqual((told.listing[3].unreached, told.listing[3].known), ("this call does not come here", None))
+        self.assertIn('<p class="note">This call does not come here.</p>', page(text, SOURCE))
 
     def test_the_ways(self):
         """Of a source text by its labels, of code by the units that the disassembler names."""
