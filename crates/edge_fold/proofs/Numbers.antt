@@ -12,7 +12,7 @@ use Rattle.map_model.specs.declared.reduction.Reduction.{Reduction}
 use Rattle.map_model.specs.declared.reduction.Reduction.TheVariants.{Max}
 use Rattle.map_model.specs.declared.limits.TheConstants.{EDGE_BYTES}
 use Rattle.bpf_model.specs.Run.{number_for}
-use Rattle.map_model.specs.EdgeMap.{edge_record, numbers_from, reduction_of_numbers}
+use Rattle.map_model.specs.EdgeMap.{record_of, edge_record, numbers_from, reduction_of_numbers}
 use Rattle.verifier.specs.Walks.{longest}
 use Rattle.edge_fold.specs.declared.edge.Edge.{Edge}
 use Rattle.edge_fold.specs.Numbers.{combination, record_bytes, BeginAlike}
@@ -136,9 +136,9 @@ alone (Some n) value is one = (let same : n ≡ value = omega (arith, is) in ap 
 
 -- another target and another place in a record
 targeted_bytes : (source target place degree first second : ℕ) (argument : List ℕ) →
-    let old = (to_le_bytes w32 source ++ to_le_bytes w32 first ++ to_le_bytes w32 second ++ to_le_bytes w32 degree) ++ argument in
+    let old = record_of source first second degree argument in
     take 4 old ++ to_le_bytes w32 target ++ to_le_bytes w32 place ++ drop 12 old
-    ≡ (to_le_bytes w32 source ++ to_le_bytes w32 target ++ to_le_bytes w32 place ++ to_le_bytes w32 degree) ++ argument
+    ≡ record_of source target place degree argument
 targeted_bytes source target place degree first second argument = refl
 
 pub targeted : (e : Edge) (argument bytes new : List ℕ) → let old = take (length argument + EDGE_BYTES) bytes in
@@ -147,8 +147,8 @@ targeted e argument bytes new is (before, source, degree, begun) =
     is
     ∙ ap (λ (xs : List ℕ). take 4 xs ++ to_le_bytes w32 e.target ++ to_le_bytes w32 e.place ++ drop 12 xs) begun
     ∙ targeted_bytes before.source e.target e.place before.degree before.target before.place argument
-    ∙ ap (λ (n : ℕ). (to_le_bytes w32 n ++ to_le_bytes w32 e.target ++ to_le_bytes w32 e.place ++ to_le_bytes w32 before.degree) ++ argument) source
-    ∙ ap (λ (n : ℕ). (to_le_bytes w32 e.source ++ to_le_bytes w32 e.target ++ to_le_bytes w32 e.place ++ to_le_bytes w32 n) ++ argument) degree
+    ∙ ap (λ (n : ℕ). record_of n e.target e.place before.degree argument) source
+    ∙ ap (λ (n : ℕ). record_of e.source e.target e.place n argument) degree
 
 -- bytes begin with the record of an edge from a source with so many neighbours
 pub record IsBegun (source degree : ℕ) (argument bytes : List ℕ) : Type 0 where

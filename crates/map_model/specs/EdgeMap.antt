@@ -10,11 +10,15 @@ use Rattle.map_model.specs.declared.row.Row.{Row}
 use Rattle.map_model.specs.declared.listed_edge.ListedEdge.{ListedEdge}
 use Rattle.bpf_model.specs.Run.{number_for}
 
--- the record of an edge: source, target, the target's place among the neighbours, the source's
--- degree, each as four bytes in little-endian order, and then the argument
+-- the record of an edge: source, target, the target's place among the neighbours, how many neighbours the
+-- source has, each as four bytes in little-endian order, and then the argument
+abbrev pub record_of : (source target place count : ℕ) → List ℕ → List ℕ
+record_of source target place count argument =
+    (to_le_bytes w32 source ++ to_le_bytes w32 target ++ to_le_bytes w32 place ++ to_le_bytes w32 count) ++ argument
+
+-- that of an edge of a graph
 abbrev pub edge_record : Graph → ℕ → ℕ → ℕ → List ℕ → List ℕ
-edge_record g source target place argument =
-    (to_le_bytes w32 source ++ to_le_bytes w32 target ++ to_le_bytes w32 place ++ to_le_bytes w32 (degree g source)) ++ argument
+edge_record g source target place argument = record_of source target place (degree g source) argument
 
 -- the exit numbers of a vertex's edges, from the edge at a place on
 abbrev pub numbers_from : Program → ℕ → Graph → List ℕ → ℕ → ℕ → List ℕ → List (Option ℕ)
