@@ -15,7 +15,7 @@ mod outcome;
 mod rows;
 mod span;
 
-pub use ahead::{Ahead, number_ahead};
+pub use ahead::number_ahead;
 pub use edge::Edge;
 pub use fold::{combine, map_frontier, nothing, number_for_edge};
 pub use map_model::{EDGE_BYTES, Reduction, Row};

@@ -3,22 +3,26 @@ use crate::blocks::Blocks;
 use crate::kept::Kept;
 use verifier::Verified;
 
-/// What runs over edges work on. It is made once for many maps of a program. Between them only the kept
-/// numbers are forgotten.
+/// What runs over edges work on. It is made once for many calls with a program.
 #[derive(Drop)]
 pub struct Memory {
     pub(crate) run: bpf_runs::Memory,
     pub(crate) blocks: Blocks,
-    /// The numbers of edges of vertices that have few.
+    /// The numbers of a block of edges, for those that are asked for next. A map forgets them when it begins.
     pub(crate) kept: Kept,
 }
 
 impl Memory {
-    ghost use Rattle.edge_fold.specs.Kept.{IsFor};
+    ghost use Rattle.std.specs.Prelude.{ℕ, List};
+    ghost use Rattle.bpf_image.specs.Program.{Program};
+    ghost use Rattle.graph_model.specs.Graph.{Graph};
+    ghost use Rattle.edge_fold.specs.Kept.{AreKept, IsFor};
 
-    /// A memory for maps of a program: it has the program's table. Edges are run in blocks only if that saves time.
+    /// A memory for runs of a program: it has the program's table, and keeps no number. Edges are run in blocks only if that
+    /// saves time.
     pub fn for_program(program: &Verified) -> Memory
-        ensures { IsFor program.now result }
+        ensures table { IsFor program.now result }
+        ensures kept { (p : Program) (g : Graph) (argument : List ℕ) → AreKept p g argument result }
     {
         let mut memory = Memory {
             run: bpf_runs::Memory::new(),

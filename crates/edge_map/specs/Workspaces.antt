@@ -3,9 +3,9 @@ use Rattle.std.specs.Prelude.{ℕ, List}
 use Rattle.bpf_image.specs.Program.{Program}
 use Rattle.graph_model.specs.Graph.{Graph}
 use Rattle.edge_fold.specs.Kept.{AreKept, IsFor}
-use Rattle.edge_map.specs.declared.list.Workspace.{Workspace}
+use Rattle.edge_fold.specs.declared.memory.Memory.{Memory}
 
--- its memory has the program's table, and the numbers that it keeps are those of edges of the graph
-pub record IsWorkspace (p : Program) (g : Graph) (argument : List ℕ) (workspace : Workspace) : Type 0 where
-  pub memory : IsFor p workspace.memory
-  pub ahead : AreKept p g argument workspace.ahead
+-- it has the program's table, and the numbers that it keeps are those of edges of the graph
+pub record IsWorkspace (p : Program) (g : Graph) (argument : List ℕ) (workspace : Memory) : Type 0 where
+  pub table : IsFor p workspace
+  pub kept : AreKept p g argument workspace

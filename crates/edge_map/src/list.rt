@@ -11,7 +11,7 @@ ghost use Rattle.edge_map.specs.Workspaces.{IsWorkspace};
 use crate::errors::MapError;
 use crate::limits::BLOCK_EDGES;
 use crate::walk::Walk;
-use edge_fold::{Ahead, Memory, number_ahead};
+use edge_fold::{Memory, number_ahead};
 use map_model::{EDGE_BYTES, ListedEdge};
 use std::alloc::{AllocError, Global};
 use std::marker::Model;
@@ -19,39 +19,26 @@ use store::Pin;
 use verifier::Verified;
 use version::Version;
 
-/// What the blocks of a list are run in. It is made for the first one and serves the others.
-#[derive(Drop)]
-pub(crate) struct Workspace {
-    pub(crate) memory: Memory,
-    pub(crate) ahead: Ahead,
+/// What the blocks of a list are run in, of which no run has begun.
+fn new_workspace(alloc: Global, program: &Verified) -> Result<Box<Memory>, AllocError>
+    ensures { (g : Graph) (argument : List ℕ) → IfOk result (λ workspace. IsWorkspace program.now g argument workspace.value) }
+{
+    Ok(Box::new(alloc, Memory::for_program(program))?)
 }
 
-impl Workspace {
-    /// A workspace for a program, of which no run has begun.
-    fn for_program(alloc: Global, program: &Verified) -> Result<Box<Workspace>, AllocError>
-        ensures { (g : Graph) (argument : List ℕ) → IfOk result (λ workspace. IsWorkspace program.now g argument workspace.value) }
-    {
-        let workspace = Workspace {
-            memory: Memory::for_program(program),
-            ahead: Ahead::for_program(program),
-        };
-        Ok(Box::new(alloc, workspace)?)
-    }
-
-    /// The one that is kept, or else a new one.
-    fn kept_or_new(
-        alloc: Global,
-        kept: Option<Box<Workspace>>,
-        program: &Verified,
-    ) -> Result<Box<Workspace>, AllocError>
-        ensures { (g : Graph) (argument : List ℕ)
-            → IfSome kept (λ workspace. IsWorkspace program.now g argument workspace.value)
-            → IfOk result (λ workspace. IsWorkspace program.now g argument workspace.value) }
-    {
-        match kept {
-            Some(workspace) => Ok(workspace),
-            None => Workspace::for_program(alloc, program),
-        }
+/// The one that is kept, or else a new one.
+fn kept_or_new(
+    alloc: Global,
+    kept: Option<Box<Memory>>,
+    program: &Verified,
+) -> Result<Box<Memory>, AllocError>
+    ensures { (g : Graph) (argument : List ℕ)
+        → IfSome kept (λ workspace. IsWorkspace program.now g argument workspace.value)
+        → IfOk result (λ workspace. IsWorkspace program.now g argument workspace.value) }
+{
+    match kept {
+        Some(workspace) => Ok(workspace),
+        None => new_workspace(alloc, program),
     }
 }
 
@@ -59,7 +46,7 @@ impl Workspace {
 fn fill(
     block: &mut Vec<ListedEdge>,
     walk: &mut Walk<'_>,
-    workspace: &mut Workspace,
+    workspace: &mut Memory,
     program: &Verified,
     argument: &[u8],
 )
@@ -79,15 +66,7 @@ fn fill(
         let Some(edge) = walk.next() else {
             return;
         };
-        let number = number_ahead(
-            version,
-            program,
-            argument,
-            &mut workspace.memory,
-            &mut workspace.ahead,
-            edge,
-            walk.later(),
-        );
+        let number = number_ahead(version, program, argument, workspace, edge, walk.later());
         let listed = ListedEdge {
             source: edge.source,
             target: edge.target,
@@ -106,8 +85,8 @@ pub struct EdgeList<'a> {
     walk: Walk<'a>,
     program: &'a Verified,
     argument: &'a [u8],
-    // None before the first block.
-    workspace: Option<Box<Workspace>>,
+    // What the blocks are run in. It is made for the first one, and serves the others.
+    workspace: Option<Box<Memory>>,
 }
 
 impl<'a> Model for EdgeList<'a> {
@@ -142,7 +121,7 @@ impl<'a> EdgeList<'a> {
         block.clear();
         block.reserve(BLOCK_EDGES)?;
         let kept = self.workspace.take();
-        let mut workspace = Workspace::kept_or_new(alloc, kept, self.program)?;
+        let mut workspace = kept_or_new(alloc, kept, self.program)?;
         fill(
             block,
             &mut self.walk,

@@ -6,7 +6,7 @@ use Rattle.edge_map.proofs.work.work.Goals as goal
 
 pub claims-init : goal.claims-init
 claims-init g c =
-    (subst (IsWorking (task_of c.args.plan) c.args.me.parts c.args.me) (sym c.new-pieces.ensures.items) (nothing_yet (task_of c.args.plan) c.args.me c.requires.of c.requires.fresh), c.for_program-memory.ensures)
+    (subst (IsWorking (task_of c.args.plan) c.args.me.parts c.args.me) (sym c.new-pieces.ensures.items) (nothing_yet (task_of c.args.plan) c.args.me c.requires.of c.requires.fresh), c.for_program-memory.ensures.table)
 
 pub claim-number-requires-clause-of : goal.claim-number-requires-clause-of
 claim-number-requires-clause-of g c = c.claims.invariant.0.of
