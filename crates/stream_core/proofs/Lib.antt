@@ -1,4 +1,5 @@
 pub mod TableLemmas
+pub mod LeftLemmas
 pub mod RunLemmas
 pub mod WorkLemmas
 pub mod WorldLemmas

@@ -1,19 +1,14 @@
 -- A table of parts: the first one, and one under edit.
-use Rattle.std.proofs.Common.{◌≡◌, ◌==◌, ℕ, ◌+◌, ◌-◌, ◌*◌, ◌/◌, ◌<◌, ◌≤◌, min, Bool, true, false, ◌||◌, cond, if◌then◌else◌, unwrap_or, List, [], ◌∷◌, ◌++◌, length, set, replicate, refl, sym, ap, subst, ◌∙◌, inl, inr, eqb-true, eq-eqb, length-set, arith}
+use Rattle.std.proofs.Common.{◌≡◌, ◌==◌, ℕ, ◌+◌, ◌-◌, ◌*◌, ◌/◌, ◌<◌, Bool, true, false, ◌||◌, cond, if◌then◌else◌, List, [], ◌∷◌, ◌++◌, length, set, refl, sym, ap, subst, ◌∙◌, inl, inr, eqb-true, eq-eqb, length-set, arith}
 use Rattle.std.specs.List.{AllByRecursion, list_any, list_all}
-use Rattle.std.specs.declared.sync.Arc.{Arc}
-use Rattle.std.specs.declared.alloc.Global.{Global}
-use Rattle.std.specs.Arc.{arc_value}
-use Rattle.std.proofs.lemmas.Bool.{cases_lt, cases_eq, cases_Bool, and_parts, false_from_ne_true, false≢true}
-use Rattle.std.proofs.lemmas.List.{length_push, get_or_append_left, get_or_push, get_or-replicate, length-replicate, map_push, get_or-set_same, get_or-set_other}
+use Rattle.std.proofs.lemmas.Bool.{cases_eq, cases_Bool, and_parts, false_from_ne_true, false≢true}
+use Rattle.std.proofs.lemmas.List.{get_or-set_same, get_or-set_other}
 use Rattle.std.proofs.lemmas.List.Folds.{list_any-append}
 use Rattle.past_model.specs.declared.edit.Edit.{Edit}
-use Rattle.graph_model.specs.Graph.{Graph, empty_graph}
+use Rattle.graph_model.specs.Graph.{Graph}
 use Rattle.past_model.specs.Edits.{source_of, after_batch, AreEditsBelow}
-use Rattle.graph_model.proofs.Neighbours.{neighbours_agree, neighbours-empty_graph}
-use Rattle.migration.specs.declared.groups.Grouping.TheVariants.{ByRange}
-use Rattle.migration.specs.Part.{Part, vertex_at, IsPart, AreEditsOf, IsPartAfter}
-use Rattle.migration.specs.Table.{IsTable, IsPartAt, parts_of, part_at}
+use Rattle.migration.specs.Part.{Part, IsPartAfter}
+use Rattle.migration.specs.Table.{IsTable, IsPartAt, part_at}
 use Rattle.migration.proofs.RangeLemmas.{range_below, part_after, same_part}
 use Rattle.store_model.specs.Core.{range_of, is_done}
 use Rattle.stream_core.specs.Tables.{own_edits, IsTableInWork}
@@ -24,7 +19,7 @@ nothing = record { range = 0; rows = []; homes = [] }
 -- ---- a table under edit
 
 -- the edits of a range, where one more stands before them
-own_cons : (P : List Edit → Type 0) (e : Edit) (es : List Edit) (range : ℕ) → (range_of e ≡ range → P (e ∷ own_edits es range)) → P (own_edits es range) → P (own_edits (e ∷ es) range)
+pub own_cons : (P : List Edit → Type 0) (e : Edit) (es : List Edit) (range : ℕ) → (range_of e ≡ range → P (e ∷ own_edits es range)) → P (own_edits es range) → P (own_edits (e ∷ es) range)
 own_cons P e es range with_it without =
     elim (cases_Bool (range_of e == range)) [
       | inl t ↦ subst (λ b. P (cond b (e ∷ own_edits es range) (own_edits es range))) (sym t) (with_it (eqb-true (range_of e) range t))
@@ -59,10 +54,10 @@ or_false : (b : Bool) → (b || false) ≡ b
 or_false true = refl
 or_false false = refl
 
-done_now : (done : List ℕ) (range r : ℕ) → range ≡ r → is_done (done ++ range ∷ []) r ≡ true
+pub done_now : (done : List ℕ) (range r : ℕ) → range ≡ r → is_done (done ++ range ∷ []) r ≡ true
 done_now done range r same = is_done-push done range r ∙ ap (λ b. is_done done r || (b || false)) (eq-eqb range r same) ∙ or_true (is_done done r)
 
-done_before : (done : List ℕ) (range r : ℕ) → (range ≡ r → ⊥) → is_done (done ++ range ∷ []) r ≡ is_done done r
+pub done_before : (done : List ℕ) (range r : ℕ) → (range ≡ r → ⊥) → is_done (done ++ range ∷ []) r ≡ is_done done r
 done_before done range r other =
     is_done-push done range r ∙ ap (λ b. is_done done r || (b || false)) (false_from_ne_true (range == r) (λ t. other (eqb-true range r t))) ∙ or_false (is_done done r)
 
@@ -88,7 +83,7 @@ table_applied g es done parts range q below table inside undone after =
     }
 
 -- a range that no edit is of
-own_none : (es : List Edit) (done : List ℕ) (r : ℕ) → list_all (λ e. is_done done (range_of e)) es ≡ true → is_done done r ≡ false → own_edits es r ≡ []
+pub own_none : (es : List Edit) (done : List ℕ) (r : ℕ) → list_all (λ e. is_done done (range_of e)) es ≡ true → is_done done r ≡ false → own_edits es r ≡ []
 own_none [] done r all undone = refl
 own_none (e ∷ es) done r all undone =
     let parts = and_parts (is_done done (range_of e)) (list_all (λ e. is_done done (range_of e)) es) all in

@@ -1,11 +1,12 @@
 -- What each event keeps of a world.
-use Rattle.std.proofs.Common.{◌≡◌, ℕ, zero, suc, ◌<◌, ◌≤◌, true, false, Option, Some, None, MatchOption, Result, Ok, Err, IfOk, OnOk, OnErr, is_some, nat_lt, ◌&&◌, List, [], ◌∷◌, ◌++◌, length, get_or, set, map, take, replicate, option_map, refl, sym, ap, subst, ◌∙◌, ◌⊎◌, inl, inr, length-set, le_refl, arith}
+use Rattle.std.proofs.Common.{◌≡◌, ℕ, zero, suc, ◌<◌, ◌≤◌, true, false, Option, Some, None, MatchOption, Result, Ok, Err, IfOk, OnOk, OnErr, is_some, nat_lt, ◌&&◌, List, [], ◌∷◌, ◌++◌, length, get_or, set, map, drop, replicate, option_map, refl, sym, ap, subst, ◌∙◌, ◌⊎◌, inl, inr, length-set, arith}
+use Rattle.std.specs.List.{AllByRecursion}
 use Rattle.std.proofs.lemmas.Bool.{and_parts, false≢true}
 use Rattle.std.proofs.lemmas.Option.{none-some, same_Some}
-use Rattle.std.proofs.lemmas.List.{length_push, map-set, take-append-le, take_all}
+use Rattle.std.proofs.lemmas.List.{map-set}
 use Rattle.past_model.specs.declared.edit.Edit.{Edit}
 use Rattle.past_model.specs.declared.entry.Entry.{Entry}
-use Rattle.graph_model.specs.Graph.{empty_graph, neighbours}
+use Rattle.graph_model.specs.Graph.{empty_graph}
 use Rattle.past_model.specs.declared.limits.TheConstants.{FEEDS}
 use Rattle.past_model.specs.Edits.{AreEditsBelow, are_edits_below}
 use Rattle.past_model.specs.Past.{Past, IsPast, graph_of, opening, longer}
@@ -22,7 +23,7 @@ use Rattle.store_model.specs.declared.limits.TheConstants.{QUEUE_PLACES}
 use Rattle.store_model.specs.declared.event.Event.TheVariants.{Submit, Part as OnePart, Publish, Pin, Lend}
 use Rattle.store_model.specs.declared.reply.Reply.{Reply}
 use Rattle.store_model.specs.declared.reply.Reply.TheVariants.{Done}
-use Rattle.store_model.specs.Core.{Core, Run, is_open, is_whole, words_of}
+use Rattle.store_model.specs.Core.{Core, Run, range_of, is_open, is_whole, words_of}
 use Rattle.store_model.specs.Events.{can, after, after_lend, Answers, Lends}
 use Rattle.store_model.proofs.Entries.{below_append}
 use Rattle.stream_core.specs.declared.reader_run.ReaderRun.{ReaderRun}
@@ -30,7 +31,7 @@ use Rattle.stream_core.specs.Tables.{IsTableInWork}
 use Rattle.stream_core.specs.Work.{Work, holding_of, IsEditable, IsWorkAfter}
 use Rattle.stream_core.specs.Runs.{past_at, run_in, IsRunIn, IsLendable, IsLent}
 use Rattle.stream_core.specs.World.{core_of, IsWorkIn, IsWorld}
-use Rattle.stream_core.proofs.TableLemmas.{table_begun, table_whole}
+use Rattle.stream_core.proofs.TableLemmas.{in_ranges, table_begun, table_whole}
 
 -- ---- a store in which nothing has happened
 
@@ -74,6 +75,14 @@ world_submitted past queue held parts runs feed batch is able =
 below_in_graph : (past : Past) (es : List Edit) → AreEditsBelow past.vertex_count es → AreEditsBelow (graph_of past).vertex_count es
 below_in_graph past es below = subst (λ n. AreEditsBelow n es) (sym (vertex_count-graph_of past)) below
 
+-- the table has the range of each edit of the queue's first batch
+pub first_inside : (past : Past) (queue : List Entry) (held : Option Work) (parts : List Part) (runs : List (Option ReaderRun)) (e : Entry)
+    → IsWorld past queue held parts runs → 0 < length queue → e ≡ get_or queue 0 e → AllByRecursion (λ x. range_of x < length parts) e.batch
+first_inside past [] held parts runs e is some first = absurd (omega (arith, some))
+first_inside past (x ∷ rest) held parts runs e is some first =
+    subst (λ (y : Entry). AllByRecursion (λ z. range_of z < length parts) y.batch) (sym first)
+    (in_ranges (graph_of past).vertex_count (length parts) x.batch (λ r. (is.published.ranges r).1) (below_in_graph past x.batch is.waiting.0))
+
 pub world_taken : (past : Past) (e : Entry) (rest : List Entry) (held : Option Work) (parts : List Part) (runs : List (Option ReaderRun))
     → IsWorld past (e ∷ rest) held parts runs → IsWorld past rest (Some (record { entry = e; done = []; parts = parts })) parts runs
 world_taken past e rest held parts runs is = record {
@@ -86,6 +95,11 @@ world_taken past e rest held parts runs is = record {
   places = is.places;
   each = is.each;
 }
+
+-- the first and the rest, by what was read and what was left
+pub queue_split : (queue rest : List Entry) (e : Entry) → 0 < length queue → e ≡ get_or queue 0 e → rest ≡ drop 1 queue → queue ≡ e ∷ rest
+queue_split [] rest e some first left = absurd (omega (arith, some))
+queue_split (x ∷ xs) rest e some first left = λ i. sym first i ∷ sym left i
 
 -- ---- a range is done
 

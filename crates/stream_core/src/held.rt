@@ -1,8 +1,12 @@
 //! The batch in work.
-ghost use Rattle.std.specs.Prelude.{◌≡◌, [], ◌∷◌, ◌++◌, OnOk, OnErr};
+ghost use Rattle.std.specs.Prelude.{◌≡◌, ◌<◌, [], ◌∷◌, ◌++◌, length, IfOk, OnOk, OnErr};
+ghost use Rattle.std.specs.List.{AllByRecursion};
+ghost use Rattle.store_model.specs.Core.{range_of};
+ghost use Rattle.stream_core.specs.Work.{lists_of, AreLeft};
 
 use crate::version_shards::VersionShards;
-use past_model::{Entry, RANGE_VERTICES};
+use migration::{Grouping, Groups};
+use past_model::{Edit, Entry};
 use std::alloc::{AllocError, Global};
 use std::marker::Model;
 
@@ -12,31 +16,41 @@ pub(crate) struct Held {
     entry: Entry,
     done: Vec<u32>,
     table: VersionShards,
+    // The edits that are left to do, by range, so that an event takes only those of its own range.
+    left: Vec<Vec<Edit>>,
 }
 
 impl Model for Held {
-    ghost use Rattle.stream_core.specs.Work.{Work};
+    ghost use Rattle.stream_core.specs.Work.{Work, lists_of, AreLeft};
 
     ghost Value = { Work };
 
     ghost view = { λ h. record { entry = h.entry; done = h.done.items; parts = h.table } };
+
+    ghost invariant = { λ h. AreLeft h.entry.batch h.done.items (lists_of h.left.items) };
 }
 
 impl Held {
-    ghost use Rattle.std.specs.Prelude.{◌==◌};
-    ghost use Rattle.std.specs.List.{list_any};
-    ghost use Rattle.store_model.specs.Core.{range_of, is_open, is_whole, is_done};
+    ghost use Rattle.store_model.specs.Core.{is_open, is_whole};
     ghost use Rattle.stream_core.specs.Work.{holding_of, IsEditable, IsWorkAfter};
 
-    /// A batch of which nothing is done, and the shards that it is to edit.
-    pub(crate) fn begin(alloc: Global, entry: Entry, table: VersionShards) -> Held
-        ensures { result ≡ record { entry = entry; done = []; parts = table } }
+    /// A batch of which nothing is done, and the shards that it is to edit. It fails where there is no memory for the edits by
+    /// their ranges.
+    pub(crate) fn begin(
+        alloc: Global,
+        entry: Entry,
+        table: VersionShards,
+    ) -> Result<Held, AllocError>
+        requires { AllByRecursion (λ e. range_of e < length table) entry.batch }
+        ensures { IfOk result (λ held. held ≡ record { entry = entry; done = []; parts = table }) }
     {
-        Held {
+        let left = edits_by_range(alloc, table.shards().len(), entry.batch.edits())?;
+        Ok(Held {
             entry,
             done: Vec::new(alloc),
             table,
-        }
+            left,
+        })
     }
 
     /// The batch, and the feed that it came by.
@@ -53,38 +67,21 @@ impl Held {
         *published = self.table;
     }
 
-    // Whether a range is done.
-    fn is_done(&self, range: u32) -> bool
-        ensures { result ≡ is_done self.now.done range }
-    {
-        self.done.iter().any(|done| *done == range)
-    }
-
     /// Whether a range is still to be done.
     pub(crate) fn is_open(&self, range: u32) -> bool
         ensures { result ≡ is_open (holding_of self.now) range }
     {
-        self.edits_range(range) && !self.is_done(range)
-    }
-
-    // Whether the batch edits a range.
-    fn edits_range(&self, range: u32) -> bool
-        ensures { result ≡ list_any (λ e. range_of e == range) self.now.entry.batch }
-    {
-        let edits = self.entry.batch.edits();
-        edits
-            .iter()
-            .any(|edit| edit.source() / RANGE_VERTICES == range)
+        match self.left.get(range as usize) {
+            Some(edits) => !edits.is_empty(),
+            None => false,
+        }
     }
 
     /// Whether each range that the batch edits is done.
     pub(crate) fn is_whole(&self) -> bool
         ensures { result ≡ is_whole (holding_of self.now) }
     {
-        let edits = self.entry.batch.edits();
-        edits
-            .iter()
-            .all(|edit| self.is_done(edit.source() / RANGE_VERTICES))
+        self.left.iter().all(|edits| edits.is_empty())
     }
 
     /// Does the edits of a range that is open. After an error nothing is changed.
@@ -93,9 +90,25 @@ impl Held {
         ensures ok { OnOk result (IsWorkAfter range self.old self.new) }
         ensures err { OnErr result (self.new ≡ self.old) }
     {
-        let shard = self.table.edited(alloc, range, self.entry.batch.edits())?;
+        let shard = self.table.edited(alloc, range, &self.left[range as usize])?;
         self.done.push(range)?;
         self.table.set(range, shard);
+        self.left[range as usize] = Vec::new(alloc);
         Ok(())
     }
+}
+
+// The edits of each of so many ranges.
+fn edits_by_range(alloc: Global, count: usize, edits: &[Edit]) -> Result<Vec<Vec<Edit>>, AllocError>
+    requires { AllByRecursion (λ e. range_of e < count) edits.now }
+    ensures { IfOk result (λ lists. AreLeft edits.now [] (lists_of lists.items)) }
+{
+    let groups = Groups::of(alloc, Grouping::ByRange, count, edits)?;
+    let mut lists = Vec::with_capacity(alloc, count)?;
+    for range in 0..count {
+        let mut own = Vec::new(alloc);
+        groups.push(range, &mut own)?;
+        lists.push(own)?;
+    }
+    Ok(lists)
 }

@@ -1,14 +1,12 @@
 //! The shards of a version.
 ghost use Rattle.std.specs.Prelude.{◌≡◌, ◌<◌, ◌≤◌, length, slice_set, IfOk};
 ghost use Rattle.std.specs.Arc.{arc_value};
-ghost use Rattle.std.specs.List.{AllByRecursion};
 ghost use Rattle.past_model.specs.declared.limits.TheConstants.{MOST_VERTICES};
 ghost use Rattle.graph_model.specs.Graph.{empty_graph};
 ghost use Rattle.migration.specs.Part.{AreEditsOf, IsPartAfter};
 ghost use Rattle.migration.specs.Table.{IsTable, parts_of, part_at};
-ghost use Rattle.store_model.specs.Core.{range_of};
 
-use migration::{Grouping, Groups, Shard, empty_shards, share_shards};
+use migration::{Shard, empty_shards, share_shards};
 use past_model::Edit;
 use std::alloc::{AllocError, Global};
 use std::marker::Model;
@@ -31,8 +29,6 @@ impl Model for VersionShards {
 }
 
 impl VersionShards {
-    ghost use Rattle.stream_core.specs.Tables.{own_edits};
-
     /// The table of a graph of so many vertices without an edge.
     pub(crate) fn empty(alloc: Global, vertex_count: u32) -> Result<VersionShards, AllocError>
         requires some { 1 ≤ vertex_count }
@@ -58,23 +54,18 @@ impl VersionShards {
         &self.shards
     }
 
-    /// The shard of a range after those edits of a batch that are of it. The table stays.
+    /// The shard of a range after edits that are of it. The table stays. It fails where there is no memory for the shard.
     pub(crate) fn edited(
         &self,
         alloc: Global,
         range: u32,
-        batch: &[Edit],
+        own: &[Edit],
     ) -> Result<Arc<Shard>, AllocError>
         requires inside { range < length self.now }
-        requires ranges { AllByRecursion (λ e. range_of e < length self.now) batch.now }
-        requires own { AreEditsOf (part_at self.now range) (own_edits batch.now range) }
-        ensures { IfOk result
-            (λ shard. IsPartAfter (own_edits batch.now range) (part_at self.now range) (arc_value shard)) }
+        requires own { AreEditsOf (part_at self.now range) own.now }
+        ensures { IfOk result (λ shard. IsPartAfter own.now (part_at self.now range) (arc_value shard)) }
     {
-        let groups = Groups::of(alloc, Grouping::ByRange, self.shards.len(), batch)?;
-        let mut own = Vec::new(alloc);
-        groups.read(range as usize, &mut own)?;
-        let (shard, _) = self.shards[range as usize].apply(alloc, &own)?;
+        let (shard, _) = self.shards[range as usize].apply(alloc, own)?;
         Ok(Arc::new(alloc, shard)?)
     }
 

@@ -148,15 +148,19 @@ impl World {
         Ok(())
     }
 
-    /// Takes the first batch of the queue, to be worked on.
+    /// Takes the first batch of the queue, to be worked on. After an error, which comes if there is no memory for its edits by
+    /// their ranges, the queue still has it.
     pub(crate) fn take(&mut self) -> Result<(), AllocError>
         requires { can self.old events.Take ≡ true }
         ensures ok { OnOk result (self.new ≡ after self.old events.Take replies.Done) }
         ensures err { OnErr result (self.new ≡ self.old) }
     {
-        let table = self.table.share(self.alloc)?;
-        if let Some(entry) = self.queue.pop_front() {
-            self.held = Some(Held::begin(self.alloc, entry, table));
+        let alloc = self.alloc;
+        let table = self.table.share(alloc)?;
+        if let Some(entry) = self.queue.front() {
+            let held = Held::begin(alloc, entry.share()?, table)?;
+            self.queue.pop_front();
+            self.held = Some(held);
             return Ok(());
         }
         Ok(())

@@ -1,20 +1,18 @@
-use Rattle.std.proofs.Common.{◌≡◌, ◌<◌, length, sym, ap, subst, subst₂, ◌∙◌}
+use Rattle.std.proofs.Common.{◌≡◌, ◌<◌, length, sym, ap, subst, ◌∙◌}
 use Rattle.std.specs.Arc.{arc_value}
 use Rattle.std.proofs.lemmas.List.{length-map}
 use Rattle.migration.proofs.TableLemmas.{shown_part}
-use Rattle.migration.specs.Groups.{Grouped, edits_of}
 use Rattle.migration.specs.Part.{IsPartAfter}
 use Rattle.migration.specs.Table.{part_at}
-use Rattle.stream_core.specs.Tables.{own_edits}
 use Rattle.stream_core.proofs.version_shards.VersionShards.edited.Goals as goal
 
 pub returns : goal.returns
 returns c =
     let shards = c.self.inside.shards.items in
     let range = c.args.range in
-    let own : c.deref-2.result.now ≡ own_edits c.args.batch.now range = c.deref-2.ensures.value ∙ c.in_ok-read.ensures ∙ ap (λ (g : Grouped). edits_of g range) c.in_ok-groups.ensures in
+    let own = c.args.own.now in
     let inside : range < length shards = subst (λ n. range < n) (ap length (sym c.self.view_is) ∙ length-map shards arc_value) c.requires.inside in
     let part : c.deref.result.now ≡ part_at c.args.self.now range =
     c.deref.ensures ∙ ap arc_value c.index.ensures ∙ shown_part shards range c.index.result.now inside ∙ ap (λ l. part_at l range) c.self.view_is in
-    subst (IsPartAfter (own_edits c.args.batch.now range) (part_at c.args.self.now range)) (sym c.in_ok-new.ensures.ok)
-    (subst₂ (λ es p. IsPartAfter es p c.in_ok-shard.shard) own part c.in_ok-shard.ensures.after)
+    subst (IsPartAfter own (part_at c.args.self.now range)) (sym c.in_ok-new.ensures.ok)
+    (subst (λ p. IsPartAfter own p c.in_ok-shard.shard) part c.in_ok-shard.ensures.after)

@@ -1,4 +1,4 @@
-use Rattle.std.proofs.Common.{◌≡◌, ℕ, Some, List, set, sym, ap, subst, ◌∙◌}
+use Rattle.std.proofs.Common.{◌≡◌, Some, List, set, sym, ap, subst, ◌∙◌}
 use Rattle.migration.specs.Part.{Part}
 use Rattle.store_model.specs.declared.event.Event.TheVariants.{Pin}
 use Rattle.store_model.specs.declared.reply.Reply.TheVariants.{Done}

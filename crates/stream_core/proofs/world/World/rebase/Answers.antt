@@ -1,7 +1,6 @@
 use Rattle.std.proofs.Common.{◌≡◌, ◌+◌, sym, ap, subst, ◌∙◌}
 use Rattle.std.proofs.lemmas.List.{length_push}
 use Rattle.past_model.specs.Past.{Past}
-use Rattle.past_model.specs.Epochs.{rebased}
 use Rattle.history.specs.declared.published.Published.TheVariants.{Rebase as OneRebase}
 use Rattle.history.specs.Moment.{Beginning, count_of, and_then}
 use Rattle.store_model.specs.declared.event.Event.TheVariants.{Rebase}
