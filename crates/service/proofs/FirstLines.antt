@@ -10,11 +10,14 @@ use Rattle.script.specs.Executes.{Steps}
 use Rattle.service.specs.Served.{Served, Serving, Listing, Settling, IsLine}
 use Rattle.service.proofs.Following.{served_step, served_fault}
 
--- the first line of what stands from a place on
+-- what a slice from a place on has
+pub slice_from : (bytes : List ℕ) (from : ℕ) → take (length bytes - from) (drop from bytes) ≡ drop from bytes
+slice_from bytes from = take_all _ _ (omega (arith, length-drop from bytes))
+
+-- the first line of it
 pub found_at : (bytes : List ℕ) (from k : ℕ) → IsLine (take (length bytes - from) (drop from bytes)) k → IsLine (drop from bytes) k
 found_at bytes from k found =
-    let rest : take (length bytes - from) (drop from bytes) ≡ drop from bytes = take_all _ _ (omega (arith, length-drop from bytes)) in
-    subst (λ (l : List ℕ). IsLine l k) rest found
+    subst (λ (l : List ℕ). IsLine l k) (slice_from bytes from) found
 
 pub line_at : (bytes : List ℕ) (from k : ℕ) → take (from + k - from) (drop from bytes) ≡ take k (drop from bytes)
 line_at bytes from k = ap (λ (n : ℕ). take n (drop from bytes)) (omega arith)

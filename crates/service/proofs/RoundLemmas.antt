@@ -1,5 +1,5 @@
 -- Lines that are executed and what they say written, and what this leads to.
-use Rattle.std.proofs.Common.{◌≡◌, ◌<◌, ℕ, List, [], ◌++◌, length, take, Option, Some, None, refl, sym, ap, subst, ◌∙◌, inl, inr, append_assoc}
+use Rattle.std.proofs.Common.{◌≡◌, ◌<◌, ℕ, List, [], ◌++◌, length, take, drop, Option, Some, None, refl, sym, ap, subst, ◌∙◌, inl, inr, append_assoc}
 use Rattle.std.specs.Prelude.{Result, Ok, Err, IsErrAnd}
 use Rattle.std.specs.List.{flat_map}
 use Rattle.std.specs.Io.KnownBytes.{Appends, Consumes, Keeps, IsAtEnd}
@@ -37,6 +37,10 @@ conclude_fails (Err e) P kept holds old is goes = goes
 pub turn_stops : (r : Result (Option Ending) ServeError) (P : ServeError → Type 0) (was has kept holds : Option (List ℕ)) (old new : Stand) → IsErrAnd r P → ((e : ServeError) → Turns (Err e) was has kept holds old new) → Turns r was has kept holds old new
 turn_stops (Ok x) P was has kept holds old new is goes = absurd is
 turn_stops (Err e) P was has kept holds old new is goes = goes e
+
+-- where a script stands whose bytes are executed up to a place
+abbrev pub left_from : Stand → ℕ → Stand
+left_from s from = record s { pending = drop from s.pending }
 
 -- ---- lines that add a text
 

@@ -60,15 +60,17 @@ impl Serving {
         ensures no_read { IsNoRead result }
         ensures writes { CountsWrites result (O.failures output.old) (O.failures output.new) }
     {
-        loop {
-            match execute_read(crew, &mut self.script, &mut self.text, &self.pending)? {
-                Progress::Left(from) => {
-                    self.drop_first(alloc, from)?;
+        let mut from = 0;
+        'lines: loop {
+            let left = &self.pending[from..];
+            match execute_read(crew, &mut self.script, &mut self.text, left)? {
+                Progress::Left(more) => {
+                    self.drop_first(alloc, from + more)?;
                     write_text(output, &mut self.text)?;
                     return Ok(None);
                 }
-                Progress::Lists(from, listing) => {
-                    self.drop_first(alloc, from)?;
+                Progress::Lists(more, listing) => {
+                    from += more;
                     write_edges(output, alloc, &mut self.text, &listing)?;
                 }
                 Progress::Settled => {
