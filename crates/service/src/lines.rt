@@ -29,6 +29,8 @@ pub enum Progress {
 }
 
 /// Executes the whole lines of some bytes, up to the first that lists edges.
+// By itself the loop keeps its places in registers. As part of its caller it takes two instructions more a line.
+#[inline(never)]
 fn execute_lines<Ga: Gate, R: Threads + Wait>(
     crew: &Crew<'_, R, Ga>,
     script: &mut Script,
