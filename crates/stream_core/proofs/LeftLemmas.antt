@@ -1,9 +1,10 @@
 -- The edits that are left to do, by range.
-use Rattle.std.proofs.Common.{◌≡◌, ◌==◌, ℕ, ◌<◌, ◌≤◌, Bool, true, false, not, ◌||◌, ◌&&◌, cond, if◌then◌else◌, List, [], ◌∷◌, ◌++◌, Vec, length, get_or, set, refl, sym, ap, subst, ◌∙◌, inl, inr, eqb-true, eq-eqb, arith}
+use Rattle.std.proofs.Common.{◌≡◌, ◌==◌, ℕ, ◌<◌, ◌≤◌, Bool, true, false, not, ◌||◌, ◌&&◌, cond, if◌then◌else◌, List, [], ◌∷◌, ◌++◌, Vec, length, get_or, set, replicate, refl, sym, ap, subst, ◌∙◌, inl, inr, eqb-true, eq-eqb, append-nil, length-set, arith}
 use Rattle.std.specs.List.{AllByRecursion, list_any, list_all}
 use Rattle.std.specs.declared.alloc.Global.{Global}
 use Rattle.std.proofs.lemmas.Bool.{cases_lt, cases_eq, cases_Bool, false_from_ne_true, false≢true, and_from, or_left, or_right}
-use Rattle.std.proofs.lemmas.List.{get_or_past, get_or-set_same, get_or-set_other, length-map, get_or-map, map-set}
+use Rattle.std.proofs.lemmas.List.{get_or_past, get_or-replicate, get_or-set_same, get_or-set_other, length-map, length-replicate, get_or-map, map-set}
+use Rattle.std.proofs.lemmas.List.Elements.{filter-append}
 use Rattle.std.proofs.lemmas.List.Recursion.{and_at, and_from_places}
 use Rattle.std.proofs.lemmas.List.Folds.{list_all-map}
 use Rattle.past_model.specs.declared.edit.Edit.{Edit}
@@ -138,6 +139,42 @@ own_past count (e ∷ es) range below past =
 pub record AreListed (es : List Edit) (count : ℕ) (lists : List (List Edit)) : Type 0 where
   pub count_is : length lists ≡ count
   pub each : (range : ℕ) → range < count → get_or lists range [] ≡ own_edits es range
+
+-- before the first edit, no list has one
+pub none_listed : (count : ℕ) (lists : List (List Edit)) → lists ≡ replicate count [] → AreListed [] count lists
+none_listed count lists none = record {
+  count_is = ap length none ∙ length-replicate count [];
+  each = λ range inside. ap (λ l. get_or l range []) none ∙ get_or-replicate count range [] [] inside;
+}
+
+-- one edit more is behind those of its range, and of no other
+own_with : (es : List Edit) (e : Edit) (range : ℕ) → range_of e ≡ range → own_edits (es ++ e ∷ []) range ≡ own_edits es range ++ e ∷ []
+own_with es e range mine =
+    filter-append (λ x. range_of x == range) es (e ∷ []) ∙ ap (λ b. own_edits es range ++ cond b (e ∷ []) []) (eq-eqb (range_of e) range mine)
+
+own_without : (es : List Edit) (e : Edit) (range : ℕ) → (range_of e ≡ range → ⊥) → own_edits (es ++ e ∷ []) range ≡ own_edits es range
+own_without es e range other =
+    filter-append (λ x. range_of x == range) es (e ∷ [])
+    ∙ ap (λ b. own_edits es range ++ cond b (e ∷ []) []) (false_from_ne_true (range_of e == range) (λ t. other (eqb-true (range_of e) range t)))
+    ∙ append-nil (own_edits es range)
+
+-- the edit is put behind the list of its range
+pub listed_more : (es : List Edit) (count : ℕ) (vectors : List (Vec Edit Global)) (e : Edit) (v : Vec Edit Global)
+    → range_of e < count → AreListed es count (lists_of vectors) → v.items ≡ get_or (lists_of vectors) (range_of e) [] ++ e ∷ []
+    → AreListed (es ++ e ∷ []) count (lists_of (set vectors (range_of e) v))
+listed_more es count vectors e v inside is put =
+    let range = range_of e in
+    let lists = lists_of vectors in
+    let long : range < length lists = omega (arith, is.count_is, inside) in
+    let now : get_or (set lists range v.items) range [] ≡ own_edits (es ++ e ∷ []) range =
+    get_or-set_same lists range v.items [] long ∙ put ∙ ap (λ l. l ++ e ∷ []) (is.each range inside) ∙ sym (own_with es e range refl) in
+    subst (AreListed (es ++ e ∷ []) count) (sym (map-set (λ (x : Vec Edit Global). x.items) vectors range v)) record {
+      count_is = length-set lists range v.items ∙ is.count_is;
+      each = λ r h. elim (cases_eq range r) [
+        | inl same ↦ subst (λ k. get_or (set lists range v.items) k [] ≡ own_edits (es ++ e ∷ []) k) same now
+        | inr other ↦ get_or-set_other lists range r v.items [] (λ k. other (sym k)) ∙ is.each r h ∙ sym (own_without es e r other)
+      ];
+    }
 
 -- all lists, where nothing is done
 pub all_listed : (es : List Edit) (count : ℕ) (lists : List (List Edit)) → AllByRecursion (λ e. range_of e < count) es → AreListed es count lists → AreLeft es [] lists

@@ -38,6 +38,10 @@ pub own_inside : (w : Work) (range : ℕ) → IsEditable range w → AreEditsOf 
 own_inside w range is =
     range_own is.graph (part_at w.parts range) 0 w.entry.batch range is.small (part_before is.graph w range is.table (range_inside w range is) is.still_open) is.below
 
+-- among the lists is that of a range that may be edited
+pub list_inside : (w : Work) (vectors : Vec (Vec Edit Global) Global) (range : ℕ) → AreLeft w.entry.batch w.done (lists_of vectors.items) → IsEditable range w → range < vectors.len
+list_inside w vectors range left is = subst (λ n. range < n) (sym vectors.ok.0) (open_inside (holding_of w) vectors.items range left is.still_open)
+
 -- its list, which was read, has all that is of it
 pub own_read : (w : Work) (vectors : List (Vec Edit Global)) (range : ℕ) (v : Vec Edit Global) → AreLeft w.entry.batch w.done (lists_of vectors) → IsEditable range w → v ≡ get_or vectors range v → v.items ≡ own_edits w.entry.batch range
 own_read w vectors range v left is read =

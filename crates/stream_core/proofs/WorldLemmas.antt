@@ -20,7 +20,7 @@ use Rattle.past_model.proofs.Pasts.{graph_of-longer, vertex_count-graph_of, IsPa
 use Rattle.migration.specs.Part.{Part}
 use Rattle.migration.specs.Table.{IsTable}
 use Rattle.store_model.specs.declared.limits.TheConstants.{QUEUE_PLACES}
-use Rattle.store_model.specs.declared.event.Event.TheVariants.{Submit, Part as OnePart, Publish, Pin, Lend}
+use Rattle.store_model.specs.declared.event.Event.TheVariants.{Submit, Publish, Pin, Lend}
 use Rattle.store_model.specs.declared.reply.Reply.{Reply}
 use Rattle.store_model.specs.declared.reply.Reply.TheVariants.{Done}
 use Rattle.store_model.specs.Core.{Core, Run, range_of, is_open, is_whole, words_of}
@@ -128,12 +128,6 @@ world_edited past queue w next parts runs range is done = record {
   places = is.places;
   each = is.each;
 }
-
-pub core_edited : (past : Past) (queue : List Entry) (w next : Work) (runs : List (Option ReaderRun)) (range : ℕ)
-    → IsWorkAfter range w next → core_of past queue (Some next) runs ≡ after (core_of past queue (Some w) runs) (OnePart range) Done
-core_edited past queue w next runs range done =
-    ap (λ (e : Entry). record (core_of past queue None runs) { held = Some (record { entry = e; done = next.done }) }) done.entry
-    ∙ ap (λ l. record (core_of past queue None runs) { held = Some (record { entry = w.entry; done = l }) }) done.done
 
 -- ---- the held batch is published
 
@@ -247,11 +241,6 @@ run_inside past queue held runs reader able = some_inside runs reader (sym (is_s
     is_some-option_map : (f : ReaderRun → Run) (o : Option ReaderRun) → is_some (option_map f o) ≡ is_some o
     is_some-option_map f None = refl
     is_some-option_map f (Some r) = refl
-
--- and none means that it has none
-pub no_lend : (past : Past) (queue : List Entry) (held : Option Work) (runs : List (Option ReaderRun)) (reader : ℕ) → can (core_of past queue held runs) (Lend reader) ≡ true → get_or runs reader None ≡ None → ⊥
-no_lend past queue held runs reader able none =
-    false≢true (ap (λ o. is_some (option_map (run_in past.vertex_count) o)) (sym none) ∙ ap is_some (sym (get_or-runs (run_in past.vertex_count) runs reader)) ∙ able)
 
 pub lendable : (past : Past) (queue : List Entry) (held : Option Work) (parts : List Part) (runs : List (Option ReaderRun)) (reader : ℕ) (r : ReaderRun)
     → IsWorld past queue held parts runs → get_or runs reader None ≡ Some r → IsLendable r

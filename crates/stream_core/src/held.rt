@@ -1,12 +1,11 @@
 //! The batch in work.
-ghost use Rattle.std.specs.Prelude.{◌≡◌, ◌<◌, [], ◌∷◌, ◌++◌, length, IfOk, OnOk, OnErr};
+ghost use Rattle.std.specs.Prelude.{◌≡◌, ◌<◌, [], length, replicate, IfOk, OnOk, OnErr};
 ghost use Rattle.std.specs.List.{AllByRecursion};
 ghost use Rattle.store_model.specs.Core.{range_of};
 ghost use Rattle.stream_core.specs.Work.{lists_of, AreLeft};
 
 use crate::version_shards::VersionShards;
-use migration::{Grouping, Groups};
-use past_model::{Edit, Entry};
+use past_model::{Edit, Entry, RANGE_VERTICES};
 use std::alloc::{AllocError, Global};
 use std::marker::Model;
 
@@ -98,17 +97,26 @@ impl Held {
     }
 }
 
-// The edits of each of so many ranges.
+// The edits of each of so many ranges, found by one pass over the edits.
 fn edits_by_range(alloc: Global, count: usize, edits: &[Edit]) -> Result<Vec<Vec<Edit>>, AllocError>
     requires { AllByRecursion (λ e. range_of e < count) edits.now }
     ensures { IfOk result (λ lists. AreLeft edits.now [] (lists_of lists.items)) }
 {
-    let groups = Groups::of(alloc, Grouping::ByRange, count, edits)?;
+    let mut lists = empty_lists(alloc, count)?;
+    for edit in edits {
+        let range = edit.source() / RANGE_VERTICES;
+        lists[range as usize].push(*edit)?;
+    }
+    Ok(lists)
+}
+
+// So many lists without an edit.
+fn empty_lists(alloc: Global, count: usize) -> Result<Vec<Vec<Edit>>, AllocError>
+    ensures { IfOk result (λ lists. lists_of lists.items ≡ replicate count []) }
+{
     let mut lists = Vec::with_capacity(alloc, count)?;
-    for range in 0..count {
-        let mut own = Vec::new(alloc);
-        groups.push(range, &mut own)?;
-        lists.push(own)?;
+    for _ in 0..count {
+        lists.push(Vec::new(alloc))?;
     }
     Ok(lists)
 }

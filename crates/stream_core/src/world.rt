@@ -148,8 +148,8 @@ impl World {
         Ok(())
     }
 
-    /// Takes the first batch of the queue, to be worked on. After an error, which comes if there is no memory for its edits by
-    /// their ranges, the queue still has it.
+    /// Takes the first batch of the queue, to be worked on. After an error, which comes if there is no memory for another table of
+    /// the shards or for the edits by their ranges, the queue still has it.
     pub(crate) fn take(&mut self) -> Result<(), AllocError>
         requires { can self.old events.Take ≡ true }
         ensures ok { OnOk result (self.new ≡ after self.old events.Take replies.Done) }

@@ -1,20 +1,17 @@
-use Rattle.std.proofs.Common.{◌<◌, set, sym, subst, subst₂, ◌∙◌}
+use Rattle.std.proofs.Common.{set, sym, subst, subst₂, ◌∙◌}
 use Rattle.std.specs.Arc.{arc_value}
 use Rattle.migration.specs.Part.{AreEditsOf, IsPartAfter}
 use Rattle.migration.specs.Table.{part_at}
 use Rattle.stream_core.specs.Tables.{own_edits}
 use Rattle.stream_core.specs.Work.{Work, IsEditable, IsWorkAfter, AreLeft, holding_of, lists_of}
 use Rattle.stream_core.proofs.LeftLemmas.{open_inside, left_applied}
-use Rattle.stream_core.proofs.WorkLemmas.{range_inside, own_inside, own_read, work_applied}
+use Rattle.stream_core.proofs.WorkLemmas.{list_inside, range_inside, own_inside, own_read, work_applied}
 use Rattle.stream_core.proofs.held.Held.apply.Goals as goal
 
 pub index-requires : goal.index-requires
 index-requires c =
-    let h = c.self.inside in
-    let w : Work = record { entry = h.entry; done = h.done.items; parts = h.table } in
-    let range = c.args.range in
-    let is : IsEditable range w = subst (IsEditable range) (sym c.self.view_is) c.requires in
-    subst (λ n. range < n) (sym h.left.ok.0) (open_inside (holding_of w) h.left.items range c.self.invariant is.still_open)
+    let w : Work = record { entry = c.self.inside.entry; done = c.self.inside.done.items; parts = c.self.inside.table } in
+    list_inside w c.self.inside.left c.args.range c.self.invariant (subst (IsEditable c.args.range) (sym c.self.view_is) c.requires)
 
 pub edited-requires-clause-inside : goal.edited-requires-clause-inside
 edited-requires-clause-inside c =
@@ -37,11 +34,8 @@ set-requires c =
 
 pub index_mut-requires : goal.index_mut-requires
 index_mut-requires c =
-    let h = c.self.inside in
-    let w : Work = record { entry = h.entry; done = h.done.items; parts = h.table } in
-    let range = c.args.range in
-    let is : IsEditable range w = subst (IsEditable range) (sym c.self.view_is) c.requires in
-    subst (λ n. range < n) (sym h.left.ok.0) (open_inside (holding_of w) h.left.items range c.self.invariant is.still_open)
+    let w : Work = record { entry = c.self.inside.entry; done = c.self.inside.done.items; parts = c.self.inside.table } in
+    list_inside w c.self.inside.left c.args.range c.self.invariant (subst (IsEditable c.args.range) (sym c.self.view_is) c.requires)
 
 pub invariant_of-self-2 : goal.invariant_of-self-2
 invariant_of-self-2 c =
