@@ -1,17 +1,16 @@
 -- Frames of called functions, as the code keeps them.
-use Rattle.std.proofs.Common.{◌≡◌, ℕ, zero, suc, ◌+◌, ◌<◌, ◌≤◌, List, [], ◌∷◌, ◌++◌, length, map, take, drop, replicate, Option, Some, None, Result, Ok, Err, get_or, set, refl, sym, ap, ap₂, ◌∙◌, inl, inr, get_or-set_same, get_or-set_other, arith}
+use Rattle.std.proofs.Common.{◌≡◌, ℕ, zero, suc, ◌+◌, ◌<◌, List, [], ◌∷◌, ◌++◌, length, map, take, drop, replicate, Option, Some, None, Result, Ok, Err, get_or, set, refl, sym, ap, ap₂, ◌∙◌, inl, inr, get_or-set_same, get_or-set_other, arith}
 use Rattle.std.proofs.lemmas.Bool.{cases_eq}
 use Rattle.std.specs.Prelude.{IfErr, pos, false}
 use Rattle.std.specs.Option.{is_some}
 use Rattle.std.specs.Global.{Box}
 use Rattle.bpf_model.specs.declared.cause.Cause.{Cause}
-use Rattle.std.proofs.lemmas.List.{get_or_past}
 use Rattle.abstract_values.specs.declared.value.AbstractValue.{AbstractValue}
 use Rattle.abstract_state.specs.declared.state.Called.{Called}
 use Rattle.abstract_values.specs.declared.value.AbstractValue.TheVariants.{Unset, Stack}
 use Rattle.abstract_state.specs.declared.state.Frame.{Frame}
 use Rattle.abstract_values.specs.Values.{join_of}
-use Rattle.abstract_state.specs.States.{AbstractState, elementwise, join_if_live, new_frame, nothing_kept, without_pointer, without_pointers, kept_of, most_callers, callee_state, left_state}
+use Rattle.abstract_state.specs.States.{AbstractState, elementwise, join_if_live, new_frame, nothing_kept, without_pointer, without_pointers, kept_of, callee_state, left_state}
 use Rattle.abstract_state.specs.Called.{frame_called, kept_by}
 use Rattle.abstract_state.proofs.Zipped.{with_none}
 
@@ -30,9 +29,6 @@ mapped f z w (x ∷ xs) (suc k) e = mapped f z w xs k e
 -- frame 1 and those above stand behind frame 0
 pub above : (main : Option Frame) (called : Boxes) (frame at : ℕ) → frame ≡ suc at → get_or (main ∷ map frame_called called) frame None ≡ frame_called (get_or called at None)
 above main called frame at same = rw same (mapped frame_called None None called at refl)
-
-pub none_past : (called : Boxes) (at : ℕ) → length called ≤ at → frame_called (get_or called at None) ≡ None
-none_past called at past = ap frame_called (get_or_past called at None past)
 
 -- what was read is there, whatever is told of places past the end
 pub read_none : (called : Boxes) (at : ℕ) (d : Option (Box Called)) → d ≡ get_or called at d → get_or called at d ≡ None → get_or called at None ≡ None
@@ -74,9 +70,6 @@ known registers frames kept = record { registers = registers; frames = frames; k
 pub with_called : (registers : List AbstractValue) (main : Option Frame) (called after : Boxes) (frame at : ℕ) (f : Option Frame) → frame ≡ suc at → map frame_called after ≡ set (map frame_called called) at f → map kept_by after ≡ map kept_by called → known registers (main ∷ map frame_called after) (map kept_by after) ≡ known registers (set (main ∷ map frame_called called) frame f) (map kept_by called)
 with_called registers main called after frame at f same frames kept = rw (same, frames, kept) refl
 
-pub as_it_was : (registers : List AbstractValue) (main : Option Frame) (called after : Boxes) → map frame_called after ≡ map frame_called called → map kept_by after ≡ map kept_by called → known registers (main ∷ map frame_called after) (map kept_by after) ≡ known registers (main ∷ map frame_called called) (map kept_by called)
-as_it_was registers main called after frames kept = rw (frames, kept) refl
-
 -- a state whose frames are in a table
 pub told_of : (registers : List AbstractValue) (main : Option Frame) (called before : Boxes) → called ≡ before → (s : AbstractState) → known registers (main ∷ map frame_called called) (map kept_by called) ≡ s → known registers (main ∷ map frame_called before) (map kept_by before) ≡ s
 told_of registers main called before same s is =
@@ -89,29 +82,11 @@ there_now [] at o x lt = absurd (omega (arith, lt))
 there_now (y ∷ ys) zero o x lt = refl
 there_now (y ∷ ys) (suc at) o x lt = there_now ys at o x (omega (arith, lt))
 
--- nothing is taken where nothing is
-pub none_back : (called : Boxes) (at : ℕ) (o : Option (Box Called)) → get_or called at None ≡ None → o ≡ None → map frame_called (set called at o) ≡ map frame_called called
-none_back [] at o is none = refl
-none_back (y ∷ ys) zero o is none =
-    let e : frame_called o ≡ frame_called y = ap frame_called (none ∙ sym is) in
-    ap (λ v. v ∷ map frame_called ys) e
-none_back (y ∷ ys) (suc at) o is none = ap (λ rest. frame_called y ∷ rest) (none_back ys at o is none)
-
-pub kept_none : (called : Boxes) (at : ℕ) (o : Option (Box Called)) → get_or called at None ≡ None → o ≡ None → map kept_by (set called at o) ≡ map kept_by called
-kept_none [] at o is none = refl
-kept_none (y ∷ ys) zero o is none =
-    let e : kept_by o ≡ kept_by y = ap kept_by (none ∙ sym is) in
-    ap (λ v. v ∷ map kept_by ys) e
-kept_none (y ∷ ys) (suc at) o is none = ap (λ rest. kept_by y ∷ rest) (kept_none ys at o is none)
-
 -- what stands somewhere is put there again
 pub again : {A : Type 0} (fs : List A) (at : ℕ) (z f : A) → get_or fs at z ≡ f → fs ≡ set fs at f
 again [] at z f is = refl
 again (y ∷ ys) zero z f is = ap (λ v. v ∷ ys) is
 again (y ∷ ys) (suc at) z f is = ap (λ rest. y ∷ rest) (again ys at z f is)
-
-pub frame_at : (called : Boxes) (at : ℕ) → get_or (map frame_called called) at None ≡ frame_called (get_or called at None)
-frame_at called at = mapped frame_called None None called at refl
 
 -- what is so where a cause was found
 pub refused_map : (r : Result (Unit {0}) Cause) (P Q : Type 0) → (P → Q) → IfErr r (λ cause. P) → IfErr r (λ cause. Q)
@@ -232,17 +207,6 @@ none_there [] (suc n) long h = absurd (omega (arith, long))
 none_there (x ∷ xs) zero long h = absurd (omega (arith, long))
 none_there (x ∷ xs) (suc n) long h =
     ap₂ (λ a b. a ∷ b) (h 0 (omega arith)) (none_there xs n (omega (arith, long)) (λ j lt. h (suc j) (omega (arith, lt))))
-
-none_put : {A : Type 0} (n k : ℕ) (z : A) → set (replicate n z) k z ≡ replicate n z
-none_put zero k z = refl
-none_put (suc n) zero z = refl
-none_put (suc n) (suc k) z = ap (λ rest. z ∷ rest) (none_put n k z)
-
-pub none_dropped : (k d : ℕ) → map (without_pointers d) (set (replicate most_callers None) k None) ≡ replicate most_callers None
-none_dropped k d = ap (map (without_pointers d)) (none_put most_callers k None)
-
-pub none_kept : (k : ℕ) → set (replicate most_callers nothing_kept) k nothing_kept ≡ replicate most_callers nothing_kept
-none_kept k = none_put most_callers k nothing_kept
 
 -- nothing comes of a join with nothing
 pub none_live : (called : Boxes) (n : ℕ) → length called ≡ n → elementwise join_if_live (map frame_called called) (replicate n None) ≡ replicate n None

@@ -1,5 +1,5 @@
 //! Loads and stores through what is known of their base (RFC 9669, section 5).
-ghost use Rattle.std.specs.Prelude.{◌≡◌, ℕ, ◌≤◌, ◌+ℤ◌, if◌then◌else◌, None, Ok, Err, IfErr, map, slice_index_or, slice_set};
+ghost use Rattle.std.specs.Prelude.{◌≡◌, ℕ, ◌≤◌, if◌then◌else◌, None, Ok, Err, IfErr, map, slice_index_or, slice_set};
 ghost use Rattle.bpf_isa.specs.Sizes.{size_bytes};
 ghost use Rattle.abstract_state.specs.States.{AbstractState as Known, frame_of, with_if_live};
 ghost use Rattle.abstract_state.specs.Called.{frame_called, kept_by};

@@ -1,8 +1,8 @@
 //! The bytes and slots of the frame.
-ghost use Rattle.std.specs.Prelude.{◌≡◌, ℕ, ◌+◌, ◌*◌, ◌-◌, ◌/◌, ◌^◌, ◌<◌, ◌≤◌, ◌+ℤ◌, ◌≤ℤ◌, if◌then◌else◌, Some, None, IfErr, IfSome, slice_set};
+ghost use Rattle.std.specs.Prelude.{◌≡◌, ℕ, ◌+◌, ◌*◌, ◌-◌, ◌/◌, ◌<◌, ◌≤◌, ◌≤ℤ◌, if◌then◌else◌, Some, None, IfErr, IfSome};
 ghost use Rattle.abstract_values.specs.declared.limits.TheConstants.{FRAME_BOTTOM};
 ghost use Rattle.abstract_state.specs.States.{AbstractState as Known, with_frame};
-ghost use Rattle.abstract_state.specs.Memory.{is_slot, is_in_frame, frame_index, is_spilled, is_pointer, are_set, any_of_size, frame_value, frame_read, set_from, unset_from, slots_touched, without_spills, frame_write, frame_fill, frame_load_result, frame_store_result, frame_gather_result, store_answer};
+ghost use Rattle.abstract_state.specs.Memory.{is_slot, is_in_frame, frame_index, is_pointer, are_set, any_of_size, frame_read, set_from, unset_from, without_spills, frame_write, frame_fill, frame_load_result, frame_store_result, frame_gather_result, store_answer};
 
 use crate::state::{FRAME_SLOTS, Frame};
 use abstract_values::{AbstractValue, FRAME_BOTTOM};

@@ -28,10 +28,6 @@ pub code_one : (all : List Item) (code : List ℕ) (line pc : ℕ) (i : Item) (l
 code_one all code line pc i lines bytes is =
     ap (λ (r : Result (List ℕ) TextCause). behind_code code (bytes_first line r (code_from all (line + 1) (pc + item_units i) lines))) is ∙ bytes_behind code line bytes (code_from all (line + 1) (pc + item_units i) lines)
 
-pub code_fault : (all : List Item) (code : List ℕ) (line pc : ℕ) (i : Item) (lines : List Item) (cause : TextCause) → item_bytes all pc i ≡ Err cause → behind_code code (code_from all line pc (i ∷ lines)) ≡ Err (record { line = line; cause = cause })
-code_fault all code line pc i lines cause is =
-    ap (λ (r : Result (List ℕ) TextCause). behind_code code (bytes_first line r (code_from all (line + 1) (pc + item_units i) lines))) is
-
 pub units_few : (i : Instruction) → units_of i ≤ 2
 units_few (Wide destination value) = omega arith
 units_few _ = omega arith

@@ -29,15 +29,8 @@ gathered_more a b c None some more = absurd (cc)
 gathered_more a b c (Some []) some more = absurd (more refl)
 gathered_more a b c (Some (d ∷ others)) some more = refl
 
-gathered_none : (a b c : Argument) (rest : Option (List Argument)) → is_some rest ≡ false → option_map argument_list (with_argument (Some a) (with_argument (Some b) (with_argument (Some c) rest))) ≡ None
-gathered_none a b c None none = refl
-gathered_none a b c (Some others) none = absurd (cc)
-
 pub four : (a b c : Argument) (text : List ℕ) → is_some (all_arguments (parts 44 text)) ≡ true → option_map argument_list (with_argument (Some a) (with_argument (Some b) (with_argument (Some c) (all_arguments (parts 44 text))))) ≡ Some More
 four a b c text some = gathered_more a b c (all_arguments (parts 44 text)) some (never_empty text)
-
-pub not_four : (a b c : Argument) (text : List ℕ) → is_some (all_arguments (parts 44 text)) ≡ false → option_map argument_list (with_argument (Some a) (with_argument (Some b) (with_argument (Some c) (all_arguments (parts 44 text))))) ≡ None
-not_four a b c text none = gathered_none a b c (all_arguments (parts 44 text)) none
 
 some_text : (text : List ℕ) (none : Bool) → none ≡ (length text == 0) → none ≡ false → is_empty text ≡ false
 some_text [] none is some = absurd (grind (arith, nat_tests))

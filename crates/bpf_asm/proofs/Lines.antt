@@ -6,7 +6,7 @@ use Rattle.std.proofs.lemmas.Bool.{cases_Bool}
 use Rattle.std.proofs.lemmas.Slice.Eq.{bytes_eq-Decides}
 use Rattle.bpf_isa.specs.declared.limits.TheConstants.{MOST_UNITS}
 use Rattle.bpf_asm.specs.declared.errors.TextCause.{TextCause}
-use Rattle.bpf_asm.specs.declared.errors.TextCause.TheVariants.{TooLong, DoubleLabel}
+use Rattle.bpf_asm.specs.declared.errors.TextCause.TheVariants.{TooLong}
 use Rattle.bpf_asm.specs.Lexing.{same_bytes}
 use Rattle.bpf_asm.specs.Statements.{Item, Labelled}
 use Rattle.bpf_asm.specs.Assembly.{item_units, units, is_label, place_from, place, length_admission, admission}
@@ -73,10 +73,6 @@ read_label before name n places after none new read = record {
 pub label_new : (before : List Item) (name : List ℕ) → place name before ≡ None → admission before (Labelled name) ≡ Ok (Labelled name)
 label_new before name none = simp none
 
-pub label_old : (before : List Item) (name : List ℕ) (found : Option ℕ) → found ≡ place name before → is_some found ≡ true → admission before (Labelled name) ≡ Err DoubleLabel
-label_old before name None is some = absurd (cc)
-label_old before name (Some n) is some = simp (sym is)
-
 pub some_none : (found : Option ℕ) → is_some found ≡ false → found ≡ None
 some_none None none = refl
 some_none (Some n) none = absurd (cc)
@@ -95,14 +91,4 @@ fits before i n m total is = elim (cases_Bool (nat_lt MOST_UNITS (n + item_units
       let more : m ≡ n + item_units i = cc in
       let same : nat_lt MOST_UNITS (units before + item_units i) ≡ false = ap (λ (k : ℕ). nat_lt MOST_UNITS (k + item_units i)) (sym total) ∙ short in
       (simp same, more)
-]
-
-pub fits_not : (before : List Item) (i : Item) (n : ℕ) (cause : TextCause) → n ≡ units before → (if nat_lt MOST_UNITS (n + item_units i) then Err TooLong else Ok (n + item_units i)) ≡ Err cause → (length_admission before i ≡ Err cause) × (cause ≡ TooLong)
-fits_not before i n cause total is = elim (cases_Bool (nat_lt MOST_UNITS (n + item_units i))) [
-  | inl long ↦
-      let e : no_units TooLong ≡ no_units cause = (simp long at is) in
-      let same : nat_lt MOST_UNITS (units before + item_units i) ≡ true = ap (λ (k : ℕ). nat_lt MOST_UNITS (k + item_units i)) (sym total) ∙ long in
-      let c : cause ≡ TooLong = cc in
-      (simp (same, c), c)
-  | inr short ↦ absurd (let e : ok_units (n + item_units i) ≡ no_units cause = (simp short at is) in cc)
 ]

@@ -3,13 +3,11 @@ use Rattle.std.proofs.Common.{◌≡◌, ◌≤◌, ◌<◌, ◌+◌, ◌-◌, �
 use Rattle.std.specs.Prelude.{Result, Ok, Err, ◌||◌, ◌==◌}
 use Rattle.std.proofs.lemmas.Bool.Decides.{nat_tests}
 use Rattle.bpf_isa.specs.declared.instruction.Instruction.{Instruction}
-use Rattle.bpf_isa.specs.declared.decode_error.DecodeError.{DecodeError}
 use Rattle.bpf_isa.specs.declared.instruction.Instruction.TheVariants.{Wide}
 use Rattle.bpf_isa.specs.Encoding.{units_of}
 use Rattle.bpf_isa.specs.Reading.{decoding, units_in}
 use Rattle.bpf_asm.specs.declared.writing.placed.Placed.{Placed}
 use Rattle.bpf_asm.specs.declared.errors.DisassembleError.{DisassembleError}
-use Rattle.bpf_asm.specs.declared.errors.DisassembleError.TheVariants.{BadCode}
 use Rattle.bpf_asm.specs.Listing.{placed_from, placed_first, is_start}
 use Rattle.std.proofs.lemmas.List.Folds.{list_any-append}
 
@@ -30,13 +28,6 @@ from_more (suc most) code pc inside some = grind (arith, nat_tests)
 pub after_one : (placed : List Placed) (most : ℕ) (code : List ℕ) (pc : ℕ) (i : Instruction) (units : ℕ) → 8 * pc < length code → 0 < most → decoding code pc ≡ Ok (i, units) → after placed (placed_from most code pc) ≡ after (placed ++ (record { pc = pc; instruction = i } ∷ [])) (placed_from (most - 1) code (pc + units))
 after_one placed most code pc i units inside some is =
     rw (from_more most code pc inside some, is) (after_first placed pc i units (placed_from (most - 1) code (pc + units)))
-
-pub after_bad : (placed : List Placed) (most : ℕ) (code : List ℕ) (pc : ℕ) (e : DecodeError) → 8 * pc < length code → 0 < most → decoding code pc ≡ Err e → after placed (placed_from most code pc) ≡ Err (BadCode pc)
-after_bad placed most code pc e inside some is = rw (from_more most code pc inside some, is) refl
-
-pub after_end : (placed : List Placed) (most : ℕ) (code : List ℕ) (pc : ℕ) → length code ≤ 8 * pc → after placed (placed_from most code pc) ≡ after placed (Ok [])
-after_end placed zero code pc end = refl
-after_end placed (suc most) code pc end = grind (arith, nat_tests)
 
 or_false : (b : Bool) → (b || false) ≡ b
 or_false true = refl

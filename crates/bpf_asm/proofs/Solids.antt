@@ -75,10 +75,6 @@ position_at p (x ∷ xs) y ys none is =
 
 -- ---- ends
 
-abbrev pub first_or : ℕ → List ℕ → ℕ
-first_or d [] = d
-first_or d (b ∷ text) = b
-
 abbrev pub last_or : ℕ → List ℕ → ℕ
 last_or d [] = d
 last_or d (b ∷ text) = last_or b text

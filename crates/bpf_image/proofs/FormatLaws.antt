@@ -49,9 +49,6 @@ plain_record p image = from_le_bytes-to_le_bytes_2 p.record_length (record_fits 
 plain_units : (p : Program) → IsImage p → units_field (plain_bytes p) ≡ units p
 plain_units p image = from_le_bytes-to_le_bytes_2 (units p) (units_fit p image)
 
-plain_has_none : (p : Program) → has_table (plain_bytes p) ≡ false
-plain_has_none p = refl
-
 plain_whole : (p : Program) → IsImage p → IsWhole (plain_bytes p)
 plain_whole p image =
     let record_same = plain_record p image in

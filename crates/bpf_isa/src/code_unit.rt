@@ -1,6 +1,5 @@
 //! A unit of code as its fields.
-ghost use Rattle.std.specs.Prelude.{◌≡◌, ◌+◌, ◌*◌, ◌≤◌, ◌++◌, length, drop};
-ghost use Rattle.bpf_isa.specs.Encoding.{unit_bytes};
+ghost use Rattle.std.specs.Prelude.{◌≡◌, ◌+◌, ◌*◌, ◌≤◌, length};
 ghost use Rattle.bpf_isa.specs.DecodeErrors.{fields_at};
 ghost use Rattle.bpf_isa.specs.Reading.{fields_in};
 

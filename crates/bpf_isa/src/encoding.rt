@@ -1,6 +1,6 @@
 //! From an instruction to its units.
 ghost use Rattle.std.specs.Prelude.{◌≡◌, ◌≤◌, ◌*◌, ◌-◌, ◌++◌, length, drop, replicate};
-ghost use Rattle.std.specs.Int.{cast_unsigned, w16, w32};
+ghost use Rattle.std.specs.Int.{cast_unsigned};
 ghost use Rattle.bpf_isa.specs.Encoding.{
   unit_bytes,
   alu_class,

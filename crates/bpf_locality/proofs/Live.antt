@@ -1,9 +1,9 @@
 -- Which bytes are live, and that address 0 is not.
-use Rattle.std.proofs.Common.{◌≡◌, ℕ, zero, suc, ◌+◌, ◌-◌, ◌<◌, ◌≤◌, true, false, refl, arith, length}
+use Rattle.std.proofs.Common.{◌≡◌, ℕ, zero, suc, true, false, refl, arith, length}
 use Rattle.std.proofs.lemmas.Bool.{or_left, or_right}
 use Rattle.std.proofs.lemmas.Bool.Decides.{nat_tests}
-use Rattle.bpf_model.specs.State.{State, in_record, in_frame, in_frames, in_table, live_frames, may_write}
-use Rattle.bpf_locality.specs.Live.{HasLiveBytes, SomeBytesAreLive}
+use Rattle.bpf_model.specs.State.{in_record, in_frame, in_frames, in_table, live_frames, may_write}
+use Rattle.bpf_locality.specs.Live.{SomeBytesAreLive}
 
 -- no frame reaches down to address 0
 zero_in_no_frame : (n : ℕ) → in_frames n 0 1 ≡ false

@@ -1,5 +1,5 @@
 -- The frames in memory, by the bytes of all frames in a row.
-use Rattle.std.proofs.Common.{◌≡◌, ℕ, zero, suc, ◌+◌, ◌-◌, ◌*◌, ◌/◌, ◌%◌, ◌<◌, ◌≤◌, true, false, Bool, cond, nat_le, nat_lt, eqb, List, [], ◌∷◌, length, get_or, set, drop, drop-cons, add-one, Option, Some, None, refl, sym, ap, ◌∙◌, arith, inl, inr, ◌⊎◌, eq-eqb}
+use Rattle.std.proofs.Common.{◌≡◌, ℕ, zero, suc, ◌+◌, ◌-◌, ◌*◌, ◌/◌, ◌%◌, ◌<◌, ◌≤◌, true, false, Bool, nat_le, nat_lt, eqb, List, [], ◌∷◌, length, get_or, set, drop, drop-cons, add-one, Option, Some, None, refl, sym, ap, ◌∙◌, arith, inl, inr, ◌⊎◌, eq-eqb}
 use Rattle.std.specs.Prelude.{◌&&◌}
 use Rattle.std.proofs.Math.Path.{fun_ext}
 use Rattle.std.proofs.lemmas.Bool.{cases_Bool, cases_eq, cases_lt, and_parts, and_from, or_left, or_right, le-leb, lt-leb, leb-true, leb-false, lt-ltb, le-ltb, ne_eqb}
@@ -55,10 +55,6 @@ found_outside (suc n) m a size some le outside =
     rw here (found_outside n m a size some (omega (arith, le)) outside)
 
 -- ---- bytes that are set, and frames that are opened
-
-none_either : (b : Bool) → cond {A = Option ℕ} b None None ≡ None
-none_either true = refl
-none_either false = refl
 
 abbrev address_of : ℕ → ℕ → ℕ
 address_of frame place = (frame_top frame - frame_bytes) + place

@@ -1,5 +1,5 @@
 //! A run from its start to its end.
-ghost use Rattle.std.specs.Prelude.{◌≡◌, ◌≤ℤ◌, ◌<◌, ℕ, pos, length, IfSome, IsNone};
+ghost use Rattle.std.specs.Prelude.{◌≡◌, ◌<◌, pos, length, IfSome, IsNone};
 ghost use Rattle.graph_model.specs.Graph.{Graph};
 ghost use Rattle.bpf_image.specs.Program.{Program, units};
 ghost use Rattle.bpf_model.specs.State.{State};

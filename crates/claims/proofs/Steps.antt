@@ -3,7 +3,7 @@ use Rattle.std.proofs.Common.{◌≡◌, ℕ, ◌+◌, ◌-◌, ◌*◌, ◌%◌
 use Rattle.std.specs.List.{sum_by}
 use Rattle.std.proofs.Math.Nat.{mod-eq_of_lt}
 use Rattle.std.proofs.lemmas.List.{nil_from_length}
-use mathlib.Core.Option.{some, some-ne-none}
+use mathlib.Core.Option.{some}
 use lib.ListN.{get_elem?}
 use Rattle.atomic_table.proofs.Lists.{at_set, at_snoc, set_again, set_else}
 use Rattle.claims.specs.declared.hand.Hand.{Hand}
@@ -31,15 +31,6 @@ few_set hands id w few fits seat h at =
 few_more : (hands : List Hand) (w : Hand) → Few hands → length w.claimed ≤ w.parts * CLAIMS_OF_A_PART → Few (hands ++ w ∷ [])
 few_more hands w few fits seat h at =
     ⊎_elim (λ before. few seat h before) (λ this. subst (λ x. length x.claimed ≤ x.parts * CLAIMS_OF_A_PART) this fits) (at_snoc hands w h seat at)
-
-pub opened : AreClaimed (0 ∷ []) (hand PARTS [] ∷ [])
-opened = record {
-  one = refl;
-  parts = refl;
-  each = λ x. grind arith;
-  many = refl;
-  few = few_more [] (hand PARTS []) (λ seat h at. absurd (some-ne-none h (sym at))) (omega arith);
-}
 
 -- the next number is claimed
 claimed_at : (n : ℕ) (hands : List Hand) (id : ℕ) (h : Hand) → AreClaimed (n ∷ []) hands → get_elem? hands id ≡ some h → length h.claimed < h.parts * CLAIMS_OF_A_PART

@@ -157,9 +157,6 @@ pub record IsBegun (source degree : ℕ) (argument bytes : List ℕ) : Type 0 wh
   pub same_degree : edge.degree ≡ degree
   pub record_is : take (length argument + EDGE_BYTES) bytes ≡ record_bytes edge argument
 
-pub begin_alike : (e : Edge) (argument bytes : List ℕ) → IsBegun e.source e.degree argument bytes → BeginAlike e argument bytes
-begin_alike e argument bytes begun = (begun.edge, begun.same_source, begun.same_degree, begun.record_is)
-
 -- the edges from a place on, beside those before it
 pub rest_folded : (r : Reduction) (p : Program) (g : Graph) (argument : List ℕ) (source first : ℕ) (targets : List ℕ) (place so_far value next : ℕ)
     → IsFolded r p g argument source first targets place so_far

@@ -57,9 +57,5 @@ piece_places f number until is =
     ] in
     same ∙ there
 
--- a piece has no more than 64 places
-pub piece_short : (f : List ℕ) (number : ℕ) → length (piece_of f number) ≤ 64
-piece_short f number = omega (arith, length-take 64 (drop (64 * number) f))
-
 pub part_short : (xs : List ℕ) (n : ℕ) → n ≤ 64 → length (take n xs) ≤ 64
 part_short xs n few = omega (arith, length-take n xs)

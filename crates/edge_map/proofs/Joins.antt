@@ -1,7 +1,7 @@
 -- The maps of pieces, as one.
-use Rattle.std.proofs.Common.{◌≡◌, ℕ, ◌+◌, ◌*◌, ◌++◌, List, length, take, length-append, sym, ap, subst, ◌∙◌, arith}
+use Rattle.std.proofs.Common.{◌≡◌, ℕ, ◌+◌, ◌*◌, ◌++◌, List, length, take, length-append, sym, ap, ◌∙◌, arith}
 use Rattle.std.proofs.Math.Seq.{take-add}
-use Rattle.std.proofs.lemmas.List.{take_all, map-append}
+use Rattle.std.proofs.lemmas.List.{map-append}
 use Rattle.std.proofs.lemmas.Grind.{flat_map-append}
 use Rattle.map_model.specs.EdgeMap.{exit_numbers, all_numbers, row_of, rows_of}
 use Rattle.verifier.specs.Walks.{longest}
@@ -12,7 +12,7 @@ use Rattle.edge_fold.proofs.Reductions.{total_more}
 use Rattle.edge_fold.proofs.RowFacts.{told_append}
 use Rattle.map_model.specs.declared.row.Row.{Row}
 use Rattle.edge_map.specs.Maps.{IsMap}
-use Rattle.edge_map.specs.Pieces.{Task, IsPart, piece_count, piece_of}
+use Rattle.edge_map.specs.Pieces.{Task, IsPart, piece_of}
 
 -- the map of the first pieces
 abbrev pub IsBegun : Task → ℕ → MapOutcome → Type 0
@@ -39,9 +39,3 @@ begun_more t k out part next begun is edges total rows =
       total = total_more t.reduction out.total part.total next.total (all_numbers p (longest p) g t.argument early) (all_numbers p (longest p) g t.argument own) _ begun.total is.right.total numbers total;
       reported = rows ∙ ap (λ l. l ++ part.rows.items) begun.reported ∙ ap (λ l. told early ++ l) is.right.reported ∙ sym listed;
     }
-
--- all pieces are the whole
-pub begun_all : (t : Task) (out : MapOutcome) → IsBegun t (piece_count t.frontier) out → IsMap t.rows t.program t.graph t.reduction t.argument t.frontier out
-begun_all t out begun =
-    let whole : take (64 * piece_count t.frontier) t.frontier ≡ t.frontier = take_all _ t.frontier (omega arith) in
-    subst (λ f. IsMap t.rows t.program t.graph t.reduction t.argument f out) whole begun

@@ -49,7 +49,3 @@ next_at g source place degree_there target left at = record {
   count = at.count;
   few = at.few;
 }
-
--- no target is left
-pub none_left : (g : Graph) (source place : ℕ) → [] ≡ drop place (neighbours g source) → edges_at g source place ≡ edges_behind g source
-none_left g source place is = ap (λ l. edges_from g source place l ++ edges_behind g source) (sym is)

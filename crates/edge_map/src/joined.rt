@@ -1,8 +1,7 @@
 //! What all workers did, in the frontier's order again.
-ghost use Rattle.std.specs.Prelude.{◌≡◌, ◌<◌, ◌≤◌, length, slice_index_or, None, IfOk};
-ghost use Rattle.past_model.specs.declared.limits.TheConstants.{MOST_VERTICES};
+ghost use Rattle.std.specs.Prelude.{◌≡◌, ◌<◌, None, IfOk};
 ghost use Rattle.edge_map.specs.Maps.{IsMap};
-ghost use Rattle.edge_map.specs.Pieces.{Task, IsWorkDone, ArePlaced, piece_count};
+ghost use Rattle.edge_map.specs.Pieces.{IsWorkDone, ArePlaced, piece_count};
 ghost use Rattle.edge_map.specs.Plans.{task_of};
 
 use crate::piece::Piece;

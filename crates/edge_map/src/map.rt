@@ -4,7 +4,6 @@ ghost use Rattle.past_model.specs.declared.limits.TheConstants.{MOST_VERTICES};
 ghost use Rattle.past_model.specs.Past.{graph_of};
 ghost use Rattle.map_model.specs.declared.limits.TheConstants.{EDGE_BYTES};
 ghost use Rattle.workers.specs.declared.limits.TheConstants.{MOST_WORKERS};
-ghost use Rattle.claims.specs.declared.limits.TheConstants.{PARTS};
 ghost use Rattle.edge_fold.specs.declared.rows.Rows.TheVariants.{OfEach, OfSources};
 ghost use Rattle.edge_map.specs.Maps.{IsMap, IsMapped};
 ghost use Rattle.edge_map.specs.Pieces.{IsWork, task};

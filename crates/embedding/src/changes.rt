@@ -1,5 +1,5 @@
 //! Stores, and the batches and rebases that change them.
-ghost use Rattle.std.specs.Prelude.{◌≡◌, ◌≢◌, ◌≤◌, ◌<◌, length, Some};
+ghost use Rattle.std.specs.Prelude.{◌≡◌, ◌≢◌, ◌<◌, Some};
 ghost use Rattle.past_model.specs.declared.limits.TheConstants.{MOST_EDITS};
 ghost use Rattle.past_model.specs.Past.{opening};
 ghost use Rattle.version.specs.Version.{IsVertexCount};

@@ -1,6 +1,5 @@
 //! Batches from arrays.
-ghost use Rattle.std.specs.Prelude.{◌≡◌, ◌≤◌, length, IfOk};
-ghost use Rattle.past_model.specs.declared.limits.TheConstants.{MOST_EDITS};
+ghost use Rattle.std.specs.Prelude.{◌≡◌, length, IfOk};
 ghost use Rattle.embedding.specs.Spelled.{spelled, edit_of};
 
 use past_model::{Batch, Edit, Entry};

@@ -1,6 +1,5 @@
 //! What is asked of a version.
-ghost use Rattle.std.specs.Prelude.{◌≡◌, ◌≢◌, ◌≤◌, Some, None, ℕ, if◌then◌else◌};
-ghost use Rattle.std.specs.Arc.{arc_value};
+ghost use Rattle.std.specs.Prelude.{◌≡◌, Some, None, if◌then◌else◌};
 ghost use Rattle.graph_model.specs.Graph.{degree};
 ghost use Rattle.graph_model.specs.Views.{is_edge};
 ghost use Rattle.past_model.specs.Past.{graph_of};

@@ -1,11 +1,11 @@
 //! Programs over the edges of a version's vertices.
-ghost use Rattle.std.specs.Prelude.{◌≡◌, ◌≢◌, ◌+◌, ◌≤◌, Some, None, length, map};
+ghost use Rattle.std.specs.Prelude.{◌≡◌, ◌+◌, Some, None, length, map};
 ghost use Rattle.bpf_image.specs.Program.{Program};
 ghost use Rattle.past_model.specs.Past.{graph_of};
 ghost use Rattle.map_model.specs.declared.limits.TheConstants.{EDGE_BYTES};
 ghost use Rattle.map_model.specs.declared.row.Row.{Row};
 ghost use Rattle.embedding.specs.declared.statuses.TheConstants.{DONE};
-ghost use Rattle.embedding.specs.Holding.{OnBoth, OnVersion};
+ghost use Rattle.embedding.specs.Holding.{OnBoth};
 ghost use Rattle.embedding.specs.Runs.{reduction_at, values_of, IsRun};
 
 use crate::held::Held;

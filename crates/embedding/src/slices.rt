@@ -1,11 +1,11 @@
 //! The slices in which a vertex's neighbours lie, lent where they lie.
-ghost use Rattle.std.specs.Prelude.{◌≡◌, ◌<◌, ◌≤◌, Some, length, slice_index_or};
+ghost use Rattle.std.specs.Prelude.{◌≡◌, ◌<◌, Some, length, slice_index_or};
 ghost use Rattle.std.specs.Ptr.{as_ptr};
 ghost use Rattle.graph_model.specs.Graph.{neighbours};
 ghost use Rattle.past_model.specs.Past.{graph_of};
 ghost use Rattle.embedding.specs.declared.statuses.TheConstants.{DONE};
 ghost use Rattle.embedding.specs.Holding.{OnVersion};
-ghost use Rattle.embedding.specs.Slices.{counted, AreLent};
+ghost use Rattle.embedding.specs.Slices.{AreLent};
 
 use crate::held::Held;
 use crate::statuses::{DONE, OTHER_KIND};

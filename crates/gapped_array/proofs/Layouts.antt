@@ -1,7 +1,7 @@
 -- What changes where one vertex's run changes.
 use Rattle.std.proofs.Common.{◌≡◌, ◌≢◌, ℕ, true, false, zero, suc, ◌+◌, ◌-◌, ◌*◌, ◌/◌, ◌<◌, ◌≤◌, inl, inr, List, [], ◌∷◌, ◌++◌, length, take, drop, replicate, insert, remove, get_or, set, Option, Some, None, Ok, Err, IsNone, is_some, unwrap_or, refl, sym, ap, ap₂, subst, ◌∙◌, arith, length-set, length-append, length-drop, append_assoc}
 use Rattle.std.proofs.lemmas.Bool.{cases_lt, cases_eq, true≢false}
-use Rattle.std.proofs.lemmas.List.{length-map, length-replicate, length-take-le, take_all, take_at, drop_at, get_or-set_same, get_or-set_other, set-get_or, set-set, get_or-map, get_or_default, ext_get_or, get_or_past, get_or_append_left, length_push, map_push}
+use Rattle.std.proofs.lemmas.List.{length-map, length-replicate, length-take-le, take_all, take_at, drop_at, get_or-set_same, get_or-set_other, set-get_or, set-set, get_or-map, get_or_default, ext_get_or, get_or_past, get_or_append_left, length_push}
 use Rattle.std.proofs.lemmas.List.Edits.{length-insert, length-remove}
 use Rattle.std.proofs.lemmas.List.Sums.{sum_by-set, sum_by_push}
 use Rattle.word_sets.specs.declared.places.TheConstants.{WORD_LIMIT}
@@ -141,11 +141,6 @@ run_read_at xs segments runs v o r a small read is =
     let here = run_read runs v o r listed read is in
     let fits = a.fits v r here in
     record { listed = listed; here = here; fits = fits; inside = words_inside xs segments r a.cells fits }
-
--- no vertex has a list
-pub lists_none : (xs : List ℕ) (n : ℕ) → lists_in xs (replicate n None) ≡ replicate n None
-lists_none xs zero = refl
-lists_none xs (suc n) = ap (λ l. None ∷ l) (lists_none xs n)
 
 abbrev pub empty_run : Run
 empty_run = record { segment = 0; segments = 0; count = 0 }
@@ -340,20 +335,6 @@ none_open xs runs e f =
       space = omega arith;
     }
 
--- and no vertex
-pub none_listed_yet : (xs : List ℕ) (runs : List (Option Run)) → xs ≡ [] → runs ≡ [] → IsArray xs 0 runs
-none_listed_yet xs runs e f =
-    let none : (i : ℕ) (r : Run) → get_or runs i None ≡ Some r → ⊥ = λ i r q. (let n : None ≡ Some r = sym (ap (λ l. get_or l i None) f) ∙ q in cc) in
-    record {
-      layout = record {
-        table = omega (arith, ap length f);
-        cells = ap length e;
-        fits = λ i r q. absurd (none i r q);
-        apart = λ i j r s ne q p. absurd (none i r q);
-      };
-      space = omega arith;
-    }
-
 -- a vertex more, which has no list
 pub vertex_added : (xs : List ℕ) (segments : ℕ) (runs more : List (Option Run)) → IsArray xs segments runs → more ≡ runs ++ None ∷ [] → length runs < 256 → IsArray xs segments more
 vertex_added xs segments runs more a is room =
@@ -376,9 +357,6 @@ vertex_added xs segments runs more a is room =
     none_behind [] (suc i) h = refl
     none_behind (x ∷ l) zero h = absurd (omega arith)
     none_behind (x ∷ l) (suc i) h = none_behind l i (omega arith)
-
-pub lists_more : (xs : List ℕ) (runs more : List (Option Run)) → more ≡ runs ++ None ∷ [] → lists_in xs more ≡ lists_in xs runs ++ None ∷ []
-lists_more xs runs more is = ap (lists_in xs) is ∙ map_push (list_in xs) runs None
 
 -- the list that is put in at the last vertex
 pub set_last : (l : List (Option (List ℕ))) (v : ℕ) (ws : List ℕ) → v ≡ length l → set (l ++ None ∷ []) v (Some ws) ≡ l ++ Some ws ∷ []

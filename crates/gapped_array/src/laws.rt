@@ -1,6 +1,6 @@
 //! What an array of two vertices holds after a few calls. Each function only makes public calls, and is proved from
 //! their contracts alone.
-ghost use Rattle.std.specs.Prelude.{◌≡◌, [], ◌∷◌, Some, None, true, false, IfOk};
+ghost use Rattle.std.specs.Prelude.{◌≡◌, [], ◌∷◌, Some, true, false, IfOk};
 
 use crate::array::GappedArray;
 use std::alloc::{AllocError, Global};

@@ -1,5 +1,5 @@
 //! The space that closed runs and moved ones left.
-ghost use Rattle.std.specs.Prelude.{◌≡◌, ◌≤◌, ◌<◌, ◌+◌, ◌-◌, ◌*◌, ◌++◌, length, take, drop, vec_len, None, Some, slice_index_or};
+ghost use Rattle.std.specs.Prelude.{◌≡◌, ◌≤◌, ◌<◌, ◌+◌, ◌-◌, ◌*◌, ◌++◌, length, take, drop, vec_len, None, Some};
 ghost use Rattle.gapped_array.specs.Runs.{IsLayout, IsFirstBelow, lists_in, words_in, live};
 
 use crate::run::{Run, SEGMENT};

@@ -14,7 +14,7 @@ use Rattle.past_model.specs.Past.{Past, of_feed}
 use Rattle.past_model.specs.Epochs.{mark_of, ended_batches}
 use Rattle.past_model.proofs.Epochs.{ended_batches-push, marked-mark_of}
 use Rattle.handle_model.specs.Sights.{FeedSees}
-use Rattle.store_model.specs.Events.{IsBeginning, can, Answers, after, after_take, after_publish, after_lend, Happens, accepted_by}
+use Rattle.store_model.specs.Events.{IsBeginning, can, after, after_take, after_publish, after_lend, Happens}
 use Rattle.store_model.proofs.Entries.{entries_submit, entries_take, entries_publish, entries_part, marks_take, marks_publish, count_after}
 use Rattle.handle_model.specs.Calls.{is_of_reader}
 use Rattle.handle_model.specs.Laws.{is_submission_of, is_of_publisher, OthersLeave, EachToItsOwn}

@@ -1,7 +1,6 @@
 -- How a store comes by a version that it has afterwards.
 use Rattle.std.proofs.Common.{◌≡◌, ◌⊎◌, inl, inr, Option, Some, None, List, [], ◌∷◌, ◌++◌, length, refl, sym, ap, subst, ◌∙◌, length-append, arith}
 use Rattle.std.proofs.lemmas.Bool.{cases_lt}
-use mathlib.Core.List.{IsPrefix}
 use Rattle.past_model.specs.declared.entry.Entry.{Entry}
 use Rattle.past_model.specs.Past.{Past, longer}
 use Rattle.past_model.specs.Epochs.{IsBefore, IsBeforeInEpoch, rebased}

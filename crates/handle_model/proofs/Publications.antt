@@ -8,7 +8,7 @@ use Rattle.past_model.specs.declared.entry.Entry.{Entry}
 use Rattle.past_model.specs.Past.{Past, longer}
 use Rattle.store_model.specs.declared.event.Event.{Event}
 use Rattle.past_model.specs.Epochs.{rebased}
-use Rattle.store_model.specs.declared.event.Event.TheVariants.{Take, Part, Publish, Rebase}
+use Rattle.store_model.specs.declared.event.Event.TheVariants.{Take, Part, Publish}
 use Rattle.store_model.specs.declared.reply.Reply.TheVariants.{Done}
 use Rattle.store_model.specs.Core.{Core, Holding, Run, range_of, is_done}
 use Rattle.store_model.specs.Events.{Steps, Ran}

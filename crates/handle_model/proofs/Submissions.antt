@@ -6,7 +6,6 @@ use Rattle.past_model.specs.declared.edit.Edit.{Edit}
 use Rattle.past_model.specs.declared.entry.Entry.{Entry}
 use Rattle.past_model.specs.Edits.{AreEditsBelow, are_edits_below}
 use Rattle.store_model.specs.declared.event.Event.TheVariants.{Submit}
-use Rattle.store_model.specs.declared.reply.Reply.TheVariants.{Done}
 use Rattle.store_model.specs.Core.{Core, entries, held_entries}
 use Rattle.past_model.specs.declared.limits.TheConstants.{FEEDS}
 use Rattle.past_model.specs.Past.{of_feed}
@@ -14,7 +13,6 @@ use Rattle.past_model.proofs.Below.{test_from_below}
 use Rattle.store_model.specs.declared.limits.TheConstants.{QUEUE_PLACES}
 use Rattle.store_model.specs.Events.{can}
 use Rattle.store_model.proofs.Entries.{entries_submit}
-use Rattle.handle_model.specs.Sights.{FeedSees}
 use Rattle.handle_model.specs.Laws.{SubmissionsAre}
 
 pub able : (s : Core) (n feed : ℕ) (batch : List Edit) → s.past.vertex_count ≡ n → feed < FEEDS → length s.queue < QUEUE_PLACES → AreEditsBelow n batch → can s (Submit feed batch) ≡ true

@@ -132,13 +132,6 @@ few_counted es g p more count range small at inside below q after counted =
 
 -- ---- all parts
 
--- a table's parts are those of the ranges from the first on
-pub table_parts : (g : Graph) (parts : List Part) → IsTable g parts → ArePartsFrom g 0 parts
-table_parts g parts table = record {
-  inside = λ k h. (let within = (table.ranges k).0 h in omega arith);
-  each = λ k h. (let same : k ≡ 0 + k = omega arith in subst (λ r. IsPartAt g r (part_at parts k)) same (table.each k h));
-}
-
 -- all ranges are done
 pub all_edited : (es : List Edit) (before parts : List Part) (counts : Counts) → length parts ≡ length before → ((g : Graph) → AreEditsBelow g.vertex_count es → IsTable g before → AreEdited es g 0 parts counts) → AreAfter es before parts counts
 all_edited es before parts counts long done = record {

@@ -1,5 +1,5 @@
 -- The homes of the lists of many parts, after edits.
-use Rattle.std.proofs.Common.{◌≡◌, ℕ, zero, suc, ◌+◌, ◌/◌, ◌%◌, ◌<◌, ◌≤◌, List, [], ◌∷◌, ◌++◌, length, get_or, take, replicate, refl, sym, ap, subst, subst₂, ◌∙◌, inl, inr, arith}
+use Rattle.std.proofs.Common.{◌≡◌, ℕ, zero, suc, ◌+◌, ◌/◌, ◌%◌, ◌<◌, List, [], ◌∷◌, ◌++◌, length, get_or, take, replicate, refl, sym, ap, subst, subst₂, ◌∙◌, inl, inr, arith}
 use Rattle.std.specs.declared.sync.Arc.{Arc}
 use Rattle.std.specs.declared.alloc.Global.{Global}
 use Rattle.std.specs.Arc.{arc_value}
@@ -87,10 +87,6 @@ housed_after [] [] housed after = tt
 housed_after [] (q ∷ qs) housed after = absurd after
 housed_after (p ∷ ps) [] housed after = absurd after
 housed_after (p ∷ ps) (q ∷ qs) housed after = (housed_part p q housed.0 after.0, housed_after ps qs housed.1 after.1)
-
--- past the last list there is none
-pub home_past : (p : Part) (i : ℕ) → AreHomes p → length p.rows ≤ i → home_at p i ≡ Block
-home_past p i are past = get_or_past p.homes i Block (omega (arith, are.count, past))
 
 moved_at : (p q : Part) (i : ℕ) → AreHomes p → IsRehoused p q → home_at q i ≡ home_after (home_at p i) (length (row_at q i))
 moved_at p q i are after = elim (cases_lt i (length q.homes)) [

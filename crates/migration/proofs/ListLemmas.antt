@@ -1,8 +1,8 @@
 -- A list more among the lists of a range.
-use Rattle.std.proofs.Common.{◌≡◌, ℕ, ◌+◌, ◌<◌, ◌≤◌, List, [], ◌∷◌, ◌++◌, length, get_or, set, drop, map, refl, sym, ap, subst, ◌∙◌, inl, inr, Some, None, unwrap_or, IsSome, is_some, arith}
+use Rattle.std.proofs.Common.{◌≡◌, ℕ, ◌+◌, ◌<◌, ◌≤◌, List, [], ◌∷◌, ◌++◌, length, get_or, set, map, refl, sym, ap, subst, ◌∙◌, inl, inr, Some, None, unwrap_or, IsSome, is_some, arith}
 use Rattle.std.specs.List.{AllByRecursion}
 use Rattle.std.proofs.lemmas.Bool.{cases_lt, true≢false}
-use Rattle.std.proofs.lemmas.List.{length_push, map_push, get_or_append_left, get_or_push, get_or_past, length-append, drop_all, append-nil, append_assoc}
+use Rattle.std.proofs.lemmas.List.{length_push, map_push, get_or_append_left, get_or_push, get_or_past, drop_all, append-nil}
 use Rattle.std.proofs.lemmas.List.Elements.{All-from_recursion}
 use Rattle.past_model.specs.declared.home.Home.{Home}
 use Rattle.past_model.specs.declared.home.Home.TheVariants.{Block, Gapped, Tree}
@@ -237,14 +237,3 @@ kept_same old new kept places words ends blocks array trees =
 pub whole_lent : (row lent : List ℕ) → IsLentAt row 0 lent → length lent ≡ length row → lent ≡ row
 whole_lent row lent is long =
     sym (append-nil lent) ∙ ap (λ l. lent ++ l) (sym (drop_all (0 + length lent) row (omega (arith, long)))) ∙ sym is.whole
-
--- what was read so far, and what is left
-pub read_more : (row words lent : List ℕ) → words ++ drop (length words) row ≡ row → IsLentAt row (length words) lent → (words ++ lent) ++ drop (length (words ++ lent)) row ≡ row
-read_more row words lent so_far is =
-    append_assoc words lent (drop (length (words ++ lent)) row)
-    ∙ ap (λ k. words ++ (lent ++ drop k row)) (length-append words lent)
-    ∙ ap (λ l. words ++ l) (sym is.whole)
-    ∙ so_far
-
-pub read_all : (row words : List ℕ) → words ++ drop (length words) row ≡ row → length row ≤ length words → words ≡ row
-read_all row words so_far all = sym (append-nil words) ∙ ap (λ l. words ++ l) (sym (drop_all (length words) row all)) ∙ so_far

@@ -1,6 +1,5 @@
 -- A part of a graph under edit, one vertex after another.
 use Rattle.std.proofs.Common.{◌≡◌, ◌==◌, ℕ, zero, suc, ◌+◌, ◌-◌, ◌*◌, ◌%◌, ◌^◌, ◌<◌, ◌≤◌, Bool, true, false, not, ◌&&◌, cond, if◌then◌else◌, unwrap_or, Some, None, List, [], ◌∷◌, ◌++◌, length, filter, replicate, refl, sym, ap, ap₂, subst, subst₂, ◌∙◌, inl, inr, le_trans, mul-le-mul, add-zero, eqb-true, eq-eqb, arith}
-use Rattle.std.specs.List.{AllByRecursion}
 use Rattle.std.proofs.lemmas.Bool.{cases_lt, cases_Bool, and_parts, false_from_ne_true}
 use Rattle.std.proofs.lemmas.List.{length_push, get_or_append_left, get_or_push, get_or-replicate, length-replicate}
 use Rattle.std.proofs.lemmas.List.Elements.{filter_agree}
@@ -25,14 +24,6 @@ use Rattle.migration.proofs.WordLemmas.{last_word-filter}
 -- the edits of the i-th vertex
 abbrev pub own_edits : Part → List Edit → ℕ → List Edit
 own_edits p es i = edits_of record { grouping = ByVertex; count = length p.rows; edits = es } i
-
--- an edit of a part is in one of its groups
-pub in_groups : (p : Part) (es : List Edit) → length p.rows ≤ 256 → AreEditsOf p es → AllByRecursion (λ e. source_of e % 256 < length p.rows) es
-in_groups p [] few own = tt
-in_groups p (e ∷ es) few own = (
-  (let low = own.0.0 in let high = own.0.1 in omega arith),
-  in_groups p es few own.1,
-)
 
 -- and in that of its source alone
 own_source : (p : Part) (e : Edit) (i : ℕ) → length p.rows ≤ 256 → IsEditOf p e → source_of e % 256 ≡ i → source_of e ≡ vertex_at p i

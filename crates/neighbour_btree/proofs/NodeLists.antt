@@ -122,12 +122,6 @@ pub without-words_under : (ns : List Node) (w i : ℕ) → i < length ns → Spo
 without-words_under ns w i lt s =
     ap (without_word w) (words_under_at ns i lt) ∙ without-spot w (words_under (take i ns)) (get_or ns i nothing).words (words_under (drop (i + 1) ns)) s
 
-pub sound_child : (least : ℕ) (n : Node) → IsSound least n → FEWEST ≤ n.size → IsChild least n
-sound_child least n s h = s.child h
-
-pub child_sound : (least : ℕ) (n : Node) → IsChild least n → IsSound least n
-child_sound least n c = record { most = c.most; child = λ h. c }
-
 -- nodes that may be children have enough words together
 pub many_words : (least : ℕ) (ns : List Node) → All (IsChild least) ns → length ns * least ≤ length (words_under ns)
 many_words least [] h = omega arith

@@ -1,36 +1,20 @@
 -- Roots after a change.
-use Rattle.std.proofs.Common.{◌≡◌, ℕ, ◌+◌, ◌*◌, ◌<◌, ◌≤◌, true, false, List, length, Result, Ok, Err, IfOk, OnErr, sym, ap, subst, ◌∙◌, arith}
+use Rattle.std.proofs.Common.{◌≡◌, ℕ, ◌*◌, ◌<◌, ◌≤◌, List, length, Result, Ok, Err, IfOk, sym, ap, subst, arith}
 use Rattle.word_sets.specs.declared.places.TheConstants.{WORD_LIMIT}
-use Rattle.word_sets.specs.Words.{has_word, with_word, without_word, IsSet}
+use Rattle.word_sets.specs.Words.{with_word, without_word, IsSet}
 use Rattle.word_sets.proofs.Within.{IsWithin-length}
 use Rattle.word_sets.proofs.Members.{IsWithin-with, IsWithin-without}
 use Rattle.neighbour_btree.specs.Node.{Node}
-use Rattle.neighbour_btree.specs.Changes.{Adds, Takes}
+use Rattle.neighbour_btree.specs.Changes.{Adds}
 use Rattle.neighbour_btree.specs.declared.levels.change.Change.{Change}
 use Rattle.neighbour_btree.specs.declared.levels.change.Change.TheVariants.{Same, Changed, Unable}
-use Rattle.neighbour_btree.specs.Root.{WordsAdded, WordsTaken}
+use Rattle.neighbour_btree.specs.Root.{WordsAdded}
 
 pub words_added : {E : Type 0} (least w : ℕ) (old new : Node) (r : Result Change E) → IfOk r (Adds least old new w) → IfOk r (WordsAdded old.words new.words w)
 words_added least w old new (Ok Same) h = (h.0, ap (λ (n : Node). n.words) h.1)
 words_added least w old new (Ok Changed) h = (h.0, h.1)
 words_added least w old new (Ok Unable) h = ap (λ (n : Node). n.words) h
 words_added least w old new (Err e) h = tt
-
-pub size_added : {E : Type 0} (least w : ℕ) (old new : Node) (r : Result Change E) → IfOk r (Adds least old new w) → OnErr r (new ≡ old) → old.size ≤ new.size
-size_added least w old new (Ok Same) h k = let e = ap (λ (n : Node). n.size) h.1 in omega (arith, e)
-size_added least w old new (Ok Changed) h k = h.2
-size_added least w old new (Ok Unable) h k = let e = ap (λ (n : Node). n.size) h in omega (arith, e)
-size_added least w old new (Err e) h k = let q = ap (λ (n : Node). n.size) k in omega (arith, q)
-
-pub words_taken : {E : Type 0} (least w : ℕ) (old new : Node) (r : Result Change E) → IfOk r (Takes least old new w) → IfOk r (WordsTaken old.words new.words w)
-words_taken least w old new (Ok Same) h = (h.0, ap (λ (n : Node). n.words) h.1)
-words_taken least w old new (Ok Changed) h = (h.0, h.1)
-words_taken least w old new (Ok Unable) h = ap (λ (n : Node). n.words) h
-words_taken least w old new (Err e) h = tt
-
-pub same_words_on_err : {E : Type 0} (old new : Node) (r : Result Change E) → OnErr r (new ≡ old) → OnErr r (new.words ≡ old.words)
-same_words_on_err old new (Ok c) h = tt
-same_words_on_err old new (Err e) h = ap (λ (n : Node). n.words) h
 
 pub set_with : (w : ℕ) (old new : List ℕ) → IsSet old → w < WORD_LIMIT → new ≡ with_word w old → IsSet new
 set_with w old new s small e =

@@ -1,7 +1,6 @@
 //! The root of a tree, and its changes.
 ghost use Rattle.std.specs.Prelude.{◌≡◌, ◌≤◌, ◌<◌, length, IfOk, OnErr};
 ghost use Rattle.word_sets.specs.Words.{IsSet, has_word};
-ghost use Rattle.neighbour_btree.specs.Node.{Node};
 ghost use Rattle.neighbour_btree.specs.Changes.{IsSliceAt};
 ghost use Rattle.neighbour_btree.specs.Root.{node_of, fewest_of, words_of, Raises, Lowers, RootWith, RootWithout, WordsAdded, WordsTaken};
 

@@ -1,5 +1,5 @@
 //! Two batches that are published. A step that is refused publishes nothing and holds its batch, and the next one publishes it.
-ghost use Rattle.std.specs.Prelude.{◌≡◌, length, IfOk};
+ghost use Rattle.std.specs.Prelude.{◌≡◌, IfOk};
 ghost use Rattle.history.specs.Moment.{OneStore};
 
 use crate::stop::Stop;

@@ -199,12 +199,3 @@ pub edit_line : (words : List (List ℕ)) (e : Edit) (begun : OpenBatch) (s : Sc
 edit_line words e begun s said few =
     let whole = said_edit (batch_line words) e said in
     ap (λ (d : Edit). one_edit d begun s) (sym whole.2) ∙ edit_at whole.0 begun s s.session.past refl few ∙ inside_edit words whole.0 begun s whole.1
-
--- what a line says that the code takes as an end
-said_end : (o : Option BatchLine) → Some EndBatch ≡ option_map cut_batch_line o → o ≡ Some EndBatch
-said_end None h = absurd cc
-said_end (Some EndBatch) h = refl
-said_end (Some (OneEdit e)) h = absurd cc
-
-pub end_line : (words : List (List ℕ)) → Some EndBatch ≡ option_map cut_batch_line (batch_line words) → batch_line words ≡ Some EndBatch
-end_line words said = said_end (batch_line words) said

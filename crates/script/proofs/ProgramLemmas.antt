@@ -1,14 +1,12 @@
 -- The lines of a program: they are text, and what they mean is told.
-use Rattle.std.proofs.Common.{◌≡◌, ◌≢◌, ℕ, zero, suc, ◌<◌, true, false, List, [], ◌∷◌, ◌++◌, refl, sym, subst, append-nil, arith}
+use Rattle.std.proofs.Common.{◌≡◌, ℕ, zero, suc, ◌<◌, true, false, List, [], ◌∷◌, ◌++◌, refl, sym, subst, append-nil, arith}
 use Rattle.std.specs.List.{list_all}
 use Rattle.std.specs.Str.{IsAscii, IsUtf8}
 use Rattle.std.proofs.lemmas.Bool.{and_parts}
 use Rattle.std.proofs.lemmas.Bool.Decides.{nat_tests}
 use Rattle.std.proofs.lemmas.List.Folds.{list_all-append}
 use Rattle.std.proofs.lemmas.Str.{IsUtf8-from_ascii}
-use Rattle.bpf_asm.specs.declared.errors.TextCause.{TextCause}
-use Rattle.bpf_asm.specs.declared.errors.TextCause.TheVariants.{Syntax, UnknownName, DoubleLabel, UnknownLabel, NumberRange, TooLong, OutOfMemory}
-use Rattle.bpf_asm.specs.Assembly.{unless_memory}
+use Rattle.bpf_asm.specs.declared.errors.TextCause.TheVariants.{OutOfMemory}
 use Rattle.script_model.specs.Lexing.{is_plain, words}
 use Rattle.std.specs.Prelude.{Option, Result, Ok, Err}
 use Rattle.script_model.specs.State.{OpenProgram, Script}
@@ -46,18 +44,6 @@ text_ascii (b ∷ text) all (suc i) = text_ascii text (and_parts _ _ all).1 i
 
 pub text_utf8 : (text : List ℕ) → list_all is_text_byte text ≡ true → IsUtf8 text
 text_utf8 text all = IsUtf8-from_ascii text (text_ascii text all)
-
--- ---- the end
-
--- a fault that is not lack of memory is the text's
-pub known_cause : {P : Type 0} (cause : TextCause) → unless_memory cause P → cause ≢ OutOfMemory → P
-known_cause Syntax is other = is
-known_cause UnknownName is other = is
-known_cause DoubleLabel is other = is
-known_cause UnknownLabel is other = is
-known_cause NumberRange is other = is
-known_cause TooLong is other = is
-known_cause OutOfMemory is other = absurd (other refl)
 
 -- ---- lines
 

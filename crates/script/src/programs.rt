@@ -3,7 +3,6 @@
 ghost use Rattle.std.specs.Prelude.{◌≡◌, ◌≢◌, ◌++◌, None, Some, [], Ok, OnOk, IfErr, true};
 ghost use Rattle.std.specs.List.{list_all};
 ghost use Rattle.bpf_asm.specs.declared.errors.TextCause.TheVariants.{OutOfMemory};
-ghost use Rattle.bpf_asm.specs.Assembly.{assembly};
 ghost use Rattle.script_model.specs.Lexing.{is_plain};
 ghost use Rattle.script_model.specs.State.{Script as ScriptState, ProgramBlock};
 ghost use Rattle.script_model.specs.Execution.{begin_program, one_line, end_program, inside_program, inside};

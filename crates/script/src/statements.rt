@@ -1,6 +1,6 @@
 //! Lines outside blocks.
 
-ghost use Rattle.std.specs.Prelude.{◌≡◌, None, OnOk};
+ghost use Rattle.std.specs.Prelude.{◌≡◌, None};
 ghost use Rattle.session_model.specs.Responses.{response};
 ghost use Rattle.session_model.specs.Faults.{HasFewVertices};
 ghost use Rattle.session.specs.Kept.{command_of};

@@ -10,7 +10,7 @@ use Rattle.script_model.specs.declared.line_fault.LineFault.{LineFault}
 use Rattle.script_model.specs.declared.line_fault.LineFault.TheVariants as faults
 use Rattle.script_model.specs.declared.limits.TheConstants.{MOST_LINE_BYTES}
 use Rattle.script_model.specs.Lexing.{is_newline, without_last_empty, script_lines}
-use Rattle.script_model.specs.State.{Script, new_script}
+use Rattle.script_model.specs.State.{Script}
 use Rattle.script_model.specs.Texts.{fault_text}
 use Rattle.script_model.specs.Execution.{Says, Stops, execution}
 use Rattle.script_model.specs.Script.{Meaning, after_text, fault_meaning, end_meaning, next_line, meaning_from, meaning}
@@ -46,10 +46,6 @@ lines_first line left one = rw (split_line line left one) (keeps_first line (par
 
 after_after : (a b : List ℕ) (o : Meaning) → after_text a (after_text b o) ≡ after_text (a ++ b) o
 after_after a b o = ap (λ (t : List ℕ). record { text = t; ending = o.ending }) (sym (append_assoc a b o.text))
-
--- nothing is read yet
-pub served_start : Served [] [] new_script []
-served_start rest = refl
 
 -- more is read
 pub served_more : (read said : List ℕ) (s : Script) (left more : List ℕ) → Served read said s left → Served (read ++ more) said s (left ++ more)

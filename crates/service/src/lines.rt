@@ -1,6 +1,6 @@
 //! The lines of what was read.
 
-ghost use Rattle.std.specs.Prelude.{◌≡◌, ◌≤◌, MatchOption};
+ghost use Rattle.std.specs.Prelude.{MatchOption};
 ghost use Rattle.script.specs.Executes.{OnStore};
 ghost use Rattle.service.specs.Asking.{Asks};
 ghost use Rattle.service.specs.Served.{IsOneLine, IsLine, TakesLines, LeavesFew};

@@ -1,11 +1,11 @@
 -- What is answered to a batch, test by test.
-use Rattle.std.proofs.Common.{◌≡◌, ℕ, Bool, true, false, ltb, leb, List, None, refl, ap, ◌∙◌, length}
+use Rattle.std.proofs.Common.{◌≡◌, ℕ, Bool, true, false, ltb, List, refl, ap, ◌∙◌, length}
 use Rattle.past_model.specs.declared.edit.Edit.{Edit}
-use Rattle.past_model.specs.Past.{Past, opening, longer, number_of}
+use Rattle.past_model.specs.Past.{Past, opening}
 use Rattle.session_model.specs.declared.fault.Fault.TheVariants as faults
 use Rattle.session_model.specs.Session.{Session}
 use Rattle.session_model.specs.Faults.{is_batch_of}
-use Rattle.session_model.specs.Responses.{Answers, Fails, entry_of, published_answer, publish_response}
+use Rattle.session_model.specs.Responses.{Fails, publish_response}
 use Rattle.session.specs.Handles.{StoreState}
 use Rattle.session.specs.Kept.{with_store}
 
@@ -19,12 +19,3 @@ batch_outside feed edits store s outside = rw outside refl
 
 pub batch_too_long : (feed : ℕ) (edits : List Edit) (store : StoreState) (s : Session) → is_batch_of feed edits store.past ≡ true → ltb 65536 (length edits) ≡ true → publish_response feed edits (with_store s store) ≡ Fails faults.TooMany
 batch_too_long feed edits store s inside long = rw (inside, long) refl
-
-pub log_full : (feed : ℕ) (edits : List Edit) (store : StoreState) (s : Session) → is_batch_of feed edits store.past ≡ true → ltb 65536 (length edits) ≡ false → leb 4096 (number_of store.past) ≡ true → publish_response feed edits (with_store s store) ≡ Fails faults.LogFull
-log_full feed edits store s inside short full = rw (inside, short, full) refl
-
--- a batch that passes all tests
-pub batch_passes : (feed : ℕ) (edits : List Edit) (store : StoreState) (s : Session)
-    → is_batch_of feed edits store.past ≡ true → ltb 65536 (length edits) ≡ false → leb 4096 (number_of store.past) ≡ false
-    → publish_response feed edits (with_store s store) ≡ Answers (published_answer feed edits store.past) (with_store s (record { past = longer store.past (entry_of feed edits); held = None }))
-batch_passes feed edits store s inside short room = rw (inside, short, room) refl

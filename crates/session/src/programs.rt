@@ -5,7 +5,7 @@ ghost use Rattle.bpf_image.specs.Program.{IsRecordLength, without_table};
 ghost use Rattle.verifier.specs.Verdict.{verdict};
 ghost use Rattle.session_model.specs.Faults.{program_fault, image_fault};
 ghost use Rattle.session_model.specs.Images.{loaded};
-ghost use Rattle.session_model.specs.Responses.{load_response, image_response, code_response, verdict_response, is_code};
+ghost use Rattle.session_model.specs.Responses.{load_response, image_response, verdict_response, is_code};
 ghost use Rattle.session.specs.Performs.{Performs};
 
 use crate::answer::Answer;

@@ -7,7 +7,7 @@ use Rattle.bpf_image.specs.declared.image_error.ImageError.TheVariants.{Magic, L
 use Rattle.bpf_image.specs.Format.{image_bytes, front_length, record_field, units_field, table_field, HasTableLength, IsWhole, IsFault}
 use Rattle.bpf_image.specs.Reading.{after_test, header_of, from_length, from_record_length, from_units, from_code, from_table}
 use Rattle.bpf_image.proofs.FormatLaws.{AreBytes, bytes_again, image_whole, images_load, one_image}
-use Rattle.bpf_image.proofs.HeaderLaws.{header_fault, header_only, same_fault}
+use Rattle.bpf_image.proofs.HeaderLaws.{header_fault, same_fault}
 use Rattle.session_model.specs.Images.{spelled, program_after, loaded}
 
 -- ---- a header never wants memory
@@ -62,7 +62,3 @@ made_at bytes p (Err e) h all image same =
 -- an image with these bytes is the one that they spell
 pub loaded_made : (bytes : List ℕ) (p : Program) → AreBytes bytes → IsImage p → image_bytes p ≡ bytes → loaded bytes ≡ Ok p
 loaded_made bytes p all image same = made_at bytes p (header_of bytes) refl all image same
-
--- a fault of these bytes is the one that they have
-pub loaded_fault : (bytes : List ℕ) (e : ImageError) → e ≢ OutOfMemory → IsFault bytes e → loaded bytes ≡ Err e
-loaded_fault bytes e other fault = ap (program_after bytes) (header_only bytes e other fault)

@@ -1,6 +1,6 @@
 -- What a reader's side keeps where it learns of a version of its store.
-use Rattle.std.proofs.Common.{◌≡◌, ◌≤◌, ℕ, Option, Some, None, IfSome, sym, ap, ◌∙◌, subst}
-use Rattle.history.specs.Moment.{Moment, Beginning, moment_of, count_of, OneStore, Begins}
+use Rattle.std.proofs.Common.{◌≡◌, ℕ, Option, Some, None, IfSome, sym, ◌∙◌}
+use Rattle.history.specs.Moment.{Moment, Beginning, moment_of, OneStore}
 use Rattle.history.proofs.Moments.{vertex_count-moment_of}
 use Rattle.store.specs.declared.board.board_view.BoardView.{BoardView}
 use Rattle.store.specs.declared.board.member.Member.{Member}

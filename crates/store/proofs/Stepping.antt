@@ -1,8 +1,7 @@
 -- What a step tells.
-use Rattle.std.proofs.Common.{◌≡◌, ℕ, List, [], ◌∷◌, ◌++◌, Option, Some, None, Result, Ok, Err, IfOk, IfSome, is_some, Bool, true, false, refl, sym, ap, subst, ◌∙◌, append-nil}
+use Rattle.std.proofs.Common.{◌≡◌, ℕ, ◌++◌, Option, Some, None, Result, Ok, Err, IfOk, IfSome, is_some, true, false, refl, sym, ap, subst, ◌∙◌, append-nil}
 use Rattle.std.proofs.lemmas.Bool.{true≢false}
 use Rattle.atomic_table.specs.Seated.{TableId}
-use Rattle.past_model.specs.declared.entry.Entry.{Entry}
 use Rattle.past_model.specs.Epochs.{AreSince}
 use Rattle.history.specs.Moment.{Moment}
 use Rattle.store.specs.Ends.{Taking, taking, after_nothing, WasEmpty}

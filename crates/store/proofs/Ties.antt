@@ -1,9 +1,7 @@
 -- Each call is the events that its contract names.
 use Rattle.std.proofs.Common.{◌≡◌, ◌<◌, ap, sym, subst, ◌∙◌, List, Option, Some, None, Result, Ok, Err, IfOk, IfErr, IfSome}
 use Rattle.past_model.specs.declared.edit.Edit.{Edit}
-use Rattle.past_model.specs.declared.entry.Entry.{Entry}
 use Rattle.past_model.specs.Edits.{AreEditsBelow}
-use Rattle.past_model.specs.Past.{Past}
 use Rattle.past_model.specs.declared.limits.TheConstants.{FEEDS}
 use Rattle.history.specs.Moment.{Moment, Begins}
 use Rattle.store.specs.Ends.{Feeding, after_put}

@@ -5,7 +5,7 @@ ghost use Rattle.past_model.specs.declared.limits.TheConstants.{MOST_BATCHES, MO
 ghost use Rattle.past_model.specs.Past.{number_of, epoch_of};
 ghost use Rattle.store_model.specs.declared.limits.TheConstants.{QUEUE_PLACES};
 ghost use Rattle.history.specs.Moment.{OneStore};
-ghost use Rattle.store.specs.Held.{entry_in, entry_held, IsTurn, IsAside, IsHolding, IsNoted};
+ghost use Rattle.store.specs.Held.{entry_held, IsTurn, IsAside, IsHolding, IsNoted};
 ghost use Rattle.store.specs.Feeds.{AreFeedsOf, AreDelivered};
 ghost use Rattle.store.specs.Ties.{PublishesAsEvents, RebasesAsEvent, TakesAsEvent};
 ghost use Rattle.store.specs.Storing.{taken_of, IsPublished, IsRebased, IsIdle, IsKept};

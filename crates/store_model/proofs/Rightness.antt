@@ -1,5 +1,5 @@
 -- Every run is right, and is of a version that was published.
-use Rattle.std.proofs.Common.{◌≡◌, ℕ, ◌<◌, Option, Some, None, List, [], ◌∷◌, ◌++◌, length, refl, sym, ap, subst, ◌∙◌, append_assoc, append-nil, length-append, arith}
+use Rattle.std.proofs.Common.{◌≡◌, ℕ, ◌<◌, Option, Some, None, List, [], ◌∷◌, ◌++◌, length, refl, sym, ap, subst, ◌∙◌, length-append, arith}
 use Rattle.std.proofs.lemmas.Bool.{false≢true}
 use Rattle.past_model.specs.declared.entry.Entry.{Entry}
 use Rattle.past_model.specs.Past.{Past}
@@ -10,7 +10,7 @@ use Rattle.store_model.specs.declared.event.Event.TheVariants.{Submit, Take, Par
 use Rattle.store_model.specs.declared.reply.Reply.{Reply}
 use Rattle.store_model.specs.declared.reply.Reply.TheVariants.{Done, Refused, Slice, End}
 use Rattle.store_model.specs.Core.{Core, Holding, Run, words_of, opening_core}
-use Rattle.store_model.specs.Events.{Lends, after_take, after_publish, after_lend, after, Happens, IsBeginning}
+use Rattle.store_model.specs.Events.{Lends, after_take, after_publish, after_lend, after, Happens}
 use Rattle.store_model.specs.Laws.{IsRight, EveryRunIsRight, IsOfVersion, RunsAreOfVersions}
 use Rattle.store_model.proofs.Steps.{runs_keep, EachRun, pinned, each_after, none_yet}
 

@@ -1,5 +1,5 @@
 -- Where the second pass has no fault, every way leads after its pc, to an instruction inside the code.
-use Rattle.std.proofs.Common.{◌≡◌, ◌≢◌, ℕ, zero, suc, ◌+◌, ◌-◌, ◌<◌, ◌≤◌, List, [], ◌∷◌, ◌++◌, true, leb, ltb, Option, Some, None, refl, arith, inl, inr, ◌⊎◌}
+use Rattle.std.proofs.Common.{◌≡◌, ◌≢◌, ℕ, zero, suc, ◌+◌, ◌-◌, ◌<◌, ◌≤◌, [], ◌∷◌, true, leb, ltb, Option, Some, None, refl, arith, inl, inr}
 use Rattle.std.specs.Option.{option_or}
 use Rattle.std.specs.Prelude.{ℤ, pos, negsuc, ◌&&◌, is_some}
 use Rattle.std.proofs.lemmas.Bool.{cases_Bool, and_parts, leb-false, ltb-true}
@@ -155,19 +155,3 @@ pub call_begins : (p : Program) (pc : ℕ) (z : ℤ) → Flows p → instruction
 call_begins p pc z passed found none =
     let parts = both_none (calling_cause (start_above p pc (target pc z))) (falling_cause p pc (pc + 1)) (flow_fine p pc (CallLocal z) passed found) in
     (let e : some_cause CallTarget ≡ None = (rw none at parts.0) in cc)
-
-pub one_of_two : (z : ℤ) (xs ys : List ℤ) → IsOneOf z (xs ++ ys) → IsOneOf z xs ⊎ IsOneOf z ys
-one_of_two z [] ys m = inr m
-one_of_two z (x ∷ xs) ys m =
-    elim m [
-      | inl same ↦ inl (inl same)
-      | inr rest ↦ elim (one_of_two z xs ys rest) [ inl left ↦ inl (inr left) | inr right ↦ inr right ]
-    ]
-
--- where an instruction goes in any way
-pub any_ahead : (p : Program) (pc : ℕ) (i : Instruction) (z : ℤ) → Flows p → instruction_at p pc ≡ Some i → IsOneOf z (called_pcs i pc ++ next_pcs i pc) → Ahead p pc (units p) z
-any_ahead p pc i z passed found m =
-    elim (one_of_two z (called_pcs i pc) (next_pcs i pc) m) [
-      | inl called ↦ call_ahead p pc i z passed found called
-      | inr next ↦ (let at = ahead p pc i z passed found next in record { place = at.place; is = at.is; behind = at.behind; under = inside p at.place at.instruction at.found; instruction = at.instruction; found = at.found })
-    ]

@@ -69,13 +69,6 @@ entered_frames l a s z d k lt =
           subst (λ f. DescribesLive l (suc (live s)) (frame_top k) f (enter s z).memory) (sym (set_other a.frames (suc (length s.callers)) k (Some new_frame) None other)) kept
     ]
 
--- the caller's R6 to R9, as they are kept
-saved_value : (s : State) (r : ℕ) → 6 ≤ r → r ≤ 9 → (saved_state s).registers r ≡ s.registers r
-saved_value s r low high =
-    let first : leb 6 r ≡ true = le-leb _ _ low in
-    let last : leb r 9 ≡ true = le-leb _ _ high in
-    rw (first, last) refl
-
 kept_values : (l : Lengths) (a : AbstractState) (s : State) → DescribesState l a s → (i : ℕ) → Describes l (live s) (get_or (known_of a 6 ∷ known_of a 7 ∷ known_of a 8 ∷ known_of a 9 ∷ []) i Unset) ((saved_state s).registers (i + 6))
 kept_values l a s d zero = d.parts.values 6
 kept_values l a s d (suc zero) = d.parts.values 7
@@ -130,10 +123,6 @@ returned_frames l n a memory all k lt =
     let stays = frame_dropped l n (frame_top k) (frame_of a k) memory (all k (omega (arith, lt))) in
     let same : get_or (map (without_pointers n) (set a.frames n None)) k None ≡ without_pointers n (frame_of a k) = dropped_at n (set a.frames n None) k ∙ ap (without_pointers n) (set_other a.frames n k None None other) in
     subst (λ f. DescribesLive l n (frame_top k) f memory) (sym same) stays
-
--- R0 is a number, which points nowhere
-result_described : (l : Lengths) (live less lo hi n : ℕ) → Describes l live (Number lo hi) (Some n) → Describes l less (Number lo hi) (Some n)
-result_described l live less lo hi n d = d
 
 leave_follows : (l : Lengths) (a : AbstractState) (s : State) (ws : Ways) (callers : List Saved) (v : ℕ) → DescribesState l a s → s.callers ≡ callers → ((n : ℕ) → Describes l n (known_of a 0) (Some v)) → Follows l Exit a s ws (leave s callers v)
 leave_follows l a s ws [] v d same result = exits v refl same

@@ -77,9 +77,6 @@ callee_begins p calls v old now n begins exits known passed first le lt h =
 pub same_passage : (a b f g : ℕ) (s t : AbstractState) → a ≡ b → f ≡ g → s ≡ t → passage_at a f s ≡ passage_at b g t
 same_passage a b f g s t one two three = rw (one, two, three) refl
 
-some_passage : Passage → Option Passage
-some_passage w = Some w
-
 comes : (p : Program) (v : Passage) (old now : Table) (n last begins frame : ℕ) (exits : Option AbstractState) (known : AbstractState) (h : IsAtCall p (calls_of p v) v old n last now exits begins known) (o : Outcome) → frame ≡ v.frame + 1
     → outcome p (calls_of p (passage_at begins frame known)) (passage_at begins frame known) ≡ o → outcome_at (calls_of p v) (opening v n (CallLocal h.distance) h.state) ≡ o
 comes p v old now n last begins frame exits known h o next is =

@@ -77,9 +77,6 @@ broken_by p v old now n last begins frame exits known copy r lt h next inside sa
   breaks = is;
 })
 
-some_refusal : Refusal → Option Refusal
-some_refusal r = Some r
-
 -- what is told of it goes on with what is told of the function that is called
 pub told_within : (p : Program) (v w : Passage) (n : ℕ) (ts : List KnownPassage) → IsBrokenBy p v n w → Lists p w (first_refusal p (calls_of p w) w (units p)) ts → ListsWithin p v n (first_refusal p (calls_of p v) v (units p)) ts
 told_within p v w n [] h told = absurd told

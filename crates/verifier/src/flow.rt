@@ -3,7 +3,7 @@ ghost use Rattle.std.specs.Prelude.{◌≡◌, ◌<◌, ◌≤◌, Option};
 ghost use Rattle.bpf_isa.specs.declared.limits.TheConstants.{MOST_UNITS};
 ghost use Rattle.bpf_image.specs.Program.{units};
 ghost use Rattle.verifier.specs.Listing.{listing_of};
-ghost use Rattle.verifier.specs.Functions.{start_above, function_end};
+ghost use Rattle.verifier.specs.Functions.{function_end};
 ghost use Rattle.verifier.specs.Tables.{HasEnds};
 ghost use Rattle.verifier.specs.Verdict.{first_fault, flow_fault, flow_cause, landing_cause, calling_cause, falling_cause};
 

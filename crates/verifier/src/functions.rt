@@ -1,8 +1,8 @@
 //! Where the functions of a program begin and end.
-ghost use Rattle.std.specs.Prelude.{◌≡◌, ℕ, ◌<◌, ◌≤◌, ◌||◌, true, false, None, IfOk, IfSome, MatchResult, slice_index_or, length};
+ghost use Rattle.std.specs.Prelude.{◌≡◌, ℕ, ◌<◌, ◌≤◌, ◌||◌, true, false, None, IfSome, MatchResult, slice_index_or, length};
 ghost use Rattle.bpf_image.specs.Program.{units};
 ghost use Rattle.verifier.specs.Listing.{listing_of};
-ghost use Rattle.verifier.specs.Functions.{is_place, is_entry};
+ghost use Rattle.verifier.specs.Functions.{is_place};
 ghost use Rattle.verifier.specs.Listing.{instruction_at};
 ghost use Rattle.verifier.specs.Verdict.{no_memory, first_fault, decoding_fault, most_pairs};
 ghost use Rattle.verifier.specs.Walks.{deepest, pairs};

@@ -1,5 +1,5 @@
 //! What is known at the pcs of a program, for a person who wants to see why it is refused.
-ghost use Rattle.std.specs.Prelude.{◌≡◌, ◌<◌, ◌≤◌, ◌+◌, ℕ, ◌++◌, List, false, None, IfOk, MatchOption, length};
+ghost use Rattle.std.specs.Prelude.{◌≡◌, ◌<◌, ◌≤◌, ◌+◌, ◌++◌, List, false, None, IfOk, MatchOption};
 ghost use Rattle.bpf_image.specs.Program.{units};
 ghost use Rattle.abstract_state.specs.States.{most_callers};
 ghost use Rattle.verifier.specs.declared.known.KnownPassage.{KnownPassage as Listed};

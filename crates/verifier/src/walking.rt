@@ -1,13 +1,12 @@
 //! The last pass: what is known at each walked pc, and whether the instructions' rules hold of it. A function is gone
 //! through again for each call of it.
-ghost use Rattle.std.specs.Prelude.{◌≡◌, ◌<◌, ◌≤◌, ◌+◌, ℕ, ℤ, pos, None, Some, Ok, Err, IfOk, IfErr, MatchResult, MatchOption, List, Option, length, slice_index_or, slice_set};
+ghost use Rattle.std.specs.Prelude.{◌≡◌, ◌<◌, ◌≤◌, ◌+◌, ℕ, None, Some, Ok, Err, IfOk, MatchResult, MatchOption, Option, length, slice_set};
 ghost use Rattle.bpf_isa.specs.declared.limits.TheConstants.{MOST_UNITS};
 ghost use Rattle.bpf_image.specs.Program.{units};
-ghost use Rattle.abstract_state.specs.States.{AbstractState as Known, most_callers, left_state};
+ghost use Rattle.abstract_state.specs.States.{AbstractState as Known, most_callers};
 ghost use Rattle.verifier.specs.Rules.{branch_ways};
 ghost use Rattle.verifier.specs.RuleAnswers.{ways_onward};
 ghost use Rattle.verifier.specs.Listing.{listing_of};
-ghost use Rattle.verifier.specs.Walks.{next_pcs, IsOneOf};
 ghost use Rattle.verifier.specs.Equations.{Passage, passage_at, joined_with, joined_ways, ways_after, outcome, calls_of};
 ghost use Rattle.verifier.specs.Verdict.{first_fault, decoding_fault, flow_fault, rule_refusal, unless_memory};
 ghost use Rattle.verifier.specs.Known.{IsBrokenAt};

@@ -1,6 +1,6 @@
 //! The third, the fourth and the fifth pass: how many frames a walk through the code has, how much it counts, and how many
 //! instructions the abstract pass goes through.
-ghost use Rattle.std.specs.Prelude.{◌≡◌, ◌<◌, ◌≤◌, ◌+◌, ℕ, min, unsigned_abs, slice_index_or, IfSome, MatchResult, None, false};
+ghost use Rattle.std.specs.Prelude.{◌≡◌, ◌<◌, ◌≤◌, ◌+◌, min, unsigned_abs, slice_index_or, IfSome, MatchResult, None, false};
 ghost use Rattle.std.specs.Option.{option_or};
 ghost use Rattle.bpf_isa.specs.declared.limits.TheConstants.{MOST_UNITS};
 ghost use Rattle.bpf_image.specs.Program.{units};

@@ -1,5 +1,5 @@
 //! What the versions of one epoch have in common.
-ghost use Rattle.std.specs.Prelude.{◌≡◌, ◌<◌, ◌≤◌, [], ◌∷◌, ◌++◌, length, Some, None, IfOk};
+ghost use Rattle.std.specs.Prelude.{◌≡◌, ◌<◌, [], ◌∷◌, ◌++◌, length, Some, None, IfOk};
 ghost use Rattle.std.specs.Arc.{arc_value};
 ghost use Rattle.past_model.specs.declared.limits.TheConstants.{MOST_EPOCHS};
 ghost use Rattle.version.specs.Ground.{ground};

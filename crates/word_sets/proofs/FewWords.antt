@@ -1,5 +1,5 @@
 -- The places of words in lists of one and of two.
-use Rattle.std.proofs.Common.{◌≡◌, ℕ, zero, suc, ◌<◌, ◌≤◌, true, false, List, [], ◌∷◌, Result, Ok, Err, refl, arith}
+use Rattle.std.proofs.Common.{◌≡◌, ℕ, zero, suc, ◌<◌, ◌≤◌, true, false, [], ◌∷◌, Result, Ok, Err, refl, arith}
 use Rattle.word_sets.specs.Words.{IsPlace}
 
 pub only_place : (r : Result ℕ ℕ) → IsPlace 1048575 (1048575 ∷ []) r → r ≡ Ok 0

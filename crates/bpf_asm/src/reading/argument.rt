@@ -1,5 +1,5 @@
 //! What may stand after a word.
-ghost use Rattle.std.specs.Prelude.{◌≡◌, ◌∷◌, List, [], ℕ, Option, Some, None, option_map, MatchOption};
+ghost use Rattle.std.specs.Prelude.{◌≡◌, Option, Some, None, option_map};
 ghost use Rattle.std.specs.List.{position_or_len};
 ghost use Rattle.bpf_asm.specs.Lexing.{
   address_argument,
@@ -14,7 +14,7 @@ ghost use Rattle.bpf_asm.specs.Lexing.{
   register_named as register_named_of,
   without_blanks as without_blanks_of,
 };
-ghost use Rattle.bpf_asm.specs.Said.{said_argument, said_arguments, said_numeral, said_place};
+ghost use Rattle.bpf_asm.specs.Said.{said_argument, said_place};
 
 use crate::reading::lexing::{is_name, position_of, register_named, without_blanks};
 use crate::reading::numeral::{Numeral, displacement, number};

@@ -1,5 +1,5 @@
 //! The code of a text's lines, with labels as distances.
-ghost use Rattle.std.specs.Prelude.{◌≡◌, ◌<◌, ◌≤◌, ◌^◌, ◌+◌, ◌++◌, ℕ, List, map, Ok, Err, IfOk, MatchResult};
+ghost use Rattle.std.specs.Prelude.{◌≡◌, ◌<◌, ◌^◌, ◌+◌, ◌++◌, ℕ, List, map, Ok, Err, IfOk, MatchResult};
 ghost use Rattle.std.specs.Str.{bytes_eq};
 ghost use Rattle.std.specs.HashMap as hash;
 ghost use Rattle.bpf_asm.specs.Assembly.{code_from, item_bytes, place, jump_instruction as jump_instruction_of, unless_memory, Faults};

@@ -1,5 +1,5 @@
 //! Blanks, comments and names.
-ghost use Rattle.std.specs.Prelude.{◌≡◌, ◌==◌, ◌≤◌, ◌<◌, ℕ, List, [], ◌∷◌, length, Option, Some, None};
+ghost use Rattle.std.specs.Prelude.{◌≡◌, ◌==◌, ◌<◌, [], Option, Some, None};
 ghost use Rattle.std.specs.List.{list_all, position_or_len};
 ghost use Rattle.bpf_asm.specs.Lexing.{
   is_blank as is_blank_byte,

@@ -1,6 +1,5 @@
 //! One line of a text.
 ghost use Rattle.std.specs.Prelude.{◌≡◌};
-ghost use Rattle.bpf_asm.specs.Lexing.{said_part as said_part_of};
 ghost use Rattle.bpf_asm.specs.Said.{said_arguments, said_line};
 ghost use Rattle.bpf_asm.specs.Statements.{item as item_of, plain as plain_of, label_line as label_line_of, item_of_text as item_text_of, statement as statement_of, word_line as word_line_of};
 

@@ -1,5 +1,5 @@
 //! Numbers in decimal and hexadecimal digits, with their sign.
-ghost use Rattle.std.specs.Prelude.{◌≡◌, ◌<◌, ◌≤◌, ◌^◌, ◌+◌, ◌*◌, ◌&&◌, not, nat_lt, length, if◌then◌else◌, Option, Some, None, option_map};
+ghost use Rattle.std.specs.Prelude.{◌≡◌, ◌<◌, ◌≤◌, ◌^◌, ◌+◌, ◌*◌, ◌&&◌, not, nat_lt, if◌then◌else◌, Option, Some, None, option_map};
 ghost use Rattle.std.specs.List.{list_all};
 ghost use Rattle.bpf_asm.specs.Lexing.{
   begins_with,

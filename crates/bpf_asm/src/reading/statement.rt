@@ -1,5 +1,5 @@
 //! A word with its arguments, as an instruction.
-ghost use Rattle.std.specs.Prelude.{◌≡◌, option_map};
+ghost use Rattle.std.specs.Prelude.{◌≡◌};
 ghost use Rattle.bpf_asm.specs.Said.{said_argument, said_arguments, said_line};
 ghost use Rattle.bpf_asm.specs.Statements.{
   alu as alu_of,

@@ -1,6 +1,6 @@
 //! From code to text.
-ghost use Rattle.std.specs.Prelude.{◌≡◌, ◌++◌, ℕ, List, [], false, slice_index_or, string_bytes, codes, if◌then◌else◌, Ok, IfOk, OnOk, MatchResult};
-ghost use Rattle.bpf_asm.specs.Listing.{disassembly, is_target, label_line, lines_of, listing, Refuses};
+ghost use Rattle.std.specs.Prelude.{◌≡◌, ◌++◌, ℕ, [], false, slice_index_or, string_bytes, codes, if◌then◌else◌, Ok, IfOk, OnOk, MatchResult};
+ghost use Rattle.bpf_asm.specs.Listing.{disassembly, is_target, label_line, listing, Refuses};
 ghost use Rattle.bpf_asm.specs.Writing.{statement_text};
 
 use crate::errors::DisassembleError;

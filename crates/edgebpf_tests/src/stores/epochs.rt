@@ -1,7 +1,7 @@
 //! Rebases among the steps: two threads submit by all feeds, one publishes and rebases, and four readers pin.
 ghost use Rattle.std.specs.Prelude.{◌≡◌, map};
 ghost use Rattle.history.specs.Moment.{OneStore};
-ghost use Rattle.store.specs.Ends.{IsFeedOf, as_new};
+ghost use Rattle.store.specs.Ends.{as_new};
 
 use crate::shop::Shop;
 use crate::stores::threads::{number_of, numbered, submit};

@@ -1,6 +1,5 @@
 //! All feeds, the publisher and a reader, each in a thread of its own.
-ghost use Rattle.std.specs.Prelude.{◌≡◌, IfOk, map};
-ghost use Rattle.past_model.specs.Edits.{AreEditsBelow};
+ghost use Rattle.std.specs.Prelude.{◌≡◌, map};
 ghost use Rattle.history.specs.Moment.{OneStore};
 ghost use Rattle.store.specs.Ends.{IsFeedOf, as_new};
 

@@ -1,8 +1,8 @@
 //! A child of an inner node, with what its parent keeps beside it.
-ghost use Rattle.std.specs.Prelude.{◌≡◌, ◌≤◌, ◌<◌, ◌+◌, length, slice_index, option_map, IfOk, IfSome, OnErr};
+ghost use Rattle.std.specs.Prelude.{◌≡◌, ◌<◌, ◌+◌, length, slice_index, option_map, IfOk, IfSome, OnErr};
 ghost use Rattle.word_sets.specs.Words.{IsSet};
 ghost use Rattle.neighbour_btree.specs.Node.{Node, IsChild, IsEntry};
-ghost use Rattle.neighbour_btree.specs.Changes.{Packs, Adds, Takes};
+ghost use Rattle.neighbour_btree.specs.Changes.{Adds, Takes};
 
 use crate::levels::change::Change;
 use crate::levels::inner::Inner;

@@ -1,7 +1,7 @@
 //! Changes of inner nodes in place. A node that has one owner is written; one that is shared, or that would have to be
 //! cut or joined, reports that it is unable, and is replaced in its parent.
-ghost use Rattle.std.specs.Prelude.{◌≡◌, ◌≤◌, ◌<◌, ◌+◌, ◌*◌, length, IfOk, IfSome, OnErr, MatchBool, None};
-ghost use Rattle.neighbour_btree.specs.Node.{Node, inner_of, IsChild, IsInner};
+ghost use Rattle.std.specs.Prelude.{◌≡◌, ◌≤◌, ◌<◌, ◌+◌, ◌*◌, length, IfOk, OnErr, MatchBool, None};
+ghost use Rattle.neighbour_btree.specs.Node.{inner_of, IsInner};
 ghost use Rattle.neighbour_btree.specs.Shared.{items_of};
 ghost use Rattle.neighbour_btree.specs.Lists.{replacement};
 ghost use Rattle.neighbour_btree.specs.Changes.{Adds, Takes};

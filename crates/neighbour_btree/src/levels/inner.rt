@@ -3,7 +3,7 @@ ghost use Rattle.std.specs.Prelude.{◌≡◌, ◌≤◌, ◌<◌, ◌+◌, ◌*
 ghost use Rattle.word_sets.specs.Words.{IsSet};
 ghost use Rattle.neighbour_btree.specs.Node.{Node, words_under, inner_of, IsChild, IsSound, IsInner};
 ghost use Rattle.neighbour_btree.specs.Lists.{replacement};
-ghost use Rattle.neighbour_btree.specs.Changes.{Packs, Grows, Shrinks, Takes, IsSliceAt};
+ghost use Rattle.neighbour_btree.specs.Changes.{Packs, Takes, IsSliceAt};
 ghost use Rattle.neighbour_btree.specs.Lists.{Mends};
 
 use crate::levels::change::{Change, Grown};

@@ -1,6 +1,6 @@
 //! Leaves: the lowest level.
 ghost use Rattle.std.specs.Prelude.{◌≡◌, ◌≤◌, ◌<◌, ◌++◌, length, insert, remove, IfOk, OnErr};
-ghost use Rattle.word_sets.specs.Words.{IsSet, has_word, with_word, without_word};
+ghost use Rattle.word_sets.specs.Words.{IsSet};
 ghost use Rattle.neighbour_btree.specs.Node.{Node, leaf_of, IsLeaf};
 ghost use Rattle.neighbour_btree.specs.Shared.{items_of};
 ghost use Rattle.neighbour_btree.specs.Changes.{Packs, Shrinks, Adds, Takes};

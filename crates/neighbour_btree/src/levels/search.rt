@@ -1,5 +1,5 @@
 //! The child that a word goes into.
-ghost use Rattle.std.specs.Prelude.{◌≡◌, ◌≤◌, ◌<◌, ◌+◌, length, slice_get, slice_index, IfSome};
+ghost use Rattle.std.specs.Prelude.{◌≤◌, ◌<◌, ◌+◌, length};
 ghost use Rattle.neighbour_btree.specs.Lists.{first_at};
 
 use crate::levels::child::Child;

@@ -1,5 +1,5 @@
 //! Decimal numbers.
-ghost use Rattle.std.specs.Prelude.{◌≡◌, ℕ, ◌+◌, ◌*◌, ◌<◌, ◌^◌, map, length, Option, Some, None, option_map, IfOk, IfSome, MatchOption};
+ghost use Rattle.std.specs.Prelude.{◌≡◌, ◌+◌, ◌*◌, ◌<◌, map, length, Option, Some, None, option_map, IfOk, IfSome, MatchOption};
 ghost use Rattle.script_model.specs.Lexing.{is_digit as is_digit_byte, words};
 ghost use Rattle.script_model.specs.Parsing.{numbers};
 ghost use Rattle.script.specs.Said.{cut_number};

@@ -1,5 +1,5 @@
 //! The words of a line.
-ghost use Rattle.std.specs.Prelude.{◌≡◌, ◌↔◌, ℕ, ◌<◌, ◌≤◌, List, [], ◌∷◌, length, IfSome, IsTrue, MatchOption};
+ghost use Rattle.std.specs.Prelude.{◌≡◌, ◌↔◌, ◌<◌, ◌≤◌, [], ◌∷◌, length, IfSome, IsTrue, MatchOption};
 ghost use Rattle.std.specs.List.{list_all, position_or_len};
 ghost use Rattle.script_model.specs.Lexing.{is_blank as is_blank_byte, is_plain, words, same_bytes};
 

@@ -1,5 +1,5 @@
 //! The publisher's side: what is shown next.
-ghost use Rattle.std.specs.Prelude.{◌≡◌, None, IfOk, IfErr, MatchResult};
+ghost use Rattle.std.specs.Prelude.{◌≡◌, None, IfOk, IfErr};
 ghost use Rattle.history.specs.Moment.{Begins};
 ghost use Rattle.store.specs.Showing.{with_waiting, after_show};
 

@@ -23,7 +23,7 @@ pub(crate) struct Receiver {
 impl Model for Receiver {
     ghost use Rattle.std.specs.Prelude.{◌≡◌, ◌≤◌, [], vec_capacity};
     ghost use Rattle.std.specs.Arc.{arc_value};
-    ghost use Rattle.crossbeam_queue.specs.Passes.{view as queue_view_of, IsPassOf, ruled_capacity};
+    ghost use Rattle.crossbeam_queue.specs.Passes.{view as queue_view_of, IsPassOf};
     ghost use Rattle.past_model.specs.declared.limits.TheConstants.{FEEDS};
     ghost use Rattle.store_model.specs.declared.limits.TheConstants.{QUEUE_PLACES};
     ghost use Rattle.store.specs.QueueViews.{taker};

@@ -1,5 +1,4 @@
-use Rattle.std.proofs.Common.{◌++◌, subst, sym, ap, ◌∙◌}
-use Rattle.word_sets.specs.Words.{IsSet}
+use Rattle.std.proofs.Common.{◌++◌}
 use Rattle.neighbour_btree.proofs.Roots.{set_with}
 use Rattle.neighbour_btree.proofs.root.grow.Goals as goal
 

@@ -1,4 +1,4 @@
-use Rattle.std.proofs.Common.{rules, ◌≡◌, [], map, length, slice_set, get_or, ap, sym, ◌∙◌}
+use Rattle.std.proofs.Common.{rules, ◌≡◌, [], map, get_or, ap, sym, ◌∙◌}
 use Rattle.std.proofs.Math.Seq.{map-set_same}
 use Rattle.store.specs.Ends.{Feeding, IsFeedOf, as_new}
 use Rattle.edgebpf_tests.proofs.stores.epochs.submit_number.Goals as goal

@@ -1,4 +1,4 @@
-use Rattle.std.proofs.Common.{◌≡◌, ℕ, zero, suc, ◌<◌, List, [], ◌∷◌, map, length, get_or, refl, arith, rules}
+use Rattle.std.proofs.Common.{◌≡◌, ℕ, suc, ◌<◌, List, [], ◌∷◌, map, length, get_or, refl, arith, rules}
 use Rattle.store.specs.Ends.{Feeding, IsFeedOf, as_new}
 use Rattle.edgebpf_tests.proofs.stores.threads.submit_by_each.Goals as goal
 

@@ -1,4 +1,4 @@
-use Rattle.std.proofs.Common.{◌≡◌, ◌≤◌, length, sym, subst, ◌∙◌, arith}
+use Rattle.std.proofs.Common.{length, sym, subst, ◌∙◌, arith}
 use Rattle.word_sets.specs.Words.{IsSet}
 use Rattle.word_sets.specs.declared.places.TheConstants.{WORD_LIMIT}
 use Rattle.word_sets.proofs.Within.{IsWithin-length}

@@ -1,4 +1,4 @@
-use Rattle.std.proofs.Common.{ℕ, subst, arith}
+use Rattle.std.proofs.Common.{subst, arith}
 use Rattle.word_sets.specs.Words.{IsSet}
 use Rattle.neighbour_btree.specs.declared.root.Root.{Root}
 use Rattle.neighbour_btree.specs.Root.{words_of}

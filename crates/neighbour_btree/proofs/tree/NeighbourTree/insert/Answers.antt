@@ -1,9 +1,9 @@
-use Rattle.std.proofs.Common.{◌≡◌, true, false, sym, ap, subst, ◌∙◌}
+use Rattle.std.proofs.Common.{◌≡◌, true, sym, ap, subst, ◌∙◌}
 use Rattle.word_sets.specs.declared.places.TheConstants.{WORD_LIMIT}
-use Rattle.word_sets.specs.Words.{IsSet, has_word, with_word, without_word}
-use Rattle.word_sets.proofs.Changes.{with_present, without_absent}
+use Rattle.word_sets.specs.Words.{IsSet, has_word}
+use Rattle.word_sets.proofs.Changes.{with_present}
 use Rattle.neighbour_btree.specs.Root.{words_of}
-use Rattle.neighbour_btree.proofs.Roots.{set_with, set_without}
+use Rattle.neighbour_btree.proofs.Roots.{set_with}
 use Rattle.neighbour_btree.proofs.tree.NeighbourTree.insert.Goals as goal
 
 pub invariant_of-self-in-Changed : goal.invariant_of-self-in-Changed

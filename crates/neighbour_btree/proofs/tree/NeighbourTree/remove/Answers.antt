@@ -1,9 +1,8 @@
-use Rattle.std.proofs.Common.{◌≡◌, true, false, sym, ap, subst, ◌∙◌}
-use Rattle.word_sets.specs.declared.places.TheConstants.{WORD_LIMIT}
-use Rattle.word_sets.specs.Words.{IsSet, has_word, with_word, without_word}
-use Rattle.word_sets.proofs.Changes.{with_present, without_absent}
+use Rattle.std.proofs.Common.{◌≡◌, false, sym, ap, ◌∙◌}
+use Rattle.word_sets.specs.Words.{has_word}
+use Rattle.word_sets.proofs.Changes.{without_absent}
 use Rattle.neighbour_btree.specs.Root.{words_of}
-use Rattle.neighbour_btree.proofs.Roots.{set_with, set_without}
+use Rattle.neighbour_btree.proofs.Roots.{set_without}
 use Rattle.neighbour_btree.proofs.tree.NeighbourTree.remove.Goals as goal
 
 pub invariant_of-self-in-Changed : goal.invariant_of-self-in-Changed

@@ -1,9 +1,7 @@
-use Rattle.std.proofs.Common.{◌≡◌, true, false, sym, ap, subst, ◌∙◌}
+use Rattle.std.proofs.Common.{◌≡◌, true, sym, ap, subst, ◌∙◌}
 use Rattle.word_sets.specs.declared.places.TheConstants.{WORD_LIMIT}
-use Rattle.word_sets.specs.Words.{IsSet, has_word, with_word, without_word}
-use Rattle.word_sets.proofs.Changes.{with_present, without_absent}
-use Rattle.neighbour_btree.specs.Root.{words_of}
-use Rattle.neighbour_btree.proofs.Roots.{set_with, set_without}
+use Rattle.word_sets.specs.Words.{IsSet, has_word}
+use Rattle.word_sets.proofs.Changes.{with_present}
 use Rattle.neighbour_btree.proofs.tree.NeighbourTree.with.Goals as goal
 
 pub returns-in_ok-tree-in-None-clause-tree : goal.returns-in_ok-tree-in-None-clause-tree

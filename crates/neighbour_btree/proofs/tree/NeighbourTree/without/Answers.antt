@@ -1,9 +1,6 @@
-use Rattle.std.proofs.Common.{◌≡◌, true, false, sym, ap, subst, ◌∙◌}
-use Rattle.word_sets.specs.declared.places.TheConstants.{WORD_LIMIT}
-use Rattle.word_sets.specs.Words.{IsSet, has_word, with_word, without_word}
-use Rattle.word_sets.proofs.Changes.{with_present, without_absent}
-use Rattle.neighbour_btree.specs.Root.{words_of}
-use Rattle.neighbour_btree.proofs.Roots.{set_with, set_without}
+use Rattle.std.proofs.Common.{◌≡◌, false, sym, ap, ◌∙◌}
+use Rattle.word_sets.specs.Words.{has_word}
+use Rattle.word_sets.proofs.Changes.{without_absent}
 use Rattle.neighbour_btree.proofs.tree.NeighbourTree.without.Goals as goal
 
 pub returns-in_ok-tree-in-None-clause-tree : goal.returns-in_ok-tree-in-None-clause-tree

@@ -1,4 +1,4 @@
-use Rattle.std.proofs.Common.{rules, arith, length, take, sym, ◌∙◌, length-set}
+use Rattle.std.proofs.Common.{rules, arith, length, take, ◌∙◌, length-set}
 use Rattle.script.proofs.HexLemmas.{placed_more, none_at_end}
 use Rattle.script.proofs.reading.hex.hex_pairs.Goals as goal
 

@@ -1,5 +1,4 @@
-use Rattle.std.proofs.Common.{◌≡◌, Result, Option, Some, None, IfOk, IfSome, sym, subst, ◌∙◌}
-use Rattle.store.specs.Receipts.{Publication}
+use Rattle.std.proofs.Common.{Some, None, IfOk, IfSome, sym, subst, ◌∙◌}
 use Rattle.store.specs.Storing.{Storing, IsPublished, IsIdle}
 use Rattle.store.proofs.Stepping.{none_there, storing_of, held_published, none_waited}
 use Rattle.store.proofs.publisher.Publisher.publish_next.Goals as goal

@@ -1,4 +1,4 @@
-use Rattle.std.proofs.Common.{◌≡◌, Option, Result, Ok, sym, subst}
+use Rattle.std.proofs.Common.{Option, Result, Ok, sym, subst}
 use Rattle.store.specs.Receipts.{Publication}
 use Rattle.store.specs.declared.held.Turn.{Turn}
 use Rattle.store.specs.Held.{Committing, IsAside, IsTurned}

@@ -1,5 +1,4 @@
-use Rattle.std.proofs.Common.{◌≡◌, ◌∙◌, length, ap}
-use Rattle.crossbeam_queue.specs.Passes.{view}
+use Rattle.std.proofs.Common.{◌≡◌, ◌∙◌, ap}
 use Rattle.store.specs.declared.queue.queue_view.QueueView.{QueueView}
 use Rattle.store.specs.Ends.{Feeding}
 use Rattle.store.proofs.FeedSeats.{merges}

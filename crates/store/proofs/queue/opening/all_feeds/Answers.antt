@@ -1,6 +1,5 @@
 use Rattle.std.proofs.Common.{◌≡◌, ◌+◌, ◌∙◌, ap}
 use Rattle.atomic_table.specs.Seated.{TableId}
-use Rattle.crossbeam_queue.specs.Passes.{view}
 use Rattle.store.specs.declared.queue.queue_view.QueueView.{QueueView}
 use Rattle.store.specs.Ends.{new_feed}
 use Rattle.store.specs.QueueViews.{taker}

@@ -1,6 +1,6 @@
-use Rattle.std.proofs.Common.{◌≡◌, ◌<◌, ap, sym, subst, ◌∙◌, arith}
+use Rattle.std.proofs.Common.{◌<◌, ap, sym, subst, ◌∙◌, arith}
 use Rattle.std.specs.Arc.{arc_value}
-use Rattle.past_model.specs.Past.{Past, number_of, longer}
+use Rattle.past_model.specs.Past.{number_of, longer}
 use Rattle.history.specs.Moment.{Moment}
 use Rattle.store.proofs.Recording.{room_for_batch, few_longer, batch_known}
 use Rattle.store.proofs.recorded.Recorded.record_next.Goals as goal

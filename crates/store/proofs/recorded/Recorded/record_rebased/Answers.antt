@@ -1,6 +1,6 @@
-use Rattle.std.proofs.Common.{◌≡◌, ◌<◌, ap, sym, subst, ◌∙◌, arith}
+use Rattle.std.proofs.Common.{◌<◌, ap, sym, subst, ◌∙◌, arith}
 use Rattle.std.specs.Arc.{arc_value}
-use Rattle.past_model.specs.Past.{Past, epoch_of}
+use Rattle.past_model.specs.Past.{epoch_of}
 use Rattle.past_model.specs.Epochs.{rebased}
 use Rattle.history.specs.Moment.{Moment}
 use Rattle.store.proofs.Recording.{room_for_rebase, few_rebased, rebase_known}

@@ -1,4 +1,4 @@
-use Rattle.std.proofs.Common.{rules, ◌≡◌, ◌+◌, ◌<◌, [], ◌∷◌, ◌++◌, length, slice_set, Some, ℕ, List, ap, sym, subst, ◌∙◌, arith, append_assoc, append-nil, flat_map}
+use Rattle.std.proofs.Common.{rules, ◌≡◌, ◌+◌, [], ◌∷◌, ◌++◌, length, slice_set, ℕ, List, ap, sym, ◌∙◌, arith, append_assoc, append-nil, flat_map}
 use Rattle.past_model.specs.declared.entry.Entry.{Entry}
 use Rattle.past_model.specs.Epochs.{mark_of, marked}
 use Rattle.past_model.specs.Shared.{shared_items}

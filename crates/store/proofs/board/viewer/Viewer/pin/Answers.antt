@@ -1,8 +1,8 @@
-use Rattle.std.proofs.Common.{◌≡◌, ◌≤◌, ℕ, ap, sym, ◌∙◌, subst, arith, inr}
+use Rattle.std.proofs.Common.{◌≡◌, ◌≤◌, ℕ, ap, sym, ◌∙◌, subst, arith}
 use Rattle.left_right.specs.Sides.{view}
 use Rattle.crossbeam_queue.specs.Passes.{view as member_of}
 use Rattle.history.specs.Moment.{Moment, moment_of, count_of, Begins}
-use Rattle.history.proofs.Moments.{begins_itself, begins_of_prefix, vertex_count-moment_of}
+use Rattle.history.proofs.Moments.{begins_of_prefix, vertex_count-moment_of}
 use Rattle.store.proofs.Learning.{one_book, all_know, member_still}
 use Rattle.store.proofs.board.viewer.Viewer.pin.Goals as goal
 

@@ -4,7 +4,7 @@ use Rattle.crossbeam_queue.specs.Passes.{view}
 use Rattle.past_model.specs.declared.entry.Entry.{Entry}
 use Rattle.past_model.specs.declared.limits.TheConstants.{FEEDS}
 use Rattle.store.specs.declared.queue.queue_view.QueueView.{QueueView}
-use Rattle.store.specs.Ends.{Feeding, Taking, as_new, new_feeds}
+use Rattle.store.specs.Ends.{Feeding, Taking, as_new}
 use Rattle.store.specs.Feeds.{AreAllOf}
 use Rattle.store.specs.QueueRule.{Left}
 use Rattle.store.specs.QueueViews.{taker}
