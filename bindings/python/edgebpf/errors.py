@@ -14,7 +14,7 @@ CAUSES = {
     5: "a function does not end in an exit",
     6: "more than eight functions may be live at once",
     7: "more than 1,000,000 instructions may run",
-    8: "a register is read that may be unset",
+    8: "a register is read of which nothing is known: it may be unset, or the ways that lead here set it to unlike values",
     9: "the frame register r10 is written",
     10: "a pointer is used where only a number may be, or a number where only a pointer may be",
     11: "bytes may lie outside the record, the table or the frame, or a pointer may leave them",

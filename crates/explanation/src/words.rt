@@ -17,7 +17,9 @@ pub(crate) fn words_of_cause(cause: Cause) -> &'static str
         Cause::FallsOff => "a function ends neither in an exit nor in a jump",
         Cause::TooDeep => "more than eight functions may be live at once",
         Cause::TooLong => "more than 1,000,000 instructions may run",
-        Cause::UnsetRegister => "a register is read that may be unset",
+        Cause::UnsetRegister => {
+            "a register is read of which nothing is known: it may be unset, or the ways that lead here set it to unlike values"
+        }
         Cause::FrameRegister => "r10 is written, which only points to the frame",
         Cause::PointerUse => {
             "a pointer stands where only a number may, or a number where only a pointer may"
@@ -54,7 +56,7 @@ pub(crate) fn words_of_advice(advice: Advice) -> &'static str
         Advice::FewerFrames => "have functions inlined, so that calls nest less deep",
         Advice::ShorterRuns => "unroll fewer rounds, or call functions less often on one way",
         Advice::SetRegister => {
-            "set the register on each way that leads here; a call leaves r1 to r5 unset, so keep what is needed in r6 to r9"
+            "set the register on each way that leads here: on all to a number, on all to the record or the table, or to the same place of a frame; a call leaves r1 to r5 unset, so keep what is needed in r6 to r9"
         }
         Advice::SetResult => "set r0 on each way that leads to the exit",
         Advice::CopyFrameRegister => "copy r10 to another register by mov, and move that one",
@@ -77,7 +79,7 @@ pub(crate) fn words_of_advice(advice: Advice) -> &'static str
             "store a pointer by stxdw to the frame alone, at a multiple of 8 below r10"
         }
         Advice::TestFirst => {
-            "test the number first: compare it with a constant, and use what was compared where it is small enough; a signed number may be below zero besides"
+            "test the number first: compare it with a constant, in 64 bits unless it is known to have 32, and use what was compared where it is small enough; a signed number may be below zero besides"
         }
         Advice::KnowTheReach => {
             "stay inside: record and table have as many bytes as their lengths say, from 0 on, and the frame has 512 below r10"
