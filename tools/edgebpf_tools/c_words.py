@@ -153,6 +153,6 @@ class CWords:
 @functools.lru_cache(100)
 def _lines(path):
     try:
-        return pathlib.Path(path).read_text(errors="replace").splitlines()
+        return pathlib.Path(path).read_text(errors="replace").split("\n")
     except OSError:
         return []

@@ -37,8 +37,10 @@ def compile_to_bpf(source, target, folders, optimization=OPTIMIZATION, has_opaqu
     for processor in PROCESSORS:
         common = [clang, "-target", "bpf", f"-mcpu={processor}"]
         folder_words = [f"-I{folder}" for folder in folders]
+        # A name that does not end in .c would be one of another language.
+        file_words = ["-x", "c", source]
         # With -O1 clang would note of each loop that it is not to be unrolled.
-        ir = _run([*common, "-O2" if optimization == "-O1" else optimization, *TO_IR, *folder_words, source, "-o", "-"])
+        ir = _run([*common, "-O2" if optimization == "-O1" else optimization, *TO_IR, *folder_words, *file_words, "-o", "-"])
         if ir.returncode == 0:
             unrolled = ir.stdout.replace(LOOP_NOTE, UNROLLED_NOTE)
             code = opaque(unrolled) if has_opaque_indices else unrolled
@@ -52,7 +54,7 @@ def compile_to_bpf(source, target, folders, optimization=OPTIMIZATION, has_opaqu
 
 
 def _run(command, text=None):
-    return subprocess.run(command, input=text, capture_output=True, text=True)
+    return subprocess.run(command, input=text, capture_output=True, text=True, errors="surrogateescape")
 
 
 def lines_of(object_file):
@@ -60,7 +62,7 @@ def lines_of(object_file):
     objdump = newest("llvm-objdump")
     if objdump is None:
         return {}
-    run = subprocess.run([objdump, "-d", "-l", object_file], capture_output=True, text=True, errors="replace")
+    run = subprocess.run([objdump, "-d", "-l", object_file], capture_output=True, text=True, errors="surrogateescape")
     lines, section, line = {}, None, None
     for text in run.stdout.splitlines():
         if found := re.match(r"Disassembly of section (\S+):", text):
@@ -78,7 +80,7 @@ def type_of_result(object_file, function):
     dwarfdump = newest("llvm-dwarfdump")
     if dwarfdump is None:
         return None
-    run = subprocess.run([dwarfdump, object_file], capture_output=True, text=True, errors="replace")
+    run = subprocess.run([dwarfdump, object_file], capture_output=True, text=True, errors="surrogateescape")
     entries, entry = {}, {}
     for text in run.stdout.splitlines():
         if found := re.match(r"(0x[0-9a-f]+):\s+(DW_TAG_\w+)", text):

@@ -1,11 +1,12 @@
 """From a function in C to the `code` line of a script."""
 import argparse
+import os
 import pathlib
 import re
 import sys
 import tempfile
 
-from edgebpf_tools import clang, ends, explain, tables
+from edgebpf_tools import clang, ends, explain, owned, tables
 from edgebpf_tools.c_words import CWords
 from edgebpf_tools.language import LEAST_LENGTH, MOST_LENGTH
 from edgebpf_tools.link import ObjectFile, link
@@ -129,7 +130,8 @@ def show(options, words, code, table):
     if not told:
         raise Refusal("edgebpf_explain wrote nothing")
     if options.html:
-        pathlib.Path(options.html).write_text(words.page(told))
+        with owned.whole_file(options.html) as stream:
+            stream.write(words.page(told))
     if options.explain:
         sys.stdout.write(words.listing(told))
         # What is told of a refusal drops what is not written yet.
@@ -141,7 +143,9 @@ def show(options, words, code, table):
 
 def read_graph(path):
     try:
-        return pathlib.Path(path).read_text().rstrip("\n")
+        # A carriage return alone ends no line of a script.
+        with open(path, newline="") as stream:
+            return stream.read().replace("\r\n", "\n").rstrip("\n")
     except (OSError, UnicodeDecodeError) as error:
         raise Refusal(f"{path}: {getattr(error, 'strerror', None) or 'it is no text'}") from None
 
@@ -150,6 +154,9 @@ def perform(words):
     options = arguments(words)
     if not LEAST_LENGTH <= options.length <= MOST_LENGTH:
         raise Refusal(f"a record has {LEAST_LENGTH} to {MOST_LENGTH} bytes, not {options.length}")
+    if options.file.startswith("-"):
+        # clang would take it for an option.
+        options.file = os.path.join(".", options.file)
     with tempfile.TemporaryDirectory() as folder:
         try:
             objects, entry, program = linked(options, folder)

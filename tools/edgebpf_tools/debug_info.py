@@ -39,7 +39,7 @@ def _entries(object_file):
     dwarfdump = newest("llvm-dwarfdump")
     if dwarfdump is None:
         return
-    run = subprocess.run([dwarfdump, object_file], capture_output=True, text=True)
+    run = subprocess.run([dwarfdump, object_file], capture_output=True, text=True, errors="surrogateescape")
     entry = None
     for text in run.stdout.splitlines():
         if found := re.match(r"0x[0-9a-f]+:\s+DW_TAG_(\w+)", text):

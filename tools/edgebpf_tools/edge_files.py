@@ -161,6 +161,8 @@ class EdgeFile:
                 f"the matrix has {rows} rows and {columns} columns. Say what columns are: --rectangular same, if row K and "
                 "column K are one vertex, or --rectangular apart, if columns are vertices after those of the rows",
             )
+        if rows != columns and self.rectangle == "apart" and rows + columns > MOST_ID:
+            raise self.fault(self.line, "the matrix has more than 2^63 - 1 rows and columns in all")
         self.size = rows, columns, entries
 
     def _ids_of(self, words):

@@ -147,7 +147,7 @@ def _open_standard_files():
         raise Refusal("standard output is closed")
     # With PYTHONUNBUFFERED Python's own loses what the system did not take at once.
     out = io.BufferedWriter(_Output(1, "w", closefd=False))
-    sys.stdout = io.TextIOWrapper(out, sys.stdout.encoding, sys.stdout.errors, line_buffering=sys.stdout.isatty())
+    sys.stdout = io.TextIOWrapper(out, sys.stdout.encoding, "backslashreplace", line_buffering=sys.stdout.isatty())
 
 
 def standard_input():

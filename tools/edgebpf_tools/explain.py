@@ -3,9 +3,8 @@ import argparse
 import os
 import pathlib
 import subprocess
-import sys
 
-from edgebpf_tools import ends
+from edgebpf_tools import ends, owned
 from edgebpf_tools.explain_page import page
 from edgebpf_tools.refusal import Refusal
 
@@ -20,7 +19,7 @@ def command():
 
 def is_ready():
     """Whether the program is there, or is built of dist/ within a second. Nothing is proved for it."""
-    if "EDGEBPF_EXPLAIN" in os.environ:
+    if os.environ.get("EDGEBPF_EXPLAIN"):
         return True
     asked = [TOOLS / "proved_program", "--ready", "edgebpf_explain"]
     return subprocess.run(asked, stdout=subprocess.DEVNULL, stderr=subprocess.DEVNULL).returncode == 0
@@ -56,14 +55,12 @@ def arguments(words):
 
 def perform(words):
     options = arguments(words)
-    text = sys.stdin.read() if options.code is None else None
+    text = ends.standard_input().read() if options.code is None else None
     told, status = explain(options.length, options.code, text, is_asked_for=True, table=options.table)
     print(told, end="")
     if options.html and told:
-        try:
-            pathlib.Path(options.html).write_text(page(told, text))
-        except OSError as error:
-            raise Refusal(f"{error.filename}: {error.strerror}") from None
+        with owned.whole_file(options.html) as stream:
+            stream.write(page(told, text))
     return status
 
 

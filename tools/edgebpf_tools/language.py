@@ -216,12 +216,15 @@ class Language:
     def take_edits(self, text, start):
         """Takes as many lines as can be taken at once from a place of a text on, if a batch is open. Answers where they end, and how
         many they are."""
-        if self.block is None or self.is_in_program():
+        room = MOST_EDITS - self.block_lines
+        if self.block is None or self.is_in_program() or room <= 0:
             return start, 0
         end = self.edits.match(text, start).end()
         count = text.count("\n", start, end)
-        if count == 0 or self.block_lines + count > MOST_EDITS:
+        if count == 0:
             return start, 0
+        if count > room:
+            end, count = end - len(text[start:end].split("\n", room)[room]), room
         self.block.append(text[start : end - 1])
         self.block_lines += count
         return end, count

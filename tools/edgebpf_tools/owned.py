@@ -26,12 +26,18 @@ def folder():
 
 @contextlib.contextmanager
 def whole_file(path):
-    """A text file to write, which takes the place of `path` at the end of the block. A block that fails leaves `path` as it was."""
+    """A text file to write, which takes the place of `path` at the end of the block. A block that fails leaves `path` as it was, but where
+    only the file may be written, and not its folder."""
     target = os.path.realpath(path)
-    is_special = os.path.exists(target) and not os.path.isfile(target)
-    part = target if is_special else f"{target}.part{os.getpid()}"
+    # Of a pipe in /dev/fd the real path is no name of a file.
+    is_special = os.path.exists(path) and not (os.path.isfile(path) and os.access(os.path.dirname(target), os.W_OK))
+    part = path if is_special else f"{target}.part{os.getpid()}"
+    if os.path.isfile(path) and any(os.path.samestat(os.stat(path), os.fstat(number)) for number in (1, 2)):
+        raise Refusal(f"{path}: standard output or error is written there")
     try:
-        with open(part, "w") as stream:
+        with open(part, "w", encoding="utf-8", errors="surrogateescape") as stream:
+            if part != path and os.path.exists(path):
+                os.chmod(part, os.stat(path).st_mode & 0o777)
             yield stream
         if not is_special:
             os.replace(part, target)
@@ -50,13 +56,23 @@ def child(command, **options):
     the end of the block."""
     process = None
     try:
-        with ends.Signals.held():
+        with ends.Signals.held(), _terminal_for_all():
             process = subprocess.Popen(command, process_group=0, **options)
         yield process
     finally:
         with ends.Signals.held():
             if process:
                 _stop(process)
+
+
+@contextlib.contextmanager
+def _terminal_for_all():
+    """What is started in the block may write to the terminal from outside of its group, also after `stty tostop`."""
+    before = signal.signal(signal.SIGTTOU, signal.SIG_IGN)
+    try:
+        yield
+    finally:
+        signal.signal(signal.SIGTTOU, before)
 
 
 def _stop(process):

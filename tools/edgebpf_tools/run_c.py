@@ -68,7 +68,7 @@ def argument_words(options):
 def _fault(graph_file, graph, run, said):
     """The refusal of a script that ended in a fault."""
     number, line = map(int, re.fullmatch(r"fault (\d+) line (\d+)", said).groups())
-    behind = line - len(graph.splitlines()) - 1
+    behind = line - len(graph.split("\n")) - 1
     if not 0 <= behind < len(run.lines):
         return Refusal(f"{graph_file}:{line}: {FAULTS.get(number, f'fault {number}')}")
     word = run.lines[behind].split()[0].replace("image", "code")
@@ -89,7 +89,7 @@ def serve(graph, run, workers):
     """Serves the graph and the run by one process. Returns what it writes, and its status."""
     words = store.command() + ([] if workers is None else ["--workers", str(workers)])
     try:
-        served = subprocess.run(words, input="\n".join([*graph.splitlines(), *run.lines, ""]), stdout=subprocess.PIPE, text=True)
+        served = subprocess.run(words, input="\n".join([graph, *run.lines, ""]), stdout=subprocess.PIPE, text=True)
     except OSError as error:
         raise Refusal(f"{error.filename}: {error.strerror}") from None
     return served.stdout, served.returncode

@@ -2,6 +2,7 @@
 import argparse
 import contextlib
 import io
+import os
 import pathlib
 import signal
 import subprocess
@@ -10,7 +11,7 @@ import time
 
 from edgebpf_tools import decimals, ends, explain, owned, tables
 from edgebpf_tools.journal import Journal
-from edgebpf_tools.language import FORMS, Complaint, Language
+from edgebpf_tools.language import FORMS, MOST_BYTES, Complaint, Language
 from edgebpf_tools.live_store import LiveStore
 from edgebpf_tools.refusal import Refusal
 from edgebpf_tools.words import in_words
@@ -36,6 +37,8 @@ DOTS = {
 PLAIN = {"help": ".help", "?": ".help", "quit": ".quit", "exit": ".quit"}
 # How many bytes of lines are read at a time, where there are so many.
 BLOCK = 1 << 20
+# So many files may be read one from within another.
+MOST_FILES = 32
 NOTE = b"\n(edgebpf is at work: its answer will be dropped, and its graph stays. Ctrl-\\ ends the session.)\n"
 
 
@@ -51,7 +54,7 @@ class Shell:
     def __init__(self, live, out):
         self.store, self.out, self.journal = live, out, None
         self.language = Language()
-        self.sent, self.top, self.has_timer, self.is_right = [], 10, False, True
+        self.sent, self.reading, self.top, self.has_timer, self.is_right = [], [], 10, False, True
 
     def prompt(self):
         return f"{self.language.block[0].split()[0] if self.language.block else 'edgebpf'}> "
@@ -121,6 +124,8 @@ class Shell:
         while block := stream.read1(BLOCK):
             whole, end, rest = (rest + block).rpartition(b"\n")
             number = self.some_lines((whole + end).decode("utf-8", "surrogateescape"), number, stops)
+            # Of a line that is too long no more is kept than is needed to refuse it.
+            rest = rest[: MOST_BYTES + 1]
         if rest:
             self.some_lines(rest.decode("utf-8", "surrogateescape") + "\n", number, stops)
 
@@ -142,6 +147,8 @@ class Shell:
     def dot(self, words):
         if words[0] not in DOTS:
             raise Complaint("nothing has this name; .help lists what there is", 0)
+        if any("\0" in word for word in words):
+            raise Complaint("no name has a byte 0")
         getattr(self, f"_{words[0][1:]}")(words)
 
     def _help(self, words):
@@ -155,7 +162,7 @@ class Shell:
 
     def _companion(self, *words):
         """Takes the lines that a companion writes; what it says on standard error is passed on."""
-        with owned.child([TOOLS / words[0], *words[1:]], stdout=subprocess.PIPE) as process:
+        with owned.child([TOOLS / words[0], *words[1:]], stdin=subprocess.DEVNULL, stdout=subprocess.PIPE) as process:
             self.lines(process.stdout, True)
             status = process.wait()
         if status:
@@ -172,7 +179,9 @@ class Shell:
 
     def _image(self, words):
         self._wants(words, len(words) == 3)
-        self.command(f"image {words[1]} {pathlib.Path(words[2]).read_bytes().hex() or '-'}")
+        with open(words[2], "rb") as stream:
+            image = stream.read(MOST_BYTES)
+        self.command(f"image {words[1]} {image.hex() or '-'}")
 
     def _compact(self, words):
         self._wants(words, len(words) == 1)
@@ -200,8 +209,17 @@ class Shell:
 
     def _read(self, words):
         self._wants(words, len(words) == 2)
-        with open(words[1], "rb") as stream:
-            self.lines(stream, True)
+        path = os.path.realpath(words[1])
+        if path in self.reading:
+            raise Complaint("this file is being read already", 1)
+        if len(self.reading) == MOST_FILES:
+            raise Complaint(f"at most {MOST_FILES} files are read one from within another", 1)
+        self.reading.append(path)
+        try:
+            with open(words[1], "rb") as stream:
+                self.lines(stream, True)
+        finally:
+            self.reading.pop()
 
     def _script(self, words):
         self.say("\n".join(self.sent))
@@ -239,9 +257,9 @@ def arguments(words):
 
 def take_up(shell, path):
     """Sends the lines of a journal, whose answers were seen before, and keeps the session's lines there."""
-    journal = Journal(path)
-    if not pathlib.Path(path).is_file():
+    if os.path.exists(path) and not os.path.isfile(path):
         raise Refusal(f"{path} is no file")
+    journal = Journal(path)
     kept, shell.out = shell.out, io.StringIO()
     try:
         with open(path, "rb") as stream:
@@ -249,6 +267,10 @@ def take_up(shell, path):
     except Complaint as complaint:
         said = shell.out.getvalue().splitlines()
         raise Refusal(f"{path} is no journal that can be taken up: {said[-1] if said else ''}; {complaint}") from None
+    except EOFError:
+        raise Refusal(f"{path} is no journal that can be taken up: a line of it ends the session") from None
+    if shell.language.block:
+        raise Refusal(f"{path} is no journal that can be taken up: it ends within a {shell.language.block[0].split()[0]}")
     shell.out, shell.journal = kept, journal
     if shell.sent:
         shell.say(f"taken up again: {sum(lines.count(chr(10)) + 1 for lines in shell.sent)} lines of {path}")

@@ -2,13 +2,14 @@
 import argparse
 import contextlib
 import functools
+import os
 import pathlib
 import sys
 import time
 from dataclasses import dataclass
 
 from edgebpf_tools import decimals, ends, owned, parts, store, tables, workers
-from edgebpf_tools.language import LEAST_LENGTH, MOST_LENGTH
+from edgebpf_tools.language import HEX, LEAST_LENGTH, MOST_LENGTH
 from edgebpf_tools.own_source import asks_of_others
 from edgebpf_tools.refusal import Refusal
 from edgebpf_tools.words import in_words
@@ -133,13 +134,19 @@ def served_results(options, folder):
     run = f"run {name} last {options.reduce} {argument}"
     test_program(name, line, run)
     is_whole = takes_whole(options, name, code)
+    # Workers have folders and standard files of their own.
+    graph = os.path.abspath(options.graph)
+    if graph.startswith(("/dev/", "/proc/")):
+        graph = os.path.realpath(graph)
+    if is_whole and os.path.exists(options.graph) and not os.path.isfile(graph):
+        raise Refusal(f"{options.graph} is no file, and each process has to read the whole graph from it")
     begun = time.monotonic()
     files, sources = cut_graph(options, is_whole, folder)
     cut_in = time.monotonic() - begun
     each = [(file, f"\n{line}\npin last\n{run}\n".encode()) for file in files]
     if is_whole:
-        each = [(options.graph, f"\n{line}\npin last\n{runs_over(run, part)}".encode()) for part in sources if part]
-        each = each or [(options.graph, f"\n{line}\npin last\n{run}\n".encode())]
+        each = [(graph, f"\n{line}\npin last\n{runs_over(run, part)}".encode()) for part in sources if part]
+        each = each or [(graph, f"\n{line}\npin last\n{run}\n".encode())]
     served, started_in, served_in = workers.serve_parts(store.command(), each, options, folder)
     return name, results_of(served), Times(cut_in, started_in, served_in)
 
@@ -148,6 +155,8 @@ def perform(words):
     options = arguments(words)
     if not 1 <= options.processes <= MOST_PROCESSES:
         raise Refusal(f"--processes is 1 to {MOST_PROCESSES}, not {options.processes}")
+    if options.argument is not None and not HEX.fullmatch(options.argument):
+        raise Refusal("--argument is pairs of hexadecimal digits, or - for none")
     with owned.folder() as folder:
         name, results, times = served_results(options, folder)
     edges, total = parts.joined(results, options.reduce)

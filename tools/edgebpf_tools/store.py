@@ -10,7 +10,9 @@ TOP = pathlib.Path(__file__).resolve().parent.parent.parent
 
 def command():
     """How edgebpf is started: EDGEBPF in the environment, or the checkout's or installation's own."""
-    return [os.environ.get("EDGEBPF", str(TOP / "edgebpf"))]
+    named = os.environ.get("EDGEBPF") or str(TOP / "edgebpf")
+    # Workers have folders of their own.
+    return [os.path.abspath(named) if os.sep in named else named]
 
 
 def serve(script):

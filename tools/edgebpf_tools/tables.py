@@ -1,11 +1,12 @@
 """The read-only table of a program: of an object in C marked TABLE, or of a file."""
-import pathlib
 import struct
 
 from edgebpf_tools.refusal import Refusal
 
 SECTION = ".edgebpf_table"
 MOST_BYTES = 4096
+# The longest text of numbers that is read.
+MOST_TEXT = 1_000_000
 TYPES = {"u8": "<B", "u16": "<H", "u32": "<I", "u64": "<Q"}
 
 
@@ -19,12 +20,17 @@ def _number(path, line, word, form):
 
 def of_file(path, kind=None):
     """The bytes of a file, or of the numbers of its lines, each of a type."""
+    most = MOST_BYTES if kind is None else MOST_TEXT
     try:
-        if kind is None:
-            return pathlib.Path(path).read_bytes()
-        lines = pathlib.Path(path).read_text().splitlines()
+        with open(path, "rb") as stream:
+            read = stream.read(most + 1)
+        if len(read) > most:
+            raise Refusal(f"{path} has more than {most} bytes, the most of a table{'' if kind is None else ' as text'}")
+        lines = [] if kind is None else read.decode().split("\n")
     except (OSError, UnicodeDecodeError) as error:
         raise Refusal(f"{path}: {getattr(error, 'strerror', None) or 'it is no text'}") from None
+    if kind is None:
+        return read
     return b"".join(_number(path, at, word, TYPES[kind]) for at, line in enumerate(lines, 1) for word in line.split())
 
 

@@ -9,7 +9,7 @@ PLACES = [TOP / "crates" / "explanation" / "src" / "words.rt", TOP / "words.rt"]
 
 def words_of(kind):
     """The words of the rules, or of what helps, by their names: the source of the program that explains has them."""
-    source = next(path for path in PLACES if path.exists()).read_text()
+    source = next(path for path in PLACES if path.exists()).read_text(encoding="utf-8")
     return dict(re.findall(rf'{kind}::(\w+) => (?:{{\s*)?"([^"]*)"', source))
 
 

@@ -14,6 +14,7 @@ from edgebpf_tools.clang import newest
 from edgebpf_tools.link import ObjectFile, link
 from edgebpf_tools.refusal import Refusal
 
+TARGET = "code target 16 61100400000000009500000000000000\n"
 # Functions with a branch, a call, a loop, a helper and a table.
 SMALL = """
 #include <edgebpf.h>
@@ -61,7 +62,7 @@ class EdgebpfC(unittest.TestCase):
 
     def test_code_line_of_the_first_example(self):
         # The target is the four bytes at 4 of the record: ldxw r0, [r1+4]; exit.
-        self.assertEqual(self.compiled("target", "16").stdout, "code target 16 61100400000000009500000000000000\n")
+        self.assertEqual(self.compiled("target", "16").stdout, TARGET)
         self.assertIn("code t 20 6110", self.compiled("target", "20", "--name", "t").stdout)
 
     @unittest.skipUnless(os.environ.get("EDGEBPF"), "runs are tried by .ci/examples, or here where EDGEBPF names a built program")
@@ -72,8 +73,7 @@ class EdgebpfC(unittest.TestCase):
 
     def test_script_of_a_run(self):
         run = self.compiled("target", "16", "--on", self.graph, "--script")
-        code = "code target 16 61100400000000009500000000000000"
-        self.assertEqual(run.stdout, f"{GRAPH}{code}\npin last\nrun target last sum -\n")
+        self.assertEqual(run.stdout, f"{GRAPH}{TARGET}pin last\nrun target last sum -\n")
 
     def test_results_that_are_no_u64(self):
         self.assertIn("narrow answers int, of 4 bytes", self.compiled("narrow", "16").stderr)
@@ -104,6 +104,13 @@ class EdgebpfC(unittest.TestCase):
         broken = f"{self.folder.name}/broken.c"
         pathlib.Path(broken).write_text("u64 f(\n")
         self.assertIn("clang refused", run_tool("edgebpf-c", broken, "f", "16").stderr)
+
+    def test_names_of_files(self):
+        """One that begins as an option does, one without an ending, and one that is no text."""
+        for name in ("-s.c", "source", "s\udcff.c"):
+            (pathlib.Path(self.folder.name) / name).write_text(SOURCE)
+            run = run_tool("edgebpf-c", "--", name, "target", "16", cwd=self.folder.name)
+            self.assertEqual((run.stdout, run.stderr, run.returncode), (TARGET, "", 0))
 
     def test_results_of_object_files(self):
         made = f"{self.folder.name}/results.o"
@@ -228,6 +235,16 @@ class WordsAtTheLine(unittest.TestCase):
         self.assertRegex(unset, r"programs\.c:43: bytes of the frame are read that may be unset")
         self.assertRegex(unset, r"\n    called at .*programs\.c:45\n    words \(r1\): stack\[0\]-16\n    frame 0:  bytes\[0\] -16 to -9  slot")
         self.assertIn("\n    frame 1: no byte is set\n", unset)
+
+    def test_a_form_feed_ends_no_line(self):
+        """Neither one of C nor one of a script."""
+        pathlib.Path(self.file).write_text("\f" + SOURCE)
+        index = self.refusal("any_byte")
+        self.assertRegex(index, r"programs\.c:36: bytes may lie outside")
+        self.assertIn("\n    return edge->argument[place]; }\n", index)
+        for byte in "\f\r":
+            run = self.run_on(f"graph 4\n# a{byte}page\n", "target", "16")
+            self.assertIn("graph.script:2: a byte that no line may have", run.stderr)
 
     def test_without_the_program_that_explains(self):
         os.environ["EDGEBPF_EXPLAIN"] = f"{self.folder}/nothing"

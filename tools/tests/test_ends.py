@@ -9,11 +9,12 @@ import tempfile
 import time
 import unittest
 
-from tools_here import MISSING, PYTHON, TOOLS, run_tool
+from tools_here import MISSING, PYTHON, TOOLS, newest, run_tool
 
 HAS_NUMPY = importlib.util.find_spec("numpy") is not None
 STORE = str(TOOLS / "tests" / "second_store.py")
 EDGES = "".join(f"{vertex} {vertex + 1}\n" for vertex in range(200_000))
+TARGET = "#include <edgebpf.h>\nu64 target(struct edge *edge, u64 length) { return edge->target; }\n"
 HELPS = ("edgebpf-c", "edgebpf-explain", "edgebpf-import", "edgebpf-shell", "edgebpf-spread")
 
 
@@ -26,10 +27,10 @@ class Ends(unittest.TestCase):
         (self.folder / "temporary").mkdir()
         (self.folder / "edges").write_text(EDGES)
 
-    def run_with(self, name, *words, redirected="", unbuffered=True):
-        """Runs a companion with its files redirected by a shell."""
+    def run_with(self, name, *words, redirected="", unbuffered=True, before=""):
+        """Runs a companion with its files redirected by a shell, which does something before."""
         environment = {**self.environment, **({"PYTHONUNBUFFERED": "1"} if unbuffered else {})}
-        command = f'exec {PYTHON} {TOOLS / name} "$@" {redirected}'
+        command = f'{before} exec {PYTHON} {TOOLS / name} "$@" {redirected}'
         return subprocess.run(["sh", "-c", command, "sh", *words], capture_output=True, text=True, env=environment)
 
     def ended(self, run, program, part, status=1):
@@ -63,7 +64,7 @@ class Ends(unittest.TestCase):
         run = self.run_with("edgebpf-import", "--quiet", str(self.folder / "edges"), redirected=f"> {disk}/script")
         self.ended(run, "edgebpf-import", "standard output: No space left on device")
         if not MISSING:
-            (self.folder / "p.c").write_text("#include <edgebpf.h>\nu64 target(struct edge *edge, u64 length) { return edge->target; }\n")
+            (self.folder / "p.c").write_text(TARGET)
             (self.folder / "graph").write_text("graph 300000\nbatch A\n" + "".join(f"+ {vertex} 0\n" for vertex in range(200_000)) + "end\n")
             words = [str(self.folder / "p.c"), "16", "--on", str(self.folder / "graph"), "--script"]
             run = self.run_with("edgebpf-c", *words, redirected=f"> {disk}/script")
@@ -90,8 +91,25 @@ class Ends(unittest.TestCase):
         (self.folder / "far").write_text("1 999999999\n")
         run = self.run_with("edgebpf-import", "--quiet", "--table", f"{self.folder}/none/table", str(self.folder / "far"))
         self.ended(run, "edgebpf-import", "none/table: No such file or directory")
+        self.ended(self.run_with("edgebpf-explain", "16", redirected="<&-"), "edgebpf-explain", "standard input is closed", 2)
         self.environment["EDGEBPF"] = "/nowhere/edgebpf"
         self.ended(self.run_with("edgebpf-shell", redirected="< /dev/null"), "edgebpf-shell", "/nowhere/edgebpf: No such file")
+
+    def test_pages_that_cannot_be_written(self):
+        """The page that was there stays as it is, and a device that is full is told by its name."""
+        self.environment["EDGEBPF_EXPLAIN"] = str(TOOLS / "tests" / "second_explain.py")
+        made, page = self.folder / "made.o", self.folder / "page"
+        page.write_text("before\n")
+        asked = [("edgebpf-explain", ["16", "b7000000000000009500000000000000"], 2)]
+        if not MISSING:
+            words = [newest("clang"), "-g", "-target", "bpf", f"-I{TOOLS}", "-c", "-x", "c", "-", "-o", made]
+            subprocess.run(words, input=TARGET, text=True, check=True)
+            asked.append(("edgebpf-c", [made, "16"], 1))
+        for name, words, status in asked:
+            full = self.run_with(name, *words, "--html", page, before="ulimit -f 1; export PYTHONDONTWRITEBYTECODE=1;")
+            self.ended(full, name, f"{page}: File too large", status)
+            self.assertEqual((page.read_text(), [path.name for path in self.folder.glob("page*")]), ("before\n", ["page"]))
+            self.ended(self.run_with(name, *words, "--html", "/dev/full"), name, "/dev/full: No space left on device", status)
 
     def test_missing_package(self):
         (self.folder / "numpy.py").write_text("raise ImportError('not here')")

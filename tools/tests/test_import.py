@@ -1,14 +1,18 @@
 """edgebpf-import: the formats that it reads, the scripts that it writes, and its errors."""
 import importlib.util
 import io
+import os
 import pathlib
+import stat
+import subprocess
 import tempfile
 import unittest
 import unittest.mock
 
-from tools_here import run_tool
+from tools_here import PYTHON, TOOLS, run_tool
 
 FIRST = "graph 3\nbatch A\n+ 0 1\n+ 0 2\n+ 1 2\nend\n"
+TABLE = "# vertex, id in the file\n0 2\n1 4\n2 6\n"
 
 
 @unittest.skipIf(importlib.util.find_spec("numpy") is None, "not there: python3-numpy")
@@ -76,6 +80,8 @@ class EdgebpfImport(unittest.TestCase):
         self.refused(text.replace("1 3", "1 4"), "an entry lies outside the 2 rows and 3 columns", "--rectangular", "same")
         self.refused(text.replace("2 1", "3 1"), "an entry lies outside the 2 rows and 3 columns", "--rectangular", "apart")
         self.refused(text.replace("general", "symmetric"), "2 rows and 3 columns is not symmetric", "--rectangular", "same")
+        many = text.replace("2 3 2", f"{2**63 - 1} 3 2")
+        self.refused(many, "line 2: the matrix has more than 2^63 - 1 rows and columns in all", "--rectangular", "apart")
 
     def test_blocks(self):
         """Columns that a library reads and lines that are read one by one, in blocks of a file, give the same edges."""
@@ -97,7 +103,24 @@ class EdgebpfImport(unittest.TestCase):
             run = self.made("7 99999999999\n7 8\n8 99999999999\n", "--table", table)
             self.assertEqual(run.stdout, FIRST)
             self.assertEqual(pathlib.Path(table).read_text(), "# vertex, id in the file\n0 7\n1 8\n2 99999999999\n")
+            os.chmod(table, 0o600)
             self.assertEqual(self.made("2 4\n2 6\n4 6\n", "--renumber", "--table", table).stdout, FIRST)
+            self.assertEqual((stat.S_IMODE(os.stat(table).st_mode), pathlib.Path(table).read_text()), (0o600, TABLE))
+
+    def test_a_table_for_a_pipe(self):
+        run = self.made("2 4\n2 6\n4 6\n", "--quiet", "--renumber", "--table", "/dev/stdout")
+        self.assertEqual((run.stdout, run.stderr, run.returncode), (FIRST + TABLE, "", 0))
+
+    def test_a_table_in_place_of_the_script(self):
+        """Where standard output is a file, it is not replaced by the table."""
+        with tempfile.TemporaryDirectory() as folder:
+            edges, script = pathlib.Path(folder, "edges"), pathlib.Path(folder, "script")
+            edges.write_text("2 4\n2 6\n4 6\n")
+            with open(script, "w") as stream:
+                words = [PYTHON, TOOLS / "edgebpf-import", "--renumber", "--table", script, edges]
+                run = subprocess.run(words, stdout=stream, stderr=subprocess.PIPE, text=True)
+            said = f"edgebpf-import: {script}: standard output or error is written there\n"
+            self.assertEqual((run.stderr.splitlines(True)[-1], run.returncode), (said, 1))
 
     def test_undirected(self):
         self.assertEqual(self.made("0 1\n1 1\n", "--undirected").stdout, "graph 2\nbatch A\n+ 0 1\n+ 1 0\n+ 1 1\nend\n")

@@ -9,11 +9,13 @@ import subprocess
 import tempfile
 import time
 import unittest
+import unittest.mock
 
 from sample_programs import SOURCE
-from tools_here import MISSING, PYTHON, TOOLS, run_tool
+from tools_here import MISSING, PYTHON, TOOLS, memory_of, run_tool
 
-from edgebpf_tools.language import edits_below
+from edgebpf_tools import store
+from edgebpf_tools.language import Language, edits_below
 
 BEGUN = "graph 4\nbatch A\n+ 0 1\n+ 0 2\n+ 1 2\nend\npin a\n"
 BEGUN_SAID = "graph 4\nbatch A version 1 added 3 removed 0\npin a version 1 edges 3\n"
@@ -32,6 +34,11 @@ class EdgebpfShell(unittest.TestCase):
         run = run_tool("edgebpf-shell", *words, text=text)
         self.assertEqual((run.stderr, run.returncode), ("", status))
         return run.stdout
+
+    def begun(self, *words, **options):
+        """A session whose lines are still to come."""
+        files = {"stdin": subprocess.PIPE, "stdout": subprocess.PIPE, **options}
+        return subprocess.Popen([PYTHON, TOOLS / "edgebpf-shell", *words], text=True, **files)
 
     def test_a_slip_ends_nothing(self):
         """Each line that would be a fault is told with its word, and what stands behind it goes on."""
@@ -107,6 +114,92 @@ class EdgebpfShell(unittest.TestCase):
         again = self.said("run t a sum -\n", "--journal", journal)
         self.assertEqual(again, f"taken up again: 8 lines of {journal}\nrun t a edges 3 total 5\nrow 0 3\nrow 1 2\n")
 
+    def test_a_journal_without_its_last_newline(self):
+        journal = self.folder / "journal"
+        journal.write_text(BEGUN.removesuffix("\n"))
+        for lines, name in ((7, "b"), (8, "c")):
+            again = self.said(f"pin {name}\n", "--journal", str(journal))
+            self.assertEqual(again, f"taken up again: {lines} lines of {journal}\npin {name} version 1 edges 3\n")
+        self.assertEqual(journal.read_text(), BEGUN + "pin b\npin c\n")
+
+    def test_journals_that_cannot_be_taken_up(self):
+        journal = self.folder / "journal"
+        for lines, said in (
+            ("graph 4\nquit\npin a\n", "a line of it ends the session"),
+            ("graph 4\nbatch A\n+ 0 1\n", "it ends within a batch"),
+            ("graph 4\nprogram p 16\nexit", "it ends within a program"),
+            ("no script", "^^ no command has this name; .help lists them; that was line 1; what follows it was not sent"),
+        ):
+            journal.write_text(lines)
+            run = run_tool("edgebpf-shell", "--journal", str(journal), text="pin b\n")
+            told = f"edgebpf-shell: {journal} is no journal that can be taken up: {said}\n"
+            self.assertEqual((run.stdout, run.stderr, run.returncode), ("", told, 1))
+            self.assertEqual(journal.read_text(), lines)
+
+    def test_a_journal_of_two_sessions(self):
+        """The second one is refused while the first one goes on."""
+        words = ["--journal", str(self.folder / "journal")]
+        with self.begun(*words) as first:
+            first.stdin.write("graph 4\n")
+            first.stdin.flush()
+            self.assertEqual(first.stdout.readline(), "graph 4\n")
+            second = run_tool("edgebpf-shell", *words, text="pin b\n")
+            told = f"edgebpf-shell: {words[1]} is the journal of another session, which goes on\n"
+            self.assertEqual((second.stdout, second.stderr, second.returncode), ("", told, 1))
+        self.assertIn("pin b version 0 edges 0\n", self.said("pin b\n", *words))
+
+    def test_files_that_read_others(self):
+        """A file that reads itself and a chain of 41 files are complaints; one of 32 is read to its end."""
+        (self.folder / "own").write_text(f".read {self.folder}/own\n")
+        for number in range(40):
+            (self.folder / f"{number}").write_text(f".read {self.folder}/{number + 1}\n")
+        (self.folder / "40").write_text("graph 4\n")
+        said = self.said("".join(f".read {self.folder}/{name}\n" for name in ("own", "0", "8", "9")) + "home 0\n", status=1)
+        self.assertEqual(said.count("^ this file is being read already\n"), 1)
+        self.assertEqual(said.count("^ at most 32 files are read one from within another\n"), 2)
+        self.assertTrue(said.endswith("not sent\ngraph 4\nhome 0 block degree 0\n"), said)
+
+    # Without numpy the import ends before it reads anything.
+    @unittest.skipIf(importlib.util.find_spec("numpy") is None, "missing: numpy")
+    def test_an_import_of_no_file(self):
+        """It ends at once, and does not wait for the lines of the session."""
+        with self.begun(stderr=subprocess.DEVNULL) as shell:
+            shell.stdin.write(".import -\n")
+            shell.stdin.flush()
+            self.assertTrue(select.select([shell.stdout], [], [], 20)[0])
+            said, _ = shell.communicate("graph 4\n")
+        self.assertEqual(said, "edgebpf-import ended with status 1\ngraph 4\n")
+
+    def test_bytes_that_are_no_text(self):
+        """Also where Python writes no such bytes again, as in all locales but those of C."""
+        environment = {**os.environ, "PYTHONIOENCODING": "utf-8:strict"}
+        text = "graph 4\n.x\udcff\npin \udcff\nhome 0\n"
+        run = run_tool("edgebpf-shell", text=text, env=environment, encoding="utf-8", errors="surrogateescape")
+        said = "graph 4\n.x\\udcff\n^^^ nothing has this name; .help lists what there is\na line has only printable ASCII and tabs\n"
+        self.assertEqual((run.stdout, run.stderr, run.returncode), (said + "home 0 block degree 0\n", "", 1))
+
+    def test_a_name_with_a_byte_0(self):
+        self.assertIn("no name has a byte 0\ngraph 4\n", self.said(".read a\0b\ngraph 4\n", status=1))
+
+    def test_a_locale_of_ascii(self):
+        environment = {**os.environ, "LC_ALL": "C", "PYTHONUTF8": "0", "PYTHONCOERCECLOCALE": "0"}
+        run = run_tool("edgebpf-shell", text="graph 4\n", env=environment)
+        self.assertEqual((run.stdout, run.stderr, run.returncode), ("graph 4\n", "", 0))
+
+    def test_input_without_an_end(self):
+        """Neither a file nor a line takes more memory than a line may have."""
+        said, little = "a line has at most 80000 bytes\n", memory_of(150)
+        run = run_tool("edgebpf-shell", text="graph 4\n.image p /dev/zero\nhome 0\n", **little)
+        self.assertEqual((run.stdout, run.stderr, run.returncode), (f"graph 4\n{said}home 0 block degree 0\n", "", 1))
+        with open(self.folder / "long", "w+b") as long:
+            long.truncate(100_000_000)
+            run = run_tool("edgebpf-shell", stdin=long, **little)
+        self.assertEqual((run.stdout, run.stderr, run.returncode), (said, "", 1))
+
+    def test_a_store_without_a_name(self):
+        with unittest.mock.patch.dict(os.environ, EDGEBPF=""):
+            self.assertEqual(store.command(), [str(TOOLS.parent / "edgebpf")])
+
     def test_other_files(self):
         (self.folder / "s").write_text(BEGUN + "pin a\npin b\n")
         said = self.said(f".read {self.folder}/s\n.read {self.folder}/none\n.nothing\n.top x\n", status=1)
@@ -154,6 +247,19 @@ class EdgebpfShell(unittest.TestCase):
         mixed = self.said(text.replace("+ 100 7\n", "+ 100 300\n\t+  100   7\n"), status=1)
         self.assertIn("+ 100 300\n      ^^^ a vertex is 0 to 299\n", mixed)
         self.assertIn("version 1 added 65536 removed 0", mixed)
+
+    def test_too_many_edits(self):
+        """Of more edits than a batch may have all that it may have are taken at once, and the first one more is told at its line."""
+        edits = [f"+ {place // 300} {place % 300}\n" for place in range(70_000)]
+        text, language = "".join(edits), Language()
+        language.heard(["graph 300"], "graph 300")
+        language.take("batch A")
+        end = len("".join(edits[:65_536]))
+        self.assertEqual([language.take_edits(text, start) for start in (0, end)], [(end, 65_536), (end, 0)])
+        (self.folder / "graph").write_text(f"graph 300\nbatch A\n{text}end\n")
+        said = self.said(f".read {self.folder}/graph\nend\n", status=1)
+        told = "graph 300\nthe block is full; end it\nthat was line 65539; what follows it was not sent\n"
+        self.assertEqual(said, told + "batch A version 1 added 65536 removed 0\n")
 
     def test_journal_that_cannot_be_kept(self):
         journal, lines = self.folder / "journal", "graph 4\nhome 0\n"

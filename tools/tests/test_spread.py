@@ -49,9 +49,12 @@ class EdgebpfSpread(unittest.TestCase):
         return self.spread_by_its_own("--scheduler", self.cluster.scheduler_address, *words, graph=graph, program=program)
 
     def spread_by_its_own(self, *words, graph=GRAPH, program=TARGET):
+        self.write(graph, program)
+        return run_tool("edgebpf-spread", str(self.folder / "graph"), str(self.folder / "program"), *words)
+
+    def write(self, graph=GRAPH, program=TARGET):
         (self.folder / "graph").write_text(graph)
         (self.folder / "program").write_text(program)
-        return run_tool("edgebpf-spread", str(self.folder / "graph"), str(self.folder / "program"), *words)
 
     def test_one_run_in_parts(self):
         for words in (["--processes", "1"], ["--processes", "3", "--whole"]):
@@ -61,6 +64,18 @@ class EdgebpfSpread(unittest.TestCase):
         self.assertEqual(own.stdout, SUM)
         # Of Dask nothing is said.
         self.assertRegex(own.stderr, r"^edgebpf-spread: on one machine `edgebpf --workers 2` is faster: .*\n$")
+
+    def test_where_the_graph_is(self):
+        """Workers in other folders find it by its name here. A graph that can be read once is read by this process, or not at all."""
+        self.write()
+        words = ["program", "--scheduler", self.cluster.scheduler_address]
+        run = run_tool("edgebpf-spread", "graph", *words, "--whole", cwd=self.folder)
+        self.assertEqual((run.stdout, run.stderr, run.returncode), (SUM, "", 0))
+        once = run_tool("edgebpf-spread", "/dev/stdin", *words, text=GRAPH, cwd=self.folder)
+        self.assertEqual((once.stdout, once.stderr, once.returncode), (SUM, "", 0))
+        refused = run_tool("edgebpf-spread", "/dev/stdin", *words, "--whole", text=GRAPH, cwd=self.folder)
+        said = "edgebpf-spread: /dev/stdin is no file, and each process has to read the whole graph from it\n"
+        self.assertEqual((refused.stdout, refused.stderr, refused.returncode), ("", said, 1))
 
     def test_tables(self):
         """A program with a table, which asks about no vertex, runs on parts."""
@@ -108,6 +123,8 @@ class EdgebpfSpread(unittest.TestCase):
         self.assertIn("cannot run t: fault 6 line 4", self.spread("--argument", "00").stderr)
         self.assertIn("ended with status 1: fault 4 line 3", self.spread(graph="graph 3\nbatch A\n+ 0 7\nend\n").stderr)
         self.assertIn("--processes is 1 to 64", self.spread("--processes", "0").stderr)
+        for argument in ("- 0", "", "0", "0x"):
+            self.assertIn("--argument is pairs of hexadecimal digits", self.spread("--argument", argument).stderr)
 
 
 # Seconds within which a process of a spread starts or ends, on a machine that is busy.

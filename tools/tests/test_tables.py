@@ -7,6 +7,9 @@ import unittest.mock
 
 from tools_here import MISSING, TOOLS, run_tool
 
+from edgebpf_tools import tables
+from edgebpf_tools.refusal import Refusal
+
 sys.path.insert(0, str(TOOLS.parent / "tests" / "second_implementation"))
 from bpf import Graph, run  # noqa: E402
 from verifier import judged  # noqa: E402
@@ -64,7 +67,16 @@ class Tables(unittest.TestCase):
     def test_lengths(self):
         _, table = self.image(self.compiled(READS, "--table", "FOLDER/raw", raw=bytes(4096)).stdout)
         self.assertEqual(len(table), 4096)
-        self.refused("the table has 4097 bytes; it may have 1 to 4096", READS, "--table", "FOLDER/raw", raw=bytes(4097))
+        self.refused("raw has more than 4096 bytes, the most of a table", READS, "--table", "FOLDER/raw", raw=bytes(4097))
+        self.refused("the table has 4104 bytes; it may have 1 to 4096", READS, "--table", "FOLDER/column", "--table-type", "u64", column="1 " * 513)
+
+    def test_files_without_an_end(self):
+        stream = unittest.mock.MagicMock()
+        stream.__enter__.return_value.read = lambda count: bytes(count)
+        with unittest.mock.patch("builtins.open", return_value=stream):
+            for kind, said in ((None, "f has more than 4096 bytes"), ("u8", "f has more than 1000000 bytes")):
+                with self.assertRaisesRegex(Refusal, said):
+                    tables.of_file("f", kind)
 
     def test_refusals_in_words(self):
         by_name = "u64 read(struct edge *edge, u64 length) { return numbers[edge->target & 3]; }\n"

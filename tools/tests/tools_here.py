@@ -1,6 +1,7 @@
 """Where the companions are, and what of their packages is missing."""
 import importlib.util
 import pathlib
+import resource
 import signal
 import subprocess
 import sys
@@ -27,6 +28,12 @@ def missing():
 MISSING = missing()
 
 
-def run_tool(name, *words, text=None):
+def run_tool(name, *words, text=None, **options):
     """Runs a companion as a person would."""
-    return subprocess.run([PYTHON, TOOLS / name, *words], input=text, capture_output=True, text=True)
+    return subprocess.run([PYTHON, TOOLS / name, *words], input=text, capture_output=True, text=True, **options)
+
+
+def memory_of(megabytes):
+    """Options of a process that gets no more memory than this."""
+    most = megabytes << 20
+    return {"preexec_fn": lambda: resource.setrlimit(resource.RLIMIT_AS, (most, most))}
