@@ -17,7 +17,8 @@ from edgebpf.errors import ArgumentLength, Closed, EpochsFull, Error, LogFull, N
 cffi: Any = importlib.import_module("cffi") if importlib.util.find_spec("cffi") else None
 
 HERE = pathlib.Path(__file__).resolve()
-DIST = HERE.parents[3] / "dist"
+# A package that lies near the root has fewer folders above it.
+DIST = HERE.parent.parent.parent.parent / "dist"
 NAME = "libedgebpf.so"
 DONE, NO_MEMORY, EMPTY = 0, 1, 2
 VERTEX_RANGE, TOO_MANY_EDITS, LOG_FULL, REFUSED, RECORD_LENGTH, CODE_LENGTH, ARGUMENT_LENGTH, WRONG_TEXT = 5, 6, 7, 10, 11, 12, 13, 15
@@ -61,9 +62,10 @@ void edgebpf_close(handle *);
 def in_checkout() -> str | None:
     """The library of the checkout's `dist/`, which the C compiler builds at the first use; None where there is no checkout or compiler."""
     text, built = DIST / "libedgebpf.s", DIST / "build" / NAME
-    if not text.is_file():
+    # Path.is_file raises an error where a folder may not be read.
+    if not os.path.isfile(text):
         return None
-    if not built.is_file() or built.stat().st_mtime < text.stat().st_mtime:
+    if not os.path.isfile(built) or built.stat().st_mtime < text.stat().st_mtime:
         try:
             built.parent.mkdir(exist_ok=True)
             subprocess.run([DIST / "link", "libedgebpf", built], check=True, capture_output=True)
@@ -81,7 +83,7 @@ def path() -> str | None:
     if named := os.environ.get("EDGEBPF_LIBRARY"):
         return named
     beside = HERE.parent / NAME
-    if beside.is_file():
+    if os.path.isfile(beside):
         return str(beside)
     return in_checkout() or ctypes.util.find_library("edgebpf")
 

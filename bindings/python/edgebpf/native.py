@@ -149,6 +149,8 @@ class Version:
         reduction: "sum" (modulo 2^64), "min" or "max". frontier: an ascending array of vertices, or None for all.
         argument: as many bytes as the program's record has beyond 16.
         """
+        if reduction not in NUMBERS:
+            raise ValueError("a reduction is sum, min or max")
         number, totals = NUMBERS[reduction], library.new("totals *")
         chosen = np.arange(self.vertices, dtype=np.uint32) if frontier is None else vertices_of(frontier, self.vertices)
         if np.any(chosen[1:] <= chosen[:-1]):

@@ -19,7 +19,7 @@ WRONG_CODE = "code has 1 to 4,096 whole units of 8 bytes"
 # The bytes of an image with a table before its code: what it begins with, and the lengths of record, code (in units) and table.
 IMAGE = struct.Struct("<4sHHH")
 IMAGE_BEGINS = b"BPE2"
-CHECKOUT = pathlib.Path(__file__).resolve().parents[3]
+CHECKOUT = pathlib.Path(__file__).resolve().parent.parent.parent.parent
 
 
 def command(name: str) -> str:
@@ -150,7 +150,7 @@ def compile_c(path: str | os.PathLike[str], function: str, record: int = EDGE_BY
 
     Raises `Error` with the compiler's or the linker's words, and `Refused`.
     """
-    run = subprocess.run([command("edgebpf-c"), str(path), function, str(record)], capture_output=True, text=True)
+    run = subprocess.run([command("edgebpf-c"), "--name", "p", "--", str(path), function, str(record)], capture_output=True, text=True)
     if run.returncode or not run.stdout:
         raise Error(run.stderr.strip())
     word, *words = run.stdout.split()

@@ -104,7 +104,10 @@ class Process:
 
     def __init__(self, words: Sequence[str]) -> None:
         self.lock = threading.Lock()
-        self.child = subprocess.Popen(words, stdin=subprocess.PIPE, stdout=subprocess.PIPE, stderr=subprocess.PIPE)
+        # Between commands a Ctrl-C at the terminal leaves edgebpf and its graph as they are.
+        self.child = subprocess.Popen(
+            words, stdin=subprocess.PIPE, stdout=subprocess.PIPE, stderr=subprocess.PIPE, start_new_session=True,
+        )
         self.input, self.output = cast(IO[bytes], self.child.stdin), cast(io.BufferedReader, self.child.stdout)
         self.errors = cast(IO[bytes], self.child.stderr)
 
@@ -265,6 +268,8 @@ class Version:
         reduction: "sum" (modulo 2^64), "min" or "max". frontier: an ascending array of vertices, or None for all.
         argument: as many bytes as the program's record has beyond 16.
         """
+        if reduction not in REDUCTIONS:
+            raise ValueError("a reduction is sum, min or max")
         start, combine = REDUCTIONS[reduction]
         digits = self._argument(program, argument)
         if frontier is None:

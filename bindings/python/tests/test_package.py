@@ -146,6 +146,8 @@ class Package(unittest.TestCase):
         self.assertEqual(store.pin().run(scaled, argument=b"\x05").values.tolist(), [5, 10, 0])
         with self.assertRaises(edgebpf.ArgumentLength):
             store.pin().run(scaled)
+        with self.assertRaisesRegex(ValueError, "^a reduction is sum, min or max$"):
+            store.pin().run(scaled, "product", argument=b"\x05")
         # An array counts by its bytes.
         word = edgebpf.assemble("ldxdw r0, [r1+16]; exit", record=24)
         self.assertEqual(store.pin().run(word, argument=np.array([1 << 40], np.uint64)).total, 1 << 41)
@@ -389,6 +391,29 @@ class Package(unittest.TestCase):
             with self.assertRaises(edgebpf.Closed):
                 ask()
 
+    def test_interrupted_at_a_terminal(self):
+        """A Ctrl-C goes to the whole group of processes, and the store goes on nevertheless."""
+        code = """
+import os, signal, edgebpf
+signal.signal(signal.SIGINT, signal.default_int_handler)
+store = edgebpf.connect(4)
+try:
+    os.killpg(0, signal.SIGINT)
+    signal.pause()
+except KeyboardInterrupt:
+    print(store.batch("A", ([0], [1])).added)
+"""
+        environment = {**os.environ, "PYTHONPATH": str(FOLDER)}
+        run = subprocess.run([sys.executable, "-c", code], env=environment, capture_output=True, text=True, start_new_session=True)
+        self.assertEqual((run.stdout, run.stderr, run.returncode), ("1\n", "", 0))
+
+    def test_near_the_root(self):
+        """In /edgebpf, which has no four folders above it, no checkout is around the package."""
+        for name, known, place in (("library", "DIST", "/dist"), ("programs", "CHECKOUT", "/")):
+            module = {"__name__": name, "__file__": f"/edgebpf/{name}.py"}
+            exec(compile((FOLDER / "edgebpf" / f"{name}.py").read_text(), name, "exec"), module)
+            self.assertEqual(str(module[known]), place)
+
     def test_ended(self):
         """A process that ends is an error with its words, and not a wait."""
         with tempfile.TemporaryDirectory() as folder:
@@ -435,6 +460,9 @@ class Package(unittest.TestCase):
             mutual = edgebpf.compile_c(source, "score")
             with self.assertRaises(edgebpf.Error):
                 edgebpf.compile_c(source, "missing")
+            # The name of a function in C may be longer than that of a program in a script.
+            source.write_text(source.read_text().replace("score", "s" * 40))
+            self.assertEqual(edgebpf.compile_c(source, "s" * 40).code, mutual.code)
             source.write_text("#include <edgebpf.h>\nTABLE static const u32 weights[2] = {3, 1};\n"
                               "u64 score(struct edge *edge, u64 length, const u32 table[2]) { return table[edge->target & 1]; }\n")
             weighed = edgebpf.compile_c(source, "score")
