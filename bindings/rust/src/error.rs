@@ -66,6 +66,14 @@ pub(crate) fn done(status: u32) -> Result<(), Error> {
     }
 }
 
+/// So many zeros, or `NoMemory`, where a plain `vec!` would end the process.
+pub(crate) fn zeros<T: Clone + Default>(count: usize) -> Result<Vec<T>, Error> {
+    let mut all = Vec::new();
+    all.try_reserve_exact(count).map_err(|_| Error::NoMemory)?;
+    all.resize(count, T::default());
+    Ok(all)
+}
+
 impl fmt::Display for Error {
     fn fmt(&self, to: &mut fmt::Formatter<'_>) -> fmt::Result {
         match self {

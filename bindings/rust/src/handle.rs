@@ -7,6 +7,7 @@ use std::ptr::null_mut;
 ///
 /// During a call the library takes out what the handle holds, so a handle is used by one call at a time: it is no `Sync`. It may be
 /// moved to another thread between calls.
+#[derive(Debug)]
 pub(crate) struct Handle(UnsafeCell<RawHandle>);
 
 // SAFETY: what a handle holds belongs to no thread: the header asks only that one call at a time uses it.

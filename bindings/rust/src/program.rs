@@ -2,10 +2,14 @@
 use crate::calls::{
     edgebpf_assemble, edgebpf_explain, edgebpf_program_new, edgebpf_program_share, RawAssembled, RawVerdict,
 };
-use crate::error::{done, Error, NotAssembled, Refusal, Refused, DONE, LENGTHS, REFUSED, WRONG_TEXT};
+use crate::error::{done, zeros, Error, NotAssembled, Refusal, Refused, DONE, LENGTHS, REFUSED, WRONG_TEXT};
 use crate::handle::Handle;
 
+/// So many units of 8 bytes may a code have.
+const MOST_UNITS: usize = 4096;
+
 /// A program that the verifier has accepted. For another thread, `share` makes another handle of it.
+#[derive(Debug)]
 pub struct Program {
     pub(crate) handle: Handle,
     verdict: Verdict,
@@ -72,7 +76,8 @@ impl Program {
 
 /// The code that assembler text means.
 pub fn assemble(text: &str) -> Result<Vec<u8>, NotAssembled> {
-    let mut code = vec![0; 8 * (1 + text.lines().count())];
+    let lines = text.lines().count();
+    let mut code = zeros(8 * (1 + lines).min(MOST_UNITS)).map_err(|_| NotAssembled::NoMemory)?;
     loop {
         let mut assembled = RawAssembled::default();
         // SAFETY: the text and the code are as long as said.
@@ -82,7 +87,7 @@ pub fn assemble(text: &str) -> Result<Vec<u8>, NotAssembled> {
                 code.truncate(assembled.length);
                 return Ok(code);
             }
-            LENGTHS => code.resize(assembled.length, 0),
+            LENGTHS => code = zeros(assembled.length).map_err(|_| NotAssembled::NoMemory)?,
             WRONG_TEXT => return Err(NotAssembled::WrongText { line: assembled.line, cause: assembled.cause }),
             _ => return Err(NotAssembled::NoMemory),
         }
@@ -92,7 +97,7 @@ pub fn assemble(text: &str) -> Result<Vec<u8>, NotAssembled> {
 /// What the verifier knows of a program at each instruction, as text, whether it accepts it or not. Without a byte of a table it has
 /// none. `RecordLength`, `CodeLength`, `TableLength` and `NoMemory`.
 pub fn explain(record_length: u16, code: &[u8], table: &[u8]) -> Result<String, Error> {
-    let mut text = vec![0; 256 + 16 * code.len()];
+    let mut text = zeros(256 + 16 * code.len().min(8 * MOST_UNITS))?;
     loop {
         let mut count = 0;
         // SAFETY: code, table and text are as long as said.
@@ -109,7 +114,7 @@ pub fn explain(record_length: u16, code: &[u8], table: &[u8]) -> Result<String, 
             )
         };
         if status == LENGTHS {
-            text.resize(count, 0);
+            text = zeros(count)?;
             continue;
         }
         done(status)?;

@@ -6,6 +6,7 @@ use crate::handle::Handle;
 use crate::version::Version;
 
 /// A graph that is edited by batches and read in versions.
+#[derive(Debug)]
 pub struct Store(Handle);
 
 /// What a batch did.

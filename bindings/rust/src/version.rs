@@ -4,7 +4,7 @@ use crate::calls::{
     edgebpf_version_info, edgebpf_version_lend, edgebpf_version_neighbour, edgebpf_version_share, RawInfo, RawSlice,
     RawTotals,
 };
-use crate::error::{done, Error, NO_NEIGHBOUR};
+use crate::error::{done, zeros, Error, NO_NEIGHBOUR};
 use crate::handle::Handle;
 use crate::program::Program;
 use std::ptr::null;
@@ -16,6 +16,7 @@ const SLICES_AT_FIRST: usize = 64;
 ///
 /// It may be sent to another thread, and is no `Sync`: for a second thread `share` makes another handle of it, in some tens of
 /// nanoseconds.
+#[derive(Debug)]
 pub struct Version(pub(crate) Handle);
 
 /// How the numbers of a vertex's edges become one value.
@@ -132,7 +133,7 @@ impl Version {
     pub fn csr(&self) -> Result<Csr, Error> {
         let info = self.info();
         let edges = usize::try_from(info.edges).map_err(|_| Error::NoMemory)?;
-        let mut csr = Csr { starts: vec![0; info.vertices as usize + 1], targets: vec![0; edges] };
+        let mut csr = Csr { starts: zeros(info.vertices as usize + 1)?, targets: zeros(edges)? };
         let (starts, targets) = (&mut csr.starts, &mut csr.targets);
         // SAFETY: the handle holds a version, and the arrays are as long as said.
         let status = unsafe {
@@ -180,7 +181,7 @@ impl Version {
     /// The number of each edge, in the order of `csr`. `ArgumentLength` and `NoMemory`.
     pub fn numbers(&self, program: &Program, argument: &[u8]) -> Result<Vec<u64>, Error> {
         let edges = usize::try_from(self.edges()).map_err(|_| Error::NoMemory)?;
-        let mut numbers = vec![0; edges];
+        let mut numbers = zeros(edges)?;
         // SAFETY: the handles hold a version and a program, and the slices are as long as said.
         done(unsafe {
             edgebpf_numbers(

@@ -95,7 +95,8 @@ fn a_rebase_begins_numbers_again() {
 
 #[test]
 fn errors_are_told_and_change_nothing() {
-    assert_eq!(Store::new(0).err(), Some(Error::VertexCount));
+    // `unwrap_err` needs a store that can be shown.
+    assert_eq!(Store::new(0).unwrap_err(), Error::VertexCount);
     assert_eq!(Store::new(MOST_VERTICES + 1).err(), Some(Error::VertexCount));
     let mut store = Store::new(4).unwrap();
     store.apply(Feed::A, Batch::new().insert(0, 1)).unwrap();
