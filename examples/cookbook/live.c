@@ -11,6 +11,7 @@ int main(int count, char **words) {
     edgebpf_totals totals;
     size_t some, most = count > 2 ? atoi(words[2]) : 0;
     double spent = 0;
+    if (most > EDGEBPF_MOST_EDITS) check(EDGEBPF_TOO_MANY_EDITS);
     check(edgebpf_store_new(count > 1 ? atoi(words[1]) : 0, &store));
     if (count > 3) load(fopen(words[3], "r"), &store);      /* what is there before */
     while ((some = read_edges(stdin, sources, targets, most))) {

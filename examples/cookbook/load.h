@@ -22,13 +22,26 @@ static inline void add(edgebpf_store *store, const uint32_t *sources, const uint
 /* Reads up to `most` edges, and returns how many there were. */
 static inline size_t read_edges(FILE *file, uint32_t *sources, uint32_t *targets, size_t most) {
     size_t count = 0;
-    while (count < most && fscanf(file, "%u %u", &sources[count], &targets[count]) == 2) count++;
+    char line[64], more;
+    while (count < most && fgets(line, sizeof line, file)) {
+        line[strcspn(line, "\n")] = 0;
+        if (!*line) continue;
+        if (sscanf(line, "%u %u %c", &sources[count], &targets[count], &more) != 2) {
+            fprintf(stderr, "no edge: %s\n", line);
+            exit(1);
+        }
+        count++;
+    }
     return count;
 }
 
 static inline void load(FILE *file, edgebpf_store *store) {
     static uint32_t sources[EDGEBPF_MOST_EDITS], targets[EDGEBPF_MOST_EDITS];
     size_t count;
+    if (!file) {
+        perror("edges");
+        exit(1);
+    }
     while ((count = read_edges(file, sources, targets, EDGEBPF_MOST_EDITS))) add(store, sources, targets, count);
 }
 

@@ -12,18 +12,20 @@ static int by_value(const void *left, const void *right) {
 
 int main(int count, char **words) {
     uint32_t vertices = count > 2 ? atoi(words[1]) : 0;
+    int most = count > 2 ? atoi(words[2]) : 0;
     edgebpf_program mutual = assembled("ldxw r2, [r1+0]\nldxw r1, [r1+4]\ncall 2\nexit");
     edgebpf_store store = {{0}};
     edgebpf_version version = {{0}};
     edgebpf_totals totals;
     check(edgebpf_store_new(vertices, &store));
+    if (most > (int)vertices) most = vertices;
     load(stdin, &store);
     check(edgebpf_store_pin(&store, &version));
     double begun = seconds();
     for (uint32_t vertex = 0; vertex < vertices; vertex++) all[vertex] = vertex;
     check(edgebpf_run(&version, &mutual, EDGEBPF_NO_BYTES, 0, all, vertices, EDGEBPF_SUM, values, vertices, &totals));
     qsort(all, vertices, sizeof *all, by_value);
-    for (int place = 0; place < atoi(words[2]); place++) printf("%u %llu\n", all[place], (unsigned long long)values[all[place]]);
+    for (int place = 0; place < most; place++) printf("%u %llu\n", all[place], (unsigned long long)values[all[place]]);
     fprintf(stderr, "%.3f\n", seconds() - begun);
     return 0;
 }

@@ -257,11 +257,20 @@ def main():
     parser.add_argument("--port", type=int, default=8080)
     parser.add_argument("--with-c", action="store_true", help="also take programs in C, whose compiler reads any file")
     options = parser.parse_args()
+    if not 0 <= options.port < 65_536:
+        parser.error("a port is 0 to 65535")
     # Connections that are left open are files; where no more may be opened, nobody is served.
     most = resource.getrlimit(resource.RLIMIT_NOFILE)[1]
     resource.setrlimit(resource.RLIMIT_NOFILE, (most, most))
-    with edgebpf.connect(options.vertices, options.workers) as store, contextlib.suppress(KeyboardInterrupt, asyncio.CancelledError):
-        asyncio.run(serve_until_interrupted(application(store, options.with_c), options.port))
+    try:
+        store = edgebpf.connect(options.vertices, options.workers)
+    except (edgebpf.Error, ValueError) as error:
+        sys.exit(f"server.py: {error}")
+    with store, contextlib.suppress(KeyboardInterrupt, asyncio.CancelledError):
+        try:
+            asyncio.run(serve_until_interrupted(application(store, options.with_c), options.port))
+        except OSError as error:
+            sys.exit(f"server.py: port {options.port}: {error.strerror or error}")
 
 
 if __name__ == "__main__":

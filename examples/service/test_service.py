@@ -296,5 +296,25 @@ class Interrupted(unittest.TestCase):
             self.assertEqual(server.wait(20), 0)
 
 
+@unittest.skipIf(MISSING, f"not there: {MISSING}")
+class Starts(unittest.TestCase):
+    """What keeps the service from starting is told in a line."""
+
+    def refused(self, said, *words, status=1):
+        run = subprocess.run([sys.executable, HERE / "server.py", *words], capture_output=True, text=True, timeout=60)
+        self.assertEqual((run.stdout, run.returncode), ("", status), run.stderr)
+        self.assertNotIn("Traceback", run.stderr)
+        self.assertRegex(run.stderr.splitlines()[-1], said)
+
+    def test_what_it_cannot_serve(self):
+        self.refused("^server.py: error: a port is 0 to 65535$", "--port", "99999", status=2)
+        self.refused("^server.py: a graph has 1 to 1048576 vertices$", "--vertices", "0")
+        with socket.create_server(("127.0.0.1", 0)) as other:
+            self.refused("^server.py: .*address already in use", "--vertices", "4", "--port", str(other.getsockname()[1]))
+
+    def test_it_is_a_command(self):
+        self.assertTrue(os.access(HERE / "server.py", os.X_OK))
+
+
 if __name__ == "__main__":
     unittest.main()

@@ -144,6 +144,20 @@ class ProgramsOverTheLibrary(unittest.TestCase):
         # The edges 0-1 and 3-2 get their opposites.
         self.assertEqual(self.said("snapshots", "4", self.before([(0, 1), (0, 2), (3, 2)]), edges=[(1, 0), (2, 3)]), ["0", "1", "2", "3"])
 
+    def test_what_is_no_edge(self):
+        """It is told, and nothing is counted that stands before it alone."""
+        for text in ("# a comment\n0 1\n", "0 1\n1,2\n", "0 1 5\n1 2 7\n"):
+            run = subprocess.run([self.folder / "bfs", "4"], input=text, capture_output=True, text=True)
+            self.assertEqual((run.stdout, run.returncode), ("", 1))
+            self.assertRegex(run.stderr, "^no edge: ")
+        run = subprocess.run([self.folder / "snapshots", "4", "nosuch"], input="", capture_output=True, text=True)
+        self.assertEqual((run.stderr, run.returncode), ("edges: No such file or directory\n", 1))
+
+    def test_numbers_that_are_too_great(self):
+        self.assertEqual(self.said("top", "4", "10", edges=BOTH), ["2 3", "0 2", "1 2", "3 1"])
+        run = subprocess.run([self.folder / "live", "4", "65537"], input="0 1\n", capture_output=True, text=True)
+        self.assertEqual((run.stdout, run.returncode), ("", 1))
+
     def test_on_a_random_graph(self):
         chance = random.Random(5)
         edges = [(chance.randrange(90), chance.randrange(90)) for _ in range(700)]
