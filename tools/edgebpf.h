@@ -7,8 +7,8 @@
    It may write its record, and each function has 512 bytes of stack. It has no globals and no loops that run at run time:
    loops are unrolled. It calls static functions and the helpers below. Compiled for another machine, the helpers are
    functions that the file is linked with, so a program can be tested natively. */
-#ifndef EDGEBPF_H
-#define EDGEBPF_H
+#ifndef EDGEBPF_PROGRAM_H
+#define EDGEBPF_PROGRAM_H
 
 typedef unsigned char u8;
 typedef unsigned short u16;
@@ -104,11 +104,11 @@ INLINE u64 lowest_bit(u64 number) { return __builtin_popcountll(opaque(number & 
 #define __builtin_ctzl(number) ((int)lowest_bit(number))
 #define __builtin_ctzll(number) ((int)lowest_bit(number))
 
-/* Copies and comparisons of a constant number of bytes. */
+/* Copies and comparisons of a constant number of bytes. A file that includes <string.h> for a native test does so before this one. */
 #define memcpy __builtin_memcpy
 #define memmove __builtin_memmove
 #define memset __builtin_memset
-INLINE int compare_bytes(const void *left, const void *right, u64 bytes) {
+INLINE int compare_bytes(const void *left, const void *right, __SIZE_TYPE__ bytes) {
     for (u64 at = 0; at < bytes; at++) {
         int gap = ((const u8 *)left)[at] - ((const u8 *)right)[at];
         if (gap) return gap;
@@ -196,8 +196,8 @@ INLINE u64 common_neighbours(u64 one, u64 other) {
 
 /* `scale` times the share of common neighbours among all neighbours of two vertices, rounded down; 0 if there are none. */
 INLINE u64 jaccard(u64 one, u64 other, u64 scale) {
-    u64 common = common_neighbours(one, other);
-    return scale * common / (degree(one) + degree(other) - common);
+    u64 common = common_neighbours(one, other), all = degree(one) + degree(other) - common;
+    return all ? scale * common / all : 0;
 }
 
 #endif

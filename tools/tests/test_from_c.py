@@ -182,6 +182,19 @@ class FromC(unittest.TestCase):
             record = struct.pack("<4I", source, target, 1, 2)
             self.assertEqual(run(program.code, record, graph, judged(program.code, 16)[0]), 1, source)
 
+    def test_beside_other_headers(self):
+        """A function can be tested natively in one file with the library's header and that of the C library."""
+        path = pathlib.Path(self.folder.name) / "native.c"
+        path.write_text(
+            f'#include <string.h>\n#include "{HEADERS}/edgebpf.h"\n#include "{HEADERS.parent}/bindings/c/edgebpf.h"\n'
+            "u64 degree(u64 vertex) { return vertex; }\nu64 gather(u64 vertex, u64 place, void *words, u64 bytes)\n"
+            "{ (void)vertex; (void)place; (void)words; (void)bytes; return 0; }\n"
+            "int main(void) { edgebpf_version version = {{0}}; (void)version; return (int)jaccard(0, 0, 100); }\n",
+        )
+        made = pathlib.Path(self.folder.name) / "native"
+        subprocess.run([clang.newest("clang"), "-O2", "-o", made, path], check=True)
+        self.assertEqual(subprocess.run([made]).returncode, 0)
+
     def test_random_functions(self):
         """Each is accepted as it is or with opaque indices, as `edgebpf-c` compiles what is refused; what is refused first is so at a line and
         for an index of which too little is known. Both ways give the numbers of native code."""
