@@ -11,7 +11,7 @@ _edgebpf() {
         options=$("${COMP_WORDS[0]}" --help 2>&1 | grep -o -- '--[a-z-]*' | sort -u)
         COMPREPLY=($(compgen -W "$options" -- "$word"))
         ;;
-    *) COMPREPLY=($(compgen -f -- "$word")) ;;
+    *) mapfile -t COMPREPLY < <(compgen -f -- "$word") ;;
     esac
 }
 complete -o filenames -F _edgebpf edgebpf edgebpf-c edgebpf-explain edgebpf-import edgebpf-shell edgebpf-spread

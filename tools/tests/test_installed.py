@@ -44,6 +44,8 @@ The status is 0 once the whole script was executed, and 1 after a fault, which
 is the last line of the output.
 """
 
+NEEDS_MAKE = unittest.skipUnless((TOP / "dist" / "edgebpf.s").exists() and shutil.which("make"), "there is no dist/, or no make")
+
 
 def make(*words):
     run = subprocess.run(["make", "-s", "-C", TOP / "dist", *words], capture_output=True, text=True)
@@ -52,7 +54,34 @@ def make(*words):
     return run.stdout
 
 
-@unittest.skipUnless((TOP / "dist" / "edgebpf.s").exists() and shutil.which("make"), "there is no dist/, or no make")
+@NEEDS_MAKE
+class Built(unittest.TestCase):
+    def setUp(self):
+        folder = tempfile.TemporaryDirectory()
+        self.addCleanup(folder.cleanup)
+        self.room = pathlib.Path(folder.name)
+
+    def test_folders_with_a_blank(self):
+        """They are refused before anything is removed: of `a b` it would be all of `a`."""
+        kept = self.room / "a" / "kept"
+        kept.parent.mkdir()
+        kept.write_text("")
+        for name, target in (("PREFIX", "uninstall"), ("DESTDIR", "uninstall"), ("BUILD", "clean")):
+            for folder in (f"{self.room}/a b", f"{self.room}/a "):
+                with self.assertRaisesRegex(AssertionError, "BUILD, DESTDIR and PREFIX may have no blanks"):
+                    make(f"{name}={folder}", target)
+            self.assertTrue(kept.exists())
+
+    @unittest.skipUnless(shutil.which("cc"), "there is no cc")
+    def test_a_compiler_with_more_words(self):
+        for compiler in ("env cc", " cc -g0"):
+            made = self.room / f"{len(compiler)}.so"
+            run = subprocess.run([TOP / "dist/link", "libedgebpf", made], env={**os.environ, "CC": compiler}, capture_output=True, text=True)
+            self.assertEqual((run.stdout, run.stderr, run.returncode), ("", "", 0))
+            self.assertEqual(made.read_bytes()[:4], b"\x7fELF")
+
+
+@NEEDS_MAKE
 class Installed(unittest.TestCase):
     @classmethod
     def setUpClass(cls):
