@@ -32,7 +32,7 @@ def inline(text):
     """A line's code and strong words in bold, and of a link its words."""
     text = re.sub(r"\[([^\]]*)\]\([^)]*\)", r"\1", text)
     parts = re.split(r"(`[^`]*`|\*\*[^*]*\*\*)", text)
-    made = "".join(f"\\fB{escaped(part.strip('`*'))}\\fR" if place % 2 else escaped(part) for place, part in enumerate(parts))
+    made = "".join(f"\\fB{escaped(part.replace('`', '').strip('*'))}\\fR" if place % 2 else escaped(part) for place, part in enumerate(parts))
     return f"\\&{made}" if made.startswith((".", "\\(aq")) else made
 
 

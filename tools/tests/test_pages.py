@@ -7,8 +7,14 @@ from tools_here import TOOLS
 
 sys.path.insert(0, str(TOOLS / "dev"))
 
+import write_manual  # noqa: E402
 import write_pages  # noqa: E402
 import write_parts  # noqa: E402
+
+
+class Manual(unittest.TestCase):
+    def test_code_within_strong_words(self):
+        self.assertEqual(write_manual.inline("**8 `UnsetRegister`.** It reads `r0`."), r"\fB8 UnsetRegister.\fR It reads \fBr0\fR.")
 
 
 class Parts(unittest.TestCase):
