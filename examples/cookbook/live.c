@@ -1,5 +1,5 @@
-/* A query after each batch: live VERTICES BATCH [BEFORE] < EDGES applies the edges in batches of BATCH distinct sources, after those of the
-   file BEFORE, and after each batch counts the edges of its sources that have an edge back. */
+/* A query after each batch: live VERTICES BATCH [BEFORE] < EDGES applies the edges in batches of BATCH, after those of the file BEFORE, and
+   after each batch counts the edges of its sources that have an edge back. The sources of a batch have to be distinct. */
 #include "load.h"
 
 int main(int count, char **words) {
