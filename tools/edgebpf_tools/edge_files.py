@@ -57,6 +57,9 @@ class EdgeFile:
         return rows + columns if self.rectangle == "apart" and rows != columns else max(rows, columns)
 
     def _take_block(self, block):
+        if stray := re.search(rb"\r(?!\r*(\n|\Z))", block):
+            line = self.line + block.count(b"\n", 0, stray.start()) + 1
+            raise self.fault(line, "a carriage return stands within the line; lines end with a line feed, or with both")
         if not self.has_begun:
             block = self._after_head(block)
         if block:
@@ -110,7 +113,8 @@ class EdgeFile:
 
     def _table(self, block):
         """The first two columns of a block whose lines have two each, or have more as its first line has; else None."""
-        if any(sign in block for sign in b"#%+"):
+        # The library also takes -0 for a number, and these two bytes for blanks.
+        if any(sign in block for sign in b"#%+\x85\xa0") or re.search(rb"-0+(?![0-9.eE])", block):
             return None
         has_more = len(block.strip().split(b"\n", 1)[0].split(self.separator and b",")) > 2
         with warnings.catch_warnings():

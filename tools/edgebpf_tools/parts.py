@@ -6,7 +6,7 @@ from edgebpf_tools.refusal import Refusal
 
 # Vertices follow each other in a part by ranges, as the store keeps them.
 RANGE = 256
-MOST_VERTICES = 1_048_576
+MOST_VERTICES, MOST_EDITS = 1_048_576, 65_536
 BITS_64 = (1 << 64) - 1
 IDENTITY = {"min": BITS_64, "max": 0, "sum": 0}
 JOIN = {"min": min, "max": max, "sum": lambda one, other: (one + other) & BITS_64}
@@ -30,6 +30,8 @@ class Cutter:
         self.count, self.outs = count, outs
         self.is_source = self.numpy.zeros(MOST_VERTICES, dtype=bool)
         self.line, self.is_made = 0, False
+        # The line that began the last batch.
+        self.begun = 0
 
     def cut(self, stream):
         """Writes the lines of a stream of bytes to those of the outs that they are for."""
@@ -79,6 +81,12 @@ class Cutter:
             return part_of(vertex, self.count)
         if words and words[0] not in ("graph", "batch", "end", "rebase") and not words[0].startswith("#"):
             raise Refusal(f"line {self.line + place + 1}: `{words[0][:40]}` makes no graph; here are only graph, batches, rebases and comments")
+        at = self.line + place + 1
+        if words[:1] == ["end"] and at - self.begun - 1 > MOST_EDITS:
+            # No part may have as many, so no edgebpf would refuse it.
+            raise Refusal(f"line {at}: a batch has at most {MOST_EDITS} edits")
+        if words[:1] == ["batch"]:
+            self.begun = at
         self.is_made = self.is_made or words[:1] == ["graph"]
         return EVERY
 

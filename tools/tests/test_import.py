@@ -30,6 +30,22 @@ class EdgebpfImport(unittest.TestCase):
             self.assertEqual(self.made(text).stdout, FIRST)
         self.assertEqual(self.made("1 2\n1 3\n2 3\n", "--base", "1").stdout, FIRST)
 
+    def test_what_only_a_library_reads(self):
+        """A block is refused for the same lines, whether a library reads its columns or they are read one by one."""
+        for wrong in ("3 -0\n", "1\xa02\n", "1\x852\n"):
+            for others in ("1 2\n", "1 2\n# c\n"):
+                run = run_tool("edgebpf-import", "--quiet", "-", text=others + wrong, encoding="latin-1")
+                self.assertEqual((run.stdout, run.returncode), ("", 1), run.stderr)
+                self.assertRegex(run.stderr, "line [23]: ")
+
+    def test_carriage_returns(self):
+        """Before a line feed they are part of the line's end. Alone they would make one line of many."""
+        self.assertEqual(self.made("0 1\r\n0 2\r\r\n1 2\r").stdout, FIRST)
+        for text in ("0 1\r0 2\r1 2\r", "0 1\n# c\r0 2\n"):
+            run = run_tool("edgebpf-import", "--quiet", "-", text=text)
+            self.assertEqual((run.stdout, run.returncode), ("", 1))
+            self.assertRegex(run.stderr, "line [12]: a carriage return stands within the line")
+
     def test_rebases(self):
         """One at the end if it is asked for, and one before a log is full."""
         self.assertEqual(self.made("1 2\n0 2\n0 1\n", "--rebase").stdout, FIRST + "rebase\n")

@@ -123,6 +123,8 @@ class EdgebpfSpread(unittest.TestCase):
         self.assertIn("cannot run t: fault 6 line 4", self.spread("--argument", "00").stderr)
         self.assertIn("ended with status 1: fault 4 line 3", self.spread(graph="graph 3\nbatch A\n+ 0 7\nend\n").stderr)
         self.assertIn("--processes is 1 to 64", self.spread("--processes", "0").stderr)
+        half = "batch A\n" + "+ 0 1\n" * 40_000 + "+ 256 1\n" * 25_537 + "end\n"
+        self.assertIn("line 65540: a batch has at most 65536 edits", self.spread("--own-source-only", graph="graph 600\n" + half).stderr)
         for argument in ("- 0", "", "0", "0x"):
             self.assertIn("--argument is pairs of hexadecimal digits", self.spread("--argument", argument).stderr)
 
