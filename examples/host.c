@@ -4,7 +4,7 @@
 int main(void) {
     const uint32_t sources[] = {0, 0, 1}, targets[] = {1, 2, 2};
     const uint8_t removes[] = {0, 0, 0};                /* 1 takes an edge out */
-    const uint8_t code[] = {0x61, 0x10, 4, 0, 0, 0, 0, 0, 0x95, 0, 0, 0, 0, 0, 0, 0}; /* ldxw r0, [r1+4]; exit */
+    const uint8_t code[] = {0x61, 0x10, 4, 0, 0, 0, 0, 0, 0x95, 0, 0, 0, 0, 0, 0, 0}; /* ldxw r0, [r1+4] and exit */
     const uint32_t frontier[] = {0, 1};
     uint64_t values[2];
     edgebpf_store store = {{0}};

@@ -4,7 +4,7 @@ import numpy
 
 
 def follow(store, batches):
-    back = edgebpf.assemble("ldxw r2, [r1+0]; ldxw r1, [r1+4]; call 2; exit")
+    back = edgebpf.assemble(["ldxw r2, [r1+0]", "ldxw r1, [r1+4]", "call 2", "exit"])
     for sources, targets in batches:
         store.batch("A", inserts=(sources, targets))
         with store.pin() as version:

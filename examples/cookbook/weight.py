@@ -3,5 +3,5 @@ import edgebpf
 
 
 def weight(version, table):
-    look = edgebpf.assemble("ldxw r2, [r1+4]; mod r2, 240; add r1, r2; ldxb r0, [r1+16]; exit", record=256)
+    look = edgebpf.assemble(["ldxw r2, [r1+4]", "mod r2, 240", "add r1, r2", "ldxb r0, [r1+16]", "exit"], record=256)
     return version.run(look, argument=table).total

@@ -30,13 +30,13 @@ WORD, MOST_GROWTH = 2**64, 64
 WAIT = 60
 # The text of a program by numbers that are drawn, and what it returns for an edge.
 KINDS = {
-    "affine": ("ldxw r0, [r1+4]; mul r0, {0}; add r0, {1}; exit", lambda own, edge: edge.target * own[0] + own[1]),
-    "degree": ("ldxw r0, [r1+12]; mul r0, {0}; exit", lambda own, edge: edge.degree * own[0]),
-    "mixed": ("ldxw r0, [r1+4]; ldxw r2, [r1+0]; xor r0, r2; exit", lambda own, edge: edge.target ^ edge.source),
+    "affine": ("ldxw r0, [r1+4]\nmul r0, {0}\nadd r0, {1}\nexit", lambda own, edge: edge.target * own[0] + own[1]),
+    "degree": ("ldxw r0, [r1+12]\nmul r0, {0}\nexit", lambda own, edge: edge.degree * own[0]),
+    "mixed": ("ldxw r0, [r1+4]\nldxw r2, [r1+0]\nxor r0, r2\nexit", lambda own, edge: edge.target ^ edge.source),
     "branch": (
-        "ldxw r2, [r1+4]; ldxw r0, [r1+8]; jgt r2, {0}, far; exit; far:; ldxw r0, [r1+12]; exit",
+        "ldxw r2, [r1+4]\nldxw r0, [r1+8]\njgt r2, {0}, far\nexit\nfar:\nldxw r0, [r1+12]\nexit",
         lambda own, edge: edge.degree if edge.target > own[0] else edge.place),
-    "argument": ("ldxdw r0, [r1+16]; ldxw r2, [r1+4]; add r0, r2; exit", lambda own, edge: edge.argument + edge.target),
+    "argument": ("ldxdw r0, [r1+16]\nldxw r2, [r1+4]\nadd r0, r2\nexit", lambda own, edge: edge.argument + edge.target),
 }
 Edge = collections.namedtuple("Edge", "source target place degree argument")
 REDUCTIONS = {"sum": (0, lambda a, b: (a + b) % WORD), "min": (WORD - 1, min), "max": (0, max)}

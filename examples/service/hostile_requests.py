@@ -7,7 +7,7 @@ import zlib
 # open, "slow" sends byte by byte and closes.
 Attack = collections.namedtuple("Attack", "data statuses ending")
 CLOSED = "closed"
-GOOD = "ldxw r0, [r1+4]; exit"
+GOOD = "ldxw r0, [r1+4]\nexit"
 HEAVY = "\n".join(
     [line for level in range(3) for line in (f"f{level}:", *[f"calllocal f{level + 1}"] * 21, "mov r0, 0", "exit")]
     + ["f3:", *["mov r0, 1"] * 100, "exit"])
@@ -28,14 +28,14 @@ def raw(data, *statuses):
 
 def refused(chance, _):
     text = chance.choice([
-        "ldxw r0, [r1+13]; exit", "mov r0, r5; exit", "exit", "stxdw [r10+0], r1; exit", "x: ja x; exit", "mov r0, r1; exit",
-        "mov r0, 1", "calllocal 0; exit", "call 9999; exit", "mov r10, 1; exit", "\n" * 70_000 + "exit", " " * 90_000 + "\nexit",
-        "ldxdw r0, [r1+16]; exit", "mov r0, 1\n" * 5_000 + "exit"])
+        "ldxw r0, [r1+13]\nexit", "mov r0, r5\nexit", "exit", "stxdw [r10+0], r1\nexit", "x: ja x\nexit", "mov r0, r1\nexit",
+        "mov r0, 1", "calllocal 0\nexit", "call 9999\nexit", "mov r10, 1\nexit", "\n" * 70_000 + "exit", " " * 90_000 + "\nexit",
+        "ldxdw r0, [r1+16]\nexit", "mov r0, 1\n" * 5_000 + "exit"])
     return post("/programs", {"name": "bad", "text": text}, 422)
 
 
 def no_text(chance, _):
-    text = "".join(chance.choices("abcjlr0159[]+,:;\t \x00\x1f\x7f", k=chance.randrange(1, 300))) + "?"
+    text = "".join(chance.choices("abcjlr0159[]+,:;\t \x00\x1f\x7f", k=chance.randrange(1, 300))) + "\n?"
     return post("/programs", {"name": "bad", "text": text}, 422)
 
 
@@ -76,14 +76,14 @@ def in_c(chance, _):
 
 def taken(chance, programs):
     """Another program under the name of an honest client's one."""
-    changed = chance.choice([{"text": "mov r0, 9; exit"}, {"code": "95" + "00" * 7}, {"text": GOOD, "record": 256}])
+    changed = chance.choice([{"text": "mov r0, 9\nexit"}, {"code": "95" + "00" * 7}, {"text": GOOD, "record": 256}])
     return post("/programs", {"name": chance.choice(programs), **changed}, 409, 422)
 
 
 def fill(chance, _):
     """Accepted programs under many names, some with lines that no script has."""
     number = chance.randrange(400)
-    text = chance.choice(["", " " * 90_000 + "\n", "\n" * 70_000]) + f"mov r0, {number}; exit"
+    text = chance.choice(["", " " * 90_000 + "\n", "\n" * 70_000]) + f"mov r0, {number}\nexit"
     if chance.random() < 0.5:
         return post("/programs", {"name": f"fill{number}", "text": text}, 201, 409, 503)
     return post("/runs", {"program": f"fill{number}"}, 200, 404)

@@ -79,7 +79,7 @@ class Service:
         return web.json_response({"version": counts.version, "added": counts.added, "removed": counts.removed})
 
     async def program(self, request):
-        """Keeps a program under a name: {"name": "score", "record": 16} with "text" or "code" in hexadecimal digits, and perhaps "table" in
+        """Keeps a program under a name: {"name": "score", "record": 16} with "text", which may be a list of lines, or "code" in hexadecimal digits, and perhaps "table" in
         such digits, or with "c"."""
         asked = await fields(request)
         name, record = text_of(asked, "name"), asked.get("record", 16)
@@ -146,7 +146,7 @@ def verified(asked, name, record):
     """The program of a request, by the one of its three forms."""
     table = bytes.fromhex(text_of(asked, "table")) if "table" in asked else b""
     if "text" in asked:
-        return edgebpf.assemble(text_of(asked, "text"), record, table)
+        return edgebpf.assemble(lines_in(asked), record, table)
     if "code" in asked:
         return edgebpf.Program(bytes.fromhex(text_of(asked, "code")), record, table)
     if table:
@@ -170,6 +170,14 @@ def text_of(asked, name):
     if len(asked[name]) > MOST_TEXT:
         raise ValueError(f"{name} has more than {MOST_TEXT} characters")
     return asked[name]
+
+
+def lines_in(asked):
+    """The text of a program: one text, or a list of lines."""
+    text = asked["text"]
+    if isinstance(text, list) and all(isinstance(line, str) and "\n" not in line for line in text):
+        asked = {"text": "\n".join(text)}
+    return text_of(asked, "text")
 
 
 def whole(numbers):

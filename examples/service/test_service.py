@@ -97,7 +97,7 @@ class Service(unittest.TestCase):
             finally:
                 client.connection.close()
         self.client = Client(self.port)
-        for name, text in (("target", "ldxw r0, [r1+4]; exit"), ("degree", "ldxw r0, [r1+12]; exit")):
+        for name, text in (("target", "ldxw r0, [r1+4]\nexit"), ("degree", "ldxw r0, [r1+12]\nexit")):
             self.assertEqual(self.client.told("POST", "/programs", {"name": name, "text": text})[0], 201)
 
     def tearDown(self):
@@ -187,7 +187,7 @@ class Service(unittest.TestCase):
                 self.assertEqual(client.ask("POST", path, body)[0], status)
                 client.connection.close()
         self.assertEqual(self.client.ask("GET", f"/neighbours/{VERTICES}")[0], 422)
-        status, told = self.client.told("POST", "/programs", {"name": "p", "text": "ldxw r0, [r1+13]; exit"})
+        status, told = self.client.told("POST", "/programs", {"name": "p", "text": "ldxw r0, [r1+13]\nexit"})
         self.assertEqual((status, told["error"], told["cause"]), (422, "Refused", 11))
         self.assertIn("rule 11", told["explanation"])
         self.assertEqual(self.client.told("POST", "/batches", {"inserts": [[0, 1]]}), (200, {"version": 1, "added": 1, "removed": 0}))
@@ -204,11 +204,23 @@ class Service(unittest.TestCase):
                 self.assertEqual(self.client.ask("POST", "/batches", body, heads)[0], status)
         self.assertEqual(self.client.told("GET", "/neighbours/0"), (200, {"version": 1, "neighbours": [1]}))
 
+    def test_lines_of_a_text(self):
+        """A text is a list of lines, too, and `;` begins a comment."""
+        self.client.told("POST", "/batches", {"inserts": [[0, 7]]})
+        for name, text in (("list", ["ldxw r0, [r1+4] ; the target", "exit"]), ("whole", "ldxw r0, [r1+4] ; the target\nexit")):
+            self.assertEqual(self.client.ask("POST", "/programs", {"name": name, "text": text})[0], 201)
+            self.assertEqual(self.client.told("POST", "/runs", {"program": name, "frontier": [0]})[1]["values"], [7])
+        status, told = self.client.told("POST", "/programs", {"name": "p", "text": "ldxw r0, [r1+4]; exit"})
+        self.assertEqual((status, told["error"]), (422, "WrongText"))
+        self.assertIn("a line of its own", told["words"])
+        for text in ([], ["exit", 7], ["mov r0, 1\nexit"], [["exit"]], {"exit": 1}):
+            self.assertEqual(self.client.ask("POST", "/programs", {"name": "p", "text": text})[0], 400)
+
     def test_texts_that_no_script_has(self):
         """A line of more than 80,000 bytes or more than 65,536 lines would end the store's process."""
         self.client.told("POST", "/batches", {"inserts": [[0, 7]]})
         for name, before in (("long", " " * 80_001 + "\n"), ("lines", "\n" * 65_537)):
-            self.assertEqual(self.client.ask("POST", "/programs", {"name": name, "text": before + "ldxw r0, [r1+4]; exit"})[0], 201)
+            self.assertEqual(self.client.ask("POST", "/programs", {"name": name, "text": before + "ldxw r0, [r1+4]\nexit"})[0], 201)
             self.assertEqual(self.client.told("POST", "/runs", {"program": name, "frontier": [0]})[1]["values"], [7])
 
     def test_tables(self):
@@ -224,13 +236,13 @@ class Service(unittest.TestCase):
     def test_names(self):
         """A name keeps its program, and programs up to the limit leave room for all that the service itself runs."""
         self.client.told("POST", "/batches", {"inserts": [[0, 7]]})
-        self.assertEqual(self.client.ask("POST", "/programs", {"name": "target", "text": "mov r0, 1; exit"})[0], 409)
+        self.assertEqual(self.client.ask("POST", "/programs", {"name": "target", "text": "mov r0, 1\nexit"})[0], 409)
         for number in range(254):
-            status, _ = self.client.told("POST", "/programs", {"name": f"p{number}", "text": f"mov r0, {number}; exit"})
+            status, _ = self.client.told("POST", "/programs", {"name": f"p{number}", "text": f"mov r0, {number}\nexit"})
             self.assertEqual(status, 201 if number < 253 else 503)
             if status == 201:
                 self.assertEqual(self.client.told("POST", "/runs", {"program": f"p{number}", "frontier": [0]})[1]["values"], [number])
-        self.assertEqual(self.client.ask("POST", "/programs", {"name": "target", "text": "ldxw r0, [r1+4]; exit"})[0], 201)
+        self.assertEqual(self.client.ask("POST", "/programs", {"name": "target", "text": "ldxw r0, [r1+4]\nexit"})[0], 201)
         for name, wanted in (("target", [7]), ("degree", [1])):
             self.assertEqual(self.client.told("POST", "/runs", {"program": name, "frontier": [0]})[1]["values"], wanted)
         self.assertEqual(self.client.told("GET", "/neighbours/0")[1]["neighbours"], [7])

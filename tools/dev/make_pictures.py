@@ -71,7 +71,7 @@ def served(browser, picture):
     with subprocess.Popen(words) as server:
         wait_for(server)
         chance = random.Random(3)
-        post("/programs", {"name": "degree", "text": "mov r0, 1; exit"})
+        post("/programs", {"name": "degree", "text": "mov r0, 1\nexit"})
         post("/batches", {"inserts": [[int(200 * chance.random() ** 3), chance.randrange(200)] for _ in range(2500)]})
         screenshot(browser, f"http://127.0.0.1:{PORT}/", picture, "900,640")
         server.send_signal(signal.SIGINT)

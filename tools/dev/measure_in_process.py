@@ -15,8 +15,8 @@ import numpy as np
 TOP = pathlib.Path(__file__).resolve().parent.parent.parent
 sys.path.insert(0, str(TOP / "bindings" / "python"))
 VERTICES, EDITS, ASKED = 1 << 18, 65_536, 2_000
-TARGET = "ldxw r0, [r1+4]; exit"
-BACK = "ldxw r2, [r1+0]; ldxw r1, [r1+4]; call 2; exit"
+TARGET = "ldxw r0, [r1+4]\nexit"
+BACK = "ldxw r2, [r1+0]\nldxw r1, [r1+4]\ncall 2\nexit"
 ROWS = {
     "batch": "a batch of 65,536 edges",
     "one": "a batch of one edge",

@@ -66,9 +66,9 @@ def faulty_script(cell):
     if match := re.fullmatch(r"`graph 1`, then ([0-9]+) pins with different names", cell):
         return "graph 1\n" + "".join(f"pin p{place}\n" for place in range(int(match[1])))
     if match := re.fullmatch(r"`graph 1`, then ([0-9,]+) times `(.*)`", cell):
-        return "graph 1\n" + (match[2].replace("; ", "\n") + "\n") * number(match[1])
+        return "graph 1\n" + (match[2].replace(" / ", "\n") + "\n") * number(match[1])
     assert len(said) == 1 and cell == f"`{said[0]}`", f"no script: {cell}"
-    return said[0].replace("; ", "\n") + "\n"
+    return said[0].replace(" / ", "\n") + "\n"
 
 
 def faults():
@@ -81,7 +81,7 @@ def assembler_faults():
         if match := re.fullmatch(r"([0-9,]+) times `(.*)`", row[2]):
             lines = (match[2] + "\n") * number(match[1])
         else:
-            lines = codes(row[2])[0].replace("; ", "\n")
+            lines = codes(row[2])[0].replace(" / ", "\n")
         yield f"assembler_{row[0]}", Case("graph 4\n" + program(lines), codes(row[3]))
 
 

@@ -212,7 +212,7 @@ class FunctionsInPython(unittest.TestCase):
 
     @unittest.mock.patch.dict(os.environ, {"EDGEBPF": STORE})
     def test_over_several_processes(self):
-        upward = self.edgebpf.assemble("ldxw r2, [r1+0]; ldxw r1, [r1+4]; mov r0, 1; jgt r1, r2, up; mov r0, 0; up:; exit")
+        upward = self.edgebpf.assemble("ldxw r2, [r1+0]\nldxw r1, [r1+4]\nmov r0, 1\njgt r1, r2, up\nmov r0, 0\nup:\nexit")
         self.assertEqual(load("parts").total(4, *columns(BOTH), upward, 2), 4)
 
     def test_on_random_graphs(self):

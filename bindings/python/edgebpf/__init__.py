@@ -4,7 +4,7 @@
 
     with edgebpf.Store(vertices=4) as store:
         store.batch("A", inserts=([0, 0, 1], [1, 2, 2]))
-        target = edgebpf.assemble("ldxw r0, [r1+4]; exit")
+        target = edgebpf.assemble(["ldxw r0, [r1+4]", "exit"])
         with store.pin() as version:
             result = version.run(target, "sum")
             result.total, result.values        # 5, array([3, 2, 0, 0], dtype=uint64)

@@ -27,7 +27,10 @@ CAUSES = {
     18: "more than 1,000,000 instructions are to be verified, a function once for each call of it",
 }
 
+# No cause of the assembler's: to it a comment is any text.
+STATEMENT_IN_COMMENT = 0
 TEXT_ERRORS = {
+    STATEMENT_IN_COMMENT: "`;` begins a comment, and a statement follows it: write each statement on a line of its own",
     1: "the line is no statement and no label, or these are not the arguments of its word",
     2: "no statement has this word",
     3: "an earlier line has this label",
@@ -54,7 +57,7 @@ class Refused(Error):
 
 
 class WrongText(Error):
-    """A text is no program. `line` is counted from 1."""
+    """A text is no program. `line` is counted from 1. `cause` is the assembler's, and 0 if a statement follows a `;`."""
 
     def __init__(self, cause: int, line: int) -> None:
         super().__init__(f"line {line}: {TEXT_ERRORS[cause]}")

@@ -3,12 +3,14 @@ from __future__ import annotations
 
 import os
 import pathlib
+import re
 import shutil
 import struct
 import subprocess
+from collections.abc import Sequence
 
 from edgebpf import library
-from edgebpf.errors import Error, Refused, WrongText
+from edgebpf.errors import STATEMENT_IN_COMMENT, Error, Refused, WrongText
 
 EDGE_BYTES = 16
 MOST_RECORD = 256
@@ -20,6 +22,17 @@ WRONG_CODE = "code has 1 to 4,096 whole units of 8 bytes"
 IMAGE = struct.Struct("<4sHHH")
 IMAGE_BEGINS = b"BPE2"
 CHECKOUT = pathlib.Path(__file__).resolve().parent.parent.parent.parent
+# The words of statements whose first argument is a register or a place in memory; those of arithmetic and branches may have 32 after them.
+WORDS_OF_REGISTERS = (
+    r"(?:(?:mov|add|sub|mul|s?div|s?mod|or|and|xor|a?rsh|lsh|neg|j(?:eq|ne|s?gt|s?ge|s?lt|s?le|set))(?:32)?"
+    r"|(?:le|be|swap)(?:16|32|64)|movsx(?:8|16|32)|mov32sx(?:8|16)|ldxs?[bhw]|ldxdw|stx?(?:[bhw]|dw)|lddw)"
+)
+NUMBER, LABEL = r"-?(?:0x[0-9a-fA-F]+|[0-9]+)", r"[A-Za-z_]\w*"
+FIRST = r"(?:r[0-9]+|\[[^],]*\])"
+ARGUMENT = rf"(?:{FIRST}|{NUMBER}|{LABEL})"
+STATEMENT = re.compile(
+    rf"\s*(?:exit|call\s+{NUMBER}|(?:calllocal|ja|ja32)\s+{LABEL}|{WORDS_OF_REGISTERS}\s+{FIRST}(?:\s*,\s*{ARGUMENT})*)\s*"
+)
 
 
 def command(name: str) -> str:
@@ -131,16 +144,35 @@ class Program:
         return run.stdout or run.stderr
 
 
-def assemble(text: str, record: int = EDGE_BYTES, table: bytes = b"") -> Program:
-    """The program of an assembler text, whose statements stand one on a line or between semicolons, with a table as `Program` has it.
+def lines_of(text: str | Sequence[str]) -> list[str]:
+    """The lines of a text, or of a list of lines, each of which may have its line end."""
+    if isinstance(text, str):
+        return text.replace("\r\n", "\n").split("\n")
+    if isinstance(text, (bytes, bytearray)):
+        raise TypeError("text is a str, or a list of lines")
+    lines = list(text)
+    if not all(isinstance(line, str) for line in lines):
+        raise TypeError("text is a str, or a list of lines, each a str")
+    lines = [line.removesuffix("\n").removesuffix("\r") for line in lines]
+    if any("\n" in line for line in lines):
+        raise ValueError("a line in the list `text` has a line end within it")
+    return lines
 
-    Raises `WrongText`, whose line counts statements so, and `Refused`.
+
+def assemble(text: str | Sequence[str], record: int = EDGE_BYTES, table: bytes = b"") -> Program:
+    """The program of an assembler text: a text of lines or a list of lines, with a table as `Program` has it. A line has one statement
+    or label, and a comment after `;`, as in scripts, C and Rust.
+
+    Raises `WrongText`, also of a statement after `;`, where earlier releases took one, and `Refused`.
     """
-    lines = text.replace(";", "\n").replace("\r\n", "\n").split("\n")
+    lines = lines_of(text)
     if any(line.strip() == "end" for line in lines):
         raise ValueError("a line `end` would end the program; a label of that name is written `end:`")
-    if not text.isascii():
+    if not all(line.isascii() for line in lines):
         raise ValueError("a program's text is ASCII")
+    for number, line in enumerate(lines, 1):
+        if any(map(STATEMENT.fullmatch, line.split(";")[1:])):
+            raise WrongText(STATEMENT_IN_COMMENT, number)
     return Program._of_text("\n".join(lines), record, table)
 
 

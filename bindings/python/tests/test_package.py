@@ -28,7 +28,7 @@ try:
 except ImportError:
     scipy = None
 
-TARGET = "ldxw r0, [r1+4]; exit"
+TARGET = "ldxw r0, [r1+4]\nexit"
 BATCHES = int(os.environ.get("RANDOM_BATCHES", "60"))
 
 
@@ -104,7 +104,7 @@ class Package(unittest.TestCase):
         sources, targets = chance.integers(0, count, (2, 6_000))
         store.batch("A", (sources, targets))
         version = store.pin()
-        mutual = edgebpf.assemble("ldxw r2, [r1+0]; ldxw r1, [r1+4]; call 2; exit")
+        mutual = edgebpf.assemble("ldxw r2, [r1+0]\nldxw r1, [r1+4]\ncall 2\nexit")
         starts, ends = version.csr()
         matrix = scipy.sparse.csr_array((np.ones(len(ends), np.int64), ends, starts), shape=(count, count))
         self.assertEqual(version.run(mutual).values.tolist(), np.asarray(matrix.multiply(matrix.T).sum(axis=1)).ravel().tolist())
@@ -142,21 +142,21 @@ class Package(unittest.TestCase):
     def test_arguments(self):
         store = self.store(3)
         store.batch("A", ([0, 1], [1, 2]))
-        scaled = edgebpf.assemble("ldxw r0, [r1+4]; ldxb r2, [r1+16]; mul r0, r2; exit", record=17)
+        scaled = edgebpf.assemble("ldxw r0, [r1+4]\nldxb r2, [r1+16]\nmul r0, r2\nexit", record=17)
         self.assertEqual(store.pin().run(scaled, argument=b"\x05").values.tolist(), [5, 10, 0])
         with self.assertRaises(edgebpf.ArgumentLength):
             store.pin().run(scaled)
         with self.assertRaisesRegex(ValueError, "^a reduction is sum, min or max$"):
             store.pin().run(scaled, "product", argument=b"\x05")
         # An array counts by its bytes.
-        word = edgebpf.assemble("ldxdw r0, [r1+16]; exit", record=24)
+        word = edgebpf.assemble("ldxdw r0, [r1+16]\nexit", record=24)
         self.assertEqual(store.pin().run(word, argument=np.array([1 << 40], np.uint64)).total, 1 << 41)
         with self.assertRaises(edgebpf.ArgumentLength):
             store.pin().run(scaled, argument=np.array([5], np.uint16))
         with self.assertRaises(TypeError):
             store.pin().run(scaled, argument=1)
         # The first and the last byte of the longest argument, and the place, which is not the target.
-        text = "ldxb r0, [r1+16]; lsh r0, 8; ldxb r2, [r1+255]; or r0, r2; ldxw r2, [r1+8]; lsh r2, 16; or r0, r2; exit"
+        text = "ldxb r0, [r1+16]\nlsh r0, 8\nldxb r2, [r1+255]\nor r0, r2\nldxw r2, [r1+8]\nlsh r2, 16\nor r0, r2\nexit"
         ends, argument = edgebpf.assemble(text, record=256), bytes(range(1, 241))
         store.batch("A", ([0], [2]))
         version = store.pin()
@@ -165,11 +165,11 @@ class Package(unittest.TestCase):
 
     def test_refused(self):
         with self.assertRaises(edgebpf.Refused) as told:
-            edgebpf.assemble("ldxw r0, [r1+13]; exit")
+            edgebpf.assemble("ldxw r0, [r1+13]\nexit")
         self.assertEqual((told.exception.cause, told.exception.unit), (11, 0))
         self.assertIn("rule 11", told.exception.explain())
         with self.assertRaises(edgebpf.Refused) as told:
-            edgebpf.assemble("mov r2, 1; ldxw r0, [r1+21]; exit", record=24)
+            edgebpf.assemble("mov r2, 1\nldxw r0, [r1+21]\nexit", record=24)
         self.assertEqual((told.exception.cause, told.exception.unit), (11, 1))
         self.assertEqual(str(told.exception), f"refused, cause 11 at unit 1: {edgebpf.errors.CAUSES[11]}")
         self.assertIn("records of 24 bytes", told.exception.explain())
@@ -181,11 +181,12 @@ class Package(unittest.TestCase):
             edgebpf.assemble("mov r0, 7\njmp x")
         self.assertEqual((told.exception.cause, told.exception.line), (2, 2))
         with self.assertRaisesRegex(edgebpf.WrongText, "^line 3: no statement has this word$"):
-            edgebpf.assemble("mov r0, 7; mov r1, 1; jmp x")
+            edgebpf.assemble("mov r0, 7\nmov r1, 1\njmp x")
+        self.assertEqual(edgebpf.assemble("; only a comment\nmov r0, 7 ; and more\nexit").bound, 2)
         for text in ("mov r0, 1\nend\nexit", "mov r0, 1 ; \xe9\nexit"):
             with self.assertRaises(ValueError):
                 edgebpf.assemble(text)
-        calls = edgebpf.assemble("calllocal f;exit;f:;mov r0, 1;exit")
+        calls = edgebpf.assemble("calllocal f\nexit\nf:\nmov r0, 1\nexit")
         self.assertEqual((calls.bound, calls.frames), (4, 2))
         for code in (b"", bytes(7), bytes(8 * 4_097), bytes(8 * 70_000)):
             for table in (b"", b"\x07"):
@@ -194,6 +195,33 @@ class Package(unittest.TestCase):
         for record in (15, 257):
             with self.assertRaises(ValueError):
                 edgebpf.assemble(TARGET, record)
+
+    def test_lines_of_a_text(self):
+        """A line end separates and `;` begins a comment, as in a script; a statement that follows `;` is refused, and a remark is not."""
+        texts = ("; the target\nldxw r0, [r1+4]   ; 4 bytes; exit r0 with it\nexit ; call of no helper", ["ldxw r0, [r1+4] ; and so on", "exit\n"])
+        for text in (*texts, "ldxw r0, [r1+4]\r\nexit\r\n", tuple(texts[1])):
+            self.assertEqual(edgebpf.assemble(text).bound, 2)
+        words = ("exit", "call 2", "ja out", "mov r0, 9", "ldxw r0, [r1 + 4]", "stxdw [r10-8], r1", " and32 r0 , 0x0f ", "lddw r1, -1", "neg r0")
+        for line, wrong in enumerate(words, 1):
+            with self.assertRaisesRegex(edgebpf.WrongText, f"^line {line}: `;` begins a comment, .* on a line of its own$") as told:
+                edgebpf.assemble("\n" * (line - 1) + f"mov r0, 7 ; a remark;{wrong}\nexit")
+            self.assertEqual((told.exception.cause, told.exception.line), (0, line))
+        for wrong, error in ((b"exit", TypeError), (["exit", 7], TypeError), (7, TypeError), (["mov r0, 1\nexit"], ValueError), ([], ValueError), ("", ValueError)):
+            with self.assertRaises(error):
+                edgebpf.assemble(wrong)
+
+    def test_words_of_statements(self):
+        """Each word of the table in docs/BPF.md is found after a `;`, and no other word is."""
+        sys.path.insert(0, str(TOP / "tools" / "tests"))
+        import documents
+
+        forms = {"exit": "{}", "call": "{} 2", "ja": "{} x", "ja32": "{} x", "calllocal": "{} x"}
+        found = lambda word: edgebpf.programs.STATEMENT.fullmatch(forms.get(word, "{} r1").format(word)) is not None
+        words = documents.words()
+        self.assertGreater(len(words), 80)
+        self.assertEqual([word for word in sorted(words) if not found(word)], [])
+        others = ("in", "of", "jmp", "exits", "call32", "ldxw32", "ldxsdw", "stxsb", "le8", "movsx64", "mov32sx32", "xand", "lddw32")
+        self.assertEqual([word for word in others if found(word)], [])
 
     def test_tables(self):
         """Each edge has the word of the table at its target; what is read past the end, written or there without a table is refused."""
@@ -225,14 +253,14 @@ class Package(unittest.TestCase):
                 edgebpf.Program(last, table=wrong)
         if edgebpf.library.path() is None:
             with self.assertRaisesRegex(edgebpf.Error, "pass the code"):
-                edgebpf.assemble("ldxb r0, [r3+0]; exit", table=b"\x09")
+                edgebpf.assemble("ldxb r0, [r3+0]\nexit", table=b"\x09")
         else:
-            byte = edgebpf.assemble("ldxb r0, [r3+0]; exit", table=b"\x09")
+            byte = edgebpf.assemble("ldxb r0, [r3+0]\nexit", table=b"\x09")
             self.assertEqual(version.run(byte).total, 27)
 
     def test_numbers_of_errors(self):
         """Each cause and each error of a text has words, and the library's statuses are those of the header."""
-        self.assertEqual((sorted(edgebpf.errors.CAUSES), sorted(edgebpf.errors.TEXT_ERRORS)), (list(range(1, 19)), list(range(1, 7))))
+        self.assertEqual((sorted(edgebpf.errors.CAUSES), sorted(edgebpf.errors.TEXT_ERRORS)), (list(range(1, 19)), list(range(7))))
         words = ["instruction", "out of its", "back", "call", "exit", "eight", "may run", "unset", "r10", "only a number", "outside", "stack byte", "argument"]
         words += ["helper", "in r0", "memory", "table", "verified"]
         for number, word in enumerate(words, 1):
@@ -254,7 +282,7 @@ class Package(unittest.TestCase):
 
     def test_long_texts(self):
         """A text may have lines that a script must not have, and the process of a store goes on."""
-        longest = edgebpf.assemble("mov r0, 7; " * 4_095 + "exit")
+        longest = edgebpf.assemble("mov r0, 7\n" * 4_095 + "exit")
         self.assertEqual((longest.bound, edgebpf.Program(bytes.fromhex("b700000007000000" * 4_095 + "9500000000000000")).bound), (4_096, 4_096))
         store = self.store(4)
         store.batch("A", inserts=([0], [3]))
@@ -267,7 +295,7 @@ class Package(unittest.TestCase):
         store.batch("A", inserts=([0], [3]))
         with concurrent.futures.ThreadPoolExecutor(2) as pool:
             for number in range(256):
-                program = edgebpf.assemble(f"mov r0, {number}; exit")
+                program = edgebpf.assemble(f"mov r0, {number}\nexit")
                 totals = [each.result().total for each in [pool.submit(store.pin().run, program) for _ in range(2)]]
                 self.assertEqual(totals, [number, number])
         with self.assertRaises(edgebpf.TooManyNames):
@@ -342,7 +370,7 @@ class Package(unittest.TestCase):
             store.pin()
         # After so many programs one more is refused, and the process goes on.
         store = self.store(1)
-        version, programs = store.pin(), [edgebpf.assemble(f"mov r0, {number}; exit") for number in range(257)]
+        version, programs = store.pin(), [edgebpf.assemble(f"mov r0, {number}\nexit") for number in range(257)]
         for program in programs[:256]:
             version.run(program)
         with self.assertRaises(edgebpf.TooManyNames):
@@ -373,7 +401,7 @@ class Package(unittest.TestCase):
         """After a call that was interrupted no other call takes the rest of its answer."""
         store = self.store(2000)
         store.batch("A", (np.repeat(np.arange(2000), 30), np.arange(60_000) % 2000))
-        version, long = store.pin(), edgebpf.assemble("mov r0, 0;" + "add r0, 1;" * 4000 + "exit")
+        version, long = store.pin(), edgebpf.assemble("mov r0, 0\n" + "add r0, 1\n" * 4000 + "exit")
         version.run(edgebpf.assemble(TARGET))
 
         def interrupt(*_):
