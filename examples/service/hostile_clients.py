@@ -24,8 +24,8 @@ from hostile_requests import ATTACKS, CLOSED
 
 HERE = pathlib.Path(__file__).resolve().parent
 VERTICES, FIRST_EDGES, MOST_INSERTS, MOST_REMOVES, MOST_HELD = 300, 3_000, 60, 60, 50
-# The service keeps 256 versions that were read. PROGRAMS is how many each honest client has.
-BATCHES, PROGRAMS = 240, 6
+# Of the batches some come after each of several rebases. PROGRAMS is how many each honest client has.
+BATCHES, REBASE, PROGRAMS = 600, 100, 6
 WORD, MOST_GROWTH = 2**64, 64
 WAIT = 60
 # The text of a program by numbers that are drawn, and what it returns for an edge.
@@ -240,10 +240,9 @@ def check(test):
 
 
 def memory(server):
-    """The megabytes of the server, and of the store's process that it started."""
-    children = pathlib.Path(f"/proc/{server.pid}/task/{server.pid}/children").read_text().split()
-    lines = [pathlib.Path(f"/proc/{process}/status").read_text().splitlines() for process in (server.pid, *children[:1])]
-    return [int(line.split()[1]) // 1024 for own in lines for line in own if line.startswith("VmRSS")]
+    """The megabytes of the server, and of the store in it."""
+    lines = pathlib.Path(f"/proc/{server.pid}/status").read_text().splitlines()
+    return next(int(line.split()[1]) // 1024 for line in lines if line.startswith("VmRSS"))
 
 
 def started(log):
@@ -251,7 +250,7 @@ def started(log):
     with socket.socket() as free:
         free.bind(("127.0.0.1", 0))
         port = free.getsockname()[1]
-    words = [sys.executable, HERE / "server.py", "--vertices", str(VERTICES), "--port", str(port)]
+    words = [sys.executable, HERE / "server.py", "--vertices", str(VERTICES), "--port", str(port), "--rebase", str(REBASE)]
     # Whoever runs this may ignore the signal that ends the server.
     server = subprocess.Popen(words, stderr=log, preexec_fn=lambda: signal.signal(signal.SIGINT, signal.SIG_DFL))
     for _ in range(200):
@@ -310,8 +309,8 @@ def main():
         try:
             early, late = tried(test, server)
             edges = check(test)
-            if late[0] > early[0] + MOST_GROWTH:
-                raise Wrong(f"the server grew from {early[0]} to {late[0]} MB")
+            if late > early + MOST_GROWTH:
+                raise Wrong(f"the server grew from {early} to {late} MB")
         except Wrong as wrong:
             sys.exit(f"hostile_clients: {wrong}")
         finally:
@@ -320,7 +319,7 @@ def main():
             server.send_signal(signal.SIGINT)
             ended = server.wait(30)
     print(f"{len(test.batches)} batches, {len(test.reads)} reads compared, {edges} edges, {sum(test.counts.values())} requests")
-    print(f"MB of the server and its store: {early} after a third, {late} at the end")
+    print(f"MB of the server with its store: {early} after a third, {late} at the end")
     sys.exit(f"hostile_clients: the server ended with {ended}" if ended else 0)
 
 

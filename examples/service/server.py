@@ -27,9 +27,11 @@ import edgebpf  # noqa: E402
 
 MOST_BYTES = 4 << 20
 MOST_TEXT = 1 << 18
-# The process keeps 256 programs, and lists edges by one of its own.
+# A program takes 83 KB for each thread that runs it.
 MOST_PROGRAMS = 255
-# A run holds the process: more instructions than these, some seconds of work, are refused before it begins.
+# A version keeps the batches that made it. After so many of them a rebase forgets them; a store takes MOST_BATCHES without one.
+REBASE_BATCHES, MOST_BATCHES = 1_000, 4_096
+# A run holds a thread: more instructions than these, some seconds of work, are refused before it begins.
 MOST_INSTRUCTIONS = 10**9
 # A connection that stays for so long is closed, at the latest after twice as long.
 CONNECTION_SECONDS = 60
@@ -64,9 +66,11 @@ class Histogram:
 
 
 class Service:
-    def __init__(self, store, has_c=False):
-        self.store, self.has_c, self.programs = store, has_c, {}
-        self.writing, self.listing, self.version = asyncio.Lock(), asyncio.Lock(), None
+    def __init__(self, store, has_c=False, rebase_batches=REBASE_BATCHES):
+        self.store, self.has_c, self.rebase_batches, self.programs = store, has_c, rebase_batches, {}
+        self.writing = asyncio.Lock()
+        # How many batches there were, and before each epoch, and how many edges the last of them left.
+        self.number, self.before, self.edges = 0, [0], 0
         self.batches, self.runs = Histogram("edgebpf_batch_seconds"), Histogram("edgebpf_run_seconds")
 
     async def batch(self, request):
@@ -75,8 +79,25 @@ class Service:
         ends = [pairs(asked.get(name, [])) for name in ("inserts", "removes")]
         async with self.writing:
             with self.batches.time():
-                counts = await asyncio.to_thread(self.store.batch, asked.get("feed", "A"), *ends)
-        return web.json_response({"version": counts.version, "added": counts.added, "removed": counts.removed})
+                counts = await asyncio.to_thread(self.apply, asked.get("feed", "A"), *ends)
+        return web.json_response({"version": self.before[-1] + counts.version, "added": counts.added, "removed": counts.removed})
+
+    def apply(self, feed, inserts, removes):
+        """Applies a batch, after a rebase where it is time for one. One thread at a time is here."""
+        if self.number - self.before[-1] >= self.rebase_batches:
+            # First, so that whoever pins the new epoch finds it here.
+            self.before.append(self.number)
+            try:
+                self.store.rebase()
+            except (edgebpf.EpochsFull, edgebpf.NoMemory):
+                self.before.pop()
+        counts = self.store.batch(feed, inserts, removes)
+        self.number, self.edges = self.number + 1, self.edges + counts.added - counts.removed
+        return counts
+
+    def number_of(self, version):
+        """How many batches made a version, of all that the service applied."""
+        return self.before[version.epoch] + version.number
 
     async def program(self, request):
         """Keeps a program under a name: {"name": "score", "record": 16} with "text", which may be a list of lines, or "code" in hexadecimal digits, and perhaps "table" in
@@ -111,31 +132,24 @@ class Service:
             raise web.HTTPNotFound(text="no program has this name")
         program, argument = self.programs[asked["program"]], bytes.fromhex(asked.get("argument", ""))
         frontier = asked.get("frontier")
-        with self.runs.time():
-            version = await asyncio.to_thread(self.store.pin)
+        words = (program, asked.get("reduction", "sum"), None if frontier is None else whole(frontier), argument)
+        with self.runs.time(), self.store.pin() as version:
             if program.bound * version.edges > MOST_INSTRUCTIONS:
                 raise web.HTTPUnprocessableEntity(text=f"the bound times the edges is more than {MOST_INSTRUCTIONS}")
-            words = (program, asked.get("reduction", "sum"), None if frontier is None else whole(frontier), argument)
             result = await asyncio.to_thread(version.run, *words)
-        about = {"version": version.number, "edges": result.edges, "total": result.total}
+        about = {"version": self.number_of(version), "edges": result.edges, "total": result.total}
         if request.query.get("format") == "bytes":
             heads = {f"X-{name.title()}": str(value) for name, value in about.items()}
             return web.Response(body=result.values.astype("<u8").tobytes(), headers=heads, content_type="application/octet-stream")
         return web.json_response({**about, "values": result.values.tolist()})
 
     async def neighbours(self, request):
-        async with self.listing:
-            version = await asyncio.to_thread(self.store.pin)
-            # A version lists its edges once, at the first question.
-            if self.version is None or self.version.number != version.number:
-                self.version = version
-            version = self.version
-            targets = await asyncio.to_thread(version.neighbours, int(request.match_info["vertex"]))
-        return web.json_response({"version": version.number, "neighbours": targets.tolist()})
+        with self.store.pin() as version:
+            targets = version.neighbours(int(request.match_info["vertex"]))
+        return web.json_response({"version": self.number_of(version), "neighbours": targets.tolist()})
 
     async def metrics(self, request):
-        version = await asyncio.to_thread(self.store.pin)
-        lines = [f"edgebpf_version {version.number}", f"edgebpf_edges {version.edges}", f"edgebpf_vertices {version.vertices}"]
+        lines = [f"edgebpf_version {self.number}", f"edgebpf_edges {self.edges}", f"edgebpf_vertices {self.store.vertices}"]
         return web.Response(text="\n".join([*lines, *self.batches.lines(), *self.runs.lines()]) + "\n")
 
     async def page(self, request):
@@ -224,8 +238,8 @@ async def one_request(request, handler):
     return response
 
 
-def application(store, has_c=False):
-    service = Service(store, has_c)
+def application(store, **words):
+    service = Service(store, **words)
     # A short body that is compressed may be a long one.
     plain = {"auto_decompress": False}
     app = web.Application(middlewares=[one_request, told_errors], client_max_size=MOST_BYTES, handler_args=plain)
@@ -261,22 +275,25 @@ async def serve_until_interrupted(app, port):
 def main():
     parser = argparse.ArgumentParser(description=__doc__, formatter_class=argparse.RawDescriptionHelpFormatter)
     parser.add_argument("--vertices", type=int, default=100_000)
-    parser.add_argument("--workers", type=int, default=2)
     parser.add_argument("--port", type=int, default=8080)
+    parser.add_argument("--rebase", type=int, default=REBASE_BATCHES, help="forget the batches after so many of them, 1 to 4,096")
     parser.add_argument("--with-c", action="store_true", help="also take programs in C, whose compiler reads any file")
     options = parser.parse_args()
     if not 0 <= options.port < 65_536:
         parser.error("a port is 0 to 65535")
+    if not 1 <= options.rebase <= MOST_BATCHES:
+        parser.error(f"a rebase comes after 1 to {MOST_BATCHES} batches")
     # Connections that are left open are files; where no more may be opened, nobody is served.
     most = resource.getrlimit(resource.RLIMIT_NOFILE)[1]
     resource.setrlimit(resource.RLIMIT_NOFILE, (most, most))
     try:
-        store = edgebpf.connect(options.vertices, options.workers)
+        store = edgebpf.Store(options.vertices)
     except (edgebpf.Error, ValueError) as error:
         sys.exit(f"server.py: {error}")
+    app = application(store, has_c=options.with_c, rebase_batches=options.rebase)
     with store, contextlib.suppress(KeyboardInterrupt, asyncio.CancelledError):
         try:
-            asyncio.run(serve_until_interrupted(application(store, options.with_c), options.port))
+            asyncio.run(serve_until_interrupted(app, options.port))
         except OSError as error:
             sys.exit(f"server.py: port {options.port}: {error.strerror or error}")
 

@@ -23,12 +23,14 @@ HERE = pathlib.Path(__file__).resolve().parent
 sys.path.insert(0, str(HERE))
 try:
     import aiohttp  # noqa: F401
+    import cffi  # noqa: F401
     import numpy  # noqa: F401
 
     MISSING = ""
 except ImportError as error:
     MISSING = error.name
-VERTICES, BATCHES = 300, 80
+# Of the batches of a test some come after each of two rebases.
+VERTICES, BATCHES, REBASE = 300, 80, 30
 REQUESTS = int(os.environ.get("SERVICE_REQUESTS", "2000"))
 READERS = 4
 # A library that has a program interrupted just before its first long wait, when it looks at no signal any more.
@@ -59,7 +61,7 @@ def free_port():
 
 def started(port, **environment):
     words = ["sh", "-c", 'ulimit -Sn 64; exec "$@"', "sh"]
-    words += [sys.executable, HERE / "server.py", "--vertices", str(VERTICES), "--port", str(port)]
+    words += [sys.executable, HERE / "server.py", "--vertices", str(VERTICES), "--port", str(port), "--rebase", str(REBASE)]
     # Whoever runs this may ignore the signal that ends the server.
     return subprocess.Popen(words, env={**os.environ, **environment}, preexec_fn=lambda: signal.signal(signal.SIGINT, signal.SIG_DFL))
 
@@ -163,6 +165,38 @@ class Service(unittest.TestCase):
                     self.assertEqual(told["values"], self.wanted(edges, asked))
         self.assertIn(f"edgebpf_version {BATCHES}\n", self.client.ask("GET", "/metrics")[2].decode())
 
+    def test_many_versions(self):
+        """After each of 300 batches a run, the neighbours and the metrics are of the last version; nothing that is read uses anything up."""
+        for number in range(1, 301):
+            source = number % VERTICES
+            told = self.client.told("POST", "/batches", {"inserts": [[source, 7]]})
+            self.assertEqual(told, (200, {"version": number, "added": 1, "removed": 0}))
+            told = self.client.told("POST", "/runs", {"program": "target", "frontier": [source]})
+            self.assertEqual(told, (200, {"version": number, "edges": 1, "total": 7, "values": [7]}))
+            told = self.client.told("GET", f"/neighbours/{source}")
+            self.assertEqual(told, (200, {"version": number, "neighbours": [7]}))
+            status, _, lines = self.client.ask("GET", "/metrics")
+            self.assertEqual((status, lines.decode().splitlines()[:2]), (200, [f"edgebpf_version {number}", f"edgebpf_edges {number}"]))
+
+    def test_after_the_last_rebase(self):
+        """A store that takes no more rebases takes the batches for which it has room, then answers 503, and is still read."""
+        import server
+
+        store = server.edgebpf.Store(4)
+        for _ in range(1_024):
+            store.rebase()
+
+        async def asked():
+            service = server.Service(store, rebase_batches=2)
+            service.before = [0] * 1_025
+            for number in range(1, 4_097):
+                self.assertEqual(service.apply("A", ([0], [number % 4]), ((), ())).version, number)
+            with self.assertRaises(server.edgebpf.LogFull):
+                service.apply("A", ((), ()), ((), ()))
+            self.assertEqual((service.number, service.number_of(store.pin()), service.edges), (4_096, 4_096, 4))
+
+        asyncio.run(asked())
+
     def test_bytes(self):
         self.client.told("POST", "/batches", {"inserts": [[0, 7], [2, 9]]})
         status, heads, body = self.client.ask("POST", "/runs?format=bytes", {"program": "target", "frontier": [0, 1, 2]})
@@ -181,6 +215,8 @@ class Service(unittest.TestCase):
             ("/runs", {"program": "target", "frontier": [False, 1]}, 400), ("/programs", {"name": "p", "text": " " * 300_000}, 400),
             ("/programs", {"name": "p", "text": "exit", "record": "--help"}, 400), ("/programs", {"name": "n" * 65, "text": "exit"}, 400),
             ("/programs", {"name": "--html=/tmp/x", "text": "exit"}, 400), ("/programs", {"name": "p", "c": '#include "/etc/passwd"'}, 403),
+            ("/runs", {"program": "target", "frontier": [0.5]}, 400), ("/runs", {"program": "target", "frontier": [VERTICES]}, 422),
+            ("/runs", {"program": "target", "argument": 7}, 400), ("/runs", {"program": ["target"]}, 400), ("/runs", [], 400),
         ):
             with self.subTest(path=path, body=body if len(body) < 100 else "long"):
                 client = Client(self.port)
@@ -217,7 +253,7 @@ class Service(unittest.TestCase):
             self.assertEqual(self.client.ask("POST", "/programs", {"name": "p", "text": text})[0], 400)
 
     def test_texts_that_no_script_has(self):
-        """A line of more than 80,000 bytes or more than 65,536 lines would end the store's process."""
+        """A line of more than 80,000 bytes or more than 65,536 lines, which would end a script."""
         self.client.told("POST", "/batches", {"inserts": [[0, 7]]})
         for name, before in (("long", " " * 80_001 + "\n"), ("lines", "\n" * 65_537)):
             self.assertEqual(self.client.ask("POST", "/programs", {"name": name, "text": before + "ldxw r0, [r1+4]\nexit"})[0], 201)
@@ -276,7 +312,7 @@ class Service(unittest.TestCase):
 
         async def closed():
             port = free_port()
-            with server.edgebpf.connect(4) as store:
+            with server.edgebpf.Store(4) as store:
                 serving = asyncio.create_task(server.serve(server.application(store), port))
                 await asyncio.sleep(0.2)
                 reader, writer = await asyncio.open_connection("127.0.0.1", port)
@@ -321,6 +357,8 @@ class Starts(unittest.TestCase):
     def test_what_it_cannot_serve(self):
         self.refused("^server.py: error: a port is 0 to 65535$", "--port", "99999", status=2)
         self.refused("^server.py: a graph has 1 to 1048576 vertices$", "--vertices", "0")
+        for count in ("0", "4097"):
+            self.refused("^server.py: error: a rebase comes after 1 to 4096 batches$", "--rebase", count, status=2)
         with socket.create_server(("127.0.0.1", 0)) as other:
             self.refused("^server.py: .*address already in use", "--vertices", "4", "--port", str(other.getsockname()[1]))
 
