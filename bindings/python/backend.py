@@ -2,14 +2,16 @@
 dist/; where there is none, the package looks for an installed one."""
 import base64
 import hashlib
+import re
 import subprocess
 import sys
 import tempfile
 import zipfile
 from pathlib import Path
 
-NAME, VERSION = "edgebpf", "0.1.0"
+NAME = "edgebpf"
 PACKAGE = Path(__file__).resolve().parent / NAME
+VERSION = re.search(r'^__version__ = "(.*)"', (PACKAGE / "__init__.py").read_text(), re.M)[1]
 LIBRARY = "libedgebpf.so"
 LINK = PACKAGE.parents[2] / "dist" / "link"
 INFO = f"{NAME}-{VERSION}.dist-info"

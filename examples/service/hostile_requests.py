@@ -123,7 +123,7 @@ def batch_shapes(chance, _):
 def run_words(chance, programs):
     wrong = chance.choice([
         {"argument": "zz"}, {"argument": 5}, {"argument": None}, {"argument": []}, {"reduction": "mean"}, {"reduction": []},
-        {"reduction": None}, {"frontier": "ab"}, {"frontier": {}}, {"frontier": 5}, {"frontier": [2, 1]}, {"frontier": [1, 1]},
+        {"reduction": None}, {"frontier": "ab"}, {"frontier": {}}, {"frontier": 5}, {"frontier": [2, 1, 2]}, {"frontier": [1, 1]},
         {"frontier": [0.5]}, {"frontier": [[0]]}, {"frontier": [False, 1]}, {"frontier": ["1"]}, {"frontier": [None]},
         {"frontier": [2**64]}, {"frontier": [float("nan")]}])
     return post(chance.choice(["/runs", "/runs?format=bytes", "/runs?format=%00"]), {"program": chance.choice(programs), **wrong}, 400, 422)

@@ -131,8 +131,11 @@ class Service:
         if text_of(asked, "program") not in self.programs:
             raise web.HTTPNotFound(text="no program has this name")
         program, argument = self.programs[asked["program"]], bytes.fromhex(asked.get("argument", ""))
-        frontier = asked.get("frontier")
-        words = (program, asked.get("reduction", "sum"), None if frontier is None else whole(frontier), argument)
+        frontier = None if asked.get("frontier") is None else whole(asked["frontier"])
+        # Each vertex once: so a run has no more edges than the graph.
+        if frontier and len(set(frontier)) < len(frontier):
+            raise ValueError("a frontier has no vertex twice")
+        words = (program, asked.get("reduction", "sum"), frontier, argument)
         with self.runs.time(), self.store.pin() as version:
             if program.bound * version.edges > MOST_INSTRUCTIONS:
                 raise web.HTTPUnprocessableEntity(text=f"the bound times the edges is more than {MOST_INSTRUCTIONS}")

@@ -199,6 +199,7 @@ class Service(unittest.TestCase):
 
     def test_bytes(self):
         self.client.told("POST", "/batches", {"inserts": [[0, 7], [2, 9]]})
+        self.assertEqual(self.client.told("POST", "/runs", {"program": "target", "frontier": [2, 1, 0]})[1]["values"], [9, 0, 7])
         status, heads, body = self.client.ask("POST", "/runs?format=bytes", {"program": "target", "frontier": [0, 1, 2]})
         self.assertEqual((status, heads["X-Version"], heads["X-Total"]), (200, "1", "16"))
         self.assertEqual(struct.unpack("<3Q", body), (7, 0, 9))
@@ -209,7 +210,7 @@ class Service(unittest.TestCase):
             ("/batches", b"{", 400), ("/batches", [1], 400), ("/batches", {"inserts": [[1]]}, 400), ("/batches", {"feed": "E"}, 400),
             ("/batches", {"inserts": [[0, VERTICES]]}, 422), ("/batches", {"inserts": [[0, "x"]]}, 400), ("/batches", b" " * (5 << 20), 413),
             ("/programs", {"name": "p", "text": "jmp x"}, 422), ("/programs", {"name": "p", "code": "zz"}, 400), ("/programs", {"name": 7}, 400),
-            ("/runs", {"program": "none"}, 404), ("/runs", {"program": "target", "frontier": [1, 0]}, 400),
+            ("/runs", {"program": "none"}, 404), ("/runs", {"program": "target", "frontier": [1, 0, 1]}, 400),
             ("/runs", {"program": "target", "argument": "00"}, 422), ("/runs", {"program": "target", "reduction": "mean"}, 400),
             ("/batches", b"[" * 100_000, 400), ("/batches", {"inserts": [[True, 1], [1, 1]]}, 400),
             ("/runs", {"program": "target", "frontier": [False, 1]}, 400), ("/programs", {"name": "p", "text": " " * 300_000}, 400),

@@ -19,6 +19,8 @@ from edgebpf.native import Store, Version
 from edgebpf.programs import Program, assemble, compile_c
 from edgebpf.store import Counts, Result, connect
 
+__version__ = "0.1.0"
+
 __all__ = [
     "ArgumentLength", "Closed", "Counts", "EpochsFull", "Error", "LogFull", "NoMemory", "Program", "Refused", "Result", "Store",
     "TooManyEdits", "TooManyNames", "Version", "VertexRange", "WrongText", "assemble", "compile_c", "connect",

@@ -1,4 +1,5 @@
-"""The library `libedgebpf.so` by cffi. A call releases the interpreter's lock, and takes the lock of each handle that it is given."""
+"""The library `libedgebpf.so` by cffi. A call releases the interpreter's lock. No handle is used by two calls at once: that of a store is
+used under its lock, and of a version or a program each thread has its own."""
 from __future__ import annotations
 
 import ctypes.util
@@ -8,6 +9,7 @@ import os
 import pathlib
 import subprocess
 import threading
+from collections.abc import Callable
 from typing import Any
 
 import numpy.typing as npt
@@ -22,38 +24,43 @@ DIST = HERE.parent.parent.parent.parent / "dist"
 NAME = "libedgebpf.so"
 DONE, NO_MEMORY, EMPTY = 0, 1, 2
 VERTEX_RANGE, TOO_MANY_EDITS, LOG_FULL, REFUSED, RECORD_LENGTH, CODE_LENGTH, ARGUMENT_LENGTH, WRONG_TEXT = 5, 6, 7, 10, 11, 12, 13, 15
-EPOCHS_FULL, TABLE_LENGTH = 17, 18
+NO_NEIGHBOUR, EPOCHS_FULL, TABLE_LENGTH = 16, 17, 18
 ERRORS: dict[int, tuple[type[Exception], str]] = {
     NO_MEMORY: (NoMemory, "there is no memory; nothing was changed"),
     EMPTY: (Closed, "it is closed"),
     VERTEX_RANGE: (VertexRange, "a vertex is not in the graph"),
     TOO_MANY_EDITS: (TooManyEdits, "a batch has at most 65,536 edits"),
     LOG_FULL: (LogFull, "4,096 batches were applied since the last rebase"),
+    NO_NEIGHBOUR: (IndexError, "the vertex has no neighbour at this place"),
     EPOCHS_FULL: (EpochsFull, "1,024 rebases were made"),
     RECORD_LENGTH: (ValueError, "a record has 16 to 256 bytes"),
     CODE_LENGTH: (ValueError, "code has 1 to 4,096 whole units of 8 bytes"),
     TABLE_LENGTH: (ValueError, "a table has at most 4,096 bytes"),
     ARGUMENT_LENGTH: (ArgumentLength, "the argument does not have the record's length less 16 bytes"),
 }
-# What bindings/c/edgebpf.h declares, as far as this package calls it. A slice's address is a number here.
+# What bindings/c/edgebpf.h declares, as far as this package calls it. A slice is two numbers here, its address and its length, and totals
+# are two, too.
 DECLARATIONS = """
 typedef struct { void *at; } handle;
 typedef struct { uint64_t added, removed, number; } change;
 typedef struct { uint64_t number, edges, epoch; uint32_t vertices; } info;
-typedef struct { uintptr_t at; size_t count; } slice;
 typedef struct { uint32_t bound, frames, cause, pc; } verdict;
 typedef struct { size_t length, line; uint32_t cause; } assembled;
-typedef struct { uint64_t edges, total; } totals;
 uint32_t edgebpf_store_new(uint32_t, handle *);
 uint32_t edgebpf_store_apply(handle *, uint8_t, const uint32_t *, size_t, const uint32_t *, size_t, const uint8_t *, size_t, change *);
 uint32_t edgebpf_store_rebase(handle *, uint64_t *);
 uint32_t edgebpf_store_pin(handle *, handle *);
+uint32_t edgebpf_version_share(handle *, handle *);
 uint32_t edgebpf_version_info(handle *, info *);
-uint32_t edgebpf_version_lend(handle *, uint32_t, slice *, size_t, size_t *);
+uint32_t edgebpf_version_degree(handle *, uint32_t, uint32_t *);
+uint32_t edgebpf_version_has_edge(handle *, uint32_t, uint32_t, uint32_t *);
+uint32_t edgebpf_version_neighbour(handle *, uint32_t, uint32_t, uint32_t *);
+uint32_t edgebpf_version_lend(handle *, uint32_t, size_t *, size_t, size_t *);
 uint32_t edgebpf_version_copy(handle *, uint64_t *, size_t, uint32_t *, size_t);
 uint32_t edgebpf_program_new(uint16_t, const uint8_t *, size_t, const uint8_t *, size_t, verdict *, handle *);
+uint32_t edgebpf_program_share(handle *, handle *);
 uint32_t edgebpf_assemble(const uint8_t *, size_t, uint8_t *, size_t, assembled *);
-uint32_t edgebpf_run(handle *, handle *, const uint8_t *, size_t, const uint32_t *, size_t, uint32_t, uint64_t *, size_t, totals *);
+uint32_t edgebpf_run(handle *, handle *, const uint8_t *, size_t, const uint32_t *, size_t, uint32_t, uint64_t *, size_t, uint64_t *);
 uint32_t edgebpf_numbers(handle *, handle *, const uint8_t *, size_t, uint64_t *, size_t);
 void edgebpf_close(handle *);
 """
@@ -128,13 +135,49 @@ def check(status: int) -> None:
 class Handle:
     """What the library hands out. It is let go with the last object that refers to it."""
 
-    __slots__ = ("at", "lock")
+    __slots__ = ("at",)
 
     def __init__(self) -> None:
         library = load()
-        self.at, self.lock = foreign().gc(new("handle *"), library.edgebpf_close), threading.Lock()
+        self.at = foreign().gc(new("handle *"), library.edgebpf_close)
 
 
-def numbers(of: str, values: npt.NDArray[Any]) -> tuple[Any, int]:
-    """A numpy array as the library wants it: where it lies, and how many values it has. `of` is the C type of one."""
-    return foreign().from_buffer(kind(f"{of}[]"), values), len(values)
+class Shared:
+    """A thing of the library, with a handle for each thread that uses it, so that no call waits for another. The handles of a thread are let
+    go when it ends, and all with this object. `share` is the library's call that makes one handle of another."""
+
+    __slots__ = ("first", "_share", "_lock", "_own")
+
+    def __init__(self, first: Handle, share: Callable[[Any, Any], int]) -> None:
+        self.first, self._share, self._lock, self._own = first, share, threading.Lock(), threading.local()
+
+    def another(self) -> Handle:
+        """A new handle. Of the first one handles are made, and nothing else is asked."""
+        made = Handle()
+        with self._lock:
+            check(self._share(self.first.at, made.at))
+        return made
+
+    def own(self) -> Handle:
+        """The handle of this thread."""
+        try:
+            return self._own.handle  # type: ignore[no-any-return]
+        except AttributeError:
+            self._own.handle = made = self.another()
+            return made
+
+
+class Calls:
+    """What the calls that are made most often need, looked up once."""
+
+    def __init__(self) -> None:
+        library, types = load(), foreign()
+        self.new, self.buffer = types.new, types.from_buffer
+        self.bytes, self.words, self.numbers = kind("uint8_t[]"), kind("uint32_t[]"), kind("uint64_t[]")
+        self.word, self.totals, self.sizes = kind("uint32_t *"), kind("uint64_t[2]"), kind("size_t[]")
+        self.run, self.lend = library.edgebpf_run, library.edgebpf_version_lend
+
+
+@functools.cache
+def calls() -> Calls:
+    return Calls()

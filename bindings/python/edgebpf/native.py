@@ -1,10 +1,10 @@
 """A store in this process, over `libedgebpf.so`, and its versions."""
 from __future__ import annotations
 
+import copy
 import ctypes
 import threading
 from collections.abc import Callable
-from operator import index
 from typing import Any
 
 import numpy as np
@@ -12,14 +12,15 @@ import numpy.typing as npt
 
 from edgebpf import library
 from edgebpf.errors import Closed, TooManyEdits, VertexRange
-from edgebpf.programs import Program
-from edgebpf.store import (
-    FEEDS, MOST_EDITS, MOST_VERTICES, Counts, Edges, Numbers, Result, Vertices, argument_of, ends_of, frozen, vertices_of, whole,
+from edgebpf.given import (
+    MOST_VERTICES, REDUCTIONS, Edges, Numbers, Vertices, ends_of, feed_of, frozen, reduction_of, vertex_count, vertex_of, vertices_of, whole,
 )
+from edgebpf.programs import Program, argument_of
+from edgebpf.store import MOST_EDITS, Counts, Result, described
 
-NUMBERS = {"sum": 0, "min": 1, "max": 2}
-LEAST_ROOM = 64
-making = threading.Lock()
+# Most lists lie in one slice. `lend` fills the room if there may be more.
+LEAST_ROOM, MORE_ROOM = 2, 64
+U32, U64 = np.dtype(np.uint32), np.dtype(np.uint64)
 
 
 def joined(first: Vertices, second: Vertices) -> Vertices:
@@ -28,12 +29,10 @@ def joined(first: Vertices, second: Vertices) -> Vertices:
 
 
 def handle_of(program: Program) -> library.Handle:
-    """The library's handle of a program, which is verified there at its first use."""
+    """This thread's handle of a program."""
     if not isinstance(program, Program):
         raise TypeError("a program is made by Program, assemble or compile_c")
-    with making:
-        handle = program._handle or program._verify()
-    return handle
+    return (program._shared or program._handles()).own()
 
 
 class Memory(ctypes.c_uint8 * (1 << 47)):  # type: ignore[misc]
@@ -49,25 +48,17 @@ def memory_of(handle: library.Handle) -> memoryview:
     return memoryview(memory).toreadonly()
 
 
-class Room:
-    """Where the library writes slices: the address and the length of each, and how many they are."""
-
-    def __init__(self, count: int) -> None:
-        self.count, self.slices, self.lent = count, library.foreign().new("slice[]", count), library.foreign().new("size_t *")
-
-
 class Store:
     """A graph in this process, without an edge at first. Batches and runs have one worker; it may be used by several threads, which take
     turns, and is a context manager. vertices: 1 to 1,048,576."""
 
     def __init__(self, vertices: int) -> None:
-        vertices = whole(vertices)
-        if not 1 <= vertices <= MOST_VERTICES:
-            raise ValueError(f"a graph has 1 to {MOST_VERTICES} vertices")
+        vertices = vertex_count(vertices)
         handle = library.Handle()
         library.check(library.load().edgebpf_store_new(vertices, handle.at))
         self.vertices = vertices
         self._handle: library.Handle | None = handle
+        self._lock = threading.Lock()
 
     def _open(self) -> library.Handle:
         if self._handle is None:
@@ -80,18 +71,17 @@ class Store:
         inserts, removes: pairs of arrays (sources, targets), each of whole numbers below `vertices`. Insertions are applied
         before removals. Raises `TooManyEdits`, `VertexRange`, `LogFull` and `NoMemory`; then the store is as it was.
         """
-        if feed not in FEEDS:
-            raise ValueError("a feed is A, B, C or D")
-        handle, change = self._open(), library.new("change *")
+        number, handle, change = feed_of(feed), self._open(), library.new("change *")
         new, old = ends_of(inserts, self.vertices), ends_of(removes, self.vertices)
         sources, targets = joined(new[0], old[0]), joined(new[1], old[1])
         if len(sources) > MOST_EDITS:
             raise TooManyEdits(f"{len(sources)} edits; a batch has at most {MOST_EDITS}")
         marks = np.zeros(len(sources), np.uint8)
         marks[len(new[0]):] = 1
-        arrays = *library.numbers("uint32_t", sources), *library.numbers("uint32_t", targets), *library.numbers("uint8_t", marks)
-        with handle.lock:
-            library.check(library.load().edgebpf_store_apply(handle.at, FEEDS.index(feed), *arrays, change))
+        calls, count = library.calls(), len(sources)
+        arrays = calls.buffer(calls.words, sources), count, calls.buffer(calls.words, targets), count, calls.buffer(calls.bytes, marks), count
+        with self._lock:
+            library.check(library.load().edgebpf_store_apply(handle.at, number, *arrays, change))
         return Counts(change.number, change.added, change.removed)
 
     def rebase(self) -> int:
@@ -99,16 +89,16 @@ class Store:
         numbers begin again: there is room for 4,096 batches more. The memory of the forgotten batches is free once no older version is
         open. Raises `EpochsFull` after 1,024 rebases, and `NoMemory`; then the store is as it was."""
         handle, epoch = self._open(), library.new("uint64_t *")
-        with handle.lock:
+        with self._lock:
             library.check(library.load().edgebpf_store_rebase(handle.at, epoch))
         return int(epoch[0])
 
     def pin(self) -> Version:
         """The last version. It stays as it is while batches come."""
         handle, pin = self._open(), library.Handle()
-        with handle.lock:
+        with self._lock:
             library.check(library.load().edgebpf_store_pin(handle.at, pin.at))
-        return Version(pin)
+        return Version(library.Shared(pin, library.load().edgebpf_version_share))
 
     def close(self) -> None:
         """Drops the store; its versions stay. May be called twice."""
@@ -123,100 +113,151 @@ class Store:
 
 class Version:
     """A version of a store's graph. `epoch` is how many rebases there were before it, `number` how many batches there were since then,
-    `vertices` and `edges` how large it is. Its memory is freed once it is closed and no view of it is left."""
+    `vertices` and `edges` how large it is, and `len` gives the vertices. Threads may use it at the same time. Its memory is freed once it
+    and its shares are closed and no view of it is left."""
 
-    def __init__(self, handle: library.Handle) -> None:
+    def __init__(self, shared: library.Shared) -> None:
         info = library.new("info *")
-        self._handle: library.Handle | None = handle
+        self._shared: library.Shared | None = shared
         self._csr: tuple[npt.NDArray[np.int64], Vertices] | None = None
-        self._lend = library.load().edgebpf_version_lend
-        # Made at the first question for a vertex's targets.
-        self._room: Room | None = None
+        self._calls = library.calls()
+        # Made by the first question for a vertex's targets.
         self._memory: memoryview | None = None
-        library.check(library.load().edgebpf_version_info(handle.at, info))
-        self.epoch, self.number, self.vertices, self.edges = info.epoch, info.number, info.vertices, info.edges
+        library.check(library.load().edgebpf_version_info(shared.first.at, info))
+        self.epoch, self.number = int(info.epoch), int(info.number)
+        self.vertices, self.edges = int(info.vertices), int(info.edges)
 
-    def _open(self) -> library.Handle:
-        if self._handle is None:
+    def _open(self) -> library.Shared:
+        shared = self._shared
+        if shared is None:
             raise Closed("the version is closed")
-        return self._handle
+        return shared
+
+    def _at(self) -> Any:
+        """What the library knows this thread's version by."""
+        return self._open().own().at
+
+    def share(self) -> Version:
+        """The same version once more, which stays when this one is closed. Threads need none: each of them has a handle of its own."""
+        other = copy.copy(self)
+        other._shared = library.Shared(self._open().another(), library.load().edgebpf_version_share)
+        return other
+
+    def __len__(self) -> int:
+        return self.vertices
+
+    def __repr__(self) -> str:
+        return described(self, self._shared is None)
 
     def run(
         self, program: Program, reduction: str = "sum", frontier: npt.ArrayLike | None = None, argument: bytes = b"",
     ) -> Result:
         """Runs a program for each edge of some vertices, and reduces the numbers.
 
-        reduction: "sum" (modulo 2^64), "min" or "max". frontier: an ascending array of vertices, or None for all.
-        argument: as many bytes as the program's record has beyond 16.
+        reduction: "sum" (modulo 2^64), "min" or "max". frontier: an array of vertices in any order, each of which counts as often
+        as it stands there, or None for all. argument: as many bytes as the program's record has beyond 16.
         """
-        if reduction not in NUMBERS:
-            raise ValueError("a reduction is sum, min or max")
-        number, totals = NUMBERS[reduction], library.new("totals *")
-        chosen = np.arange(self.vertices, dtype=np.uint32) if frontier is None else vertices_of(frontier, self.vertices)
-        if np.any(chosen[1:] <= chosen[:-1]):
-            raise ValueError("a frontier ascends, and has no vertex twice")
-        values = np.empty(len(chosen), np.uint64)
-        arrays = *library.numbers("uint32_t", np.ascontiguousarray(chosen)), number, *library.numbers("uint64_t", values), totals
-        self._ask(library.load().edgebpf_run, program, argument, arrays)
-        return Result(values, totals.edges, totals.total)
+        number = REDUCTIONS[reduction_of(reduction)]
+        chosen = np.arange(self.vertices, dtype=U32) if frontier is None else vertices_of(frontier, self.vertices, "frontier")
+        if len(chosen) > MOST_VERTICES:
+            raise ValueError(f"a frontier has at most {MOST_VERTICES} vertices, not {len(chosen)}")
+        calls, count = self._calls, len(chosen)
+        values, totals = np.empty(count, U64), calls.new(calls.totals)
+        arrays = calls.buffer(calls.words, chosen), count, number, calls.buffer(calls.numbers, values), count, totals
+        self._ask(calls.run, program, argument, arrays)
+        return Result(values, totals[0], totals[1])
 
     def numbers(self, program: Program, argument: bytes = b"") -> Numbers:
         """The number of each edge, a uint64 array in the order of `csr`."""
-        numbers = np.empty(self.edges, np.uint64)
-        self._ask(library.load().edgebpf_numbers, program, argument, library.numbers("uint64_t", numbers))
+        calls, numbers = self._calls, np.empty(self.edges, U64)
+        self._ask(library.load().edgebpf_numbers, program, argument, (calls.buffer(calls.numbers, numbers), self.edges))
         return numbers
 
     def csr(self) -> tuple[npt.NDArray[np.int64], Vertices]:
         """All edges: `starts`, an int64 array of `vertices` + 1 places, and `targets`, a uint32 array, ascending for each source. Both
         are read-only, for `scipy.sparse.csr_array((ones, targets, starts))`."""
-        handle = self._open()
+        at = self._at()
         if self._csr is None:
-            starts, targets = np.empty(self.vertices + 1, np.uint64), np.empty(self.edges, np.uint32)
-            with handle.lock:
-                arrays = *library.numbers("uint64_t", starts), *library.numbers("uint32_t", targets)
-                library.check(library.load().edgebpf_version_copy(handle.at, *arrays))
+            calls, starts, targets = self._calls, np.empty(self.vertices + 1, U64), np.empty(self.edges, U32)
+            arrays = calls.buffer(calls.numbers, starts), len(starts), calls.buffer(calls.words, targets), len(targets)
+            library.check(library.load().edgebpf_version_copy(at, *arrays))
             self._csr = frozen(starts).view(np.int64), frozen(targets)
         return self._csr
 
+    def degree(self, vertex: int) -> int:
+        """How many targets a vertex has."""
+        count = library.new("uint32_t *")
+        library.check(library.load().edgebpf_version_degree(self._at(), vertex_of(vertex, self.vertices), count))
+        return int(count[0])
+
+    def degrees(self, frontier: npt.ArrayLike | None = None) -> Vertices:
+        """How many targets each vertex of a frontier has, or of the graph, as a uint32 array."""
+        if frontier is None:
+            return np.diff(self.csr()[0]).astype(U32)
+        chosen = vertices_of(frontier, self.vertices, "frontier").tolist()
+        ask, at, count = library.load().edgebpf_version_degree, self._at(), library.new("uint32_t *")
+        degrees = []
+        for vertex in chosen:
+            library.check(ask(at, vertex, count))
+            degrees.append(count[0])
+        return np.array(degrees, U32)
+
+    def has_edge(self, source: int, target: int) -> bool:
+        """Whether there is an edge from `source` to `target`."""
+        answer = library.new("uint32_t *")
+        ends = vertex_of(source, self.vertices, "source"), vertex_of(target, self.vertices, "target")
+        library.check(library.load().edgebpf_version_has_edge(self._at(), *ends, answer))
+        return bool(answer[0])
+
+    def neighbour(self, vertex: int, place: int) -> int:
+        """The target at a place, from 0, of a vertex. Raises `IndexError` if the vertex has none there."""
+        found, number, asked = library.new("uint32_t *"), vertex_of(vertex, self.vertices), whole(place, "place")
+        at = self._at()
+        # A place that is no number of 32 bits is past all, too.
+        status = library.NO_NEIGHBOUR
+        if 0 <= asked < self.vertices:
+            status = library.load().edgebpf_version_neighbour(at, number, asked, found)
+        if status == library.NO_NEIGHBOUR:
+            raise IndexError(f"vertex {number} has no neighbour at place {asked}")
+        library.check(status)
+        return int(found[0])
+
     def slices(self, vertex: int) -> list[Vertices]:
         """The read-only arrays in which the targets of a vertex lie, ascending. They are not copied, and keep the version."""
-        if not 0 <= vertex < self.vertices:
-            raise VertexRange(f"a vertex is not below {self.vertices}")
-        handle = self._open()
-        with handle.lock:
-            room = self._room or Room(LEAST_ROOM)
-            while True:
-                self._room = room
-                library.check(self._lend(handle.at, vertex, room.slices, room.count, room.lent))
-                if room.lent[0] < room.count:
-                    return [self._view(handle, room.slices[place]) for place in range(room.lent[0])]
-                room = Room(4 * room.count)
+        room, lent, count = MORE_ROOM, *self._lent(vertex, MORE_ROOM)
+        while count == room:
+            room *= 4
+            lent, count = self._lent(vertex, room)
+        return [self._view(lent[2 * place], lent[2 * place + 1]) for place in range(count)]
 
-    def _view(self, handle: library.Handle, one: Any) -> Vertices:
+    def _lent(self, vertex: int, room: int) -> tuple[Any, int]:
+        """The address and the length of each slice, one after another, and how many slices these are."""
+        calls = self._calls
+        lent = calls.new(calls.sizes, 2 * room + 1)
+        status = calls.lend(self._at(), vertex_of(vertex, self.vertices), lent, room, lent + 2 * room)
+        if status:
+            library.check(status)
+        return lent, lent[2 * room]
+
+    def _view(self, at: int, count: int) -> Vertices:
         """The array of a slice."""
         if self._memory is None:
-            self._memory = memory_of(handle)
-        return np.frombuffer(self._memory, np.uint32, one.count, one.at)
+            self._memory = memory_of(self._open().first)
+        return np.frombuffer(self._memory, U32, count, at)
 
     def neighbours(self, vertex: int) -> Vertices:
         """The targets of a vertex, ascending, as a read-only uint32 array: a view where they lie in one slice, else a copy."""
-        vertex, handle, room = index(vertex), self._handle, self._room
-        if handle is not None and room is not None and 0 <= vertex < self.vertices:
-            # Most lists lie in one slice.
-            with handle.lock:
-                library.check(self._lend(handle.at, vertex, room.slices, room.count, room.lent))
-                if room.lent[0] == 1:
-                    return self._view(handle, room.slices[0])
-        slices = self.slices(vertex)
-        if len(slices) == 1:
-            return slices[0]
-        whole = np.concatenate(slices) if slices else np.empty(0, np.uint32)
-        whole.flags.writeable = False
-        return whole
+        lent, count = self._lent(vertex, LEAST_ROOM)
+        if count == 1:
+            return self._view(lent[0], lent[1])
+        slices = self.slices(vertex) if count else []
+        copied: Vertices = np.concatenate(slices) if slices else np.empty(0, U32)
+        copied.flags.writeable = False
+        return copied
 
     def close(self) -> None:
         """Gives the version up. Views of it stay. May be called twice."""
-        self._handle = None
+        self._shared = None
 
     def __enter__(self) -> Version:
         return self
@@ -225,7 +266,8 @@ class Version:
         self.close()
 
     def _ask(self, call: Callable[..., int], program: Program, argument: bytes, arrays: tuple[Any, ...]) -> None:
-        handle, code = self._open(), handle_of(program)
-        given = argument_of(program, argument)
-        with handle.lock, code.lock:
-            library.check(call(handle.at, code.at, given, len(given), *arrays))
+        """One call of a program over this version; `arrays` are its further arguments."""
+        at, code, given = self._at(), handle_of(program), argument_of(program, argument)
+        status = call(at, code.at, given, len(given), *arrays)
+        if status:
+            library.check(status)

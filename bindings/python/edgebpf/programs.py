@@ -1,16 +1,20 @@
 """Programs: BPF code or text that the verifier has accepted."""
 from __future__ import annotations
 
+import copy
 import os
 import pathlib
 import re
 import shutil
 import struct
 import subprocess
+import threading
 from collections.abc import Sequence
+from typing import Any
 
-from edgebpf import library
-from edgebpf.errors import STATEMENT_IN_COMMENT, Error, Refused, WrongText
+from edgebpf import library, stacks
+from edgebpf.errors import STATEMENT_IN_COMMENT, ArgumentLength, Error, Refused, WrongText
+from edgebpf.given import bytes_of, whole
 
 EDGE_BYTES = 16
 MOST_RECORD = 256
@@ -54,12 +58,12 @@ class Program:
     code: bytes of RFC 9669 instructions, in units of 8. record: the length of the record of each run, 16 to 256 bytes.
     The argument of a run has the bytes from 16 on. table: up to 4,096 bytes, which each run reads from the address that `r3`
     holds when it begins; an array gives the bytes of its items, and without a byte there is no table. `bound` is the greatest
-    number of instructions that a run executes, and `frames` the greatest number of functions that are live at once. Raises
-    `Refused`.
+    number of instructions that a run executes, and `frames` the greatest number of functions that are live at once. Threads may
+    run it at the same time. Raises `Refused`.
     """
 
     def __init__(self, code: bytes, record: int = EDGE_BYTES, table: bytes = b"") -> None:
-        self._take(bytes(code), None, record, table)
+        self._take(bytes_of(code, "code"), None, record, table)
 
     @classmethod
     def _of_text(cls, text: str, record: int, table: bytes) -> Program:
@@ -75,16 +79,19 @@ class Program:
         return cls(image[IMAGE.size:end], record, image[end:])
 
     def _take(self, code: bytes | None, text: str | None, record: int, table: bytes) -> None:
+        record = whole(record, "record")
         if not EDGE_BYTES <= record <= MOST_RECORD:
             raise ValueError(f"a record has {EDGE_BYTES} to {MOST_RECORD} bytes, not {record}")
         if code is not None and (len(code) % UNIT or not UNIT <= len(code) <= MOST_UNITS * UNIT):
             raise ValueError(WRONG_CODE)
-        self.code, self.text, self.record, self.table = code, text, record, memoryview(table).tobytes()
+        self.code, self.text, self.record, self.table = code, text, record, bytes_of(table, "table")
         if len(self.table) > MOST_TABLE:
             raise ValueError(f"a table has at most {MOST_TABLE} bytes, not {len(self.table)}")
-        self._handle: library.Handle | None = None
+        self._shared: library.Shared | None = None
+        # By this a process knows the program, and each share of it.
+        self._same, self._lock = object(), threading.Lock()
         if library.path():
-            self._verify()
+            self._handles()
             return
         if text is not None and self.table:
             raise Error(f"the assembler takes a table in this process alone, and {library.NAME} or cffi is not there: pass the code")
@@ -101,16 +108,38 @@ class Program:
         else:
             raise Error(f"edgebpf could not verify the program: {run.stderr.decode().strip() or ' '.join(words)}")
 
-    def _verify(self) -> library.Handle:
-        """Verifies the program by the library, and returns its handle."""
+    def share(self) -> Program:
+        """The same program once more, which is not verified again and does not end with this one. Threads need none: each of them has a
+        handle of its own."""
+        other = copy.copy(self)
+        if self._shared is not None:
+            other._shared = library.Shared(self._shared.another(), self._sharing)
+        return other
+
+    def __repr__(self) -> str:
+        return f"<edgebpf.Program: records of {self.record} bytes, a table of {len(self.table)}, bound {self.bound}, frames {self.frames}>"
+
+    def _handles(self) -> library.Shared:
+        """The library's handles of the program, which is verified there at the first use."""
+        with self._lock:
+            if self._shared is None:
+                self._shared = library.Shared(self._verified(), self._sharing)
+            return self._shared
+
+    @staticmethod
+    def _sharing(handle: Any, out: Any) -> int:
+        return int(stacks.call(library.load().edgebpf_program_share, handle, out))
+
+    def _verified(self) -> library.Handle:
+        """Verifies the program by the library."""
         code, verdict = self._bytes(), library.new("verdict *")
         handle = library.Handle()
         given = code, len(code), self.table, len(self.table)
-        status = library.load().edgebpf_program_new(self.record, *given, verdict, handle.at)
+        status = stacks.call(library.load().edgebpf_program_new, self.record, *given, verdict, handle.at)
         if status == library.REFUSED:
             raise Refused(verdict.cause, verdict.pc, self)
         library.check(status)
-        self._handle, self.bound, self.frames = handle, verdict.bound, verdict.frames
+        self.bound, self.frames = verdict.bound, verdict.frames
         return handle
 
     def _bytes(self) -> bytes:
@@ -128,7 +157,7 @@ class Program:
     def _lines(self, name: str) -> bytes:
         """The lines of a script that load the program under a name. They have the code of a text that the library assembled: some of its
         lines may be too long for a script, and a process ends at such a line."""
-        code = self._bytes() if self._handle else self.code
+        code = self._bytes() if self._shared else self.code
         if code is not None and self.table:
             front = IMAGE.pack(IMAGE_BEGINS, self.record, len(code) // UNIT, len(self.table))
             return f"image {name} {(front + code + self.table).hex()}\n".encode()
@@ -142,6 +171,14 @@ class Program:
         given = None if self.text is None else self.text + "\n"
         run = subprocess.run(words, input=given, capture_output=True, text=True)
         return run.stdout or run.stderr
+
+
+def argument_of(program: Program, argument: bytes) -> bytes:
+    """The bytes of an argument, if they are as many as the program's record has beyond 16."""
+    given, wanted = bytes_of(argument, "argument"), program.record - EDGE_BYTES
+    if len(given) != wanted:
+        raise ArgumentLength(f"the argument has {wanted} bytes, not {len(given)}")
+    return given
 
 
 def lines_of(text: str | Sequence[str]) -> list[str]:

@@ -1,11 +1,11 @@
 """A store in a process of its own, its versions, and what runs give."""
 from __future__ import annotations
 
+import copy
 import dataclasses
 import functools
 import io
 import itertools
-import operator
 import subprocess
 import threading
 from collections.abc import Iterator, Sequence
@@ -14,24 +14,18 @@ from typing import IO, Any, cast
 import numpy as np
 import numpy.typing as npt
 
-from edgebpf.errors import ArgumentLength, Closed, EpochsFull, Error, LogFull, NoMemory, TooManyEdits, TooManyNames, VertexRange
-from edgebpf.programs import EDGE_BYTES, Program, command
+from edgebpf.errors import Closed, EpochsFull, Error, LogFull, NoMemory, TooManyEdits, TooManyNames
+from edgebpf.given import FEEDS, Edges, Numbers, Vertices, ends_of, feed_of, frozen, reduction_of, vertex_count, vertex_of, vertices_of, whole
+from edgebpf.programs import Program, argument_of, command
 
-MOST_VERTICES = 1 << 20
 MOST_EDITS = 65_536
 MOST_BATCHES = 4_096
 MOST_EPOCHS = 1_024
 MOST_NAMES = 256
-FEEDS = ("A", "B", "C", "D")
 # A line of a script has at most 80,000 bytes; the vertices of a run get what its other words leave.
 FRONTIER_BYTES = 78_000
 REDUCTIONS: dict[str, tuple[int, Any]] = {"sum": (0, np.add), "min": (2**64 - 1, np.minimum), "max": (0, np.maximum)}
 CHUNK = 1 << 20
-
-# The sources and the targets of some edges, numbers of 64 bits, and vertices as the library has them.
-Edges = tuple[npt.ArrayLike, npt.ArrayLike]
-Numbers = npt.NDArray[np.uint64]
-Vertices = npt.NDArray[np.uint32]
 
 
 @dataclasses.dataclass(frozen=True)
@@ -54,44 +48,10 @@ class Result:
     total: int
 
 
-def vertices_of(values: npt.ArrayLike, count: int) -> Vertices:
-    """An array of vertices as uint32, if all are in the graph."""
-    array = np.asarray(values)
-    if array.ndim != 1 or (array.size and array.dtype.kind not in "iu"):
-        raise TypeError("vertices are an array of whole numbers with one dimension")
-    # A negative number becomes one of 2^63 and more.
-    if array.size and array.astype(np.uint64, copy=False).max() >= count:
-        raise VertexRange(f"a vertex is not below {count}")
-    return array.astype(np.uint32)
-
-
-def ends_of(edges: Edges, count: int) -> tuple[Vertices, Vertices]:
-    """The sources and the targets of some edges, as many of each, if all are in the graph."""
-    if len(edges) != 2:
-        raise ValueError("edges are a pair of arrays, their sources and their targets")
-    sources, targets = (vertices_of(ends, count) for ends in edges)
-    if len(sources) != len(targets):
-        raise ValueError("there are as many targets as sources")
-    return sources, targets
-
-
-def argument_of(program: Program, argument: bytes) -> bytes:
-    """The bytes of an argument, if they are as many as the program's record has beyond 16. An array gives the bytes of its items."""
-    given, wanted = memoryview(argument).tobytes(), program.record - EDGE_BYTES
-    if len(given) != wanted:
-        raise ArgumentLength(f"the argument has {wanted} bytes, not {len(given)}")
-    return given
-
-
-def whole(number: int) -> int:
-    """A number that is whole by its type, as a place in a list has to be."""
-    return int(operator.index(number))
-
-
-def frozen(array: npt.NDArray[Any]) -> npt.NDArray[Any]:
-    """A view of an array that nobody can make writable."""
-    array.flags.writeable = False
-    return array.view()
+def described(version: Any, is_closed: bool) -> str:
+    """What `repr` says of a version."""
+    about = f"epoch {version.epoch}, number {version.number}, {version.vertices} vertices, {version.edges} edges"
+    return f"<edgebpf.Version: {about}{', closed' if is_closed else ''}>"
 
 
 def edit_lines(sign: str, edges: Edges, count: int) -> list[str]:
@@ -179,7 +139,7 @@ class Store:
         self._pins, self._names = 0, itertools.count()
         # The last pin: its name, epoch, number and edges.
         self._last: tuple[str, int, int, int] | None = None
-        self._programs: dict[Program, str] = {}
+        self._programs: dict[object, str] = {}
         process.ask(f"graph {vertices}\n".encode())
 
     def batch(self, feed: str = "A", inserts: Edges = ((), ()), removes: Edges = ((), ())) -> Counts:
@@ -188,8 +148,7 @@ class Store:
         inserts, removes: pairs of arrays (sources, targets), each of whole numbers below `vertices`. Insertions are applied
         before removals. Raises `TooManyEdits`, `VertexRange` and `LogFull`; then nothing was published.
         """
-        if feed not in FEEDS:
-            raise ValueError("a feed is A, B, C or D")
+        feed = FEEDS[feed_of(feed)]
         lines = edit_lines("+", inserts, self.vertices) + edit_lines("-", removes, self.vertices)
         if len(lines) > MOST_EDITS:
             raise TooManyEdits(f"{len(lines)} edits; a batch has at most {MOST_EDITS}")
@@ -229,15 +188,15 @@ class Store:
         if not isinstance(program, Program):
             raise TypeError("a program is made by Program, assemble or compile_c")
         with self._turn:
-            if program not in self._programs:
+            if program._same not in self._programs:
                 if len(self._programs) >= MOST_NAMES:
                     raise TooManyNames(f"the process keeps at most {MOST_NAMES} programs")
                 name = f"p{next(self._names)}"
                 words, _ = self._process.ask(program._lines(name))
                 if words[0] != "program":
                     raise Error(f"edgebpf did not load the program: {' '.join(words)}")
-                self._programs[program] = name
-            return self._programs[program]
+                self._programs[program._same] = name
+            return self._programs[program._same]
 
     def close(self) -> None:
         """Ends the process, and with it the graph and its versions. May be called twice."""
@@ -252,7 +211,7 @@ class Store:
 
 class Version:
     """A version of a store's graph. `epoch` is how many rebases there were before it, `number` how many batches there were since then,
-    `vertices` and `edges` how large it is."""
+    `vertices` and `edges` how large it is, and `len` gives the vertices."""
 
     def __init__(self, store: Store, name: str, epoch: int, number: int, edges: int) -> None:
         self._store, self._name, self.epoch, self.number, self.edges = store, name, epoch, number, edges
@@ -268,14 +227,12 @@ class Version:
         reduction: "sum" (modulo 2^64), "min" or "max". frontier: an ascending array of vertices, or None for all.
         argument: as many bytes as the program's record has beyond 16.
         """
-        if reduction not in REDUCTIONS:
-            raise ValueError("a reduction is sum, min or max")
-        start, combine = REDUCTIONS[reduction]
+        start, combine = REDUCTIONS[reduction_of(reduction)]
         digits = self._argument(program, argument)
         if frontier is None:
             values, edges, total = self._part(program, reduction, digits, "")
             return Result(self._filled(np.arange(self.vertices, dtype=np.uint32), values, start), edges, total)
-        chosen = vertices_of(frontier, self.vertices)
+        chosen = vertices_of(frontier, self.vertices, "frontier")
         if np.any(chosen[1:] <= chosen[:-1]):
             raise ValueError("a frontier ascends, and has no vertex twice")
         found, edges, total = [np.empty((0, 2), np.uint64)], 0, start
@@ -292,8 +249,7 @@ class Version:
     def csr(self) -> tuple[npt.NDArray[np.int64], Vertices]:
         """All edges: `starts`, an int64 array of `vertices` + 1 places, and `targets`, a uint32 array, ascending for each source. Both
         are read-only, for `scipy.sparse.csr_array((ones, targets, starts))`."""
-        if self._is_closed:
-            raise Closed("the version is closed")
+        self._open()
         if self._csr is None:
             edges = self._list(zero_program(), b"")
             degrees = np.bincount(edges[:, 0].astype(np.int64), minlength=self.vertices)
@@ -303,11 +259,46 @@ class Version:
         return self._csr
 
     def neighbours(self, vertex: int) -> Vertices:
-        """The targets of a vertex, ascending: a read-only uint32 view of `csr`, which the first call makes."""
-        if not 0 <= vertex < self.vertices:
-            raise VertexRange(f"a vertex is not below {self.vertices}")
-        starts, targets = self.csr()
-        return targets[starts[vertex]:starts[vertex + 1]]
+        """The targets of a vertex, ascending: a read-only uint32 view of `csr`, which the first question for edges makes."""
+        number, (starts, targets) = vertex_of(vertex, self.vertices), self.csr()
+        return targets[starts[number]:starts[number + 1]]
+
+    def degree(self, vertex: int) -> int:
+        """How many targets a vertex has."""
+        return len(self.neighbours(vertex))
+
+    def degrees(self, frontier: npt.ArrayLike | None = None) -> Vertices:
+        """How many targets each vertex of a frontier has, or of the graph, as a uint32 array."""
+        degrees = np.diff(self.csr()[0]).astype(np.uint32)
+        return degrees if frontier is None else degrees[vertices_of(frontier, self.vertices, "frontier")]
+
+    def has_edge(self, source: int, target: int) -> bool:
+        """Whether there is an edge from `source` to `target`."""
+        own, wanted = self.neighbours(vertex_of(source, self.vertices, "source")), vertex_of(target, self.vertices, "target")
+        place = int(np.searchsorted(own, wanted))
+        return place < len(own) and int(own[place]) == wanted
+
+    def neighbour(self, vertex: int, place: int) -> int:
+        """The target at a place, from 0, of a vertex. Raises `IndexError` if the vertex has none there."""
+        own, asked = self.neighbours(vertex), whole(place, "place")
+        if not 0 <= asked < len(own):
+            raise IndexError(f"vertex {vertex} has no neighbour at place {asked}")
+        return int(own[asked])
+
+    def share(self) -> Version:
+        """The same version once more, which stays when this one is closed."""
+        self._open()
+        return copy.copy(self)
+
+    def __len__(self) -> int:
+        return self.vertices
+
+    def __repr__(self) -> str:
+        return described(self, self._is_closed)
+
+    def _open(self) -> None:
+        if self._is_closed:
+            raise Closed("the version is closed")
 
     def close(self) -> None:
         """Gives the version up: no run is made on it from now on. The process keeps it until the store is closed."""
@@ -320,8 +311,7 @@ class Version:
         self.close()
 
     def _argument(self, program: Program, argument: bytes) -> str:
-        if self._is_closed:
-            raise Closed("the version is closed")
+        self._open()
         if not isinstance(program, Program):
             raise TypeError("a program is made by Program, assemble or compile_c")
         return argument_of(program, argument).hex() or "-"
@@ -375,9 +365,7 @@ def connect(vertices: int, workers: int = 1, program: str | None = None) -> Stor
     vertices: 1 to 1,048,576. workers: 1 to 16 threads that apply batches and make runs. program: the path of `edgebpf`; by default the
     variable EDGEBPF, the checkout's launcher, or what is on PATH.
     """
-    vertices, workers = whole(vertices), whole(workers)
-    if not 1 <= vertices <= MOST_VERTICES:
-        raise ValueError(f"a graph has 1 to {MOST_VERTICES} vertices")
+    vertices, workers = vertex_count(vertices), whole(workers, "workers")
     if not 1 <= workers <= 16:
         raise ValueError("there are 1 to 16 workers")
     return Store(Process([program or command("edgebpf"), "--workers", str(workers)]), vertices)

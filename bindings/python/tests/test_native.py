@@ -2,6 +2,7 @@
 import gc
 import os
 import pathlib
+import subprocess
 import sys
 import tempfile
 import threading
@@ -10,7 +11,7 @@ import unittest.mock
 
 sys.path.insert(0, str(pathlib.Path(__file__).resolve().parent))
 import test_package
-from test_package import TARGET, edgebpf, np, told
+from test_package import FOLDER, TARGET, edgebpf, np, told
 
 
 @unittest.skipIf(np is None, "not there: numpy")
@@ -73,28 +74,156 @@ class Native(test_package.Package):
             other.batch("A", (np.zeros(700, int), np.arange(700) + 1))
         self.assertEqual(view.tolist(), list(range(700)))
 
-    def test_locks_and_closing(self):
-        """Each call is made while the locks of its handles are taken, and what is let go is closed."""
-        store, target, asked = self.store(4), edgebpf.assemble(TARGET), []
-        version, real = store.pin(), edgebpf.library.load()
-        handles = store._handle, version._handle, target._handle
+    def watched(self, watch):
+        """Until the test ends each call of the library goes through `watch`, with its name, the call itself and what it is given."""
+        real = edgebpf.library.load()
 
         class Watching:
             def __getattr__(self, name):
-                def call(*given):
-                    asked.append((name.removeprefix("edgebpf_"), [handle.lock.locked() for handle in handles]))
-                    return getattr(real, name)(*given)
-                return call
+                return lambda *given: watch(name.removeprefix("edgebpf_"), getattr(real, name), given)
 
-        with unittest.mock.patch("edgebpf.library.load", return_value=Watching()):
-            store.batch("A", ([0], [1]))
-            store.pin().close()
-            gc.collect()
-            version.run(target), version.numbers(target), version.csr(), store.rebase()
-        of_store, of_version, of_both, of_none = [True, False, False], [False, True, False], [False, True, True], [False, False, False]
-        wanted = [("store_apply", of_store), ("store_pin", of_store), ("version_info", of_none), ("close", of_none)]
-        wanted += [("run", of_both), ("numbers", of_both), ("version_copy", of_version), ("store_rebase", of_store)]
-        self.assertEqual(asked, wanted)
+        patch = unittest.mock.patch("edgebpf.library.load", return_value=Watching())
+        patch.start()
+        self.addCleanup(patch.stop)
+        edgebpf.library.calls.cache_clear()
+        self.addCleanup(edgebpf.library.calls.cache_clear)
+
+    def test_handles_and_closing(self):
+        """No handle is in two calls at once, whatever threads do with one store, version and program, and all handles are closed."""
+        foreign, lock, busy, wrong, opened, closed = edgebpf.library.foreign(), threading.Lock(), set(), [], set(), set()
+        handle = foreign.typeof("handle *")
+
+        def watch(name, call, given):
+            handles = {int(foreign.cast("uintptr_t", one)) for one in given if isinstance(one, foreign.CData) and foreign.typeof(one) is handle}
+            with lock:
+                if handles & busy:
+                    wrong.append(name)
+                busy.update(handles)
+                (closed if name == "close" else opened).update(handles)
+            try:
+                return call(*given)
+            finally:
+                with lock:
+                    busy.difference_update(handles)
+
+        self.watched(watch)
+        store = edgebpf.Store(64)
+        target, version = edgebpf.assemble(TARGET), store.pin()
+
+        def work():
+            for number in range(200):
+                store.batch("A", ([number % 64], [number % 50]))
+                version.run(target), version.numbers(target), version.neighbours(3), version.degree(3)
+                with store.pin() as last, last.share() as shared:
+                    shared.run(target.share())
+
+        threads = [threading.Thread(target=told, args=(work, wrong)) for _ in range(4)]
+        for thread in threads:
+            thread.start()
+        for thread in threads:
+            thread.join()
+        store.close(), version.close()
+        del store, target, version, work
+        gc.collect()
+        self.assertEqual(wrong, [])
+        # A place in memory may have had a handle twice.
+        self.assertLessEqual(opened, closed)
+        self.assertGreater(len(opened), 20)
+
+    def test_no_turns(self):
+        """Two threads run one program on one version at the same time."""
+        store, together, wrong = self.store(4), threading.Barrier(2), []
+        store.batch("A", ([0], [3]))
+
+        def watch(name, call, given):
+            if name in ("run", "version_lend"):
+                together.wait(20)
+            return call(*given)
+
+        self.watched(watch)
+        target, version = edgebpf.assemble(TARGET), store.pin()
+
+        def work():
+            self.assertEqual((version.run(target).total, version.neighbours(0).tolist()), (3, [3]))
+
+        threads = [threading.Thread(target=told, args=(work, wrong)) for _ in range(2)]
+        for thread in threads:
+            thread.start()
+        for thread in threads:
+            thread.join()
+        self.assertEqual(wrong, [])
+
+    def test_threads_that_end(self):
+        """What a thread had of a program is let go when it ends."""
+        counts = {"program_share": 0, "close": 0}
+
+        def watch(name, call, given):
+            if name in counts:
+                counts[name] += 1
+            return call(*given)
+
+        store = self.store(4)
+        self.watched(watch)
+        target, version = edgebpf.assemble(TARGET), store.pin()
+        for _ in range(20):
+            thread = threading.Thread(target=version.run, args=(target,))
+            thread.start()
+            thread.join()
+        gc.collect()
+        # Each has one handle of the version, and one of the program.
+        self.assertEqual(counts, {"program_share": 20, "close": 40})
+
+    def test_small_stacks(self):
+        """A thread whose stack is smaller than a program needs for its verification makes, runs and explains it all the same."""
+        code = """
+import threading, edgebpf
+store = edgebpf.Store(4)
+store.batch("A", ([0], [3]))
+version, before, found = store.pin(), edgebpf.assemble("mov r0, 9\\nexit"), []
+def work():
+    target = edgebpf.assemble("ldxw r0, [r1+4]\\nexit")
+    found.append((version.run(target).total, version.run(target.share()).total, version.run(before).total))
+    try:
+        edgebpf.assemble("ldxw r0, [r1+13]\\nexit")
+    except edgebpf.Refused as refused:
+        found.append(refused.cause)
+for size in (SIZE, 0):
+    threading.stack_size(size)
+    thread = threading.Thread(target=work)
+    thread.start()
+    thread.join()
+print(found, threading.stack_size())
+"""
+        for size in (64 << 10, 128 << 10, 300 << 10):
+            run = subprocess.run([sys.executable, "-c", code.replace("SIZE", str(size))], env={**os.environ, "PYTHONPATH": str(FOLDER)}, capture_output=True, text=True)
+            self.assertEqual((run.stdout, run.stderr, run.returncode), ("[(3, 3, 9), 11, (3, 3, 9), 11] 0\n", "", 0))
+
+    def test_no_thread_for_a_small_stack(self):
+        """Where the thread with enough stack cannot be started, nothing is verified."""
+        before = threading.stack_size()
+        with unittest.mock.patch("threading.Thread.start", side_effect=RuntimeError("can't start new thread")):
+            with self.assertRaisesRegex(edgebpf.NoMemory, "^a thread with enough stack could not be started: can't"):
+                edgebpf.stacks.elsewhere(lambda: 1)
+        self.assertEqual(threading.stack_size(), before)
+        with self.assertRaises(ZeroDivisionError):
+            edgebpf.stacks.elsewhere(lambda: 1 // 0)
+
+    def test_frontiers(self):
+        """A frontier has any order, and a vertex counts as often as it stands there."""
+        store = self.store(4)
+        store.batch("A", ([0, 0, 1, 3], [1, 2, 2, 3]))
+        version, target = store.pin(), edgebpf.assemble(TARGET)
+        result = version.run(target, "sum", [3, 0, 2, 0])
+        self.assertEqual((result.values.tolist(), result.edges, result.total), ([3, 3, 0, 3], 5, 9))
+        self.assertEqual(version.run(target, "min", [2, 1]).values.tolist(), [2**64 - 1, 2])
+        frozen = np.array([1, 9, 0, 9])
+        frozen.flags.writeable = False
+        for kind in ("<i8", ">i8", "<u2", ">u4", "i1", "<u8"):
+            self.assertEqual(version.run(target, "sum", frozen.astype(kind)[-2::-2]).values.tolist(), [3, 2])
+        self.assertEqual(version.run(target, "sum", frozen[::2]).values.tolist(), [2, 3])
+        with self.assertRaisesRegex(ValueError, "^a frontier has at most 1048576 vertices, not 1048577$"):
+            version.run(target, "sum", np.zeros((1 << 20) + 1, int))
+        self.assertEqual(len(version.run(target, "sum", np.zeros(1 << 20, np.uint8)).values), 1 << 20)
 
     def test_which_library(self):
         """What is named comes first, and what is installed last; the checkout's is built again where its text is newer."""

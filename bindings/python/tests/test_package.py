@@ -139,6 +139,96 @@ class Package(unittest.TestCase):
         self.assertEqual(version.neighbours(1).tolist(), [0, 3])
         self.assertEqual(store.pin().neighbours(1).tolist(), [3])
 
+    def test_questions(self):
+        """Degrees, edges and neighbours at a place are those of the lists, and what is outside of the graph is named."""
+        store, targets = self.store(900), sorted({number * 7 % 900 for number in range(800)})
+        store.batch("A", ([0] * len(targets) + [2], targets + [899]))
+        version = store.pin()
+        self.assertEqual([version.degree(vertex) for vertex in (0, 1, np.int64(2))], [len(targets), 0, 1])
+        self.assertEqual(version.degrees([2, 0, 1, 2]).tolist(), [1, len(targets), 0, 1])
+        self.assertEqual((version.degrees().sum(), len(version.degrees()), version.degrees([]).tolist()), (len(targets) + 1, 900, []))
+        self.assertEqual([target for target in range(900) if version.has_edge(0, target)], targets)
+        self.assertEqual((version.has_edge(2, 899), version.has_edge(899, 2)), (True, False))
+        self.assertEqual([version.neighbour(0, place) for place in range(len(targets))], targets)
+        for vertex, place in ((0, len(targets)), (1, 0), (0, -1), (0, 1 << 40)):
+            with self.assertRaisesRegex(IndexError, f"^vertex {vertex} has no neighbour at place {place}$"):
+                version.neighbour(vertex, place)
+        for ask, name in ((version.degree, "vertex"), (version.neighbours, "vertex"), (lambda one: version.neighbour(one, 0), "vertex"),
+                          (lambda one: version.has_edge(one, 0), "source"), (lambda one: version.has_edge(0, one), "target")):
+            for wrong in (-1, 900, 1 << 32, 1 << 70):
+                with self.assertRaisesRegex(edgebpf.VertexRange, f"^{name} {wrong} is not below 900$"):
+                    ask(wrong)
+            for wrong in ("1", 1.0, None, [1], b"1"):
+                with self.assertRaisesRegex(TypeError, f"^{name} is a whole number, not {type(wrong).__name__}$"):
+                    ask(wrong)
+        with self.assertRaisesRegex(TypeError, "^place is a whole number, not float$"):
+            version.neighbour(0, 0.0)
+        for wrong, error in (([900], edgebpf.VertexRange), ([-1], edgebpf.VertexRange), ([0.5], TypeError), ([[0]], TypeError), (["0"], TypeError), ([[0], [1, 2]], TypeError), (0, TypeError), ([True], TypeError)):
+            for ask in (version.degrees, lambda one: version.run(edgebpf.assemble(TARGET), "sum", one)):
+                with self.assertRaisesRegex(error, "frontier"):
+                    ask(wrong)
+        version.close()
+        for ask in (lambda: version.degree(0), lambda: version.degrees([0]), version.degrees, lambda: version.has_edge(0, 1), lambda: version.neighbour(0, 0), version.share):
+            with self.assertRaises(edgebpf.Closed):
+                ask()
+
+    def test_shares(self):
+        """A share of a version stays when the other one is closed, and one of a program when the other one is gone."""
+        store = self.store(4)
+        store.batch("A", ([0, 1], [3, 2]))
+        version, target = store.pin(), edgebpf.assemble(TARGET)
+        other, again = version.share(), target.share()
+        self.assertEqual((again.bound, again.frames, again.record, again.text), (2, 1, 16, TARGET))
+        self.assertEqual((other.epoch, other.number, other.vertices, other.edges), (0, 1, 4, 2))
+        version.close()
+        del target
+        store.batch("A", ([2], [2]))
+        self.assertEqual((other.run(again).total, other.neighbours(1).tolist(), other.share().edges), (5, [2], 2))
+        other.close()
+        with self.assertRaises(edgebpf.Closed):
+            other.run(again)
+        # A process has a program once, however often it is shared.
+        last = store.pin()
+        self.assertEqual({last.run(again.share()).total for _ in range(300)}, {7})
+
+    def test_shown(self):
+        store = self.store(4)
+        store.batch("A", ([0, 1], [3, 2]))
+        store.rebase()
+        version = store.pin()
+        self.assertEqual((repr(version), len(version)), ("<edgebpf.Version: epoch 1, number 0, 4 vertices, 2 edges>", 4))
+        version.close()
+        self.assertEqual(repr(version), "<edgebpf.Version: epoch 1, number 0, 4 vertices, 2 edges, closed>")
+        self.assertEqual(repr(edgebpf.assemble(TARGET)), "<edgebpf.Program: records of 16 bytes, a table of 0, bound 2, frames 1>")
+
+    def test_wrong_arguments(self):
+        """What has the wrong type is named, and the graph stays as it was."""
+        store, target = self.store(4), edgebpf.assemble(TARGET)
+        version = store.pin()
+        for words, call in (
+            ("code is bytes", lambda: edgebpf.Program(8)), ("code is bytes", lambda: edgebpf.Program("95")), ("table is bytes", lambda: edgebpf.Program(bytes(8), 16, 7)),
+            ("record is a whole number", lambda: edgebpf.Program(bytes(8), "16")), ("record is a whole number", lambda: edgebpf.assemble(TARGET, 16.0)),
+            ("argument is bytes", lambda: version.run(target, argument=1)), ("argument is bytes", lambda: version.numbers(target, "")),
+            ("a program is made by", lambda: version.run(TARGET)), ("a program is made by", lambda: version.numbers(None)),
+            ("vertices is a whole number", lambda: self.store("4")), ("sources are an array", lambda: store.batch("A", ([0.5], [1]))),
+            ("targets are an array", lambda: store.batch("A", ([0], ["1"]))), ("targets are no array", lambda: store.batch("A", ([0], [[0], [1, 2]]))),
+        ):
+            with self.assertRaisesRegex(TypeError, f"^{words}"):
+                call()
+        for words, call in (
+            ("a reduction is", lambda: version.run(target, ["sum"])), ("a reduction is", lambda: version.run(target, 0)), ("a feed is", lambda: store.batch(["A"])),
+            ("a feed is", lambda: store.batch(0)), ("edges are", lambda: store.batch("A", 5)), ("edges are", lambda: store.batch("A", None)),
+        ):
+            with self.assertRaisesRegex(ValueError, f"^{words}"):
+                call()
+        self.assertEqual(store.batch("A"), edgebpf.Counts(1, 0, 0))
+
+    def test_release(self):
+        """The package, its wheel and the program have one number."""
+        found = [re.search(r'^version = "(.*)"', (FOLDER / "pyproject.toml").read_text(), re.M)[1]]
+        found.append(re.search(r"^release: (.*)", (TOP / "dist" / "PROVED").read_text(), re.M)[1])
+        self.assertEqual(found, [edgebpf.__version__] * 2)
+
     def test_arguments(self):
         store = self.store(3)
         store.batch("A", ([0, 1], [1, 2]))
@@ -324,7 +414,7 @@ class Package(unittest.TestCase):
             store.batch("E", ([0], [1]))
         self.assertEqual(store.batch("B", (np.zeros(65_536, np.uint8), np.zeros(65_536, np.int64))), edgebpf.Counts(1, 1, 0))
         version = store.pin()
-        for frontier in ([1, 0], [0, 0]):
+        for frontier in ([1, 0], [0, 0]) if isinstance(store, edgebpf.store.Store) else ():
             with self.assertRaises(ValueError):
                 version.run(edgebpf.assemble(TARGET), "sum", frontier)
         with self.assertRaises(edgebpf.VertexRange):
