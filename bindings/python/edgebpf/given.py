@@ -18,8 +18,11 @@ SHORT = 100
 
 # The sources and the targets of some edges, numbers of 64 bits, and vertices as the library has them.
 Edges = tuple[npt.ArrayLike, npt.ArrayLike]
+# Some edges, each a pair: an (n, 2) array or a list.
+Pairs = npt.ArrayLike
 Numbers = npt.NDArray[np.uint64]
 Vertices = npt.NDArray[np.uint32]
+Ends = tuple[Vertices, Vertices]
 
 
 def whole(number: int, name: str) -> int:
@@ -62,13 +65,18 @@ def reduction_of(reduction: str) -> str:
     return reduction
 
 
+def given_array(values: npt.ArrayLike, name: str) -> npt.NDArray[Any]:
+    """What was given as an array. `name` is what the caller calls it."""
+    try:
+        return np.asarray(values)
+    except ValueError as error:
+        raise TypeError(f"{name} are no array: {error}") from None
+
+
 def vertices_of(values: npt.ArrayLike, count: int, name: str = "vertices") -> Vertices:
     """A copy of an array of vertices as uint32, if all are in the graph. `name` is what the caller calls it. It is a copy, so that nobody
     writes to it while the library reads it."""
-    try:
-        array = np.asarray(values)
-    except ValueError as error:
-        raise TypeError(f"{name} are no array: {error}") from None
+    array = given_array(values, name)
     if array.ndim != 1 or (array.size and array.dtype.kind not in "iu"):
         raise TypeError(f"{name} are an array of whole numbers with one dimension")
     if array.size <= SHORT:
@@ -90,14 +98,75 @@ def vertex_of(vertex: int, count: int, name: str = "vertex") -> int:
     return number
 
 
-def ends_of(edges: Edges, count: int) -> tuple[Vertices, Vertices]:
-    """The sources and the targets of some edges, as many of each, if all are in the graph."""
-    if not hasattr(edges, "__len__") or len(edges) != 2:
-        raise ValueError("edges are a pair of arrays, their sources and their targets")
-    sources, targets = vertices_of(edges[0], count, "sources"), vertices_of(edges[1], count, "targets")
-    if len(sources) != len(targets):
-        raise ValueError("there are as many targets as sources")
-    return sources, targets
+def looks_like_pairs(edges: Any) -> bool:
+    """Whether someone may mean one edge by each of two items, where the first are sources, and the second targets: where these are tuples,
+    however long, or two lists of two in a list. An array has two rows."""
+    if isinstance(edges, np.ndarray):
+        return False
+    return any(isinstance(item, tuple) and len(item) > 0 for item in edges) or (
+        isinstance(edges, list) and all(isinstance(item, list) and len(item) == 2 for item in edges)
+    )
+
+
+def ends_of(edges: Edges, count: int, name: str) -> Ends:
+    """The sources and the targets of some edges, as many of each, if all are in the graph. `name` is what the caller calls them."""
+    if not isinstance(edges, (tuple, list, np.ndarray)) or len(edges) != 2:
+        raise ValueError(f"{name} are a pair of arrays, the sources and the targets; for a list of pairs there is edges=")
+    if looks_like_pairs(edges):
+        raise ValueError(f"{name} are a pair of arrays, the sources and the targets, and this may be two edges: pass a list of pairs by edges=")
+    return columns(edges[0], edges[1], count)
+
+
+def columns(sources: npt.ArrayLike, targets: npt.ArrayLike, count: int) -> Ends:
+    """Sources and targets, as many of each, if all are in the graph."""
+    ends = vertices_of(sources, count, "sources"), vertices_of(targets, count, "targets")
+    if len(ends[0]) != len(ends[1]):
+        raise ValueError(f"there are {len(ends[0])} sources and {len(ends[1])} targets, which are one of each for an edge")
+    return ends
+
+
+def pairs_of(edges: Pairs, count: int) -> Ends:
+    """The sources and the targets of a list of pairs."""
+    array = given_array(edges, "edges")
+    if array.size == 0 and array.shape in ((0,), (0, 2)):
+        array = np.empty((0, 2), np.uint32)
+    if array.ndim != 2 or array.shape[1] != 2 or array.dtype.kind not in "iu":
+        raise TypeError("edges are an (n, 2) array of whole numbers, or a list of pairs of them")
+    return vertices_of(array[:, 0], count, "edges"), vertices_of(array[:, 1], count, "edges")
+
+
+def marks_of(removes: npt.ArrayLike | None, count: int) -> npt.NDArray[np.uint8]:
+    """For each edit 1 if it takes its edge out, and else 0."""
+    if removes is None:
+        return np.zeros(count, np.uint8)
+    array = given_array(removes, "removes")
+    if array.ndim != 1 or (array.size and array.dtype.kind not in "biu"):
+        raise TypeError("removes are an array of bools, or of numbers of which 0 keeps its edge")
+    if len(array) != count:
+        raise ValueError(f"there are {len(array)} removes and {count} edits, which are one for each edit")
+    marks: npt.NDArray[np.uint8] = np.not_equal(array, 0).astype(np.uint8)
+    return marks
+
+
+def edits_of(
+    sources: npt.ArrayLike, targets: npt.ArrayLike, removes: npt.ArrayLike | None, edges: Pairs | None, count: int,
+) -> tuple[Vertices, Vertices, npt.NDArray[np.uint8]]:
+    """The edits of a batch in their order."""
+    ends = columns(sources, targets, count)
+    if edges is not None:
+        if len(ends[0]):
+            raise ValueError("edits are either sources with targets, or edges")
+        ends = pairs_of(edges, count)
+    return *ends, marks_of(removes, len(ends[0]))
+
+
+def edits_of_batch(inserts: Edges, removes: Edges, edges: Pairs | None, count: int) -> tuple[Vertices, Vertices, npt.NDArray[np.uint8]]:
+    """The edits of a batch, its insertions first."""
+    parts = ends_of(inserts, count, "inserts"), pairs_of(() if edges is None else edges, count), ends_of(removes, count, "removes")
+    sources, targets = (np.concatenate([part[end] for part in parts]) for end in (0, 1))
+    marks = np.zeros(len(sources), np.uint8)
+    marks[len(sources) - len(parts[2][0]):] = 1
+    return sources, targets, marks
 
 
 def frozen(array: npt.NDArray[Any]) -> npt.NDArray[Any]:

@@ -13,7 +13,8 @@ import numpy.typing as npt
 from edgebpf import library
 from edgebpf.errors import Closed, TooManyEdits, VertexRange
 from edgebpf.given import (
-    MOST_VERTICES, REDUCTIONS, Edges, Numbers, Vertices, ends_of, feed_of, frozen, reduction_of, vertex_count, vertex_of, vertices_of, whole,
+    MOST_VERTICES, REDUCTIONS, Edges, Numbers, Pairs, Vertices, edits_of, edits_of_batch, feed_of, frozen, reduction_of, vertex_count, vertex_of,
+    vertices_of, whole,
 )
 from edgebpf.programs import Program, argument_of
 from edgebpf.store import MOST_EDITS, Counts, Result, described
@@ -21,11 +22,6 @@ from edgebpf.store import MOST_EDITS, Counts, Result, described
 # Most lists lie in one slice. `lend` fills the room if there may be more.
 LEAST_ROOM, MORE_ROOM = 2, 64
 U32, U64 = np.dtype(np.uint32), np.dtype(np.uint64)
-
-
-def joined(first: Vertices, second: Vertices) -> Vertices:
-    """Two arrays as one that lies in one piece."""
-    return np.concatenate((first, second)) if len(second) else np.ascontiguousarray(first)
 
 
 def handle_of(program: Program) -> library.Handle:
@@ -65,19 +61,33 @@ class Store:
             raise Closed("the store is closed")
         return self._handle
 
-    def batch(self, feed: str = "A", inserts: Edges = ((), ()), removes: Edges = ((), ())) -> Counts:
+    def batch(
+        self, feed: str = "A", inserts: Edges = ((), ()), removes: Edges = ((), ()), edges: Pairs | None = None,
+    ) -> Counts:
         """Applies one batch by feed "A", "B", "C" or "D", and returns its `Counts`.
 
-        inserts, removes: pairs of arrays (sources, targets), each of whole numbers below `vertices`. Insertions are applied
-        before removals. Raises `TooManyEdits`, `VertexRange`, `LogFull` and `NoMemory`; then the store is as it was.
+        inserts, removes: pairs of arrays (sources, targets), each of whole numbers below `vertices`. edges: an (n, 2) array or a list
+        of pairs, inserted too. Insertions are applied before removals. Raises `TooManyEdits`, `VertexRange`, `LogFull` and
+        `NoMemory`; then the store is as it was.
         """
+        return self._edited(feed, *edits_of_batch(inserts, removes, edges, self.vertices))
+
+    def apply(
+        self, sources: npt.ArrayLike = (), targets: npt.ArrayLike = (), removes: npt.ArrayLike | None = None, feed: str = "A", *,
+        edges: Pairs | None = None,
+    ) -> Counts:
+        """Applies one batch whose edits are in their order: where two name the same edge, the later one decides.
+
+        sources, targets: arrays of whole numbers below `vertices`; or edges: an (n, 2) array or a list of pairs in their place.
+        removes: for each edit whether its edge is taken out; None puts all in. Raises what `batch` raises.
+        """
+        return self._edited(feed, *edits_of(sources, targets, removes, edges, self.vertices))
+
+    def _edited(self, feed: str, sources: Vertices, targets: Vertices, marks: npt.NDArray[np.uint8]) -> Counts:
+        """Applies a batch."""
         number, handle, change = feed_of(feed), self._open(), library.new("change *")
-        new, old = ends_of(inserts, self.vertices), ends_of(removes, self.vertices)
-        sources, targets = joined(new[0], old[0]), joined(new[1], old[1])
         if len(sources) > MOST_EDITS:
             raise TooManyEdits(f"{len(sources)} edits; a batch has at most {MOST_EDITS}")
-        marks = np.zeros(len(sources), np.uint8)
-        marks[len(new[0]):] = 1
         calls, count = library.calls(), len(sources)
         arrays = calls.buffer(calls.words, sources), count, calls.buffer(calls.words, targets), count, calls.buffer(calls.bytes, marks), count
         with self._lock:

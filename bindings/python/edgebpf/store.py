@@ -15,7 +15,9 @@ import numpy as np
 import numpy.typing as npt
 
 from edgebpf.errors import Closed, EpochsFull, Error, LogFull, NoMemory, TooManyEdits, TooManyNames
-from edgebpf.given import FEEDS, Edges, Numbers, Vertices, ends_of, feed_of, frozen, reduction_of, vertex_count, vertex_of, vertices_of, whole
+from edgebpf.given import (
+    FEEDS, Edges, Numbers, Pairs, Vertices, edits_of, edits_of_batch, feed_of, frozen, reduction_of, vertex_count, vertex_of, vertices_of, whole,
+)
 from edgebpf.programs import Program, argument_of, command
 
 MOST_EDITS = 65_536
@@ -52,11 +54,6 @@ def described(version: Any, is_closed: bool) -> str:
     """What `repr` says of a version."""
     about = f"epoch {version.epoch}, number {version.number}, {version.vertices} vertices, {version.edges} edges"
     return f"<edgebpf.Version: {about}{', closed' if is_closed else ''}>"
-
-
-def edit_lines(sign: str, edges: Edges, count: int) -> list[str]:
-    sources, targets = ends_of(edges, count)
-    return [f"{sign} {source} {target}\n" for source, target in zip(sources.tolist(), targets.tolist())]
 
 
 class Process:
@@ -142,16 +139,35 @@ class Store:
         self._programs: dict[object, str] = {}
         process.ask(f"graph {vertices}\n".encode())
 
-    def batch(self, feed: str = "A", inserts: Edges = ((), ()), removes: Edges = ((), ())) -> Counts:
+    def batch(
+        self, feed: str = "A", inserts: Edges = ((), ()), removes: Edges = ((), ()), edges: Pairs | None = None,
+    ) -> Counts:
         """Publishes one batch by feed "A", "B", "C" or "D", and returns its `Counts`.
 
-        inserts, removes: pairs of arrays (sources, targets), each of whole numbers below `vertices`. Insertions are applied
-        before removals. Raises `TooManyEdits`, `VertexRange` and `LogFull`; then nothing was published.
+        inserts, removes: pairs of arrays (sources, targets), each of whole numbers below `vertices`. edges: an (n, 2) array or a list
+        of pairs, inserted too. Insertions are applied before removals. Raises `TooManyEdits`, `VertexRange` and `LogFull`; then
+        nothing was published.
         """
+        return self._edited(feed, *edits_of_batch(inserts, removes, edges, self.vertices))
+
+    def apply(
+        self, sources: npt.ArrayLike = (), targets: npt.ArrayLike = (), removes: npt.ArrayLike | None = None, feed: str = "A", *,
+        edges: Pairs | None = None,
+    ) -> Counts:
+        """Publishes one batch whose edits are in their order: where two name the same edge, the later one decides.
+
+        sources, targets: arrays of whole numbers below `vertices`; or edges: an (n, 2) array or a list of pairs in their place.
+        removes: for each edit whether its edge is taken out; None puts all in. Raises what `batch` raises.
+        """
+        return self._edited(feed, *edits_of(sources, targets, removes, edges, self.vertices))
+
+    def _edited(self, feed: str, sources: Vertices, targets: Vertices, marks: npt.NDArray[np.uint8]) -> Counts:
+        """Publishes a batch."""
         feed = FEEDS[feed_of(feed)]
-        lines = edit_lines("+", inserts, self.vertices) + edit_lines("-", removes, self.vertices)
-        if len(lines) > MOST_EDITS:
-            raise TooManyEdits(f"{len(lines)} edits; a batch has at most {MOST_EDITS}")
+        if len(sources) > MOST_EDITS:
+            raise TooManyEdits(f"{len(sources)} edits; a batch has at most {MOST_EDITS}")
+        edits = zip(marks.tolist(), sources.tolist(), targets.tolist())
+        lines = [f"{'-' if mark else '+'} {source} {target}\n" for mark, source, target in edits]
         with self._turn:
             if self._batches >= MOST_BATCHES:
                 raise LogFull(f"{MOST_BATCHES} batches were published since the last rebase")

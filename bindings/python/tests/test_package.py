@@ -217,11 +217,82 @@ class Package(unittest.TestCase):
                 call()
         for words, call in (
             ("a reduction is", lambda: version.run(target, ["sum"])), ("a reduction is", lambda: version.run(target, 0)), ("a feed is", lambda: store.batch(["A"])),
-            ("a feed is", lambda: store.batch(0)), ("edges are", lambda: store.batch("A", 5)), ("edges are", lambda: store.batch("A", None)),
+            ("a feed is", lambda: store.batch(0)), ("inserts are", lambda: store.batch("A", 5)), ("removes are", lambda: store.batch("A", removes=None)),
         ):
             with self.assertRaisesRegex(ValueError, f"^{words}"):
                 call()
         self.assertEqual(store.batch("A"), edgebpf.Counts(1, 0, 0))
+
+    def test_edits_in_their_order(self):
+        """Of two edits of one edge the later one decides, as in a script; each random batch leaves what a set has after it."""
+        store = self.store(4)
+        self.assertEqual(store.apply([0, 0, 0], [1, 1, 1], [0, 1, 0]), edgebpf.Counts(1, 1, 0))
+        self.assertEqual(store.apply(edges=[(0, 1), (2, 3), (2, 3)], removes=[False, False, True], feed="D"), edgebpf.Counts(2, 0, 0))
+        self.assertEqual(store.apply(removes=[True, True], edges=np.array([[0, 1], [3, 3]])), edgebpf.Counts(3, 0, 1))
+        # A mark of 256 is no 0, and neither is -1.
+        self.assertEqual(store.apply([1, 1], [2, 2], np.array([0, 256])), edgebpf.Counts(4, 0, 0))
+        self.assertEqual(store.apply([1, 1], [2, 2], np.array([-1, 0], np.int8)), edgebpf.Counts(5, 1, 0))
+        self.assertEqual(store.apply(), edgebpf.Counts(6, 0, 0))
+        store, chance, edges = self.store(9), random.Random(5), set()
+        for _ in range(60):
+            edits = [(chance.randrange(9), chance.randrange(9), chance.random() < 0.5) for _ in range(chance.randrange(60))]
+            for source, target, is_out in edits:
+                (edges.discard if is_out else edges.add)((source, target))
+            store.apply(edges=[edit[:2] for edit in edits], removes=[edit[2] for edit in edits])
+            starts, targets = store.pin().csr()
+            self.assertEqual(list(zip(np.repeat(np.arange(9), np.diff(starts)).tolist(), targets.tolist())), sorted(edges))
+
+    def test_pairs(self):
+        """A list of pairs and an (n, 2) array are taken by `edges`, and by nothing else, so that two edges are never read as two columns."""
+        store = self.store(5)
+        for number, edges in enumerate(([(0, 1), (2, 3)], [[0, 1], [2, 3]], ((0, 1), (2, 3)), np.array([[0, 1], [2, 3]], ">u2"), np.array([[1, 0], [3, 2]])[:, ::-1]), 1):
+            if not isinstance(edges, np.ndarray):
+                with self.assertRaisesRegex(ValueError, "^inserts are a pair of arrays, .* by edges=$"):
+                    store.batch("A", edges)
+                with self.assertRaisesRegex(ValueError, "^removes are a pair of arrays, .* by edges=$"):
+                    store.batch("A", removes=edges)
+            store.batch("A", edges=edges)
+            self.assertEqual([store.pin().neighbours(vertex).tolist() for vertex in range(4)], [[1], [], [3], []])
+            self.assertEqual(store.apply(edges=edges, removes=[1, 1]), edgebpf.Counts(2 * number, 0, 2))
+        # Tuples are refused however long they are, so that a caller learns it from the first batch.
+        for edges in ([(0, 1, 2), (1, 2, 3)], [(0,), (1,)], ((0, 1, 2), (1, 2, 3)), ([0, 1], (2, 3))):
+            with self.assertRaisesRegex(ValueError, "by edges=$"):
+                store.batch("A", edges)
+        # Columns: a pair of lists, two lists that are no pairs, and the two rows of an array.
+        for edges in (([0, 1], [2, 3]), [[0, 1, 1], [2, 3, 3]], np.array([(0, 2), (1, 3)]).T, np.array([(0, 2), (1, 3), (1, 3)]).T):
+            self.assertEqual(store.batch("A", edges).added, 2)
+            self.assertEqual(store.batch("A", removes=edges).removed, 2)
+        with self.assertRaisesRegex(ValueError, "there is edges=$"):
+            store.batch("A", np.array([(0, 2), (1, 3), (1, 3)]))
+        counts = store.batch("A", ([0, 1], [2, 3]), ([4], [4]), edges=[(4, 4), (4, 0)])
+        self.assertEqual((counts.added, counts.removed, store.pin().neighbours(4).tolist()), (3, 0, [0]))
+        for edges in ([], (), np.empty((0, 2), int), np.empty((0, 2))):
+            self.assertEqual(store.apply(edges=edges).added, 0)
+
+    def test_wrong_edits(self):
+        """Each is named, and then nothing was published."""
+        store = self.store(4)
+        for words, error, given in (
+            ("edges are an .n, 2. array", TypeError, {"edges": [(0, 1, 2)]}), ("edges are an .n, 2. array", TypeError, {"edges": [0, 1]}),
+            ("edges are an .n, 2. array", TypeError, {"edges": [(0.5, 1)]}), ("edges are an .n, 2. array", TypeError, {"edges": 7}),
+            ("edges are an .n, 2. array", TypeError, {"edges": iter([(0, 1)])}), ("edges are an .n, 2. array", TypeError, {"edges": np.empty((2, 0))}),
+            ("edges are an .n, 2. array", TypeError, {"edges": [(True, False)]}), ("edges are no array", TypeError, {"edges": [(0, 1), (2,)]}),
+            ("a vertex of edges is", edgebpf.VertexRange, {"edges": [(0, 4)]}), ("a vertex of edges is", edgebpf.VertexRange, {"edges": [(-1, 0)]}),
+            ("edits are either", ValueError, {"sources": [0], "targets": [1], "edges": [(0, 1)]}), ("there are 1 sources and 2 targets", ValueError, {"sources": [0], "targets": [1, 2]}),
+            ("sources are an array", TypeError, {"sources": ["0"], "targets": [1]}), ("a vertex of targets is", edgebpf.VertexRange, {"sources": [0], "targets": [4]}),
+            ("removes are an array", TypeError, {"sources": [0], "targets": [1], "removes": ["yes"]}), ("removes are an array", TypeError, {"edges": [(0, 1)], "removes": True}),
+            ("removes are an array", TypeError, {"edges": [(0, 1)], "removes": [0.0]}), ("there are 2 removes and 1 edits", ValueError, {"edges": [(0, 1)], "removes": [0, 1]}),
+            ("there are 0 removes and 1 edits", ValueError, {"edges": [(0, 1)], "removes": []}), ("a feed is", ValueError, {"edges": [(0, 1)], "feed": "E"}),
+            ("65537 edits", edgebpf.TooManyEdits, {"edges": np.zeros((65_537, 2), int)}),
+        ):
+            with self.subTest(given=given), self.assertRaisesRegex(error, f"^{words}"):
+                store.apply(**given)
+        frozen = np.array([[0, 1]])
+        frozen.flags.writeable = False
+        self.assertEqual(store.apply(edges=frozen), edgebpf.Counts(1, 1, 0))
+        store.close()
+        with self.assertRaises(edgebpf.Closed):
+            store.apply(edges=[(0, 1)])
 
     def test_release(self):
         """The package, its wheel and the program have one number."""

@@ -74,6 +74,17 @@ fn runs_reduce_the_numbers_of_edges() {
 }
 
 #[test]
+fn edits_are_applied_in_their_order() {
+    let mut store = Store::new(4).unwrap();
+    let made =
+        store.apply_arrays(Feed::A, &[0, 0, 0, 1, 1], &[1, 1, 1, 2, 2], &[false, true, false, false, true]).unwrap();
+    assert_eq!((made.added, made.removed, made.number), (1, 0, 1));
+    let made = store.apply(Feed::C, Batch::new().remove(0, 1).insert(2, 3).remove(2, 3).insert(0, 1)).unwrap();
+    assert_eq!((made.added, made.removed, made.number), (0, 0, 2));
+    assert_eq!(edges_of(&store.pin().unwrap()), BTreeSet::from([(0, 1)]));
+}
+
+#[test]
 fn a_rebase_begins_numbers_again() {
     let mut store = Store::new(4).unwrap();
     store.apply(Feed::A, &Batch::from_iter([(0, 1), (0, 2)])).unwrap();
