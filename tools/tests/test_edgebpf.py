@@ -248,12 +248,17 @@ class Released(Checkout):
         self.release()
 
     def test_a_fresh_clone(self):
-        for _ in range(3):
+        for number in range(6):
             run = self.serve()
             self.assertEqual((run.stdout, run.returncode), ("of dist: text\n", 0), run.stderr)
-            self.assertEqual(run.stderr.count("\n"), 1)
-            self.assertIn(BESIDE, run.stderr)
-            self.assertIn("tools/prove", run.stderr)
+            # Once a build: the fourth run builds it again.
+            self.assertEqual(run.stderr.count("\n"), int(number in (0, 3)), run.stderr)
+            if number in (0, 3):
+                self.assertIn(BESIDE, run.stderr)
+                self.assertIn("tools/prove", run.stderr)
+            if number == 2:
+                shutil.rmtree(self.top / "dist/build")
+        shutil.rmtree(self.top / "dist/build")
         self.assertEqual(self.serve(EDGEBPF_PROVED="elsewhere").stderr, "")
         self.assertEqual(self.prover_runs(), 0)
         self.assertIn("kit of the test", self.serve("--version").stdout)
@@ -267,7 +272,7 @@ class Released(Checkout):
 
     def test_what_was_proved_since_is_taken(self):
         self.settle()
-        self.assertIn(BESIDE, self.serve().stderr)
+        self.assertEqual(self.serve().stdout, "of dist: text\n")
         subprocess.run([self.top / "tools/prove", "edgebpf"], env=self.environment(), capture_output=True, check=True)
         run = self.serve()
         self.assertEqual((run.stdout, run.stderr), ("text\n", ""))
@@ -306,6 +311,18 @@ class Released(Checkout):
         run = self.serve(CC="/nowhere/cc")
         self.assertEqual((run.returncode, run.stdout), (1, ""))
         self.assertIn("edgebpf: a C compiler is needed, and there is none (/nowhere/cc): apt-get install gcc", run.stderr)
+
+    def test_missing_commands(self):
+        """What the sums of the sources need is named, and the prover is not asked for."""
+        for name, package in (("xargs", "findutils"), ("find", "findutils"), ("awk", "mawk"), ("sha256sum", "coreutils")):
+            folder = self.room / f"without {name}"
+            folder.mkdir()
+            for command in pathlib.Path("/usr/bin").iterdir():
+                if command.name not in (name, "rt"):
+                    (folder / command.name).symlink_to(command)
+            run = self.serve(PATH=str(folder))
+            self.assertEqual((run.stdout, run.returncode), ("", 1))
+            self.assertEqual(run.stderr, f"sources: {name} is missing; install it by: apt-get install {package}\n")
 
     def test_no_room_in_the_checkout(self):
         for taken in ("out", "dist/build"):

@@ -25,6 +25,7 @@ WRONG_CODE = "code has 1 to 4,096 whole units of 8 bytes"
 # The bytes of an image with a table before its code: what it begins with, and the lengths of record, code (in units) and table.
 IMAGE = struct.Struct("<4sHHH")
 IMAGE_BEGINS = b"BPE2"
+BUILT_NOW = "edgebpf: built from dist/"
 CHECKOUT = pathlib.Path(__file__).resolve().parent.parent.parent.parent
 # The words of statements whose first argument is a register or a place in memory; those of arithmetic and branches may have 32 after them.
 WORDS_OF_REGISTERS = (
@@ -50,6 +51,12 @@ def command(name: str) -> str:
     if not found:
         raise Error(f"{name} is not on PATH: install edgebpf")
     return found
+
+
+def said_lines(said: bytes) -> str:
+    """What a process of edgebpf said, without the line of a checkout that it was built now."""
+    lines = said.decode(errors="replace").strip().splitlines()
+    return "\n".join(line for line in lines if not line.startswith(BUILT_NOW))
 
 
 class Program:
@@ -106,7 +113,7 @@ class Program:
         elif words[:2] == ["image", "p"]:
             raise ValueError(WRONG_CODE)
         else:
-            raise Error(f"edgebpf could not verify the program: {run.stderr.decode().strip() or ' '.join(words)}")
+            raise Error(f"edgebpf could not verify the program: {said_lines(run.stderr) or ' '.join(words) or f'it ended with status {run.returncode}'}")
 
     def share(self) -> Program:
         """The same program once more, which is not verified again and does not end with this one. Threads need none: each of them has a

@@ -6,6 +6,7 @@ import dataclasses
 import functools
 import io
 import itertools
+import signal
 import subprocess
 import threading
 from collections.abc import Iterator, Sequence
@@ -18,7 +19,7 @@ from edgebpf.errors import Closed, EpochsFull, Error, LogFull, NoMemory, TooMany
 from edgebpf.given import (
     FEEDS, Edges, Numbers, Pairs, Vertices, edits_of, edits_of_batch, feed_of, frozen, reduction_of, vertex_count, vertex_of, vertices_of, whole,
 )
-from edgebpf.programs import Program, argument_of, command
+from edgebpf.programs import Program, argument_of, command, said_lines
 
 MOST_EDITS = 65_536
 MOST_BATCHES = 4_096
@@ -28,6 +29,7 @@ MOST_NAMES = 256
 FRONTIER_BYTES = 78_000
 REDUCTIONS: dict[str, tuple[int, Any]] = {"sum": (0, np.add), "min": (2**64 - 1, np.minimum), "max": (0, np.maximum)}
 CHUNK = 1 << 20
+NO_MEMORY_LINES = ("edgebpf: memory", "edgebpf: worker")
 
 
 @dataclasses.dataclass(frozen=True)
@@ -108,10 +110,14 @@ class Process:
         return text[:text.rfind(b"home 0 ")]
 
     def ended(self, said: bytes = b"") -> Error:
-        """The error of a process that has ended."""
-        words = (said or self.errors.read()).decode().strip()
+        """The error of a process that has ended: what it said, or by which signal or with which status it ended."""
+        words = said_lines(said or self.errors.read())
         self.close()
-        return (NoMemory if words in ("edgebpf: memory", "edgebpf: worker") else Closed)(f"edgebpf has ended: {words}")
+        status = self.child.returncode
+        if status < 0:
+            how = f"by signal {-status}, {signal.Signals(-status).name}{', which the system sends if memory is short' if status == -signal.SIGKILL else ''}"
+            return Closed(f"edgebpf has ended {how}" + (f": {words}" if words else ""))
+        return (NoMemory if words in NO_MEMORY_LINES else Closed)(f"edgebpf has ended: {words or f'with status {status}'}")
 
     def close(self) -> None:
         if not self.input.closed:

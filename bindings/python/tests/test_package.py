@@ -616,6 +616,26 @@ except KeyboardInterrupt:
                     store.batch("A", ([0], [1]))
                 self.assertEqual(str(told.exception), f"edgebpf has ended: {words}")
 
+    def test_killed(self):
+        """A process that is killed is an error with the signal, and without the line of a checkout that it was built now."""
+        for number, name in ((9, "SIGKILL, which the system sends if memory is short"), (15, "SIGTERM"), (11, "SIGSEGV")):
+            store = self.store(4)
+            store._process.child.send_signal(number)
+            with self.assertRaisesRegex(edgebpf.Closed, f"^edgebpf has ended by signal {number}, {name}$"):
+                store.batch("A", ([0], [1]))
+            with self.assertRaisesRegex(edgebpf.Closed, "^the store is closed$"):
+                store.pin()
+        with tempfile.TemporaryDirectory() as folder:
+            ends = pathlib.Path(folder) / "ends"
+            ends.write_text("#!/bin/sh\necho 'edgebpf: built from dist/, and so on' >&2\nread line; echo graph 4; read line; eval $END\n")
+            ends.chmod(0o755)
+            for end, said in (("kill -9 $$", "by signal 9, SIGKILL, which the system sends if memory is short"), ("exit 3", ": with status 3"), ("echo more >&2", ": more")):
+                with unittest.mock.patch.dict(os.environ, END=end):
+                    store = edgebpf.connect(4, program=str(ends))
+                    with self.assertRaises(edgebpf.Closed) as told:
+                        store.batch("A", ([0], [1]))
+                self.assertEqual(str(told.exception).removeprefix("edgebpf has ended").strip(), said)
+
     def test_threads(self):
         """Two threads on one store: each answer is of one version, and numbers never go back."""
         store, target, wrong = self.store(8, workers=2), edgebpf.assemble(TARGET), []
