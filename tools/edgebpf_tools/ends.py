@@ -65,6 +65,8 @@ def begin(program):
         os._exit(SIGNALLED + number)
 
     handle(end)
+    # The tool was started with this one waiting.
+    signal.pthread_sigmask(signal.SIG_UNBLOCK, {signal.SIGINT})
 
 
 def run(program, perform, failed=FAILED):

@@ -117,6 +117,28 @@ class Ends(unittest.TestCase):
         run = self.run_with("edgebpf-import", str(self.folder / "edges"))
         self.ended(run, "edgebpf-import", "apt-get install python3-numpy")
 
+    def test_interrupted_while_it_starts(self):
+        """A Ctrl-C before any line of ours runs ends a tool by the signal or with its line, and never with a traceback."""
+        graph = self.folder / "graph"
+        graph.write_text("graph 4\n")
+        asked = {
+            "edgebpf-import": ["--quiet", self.folder / "edges"], "edgebpf-c": ["--help"], "edgebpf-explain": ["16"], "edgebpf-shell": [],
+            "edgebpf-spread": ["--help"],
+        }
+        told = set()
+        for name, words in asked.items():
+            for place in range(16):
+                run = subprocess.Popen(
+                    [TOOLS / name, *words], stdin=subprocess.PIPE, stdout=subprocess.DEVNULL, stderr=subprocess.PIPE, text=True,
+                    env=self.environment,
+                )
+                time.sleep(0.004 * place)
+                run.send_signal(signal.SIGINT)
+                said = run.communicate()[1]
+                self.assertIn((run.returncode, said), [(-2, ""), (130, f"{name}: interrupted\n"), (0, "")])
+                told.add((name, run.returncode))
+        self.assertGreaterEqual(len([name for name, status in told if status == 130]), 4)
+
     @unittest.skipUnless(HAS_NUMPY, "not there: python3-numpy")
     def test_signals_at_any_moment(self):
         """From the first line of the companion's own code on: Python's start is not ours."""
