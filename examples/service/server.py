@@ -7,6 +7,7 @@ README.md has the requests. One batch is applied at a time; readers pin the last
 """
 import argparse
 import asyncio
+import concurrent.futures
 import contextlib
 import json
 import pathlib
@@ -14,7 +15,6 @@ import re
 import resource
 import signal
 import sys
-import tempfile
 import time
 import urllib.parse
 
@@ -31,6 +31,8 @@ MOST_TEXT = 1 << 18
 MOST_PROGRAMS = 255
 # A version keeps the batches that made it. After so many of them a rebase forgets them; a store takes MOST_BATCHES without one.
 REBASE_BATCHES, MOST_BATCHES = 1_000, 4_096
+# So many programs in C are compiled at the same time.
+COMPILERS = 2
 # A run holds a thread: more instructions than these, some seconds of work, are refused before it begins.
 MOST_INSTRUCTIONS = 10**9
 # A connection that stays for so long is closed, at the latest after twice as long.
@@ -69,6 +71,8 @@ class Service:
     def __init__(self, store, has_c=False, rebase_batches=REBASE_BATCHES):
         self.store, self.has_c, self.rebase_batches, self.programs = store, has_c, rebase_batches, {}
         self.writing = asyncio.Lock()
+        # Compilers wait for each other, and nobody else for them.
+        self.compilers = concurrent.futures.ThreadPoolExecutor(COMPILERS)
         # How many batches there were, and before each epoch, and how many edges the last of them left.
         self.number, self.before, self.edges = 0, [0], 0
         self.batches, self.runs = Histogram("edgebpf_batch_seconds"), Histogram("edgebpf_run_seconds")
@@ -109,7 +113,9 @@ class Service:
         if "c" in asked and not self.has_c:
             raise web.HTTPForbidden(text="this service compiles no C: it was started without --with-c")
         try:
-            program = self.kept(name, await asyncio.to_thread(verified, asked, name, record))
+            threads = self.compilers if "c" in asked else None
+            made = await asyncio.get_running_loop().run_in_executor(threads, verified, asked, name, record)
+            program = self.kept(name, made)
         except edgebpf.Refused as refused:
             told = {"error": "Refused", "cause": refused.cause, "unit": refused.unit, "words": refused.words}
             explained = await asyncio.to_thread(refused.explain)
@@ -168,10 +174,7 @@ def verified(asked, name, record):
         return edgebpf.Program(bytes.fromhex(text_of(asked, "code")), record, table)
     if table:
         raise ValueError("the table of a program in C is its object marked TABLE")
-    with tempfile.TemporaryDirectory() as folder:
-        source = pathlib.Path(folder) / "program.c"
-        source.write_text(text_of(asked, "c"))
-        return edgebpf.compile_c(source, name, record)
+    return edgebpf.compile_c(text=text_of(asked, "c"), function=name, record=record)
 
 
 async def fields(request):

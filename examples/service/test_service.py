@@ -2,6 +2,7 @@
 import asyncio
 import contextlib
 import http.client
+import importlib.util
 import json
 import os
 import pathlib
@@ -343,6 +344,29 @@ class Interrupted(unittest.TestCase):
             server = started(free_port(), LD_PRELOAD=library)
             self.addCleanup(server.kill)
             self.assertEqual(server.wait(20), 0)
+
+
+@unittest.skipIf(MISSING, f"not there: {MISSING}")
+@unittest.skipUnless(shutil.which("clang-19") and importlib.util.find_spec("elftools"), "not there: clang-19, or elftools")
+class WithC(unittest.TestCase):
+    def test_programs_in_c(self):
+        port = free_port()
+        server = subprocess.Popen([sys.executable, HERE / "server.py", "--vertices", "4", "--port", str(port), "--with-c"])
+        self.addCleanup(server.wait)
+        self.addCleanup(server.kill)
+        client = Client(port)
+        for _ in range(200):
+            with contextlib.suppress(OSError), socket.create_connection(("127.0.0.1", port)):
+                break
+            time.sleep(0.05)
+        source = "#include <edgebpf.h>\nu64 score(struct edge *edge, u64 length) { return edge->target + 1; }\n"
+        self.assertEqual(client.told("POST", "/programs", {"name": "score", "c": source})[0], 201)
+        self.assertEqual(client.told("POST", "/batches", {"inserts": [[0, 3]]})[0], 200)
+        self.assertEqual(client.told("POST", "/runs", {"program": "score"})[1]["total"], 4)
+        status, told = client.told("POST", "/programs", {"name": "other", "c": "u64 f("})
+        self.assertEqual((status, told["error"]), (400, "BadRequest"))
+        self.assertIn("program.c:1", told["words"])
+        client.connection.close()
 
 
 @unittest.skipIf(MISSING, f"not there: {MISSING}")

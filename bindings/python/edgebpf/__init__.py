@@ -15,8 +15,9 @@ starts and `close` ends; batches and runs may have several workers there.
 from edgebpf.errors import (
     ArgumentLength, Closed, EpochsFull, Error, LogFull, NoMemory, Refused, TooManyEdits, TooManyNames, VertexRange, WrongText,
 )
+from edgebpf.from_c import compile_c
 from edgebpf.native import Store, Version
-from edgebpf.programs import Program, assemble, compile_c
+from edgebpf.programs import Program, assemble
 from edgebpf.store import Counts, Result, connect
 
 __version__ = "0.1.0"

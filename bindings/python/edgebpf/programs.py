@@ -53,6 +53,14 @@ def command(name: str) -> str:
     return found
 
 
+def record_of(record: int) -> int:
+    """A length that a record may have."""
+    length = whole(record, "record")
+    if not EDGE_BYTES <= length <= MOST_RECORD:
+        raise ValueError(f"a record has {EDGE_BYTES} to {MOST_RECORD} bytes, not {length}")
+    return length
+
+
 def said_lines(said: bytes) -> str:
     """What a process of edgebpf said, without the line of a checkout that it was built now."""
     lines = said.decode(errors="replace").strip().splitlines()
@@ -86,9 +94,7 @@ class Program:
         return cls(image[IMAGE.size:end], record, image[end:])
 
     def _take(self, code: bytes | None, text: str | None, record: int, table: bytes) -> None:
-        record = whole(record, "record")
-        if not EDGE_BYTES <= record <= MOST_RECORD:
-            raise ValueError(f"a record has {EDGE_BYTES} to {MOST_RECORD} bytes, not {record}")
+        record = record_of(record)
         if code is not None and (len(code) % UNIT or not UNIT <= len(code) <= MOST_UNITS * UNIT):
             raise ValueError(WRONG_CODE)
         self.code, self.text, self.record, self.table = code, text, record, bytes_of(table, "table")
@@ -218,18 +224,3 @@ def assemble(text: str | Sequence[str], record: int = EDGE_BYTES, table: bytes =
         if any(map(STATEMENT.fullmatch, line.split(";")[1:])):
             raise WrongText(STATEMENT_IN_COMMENT, number)
     return Program._of_text("\n".join(lines), record, table)
-
-
-def compile_c(path: str | os.PathLike[str], function: str, record: int = EDGE_BYTES) -> Program:
-    """The program of a function in C, `u64 FUNCTION(struct edge *edge, u64 length)`, by `edgebpf-c` and clang. Its table is the object
-    marked `TABLE`, if there is one.
-
-    Raises `Error` with the compiler's or the linker's words, and `Refused`.
-    """
-    run = subprocess.run([command("edgebpf-c"), "--name", "p", "--", str(path), function, str(record)], capture_output=True, text=True)
-    if run.returncode or not run.stdout:
-        raise Error(run.stderr.strip())
-    word, *words = run.stdout.split()
-    if word == "image":
-        return Program._of_image(bytes.fromhex(words[1]))
-    return Program(bytes.fromhex(words[2]), record)

@@ -19,6 +19,7 @@ from test_package import FOLDER, TARGET, edgebpf, np, told
 class Native(test_package.Package):
     # These are of a process, or of the package as it lies on disk.
     test_ended = test_killed = test_interrupted = test_cookbook = test_first_runs_at_once = test_from_c = test_installed = None
+    test_compilers_that_go_on = test_wrong_words_of_compile_c = None
     test_interrupted_at_a_terminal = test_near_the_root = None
 
     def store(self, vertices, workers=1):

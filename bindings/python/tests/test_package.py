@@ -1,5 +1,6 @@
 """The Python package over an `edgebpf` process: what README shows, answers against sets and scipy, and each error."""
 import concurrent.futures
+import contextlib
 import os
 import pathlib
 import random
@@ -10,6 +11,7 @@ import subprocess
 import sys
 import tempfile
 import threading
+import time
 import unittest
 import unittest.mock
 
@@ -675,11 +677,66 @@ except KeyboardInterrupt:
             source.write_text("#include <edgebpf.h>\nTABLE static const u32 weights[2] = {3, 1};\n"
                               "u64 score(struct edge *edge, u64 length, const u32 table[2]) { return table[edge->target & 1]; }\n")
             weighed = edgebpf.compile_c(source, "score")
+            self.assertEqual(edgebpf.compile_c(text=source.read_text(), function="score").code, weighed.code)
+            with self.assertRaisesRegex(edgebpf.Error, "clang refused program.c:\nprogram.c:1:1: "):
+                edgebpf.compile_c(text="u64 f(", function="f")
+            with self.assertRaises(edgebpf.Refused):
+                edgebpf.compile_c(text="#include <edgebpf.h>\nu64 f(struct edge *edge, u64 length) { return edge->argument[9]; }\n", function="f")
         self.assertEqual(weighed.table, bytes([3, 0, 0, 0, 1, 0, 0, 0]))
         store = self.store(3)
         store.batch("A", ([0, 1, 2], [1, 0, 0]))
         self.assertEqual(store.pin().run(mutual).values.tolist(), [1, 1, 0])
         self.assertEqual(store.pin().numbers(weighed).tolist(), [1, 3, 3])
+
+    def processes_of(self, folder):
+        """The processes whose temporary files are in a folder."""
+        found = []
+        for process in pathlib.Path("/proc").glob("[0-9]*"):
+            with contextlib.suppress(OSError):
+                if f"TMPDIR={folder}/edgebpf-".encode() in (process / "environ").read_bytes():
+                    found.append((process / "comm").read_text())
+        return found
+
+    def test_compilers_that_go_on(self):
+        """One that takes too long or too much, or is interrupted, is gone with all that it started, and no file is left."""
+        if shutil.which("clang") is None and shutil.which("clang-19") is None:
+            self.skipTest("not there: clang")
+        long = "#include <edgebpf.h>\n#define A(x) x x x x x x x x\nu64 f(struct edge *edge, u64 length) { u64 sum = 0; A(A(A(A(A(A(A(A(sum += 1;)))))))) return sum; }\n"
+        crash = "#include <edgebpf.h>\n#pragma clang __debug crash\n"
+
+        def interrupt(*_):
+            raise KeyboardInterrupt
+
+        with tempfile.TemporaryDirectory() as folder, unittest.mock.patch.dict(os.environ, TMPDIR=folder), unittest.mock.patch("tempfile.tempdir", folder):
+            begun = time.monotonic()
+            with self.assertRaisesRegex(edgebpf.Error, r"^the compiler took more than 0\.7 seconds$"):
+                edgebpf.compile_c(text=long, function="f", timeout=0.7)
+            self.assertLess(time.monotonic() - begun, 10)
+            with unittest.mock.patch("edgebpf.from_c.MEMORY", 300 << 20), self.assertRaisesRegex(edgebpf.Error, "^the compiler needs more than 300 MB of memory$"):
+                edgebpf.compile_c(text=long, function="f", timeout=100)
+            with self.assertRaises(edgebpf.Error) as told:
+                edgebpf.compile_c(text=crash, function="f")
+            self.assertLess(len(str(told.exception)), 20_000)
+            before = signal.signal(signal.SIGALRM, interrupt)
+            try:
+                signal.setitimer(signal.ITIMER_REAL, 0.7)
+                with self.assertRaises(KeyboardInterrupt):
+                    edgebpf.compile_c(text=long, function="f", timeout=100)
+            finally:
+                signal.signal(signal.SIGALRM, before)
+            self.assertEqual((self.processes_of(folder), os.listdir(folder)), ([], []))
+
+    def test_wrong_words_of_compile_c(self):
+        text = "#include <edgebpf.h>\nu64 f(struct edge *edge, u64 length) { return 7; }\n"
+        for words, error, given in (
+            ("compile_c takes either path or text", TypeError, {"function": "f"}), ("compile_c takes either path or text", TypeError, {"path": "x.c", "text": text, "function": "f"}),
+            ("path is the name of a file, not int", TypeError, {"path": 7, "function": "f"}), ("function is the name", TypeError, {"text": text}), ("function is the name", TypeError, {"text": text, "function": 7}), ("text is a str", TypeError, {"text": b"", "function": "f"}),
+            ("timeout is a number", ValueError, {"text": text, "function": "f", "timeout": 0}), ("timeout is a number", ValueError, {"text": text, "function": "f", "timeout": float("nan")}),
+            ("timeout is a number", ValueError, {"text": text, "function": "f", "timeout": "1"}), ("a record has 16 to 256", ValueError, {"text": text, "function": "f", "record": 15}),
+            ("record is a whole", TypeError, {"text": text, "function": "f", "record": "16"}), ("edgebpf-c: .*No such file", edgebpf.Error, {"path": "/nowhere/x.c", "function": "f"}),
+        ):
+            with self.subTest(given=given), self.assertRaisesRegex(error, words):
+                edgebpf.compile_c(**given)
 
     def test_installed(self):
         """`pip install` needs no network, and gives the same package, with the library if there is a C compiler."""
