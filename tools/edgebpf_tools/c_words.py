@@ -78,6 +78,17 @@ class CWords:
             return INDEX.format(length=self.length, argument=self.length - 16)
         return usual
 
+    def lacking_table(self, told):
+        """The name of the third parameter, if a program is refused since it reads that and has no table; else None."""
+        explained = read(told)
+        if not any(line.startswith(f"rule {UNSET_REGISTER}:") for line in explained.end) or "known of r3: nothing" not in explained.end:
+            return None
+        first = explained.listing[0]
+        if "r3" in dict(first.known or ()) or any(instruction.called_at is not None for instruction in explained.listing):
+            return None
+        function, _ = self.program.places[0]
+        return names_at(self.variables, function.start).get(3)
+
     def refusal(self, told):
         """The lines that say why a program is refused, from the text of edgebpf-explain."""
         end = read(told).end

@@ -3,6 +3,7 @@ import re
 import shutil
 import subprocess
 
+from edgebpf_tools.clang_words import with_help
 from edgebpf_tools.opaque_indices import opaque
 from edgebpf_tools.refusal import Refusal, needs_package
 
@@ -47,10 +48,10 @@ def compile_to_bpf(source, target, folders, optimization=OPTIMIZATION, has_opaqu
             made = _run([*common, optimization, *TO_CODE, "-x", "ir", "-", "-o", target], code)
             if made.returncode == 0:
                 return ir.stderr + made.stderr
-            raise Refusal(f"clang made no code of {source}:\n{made.stderr.rstrip()}")
+            raise Refusal(f"clang made no code of {source}:\n{with_help(made.stderr)}")
         if "unknown target CPU" not in ir.stderr:
             break
-    raise Refusal(f"clang refused {source}:\n{ir.stderr.rstrip()}")
+    raise Refusal(f"clang refused {source}:\n{with_help(ir.stderr)}")
 
 
 def _run(command, text=None):

@@ -80,7 +80,11 @@ def linked(options, folder):
     sys.stderr.write(clang.compile_to_bpf(options.file, compiled, [HEADERS], options.optimize))
     found = of_object(options, compiled)
     table = tables.of_program(options, found[0])
-    if explain.is_ready() and loses_an_index(options.length, found[2].code, table):
+    told = told_if_ready(options.length, found[2].code, table)
+    if lacking := told and CWords(found[0], found[2], options.length).lacking_table(told):
+        raise Refusal(f"{found[1].name} reads its table, {lacking}, and no table was given: --table FILE, or mark one const object TABLE")
+    # An index of which too little is known.
+    if "\nrule 11:" in told:
         again = f"{folder}/again.o"
         clang.compile_to_bpf(options.file, again, [HEADERS], options.optimize, has_opaque_indices=True)
         other = of_object(options, again)
@@ -101,12 +105,12 @@ def told_of(length, code, table):
     return explain.explain(length, code.hex(), table=table.hex() or None)
 
 
-def loses_an_index(length, code, table):
-    """Whether a program is refused for an index of which too little is known, as far as the program that explains is there."""
+def told_if_ready(length, code, table):
+    """What is told of a program, as far as the program that explains is there; else nothing."""
     try:
-        return "\nrule 11:" in told_of(length, code, table)[0]
+        return told_of(length, code, table)[0] if explain.is_ready() else ""
     except Refusal:
-        return False
+        return ""
 
 
 def explained(words, name, length, code, table):

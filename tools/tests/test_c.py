@@ -93,6 +93,26 @@ class EdgebpfC(unittest.TestCase):
         self.refused("bare", "its section nothing_here is empty")
         self.refused("halved", "programs.c:30: this loop in halved is left as a loop", "for_each_neighbour")
 
+    def test_what_helps_where_clang_makes_no_code(self):
+        """For each of these a line says what to do here, once; what clang advises for the kernel is left out."""
+        stack = "u64 a[100]; for (int i = 0; i < 100; i++) a[i] = edge->target * i + hash(i ^ length); u64 sum = 0; for (int i = 0; i < 100; i++) sum += a[i] ^ opaque(a[99 - i]); return sum;"
+        for number, (body, before, part) in enumerate((
+            ("double part = edge->target; return part * 2.5;", "", "no floating point"), ("return (float)edge->target / 3.0f > 1.0f;", "", "no floating point"),
+            ("return (unsigned __int128)edge->target * hash(length) >> 64;", "", "no numbers of 128 bits"),
+            ("return ((unsigned __int128)hash(length) << 7) / hash(edge->target);", "", "no numbers of 128 bits"), (stack, "", "512 bytes for its variables"),
+            ("return 1;", "#include <stdio.h>\n", "programs have no library"), ("return 1;", "#include <linux/bpf.h>\n#include <nothing.h>\n", "programs have no library"),
+        )):
+            path = pathlib.Path(self.folder.name, f"helped{number}.c")
+            path.write_text(f"{before}#include <edgebpf.h>\nu64 f(struct edge *edge, u64 length) {{ {body} }}\n")
+            run = run_tool("edgebpf-c", path, "f", "16")
+            self.assertEqual((run.returncode, run.stdout), (1, ""))
+            helps = [line for line in run.stderr.splitlines() if line.startswith("what helps: ")]
+            self.assertEqual(len(helps), 1, run.stderr)
+            self.assertIn(part, helps[0])
+            self.assertNotIn("per-cpu", run.stderr)
+            errors = [line for line in run.stderr.splitlines() if line.startswith("error: ")]
+            self.assertEqual(len(set(errors)), len(errors))
+
     def test_several_functions_without_a_name(self):
         run = self.compiled("16")
         self.assertIn("several functions: target, nested", run.stderr)

@@ -89,6 +89,18 @@ class Tables(unittest.TestCase):
         self.refused("--table-type says what the lines of --table FILE are", READS, "--table-type", "u8")
         self.refused("mark one const object TABLE", MARKED.replace("TABLE ", "") + by_name)
 
+    def test_no_table_was_given(self):
+        """It is said where a function reads its third parameter, and of no other program that reads what is unset."""
+        inlined = "INLINE u64 at(const u16 *numbers, u64 place) { return numbers[place & 3]; }\n" + READS.replace("table[edge->target & 3]", "at(table, hash(edge->target))")
+        with unittest.mock.patch.dict("os.environ", {"EDGEBPF_EXPLAIN": str(TOOLS / "tests" / "second_explain.py")}):
+            for source in (READS, inlined):
+                self.refused("edgebpf-c: read reads its table, table, and no table was given: --table FILE, or mark one const object TABLE\n", source)
+                self.assertEqual(self.compiled(source, "--table", "FOLDER/raw", raw=bytes(8)).stderr, "")
+            unset = "u64 read(struct edge *edge, u64 length) { u64 some; return edge->argument[0] ? 1 : some; }\n"
+            called = "FUNCTION u64 inner(u64 a, u64 b, u64 c) { return a + b + c; }\nu64 read(struct edge *edge, u64 length) { u64 some; return inner(1, 2, some); }\n"
+            for source in (unset, called):
+                self.assertNotIn("no table", self.compiled(source, "--explain").stderr)
+
     def test_what_is_known_of_a_table(self):
         with unittest.mock.patch.dict("os.environ", {"EDGEBPF_EXPLAIN": str(TOOLS / "tests" / "second_explain.py")}):
             self.assertIn("table (r3) table+0\n", self.compiled(MARKED + READS, "--explain").stdout)
