@@ -132,9 +132,14 @@ INLINE u64 hash_pair(u64 first, u64 second) { return hash(hash(first + 0x9e3779b
        for_each_neighbour(strong, word, total, least) { return total + (degree(word) >= least); }
 
    This makes the function u64 strong(u64 vertex, u64 total, u64 least), which returns the last total. for_each_neighbour goes
-   over MOST_NEIGHBOURS at most, as a tree of functions, which ends early; for_1024_neighbours and for_64_neighbours go over
-   so many at most, with a smaller bound and less code. The first two have a form that stops after the 64 neighbours with which
-   the total has reached a limit; the limit may name what is given. */
+   over the first MOST_NEIGHBOURS, as a tree of functions, which ends early; for_1024_neighbours and for_64_neighbours go over
+   the first so many, with a smaller bound and less code. All three DROP the other neighbours, and the total does not say so.
+   for_1024_neighbours_or and for_64_neighbours_or return a number `otherwise` for a vertex that has more, and go over none:
+
+       for_64_neighbours_or(strong, ~0ULL, word, total, least) { return total + (degree(word) >= least); }
+
+   for_each_neighbour and for_1024_neighbours have a form that stops after the 64 neighbours with which the total has reached a
+   limit. The limit and `otherwise` may name what is given. */
 #define MOST_NEIGHBOURS 65536
 #define for_each_neighbour(name, word, total, given) for_each_neighbour_until(name, NEVER, word, total, given)
 #define for_1024_neighbours(name, word, total, given) for_1024_neighbours_until(name, NEVER, word, total, given)
@@ -158,9 +163,23 @@ INLINE u64 hash_pair(u64 first, u64 second) { return hash(hash(first + 0x9e3779b
         return name##_of_1024(edgebpf_vertex, 0, degree(edgebpf_vertex), total, given); \
     } \
     EDGEBPF_STEP(name, word, total, given)
+#define for_1024_neighbours_or(name, otherwise, word, total, given) \
+    EDGEBPF_64(name, name##_of_64, word, total, given) \
+    EDGEBPF_1024(name, NEVER, total, given) \
+    INLINE u64 name(u64 edgebpf_vertex, u64 total, u64 given) { \
+        u64 edgebpf_count = degree(edgebpf_vertex); \
+        return edgebpf_count > 1024 ? (otherwise) : name##_of_1024(edgebpf_vertex, 0, edgebpf_count, total, given); \
+    } \
+    EDGEBPF_STEP(name, word, total, given)
 #define for_64_neighbours(name, word, total, given) \
     EDGEBPF_64(name, name##_of_64, word, total, given) \
     INLINE u64 name(u64 edgebpf_vertex, u64 total, u64 given) { return name##_of_64(edgebpf_vertex, 0, total, given); } \
+    EDGEBPF_STEP(name, word, total, given)
+#define for_64_neighbours_or(name, otherwise, word, total, given) \
+    EDGEBPF_64(name, name##_of_64, word, total, given) \
+    INLINE u64 name(u64 edgebpf_vertex, u64 total, u64 given) { \
+        return degree(edgebpf_vertex) > 64 ? (otherwise) : name##_of_64(edgebpf_vertex, 0, total, given); \
+    } \
     EDGEBPF_STEP(name, word, total, given)
 
 #define NEVER 0

@@ -8,7 +8,11 @@ import re
 from edgebpf_tools.debug_info import names_at, variables
 from edgebpf_tools.explain_page import STYLE, read
 
-POINTER_USE, UNSET_REGISTER, OUT_OF_RANGE = 10, 8, 11
+TOO_MANY_INSTRUCTIONS, UNSET_REGISTER, POINTER_USE, OUT_OF_RANGE = 7, 8, 10, 11
+FEWER_NEIGHBOURS = (
+    "; the bound of for_each_neighbour counts 65,536 neighbours, so no other loop over neighbours fits into it: for_64_neighbours_or fits "
+    "into for_1024_neighbours_or, and both answer a number of yours for a vertex that has more"
+)
 LOCAL_ARRAY = (
     "a local array cannot be indexed by a variable. Use the end of the record in its place, which may be: give it more bytes, and index "
     "SCRATCH(edge, u8) with an index that was compared with a constant"
@@ -74,6 +78,8 @@ class CWords:
             return LOCAL_ARRAY
         if cause == UNSET_REGISTER:
             return UNDEFINED
+        if cause == TOO_MANY_INSTRUCTIONS:
+            return usual + FEWER_NEIGHBOURS
         if cause == OUT_OF_RANGE and any(" to " in value and not value.startswith("record") for value in known.values()):
             return INDEX.format(length=self.length, argument=self.length - 16)
         return usual

@@ -71,6 +71,18 @@ class EdgebpfC(unittest.TestCase):
             run = self.compiled(*words, "--on", self.graph)
             self.assertEqual((run.stdout, run.returncode), (said, 0))
 
+    @unittest.skipUnless(os.environ.get("EDGEBPF"), "needs a built program, which EDGEBPF names: the second implementation takes minutes")
+    def test_loops_within_loops(self):
+        """One over all neighbours within another has too great a bound, and the words name those that fit."""
+        path = pathlib.Path(self.folder.name, "loops.c")
+        for outer, inner, is_accepted in (("for_each_neighbour(outer", "for_each_neighbour(inner", False), ("for_1024_neighbours_or(outer, 0", "for_64_neighbours_or(inner, 0", True)):
+            text = f"#include <edgebpf.h>\n{inner}, word, total, other) {{ return total + (word == other); }}\n"
+            text += f"{outer}, word, total, other) {{ return total + inner(word, 0, other); }}\n"
+            path.write_text(text + "u64 two(struct edge *edge, u64 length) { return outer(edge->source, 0, edge->target); }\n")
+            run = run_tool("edgebpf-c", path, "two", "16", "--on", self.graph)
+            self.assertEqual(run.returncode, 0 if is_accepted else 1, run.stderr)
+            self.assertEqual("for_64_neighbours_or fits into for_1024_neighbours_or" in run.stderr, not is_accepted, run.stderr)
+
     def test_script_of_a_run(self):
         run = self.compiled("target", "16", "--on", self.graph, "--script")
         self.assertEqual(run.stdout, f"{GRAPH}{TARGET}pin last\nrun target last sum -\n")

@@ -40,15 +40,19 @@ LOOPS = """#include <edgebpf.h>
 for_each_neighbour(of_each, word, total, unused) { return total + word; }
 for_1024_neighbours(of_1024, word, total, unused) { return total + word; }
 for_64_neighbours(of_64, word, total, unused) { return total + word; }
+for_1024_neighbours_or(or_1024, 7000 + given, word, total, given) { return total + word; }
+for_64_neighbours_or(or_64, 7000 + given, word, total, given) { return total + word; }
 for_each_neighbour_until(of_65, limit, word, total, limit) { return total + 1; }
 u64 each(struct edge *edge, u64 length) { return of_each(edge->source, 0, 0); }
 u64 thousand(struct edge *edge, u64 length) { return of_1024(edge->source, 0, 0); }
 u64 few(struct edge *edge, u64 length) { return of_64(edge->source, 0, 0); }
+u64 thousand_or(struct edge *edge, u64 length) { return or_1024(edge->source, 0, 9); }
+u64 few_or(struct edge *edge, u64 length) { return or_64(edge->source, 0, 9); }
 u64 until_64(struct edge *edge, u64 length) { return of_65(edge->source, 0, 64); }
 u64 until_65(struct edge *edge, u64 length) { return of_65(edge->source, 0, 65); }
 u64 common(struct edge *edge, u64 length) { return common_neighbours(edge->source, edge->target); }
 """
-LOOP_NUMBERS = {"each": HUB * (HUB - 1) // 2, "thousand": 1024 * 1023 // 2, "few": 64 * 63 // 2, "until_64": 64, "until_65": 128}
+LOOP_NUMBERS = {"each": HUB * (HUB - 1) // 2, "thousand": 1024 * 1023 // 2, "few": 64 * 63 // 2, "thousand_or": 7009, "few_or": 7009, "until_64": 64, "until_65": 128}
 
 
 def hashed(number):
@@ -169,6 +173,18 @@ class FromC(unittest.TestCase):
         programs = {function.name: link(objects, function, 16) for function in objects.functions if function.name in LOOP_NUMBERS}
         numbers = {name: run(program.code, record, hub, judged(program.code, 16)[0]) for name, program in programs.items()}
         self.assertEqual(numbers, LOOP_NUMBERS)
+
+    def test_loops_that_drop_no_neighbour(self):
+        """Up to the last vertex with so many neighbours their sum is answered, and from the first that has more another number."""
+        path = pathlib.Path(self.folder.name) / "others.c"
+        path.write_text(LOOPS)
+        objects = objects_of(path, self.folder.name)
+        for name, most in (("thousand_or", 1024), ("few_or", 64)):
+            program = link(objects, next(function for function in objects.functions if function.name == name), 16)
+            bound = judged(program.code, 16)[0]
+            for many, wanted in ((0, 0), (1, 0), (most - 1, (most - 1) * (most - 2) // 2), (most, most * (most - 1) // 2), (most + 1, 7009)):
+                graph = Graph(most + 2, {0: list(range(many))}, many)
+                self.assertEqual(run(program.code, struct.pack("<4I", 0, 1, 0, many), graph, bound), wanted, (name, many))
 
     def test_common_neighbours_of_a_vertex_with_too_many(self):
         """Only the first MOST_NEIGHBOURS of a vertex are asked for, so the one with fewer is. The only word they share is the other's last."""
