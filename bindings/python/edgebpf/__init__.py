@@ -16,6 +16,7 @@ from edgebpf.errors import (
     ArgumentLength, Closed, EpochsFull, Error, LogFull, NoMemory, Refused, TooManyEdits, TooManyNames, VertexRange, WrongText,
 )
 from edgebpf.from_c import compile_c
+from edgebpf.live import Live
 from edgebpf.native import Store, Version
 from edgebpf.programs import Program, assemble
 from edgebpf.store import Counts, Result, connect
@@ -23,6 +24,6 @@ from edgebpf.store import Counts, Result, connect
 __version__ = "0.1.0"
 
 __all__ = [
-    "ArgumentLength", "Closed", "Counts", "EpochsFull", "Error", "LogFull", "NoMemory", "Program", "Refused", "Result", "Store",
+    "ArgumentLength", "Closed", "Counts", "EpochsFull", "Error", "Live", "LogFull", "NoMemory", "Program", "Refused", "Result", "Store",
     "TooManyEdits", "TooManyNames", "Version", "VertexRange", "WrongText", "assemble", "compile_c", "connect",
 ]

@@ -1,7 +1,6 @@
 """A store in this process, over `libedgebpf.so`, and its versions."""
 from __future__ import annotations
 
-import copy
 import ctypes
 import threading
 from collections.abc import Callable
@@ -105,10 +104,14 @@ class Store:
 
     def pin(self) -> Version:
         """The last version. It stays as it is while batches come."""
+        return Version(self._pinned())
+
+    def _pinned(self) -> library.Shared:
+        """The library's handles of the last version."""
         handle, pin = self._open(), library.Handle()
         with self._lock:
             library.check(library.load().edgebpf_store_pin(handle.at, pin.at))
-        return Version(library.Shared(pin, library.load().edgebpf_version_share))
+        return library.Shared(pin, library.load().edgebpf_version_share)
 
     def close(self) -> None:
         """Drops the store; its versions stay. May be called twice."""
@@ -145,11 +148,13 @@ class Version:
 
     def _at(self) -> Any:
         """What the library knows this thread's version by."""
-        return self._open().own().at
+        shared = self._shared
+        return (shared or self._open()).own().at
 
     def share(self) -> Version:
         """The same version once more, which stays when this one is closed. Threads need none: each of them has a handle of its own."""
-        other = copy.copy(self)
+        other = Version.__new__(Version)
+        other.__dict__.update(self.__dict__)
         other._shared = library.Shared(self._open().another(), library.load().edgebpf_version_share)
         return other
 

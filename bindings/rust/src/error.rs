@@ -28,6 +28,8 @@ pub enum Error {
     TableLength,
     /// The argument of a run is as long as the record less 16 bytes.
     ArgumentLength,
+    /// A batch of a `Live` was applied, and there was no memory to show its version before the next one.
+    NotShown,
     /// The library answered a status of which this crate knows nothing.
     Unknown(u32),
 }
@@ -88,6 +90,9 @@ impl fmt::Display for Error {
             Error::CodeLength => to.write_str("the code is not 1 to 4096 units of 8 bytes"),
             Error::TableLength => to.write_str("the table has more than 4096 bytes"),
             Error::ArgumentLength => to.write_str("the argument is not as long as the record less 16 bytes"),
+            Error::NotShown => {
+                to.write_str("the batch was applied, and there is no memory to show its version before the next one")
+            }
             Error::Unknown(status) => write!(to, "the library answered {status}"),
         }
     }

@@ -5,12 +5,14 @@ mod batch;
 mod calls;
 mod error;
 mod handle;
+mod live;
 mod program;
 mod store;
 mod version;
 
 pub use batch::{Batch, Feed};
 pub use error::{Error, NotAssembled, Refusal, Refused};
+pub use live::Live;
 pub use program::{assemble, explain, Program, Verdict};
 pub use store::{Change, Store};
 pub use version::{Csr, Reduction, Totals, Version};
@@ -19,6 +21,8 @@ pub use version::{Csr, Reduction, Totals, Version};
 pub const MOST_VERTICES: u32 = 1_048_576;
 /// The greatest number of edits of a batch.
 pub const MOST_EDITS: usize = 65_536;
+/// The greatest number of batches between two rebases.
+pub const MOST_BATCHES: u64 = 4_096;
 /// The bytes of a record that every edge has. A record's other bytes are the argument of a run.
 pub const EDGE_BYTES: usize = 16;
 

@@ -1,0 +1,125 @@
+"""A graph that one thread edits and all threads read: what is read is the last version, and rebases come by themselves."""
+from __future__ import annotations
+
+import dataclasses
+import threading
+from typing import Any
+
+import numpy as np
+import numpy.typing as npt
+
+from edgebpf.errors import Closed, EpochsFull, NoMemory
+from edgebpf.given import FEEDS, Edges, Pairs, edits_of, edits_of_batch, feed_of, whole
+from edgebpf.native import Store, Version
+from edgebpf.store import MOST_BATCHES, MOST_EDITS, Counts
+
+REBASE_BATCHES, REBASE_EDITS = 1_000, 1 << 22
+
+
+class Last(Version):
+    """The last version of a `Live`, which all its readers have at once, so that none of them closes it."""
+
+    def close(self) -> None:
+        """Does nothing: the version is dropped with the last that refers to it."""
+
+
+def copied(version: Version) -> Store:
+    """A store of its own with the edges of a version, and with all its batches and rebases before it."""
+    store, (starts, targets) = Store(version.vertices), version.csr()
+    sources = np.repeat(np.arange(version.vertices, dtype=np.uint32), np.diff(starts))
+    for number, place in enumerate(range(0, len(targets), MOST_EDITS), 1):
+        store.apply(sources[place:place + MOST_EDITS], targets[place:place + MOST_EDITS])
+        if number % (MOST_BATCHES - 1) == 0:
+            store.rebase()
+    store.rebase()
+    return store
+
+
+class Live:
+    """A graph in this process of which threads read the last version, without waiting, while one at a time edits it. It is a context manager.
+
+    vertices: 1 to 1,048,576. A rebase comes by itself after `batches` batches, 1 to 4,096, or after `edits` edits, so that the memory of what
+    was edited stays small. A store takes 1,024 rebases: then its edges are copied into a new store, also by itself, and that batch takes
+    longer.
+    """
+
+    def __init__(self, vertices: int, batches: int = REBASE_BATCHES, edits: int = REBASE_EDITS) -> None:
+        self._batches, self._edits = whole(batches, "batches"), whole(edits, "edits")
+        if not 1 <= self._batches <= MOST_BATCHES:
+            raise ValueError(f"batches is 1 to {MOST_BATCHES}")
+        if self._edits < 1:
+            raise ValueError("edits is at least 1")
+        self._store = Store(vertices)
+        self.vertices = self._store.vertices
+        self._writing, self._is_closed = threading.Lock(), False
+        # How many batches there were before the last rebase, and since then, with how many edits.
+        self._before, self._since, self._edited = 0, 0, 0
+        self._latest: tuple[int, Version] = 0, Last(self._store._pinned())
+
+    def apply(
+        self, sources: npt.ArrayLike = (), targets: npt.ArrayLike = (), removes: npt.ArrayLike | None = None, feed: str = "A", *,
+        edges: Pairs | None = None,
+    ) -> Counts:
+        """Applies a batch of edits in their order, and raises what `Store.apply` raises. The `version` of its `Counts` counts all batches
+        of this graph."""
+        return self._take(feed, *edits_of(sources, targets, removes, edges, self.vertices))
+
+    def batch(
+        self, feed: str = "A", inserts: Edges = ((), ()), removes: Edges = ((), ()), edges: Pairs | None = None,
+    ) -> Counts:
+        """Applies a batch, its insertions first, and raises what `Store.batch` raises. The `version` of its `Counts` counts all batches
+        of this graph."""
+        return self._take(feed, *edits_of_batch(inserts, removes, edges, self.vertices))
+
+    def latest(self) -> Version:
+        """The last version, which stays as it is while batches come. Threads may use it at the same time. Its `close` does nothing."""
+        return self._latest[1]
+
+    def numbered(self) -> tuple[int, Version]:
+        """How many batches of this graph made the last version, and the version, whose own `number` counts those since a rebase."""
+        return self._latest
+
+    def close(self) -> None:
+        """Drops the store; versions that are held stay. May be called twice."""
+        with self._writing:
+            self._is_closed = True
+            self._store.close()
+
+    def __enter__(self) -> Live:
+        return self
+
+    def __exit__(self, *_: object) -> None:
+        self.close()
+
+    def _take(self, feed: str, *edits: Any) -> Counts:
+        """Applies a batch after a rebase where it is time for one, and shows its version."""
+        feed = FEEDS[feed_of(feed)]
+        with self._writing:
+            if self._is_closed:
+                raise Closed("the graph is closed")
+            if self._since >= self._batches or self._edited >= self._edits:
+                self._forget()
+            counts = self._store._edited(feed, *edits)
+            self._since, self._edited = self._since + 1, self._edited + len(edits[0])
+            self._show()
+            return dataclasses.replace(counts, version=self._before + self._since)
+
+    def _forget(self) -> None:
+        """Makes room for batches. Without memory for that the next batch tries it again, as long as there is room for batches."""
+        try:
+            try:
+                self._store.rebase()
+            except EpochsFull:
+                self._store = copied(self._store.pin())
+        except NoMemory:
+            if self._since >= MOST_BATCHES:
+                raise
+            return
+        self._before, self._since, self._edited = self._before + self._since, 0, 0
+        self._show()
+
+    def _show(self) -> None:
+        try:
+            self._latest = self._before + self._since, Last(self._store._pinned())
+        except NoMemory:
+            raise NoMemory("the batches were applied, and there is no memory to show their version before the next one") from None

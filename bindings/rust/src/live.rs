@@ -1,0 +1,131 @@
+//! A graph that one thread edits and others read.
+use crate::batch::{Batch, Feed};
+use crate::error::Error;
+use crate::store::{Change, Store};
+use crate::version::Version;
+use crate::{MOST_BATCHES, MOST_EDITS};
+use std::sync::{Mutex, MutexGuard, PoisonError};
+
+/// So many batches, or edits, come between two rebases, if a host names no others.
+const REBASE_BATCHES: u64 = 1_000;
+const REBASE_EDITS: u64 = 1 << 22;
+
+/// A graph of which threads read the last version while one at a time edits it. It rebases by itself.
+///
+/// A store takes 1,024 rebases. After them its edges are copied into a new store, also by itself, and that batch takes longer.
+#[derive(Debug)]
+pub struct Live {
+    writer: Mutex<Writer>,
+    /// How many batches made the last version, and the version.
+    latest: Mutex<(u64, Version)>,
+}
+
+#[derive(Debug)]
+struct Writer {
+    store: Store,
+    batches: u64,
+    edits: u64,
+    /// How many batches there were before the last rebase, and since then, with how many edits.
+    before: u64,
+    since: u64,
+    edited: u64,
+}
+
+/// A lock, also after a thread that held it panicked: nothing that it guards is ever half changed.
+fn locked<T>(mutex: &Mutex<T>) -> MutexGuard<'_, T> {
+    mutex.lock().unwrap_or_else(PoisonError::into_inner)
+}
+
+/// A store of its own with the edges of a version, and with all its batches before a rebase.
+fn copied(version: &Version) -> Result<Store, Error> {
+    let csr = version.csr()?;
+    let mut store = Store::new(version.vertices())?;
+    let mut batch = Batch::new();
+    let mut applied = 0;
+    for vertex in 0..version.vertices() {
+        let (from, to) = (csr.starts[vertex as usize] as usize, csr.starts[vertex as usize + 1] as usize);
+        for target in &csr.targets[from..to] {
+            batch.insert(vertex, *target);
+            if batch.len() == MOST_EDITS {
+                store.apply(Feed::A, &batch)?;
+                batch.clear();
+                applied += 1;
+                if applied % (MOST_BATCHES - 1) == 0 {
+                    store.rebase()?;
+                }
+            }
+        }
+    }
+    store.apply(Feed::A, &batch)?;
+    store.rebase()?;
+    Ok(store)
+}
+
+impl Live {
+    /// A graph without an edge, which is rebased after 1,000 batches or 4,194,304 edits. The errors of `Store::new`.
+    pub fn new(vertices: u32) -> Result<Live, Error> {
+        Live::with_rebases(vertices, REBASE_BATCHES, REBASE_EDITS)
+    }
+
+    /// A graph that is rebased after so many batches, 1 to 4,096, or so many edits. Numbers outside are taken for the nearest.
+    pub fn with_rebases(vertices: u32, batches: u64, edits: u64) -> Result<Live, Error> {
+        let store = Store::new(vertices)?;
+        let latest = Mutex::new((0, store.pin()?));
+        let batches = batches.clamp(1, MOST_BATCHES);
+        let writer = Writer { store, batches, edits: edits.max(1), before: 0, since: 0, edited: 0 };
+        Ok(Live { writer: Mutex::new(writer), latest })
+    }
+
+    /// Applies a batch, as `Store::apply` does. `number` of its `Change` counts all batches of this graph. `Error::NotShown` where the
+    /// batch was applied, and there was no memory to show its version before the next one.
+    pub fn apply(&self, feed: Feed, batch: &Batch) -> Result<Change, Error> {
+        let writer = &mut *locked(&self.writer);
+        if writer.since >= writer.batches || writer.edited >= writer.edits {
+            self.forget(writer)?;
+        }
+        let change = writer.store.apply(feed, batch)?;
+        writer.since += 1;
+        writer.edited += batch.len() as u64;
+        self.show(writer)?;
+        Ok(Change { number: writer.before + writer.since, ..change })
+    }
+
+    /// The last version, which stays as it is while batches come. It waits for no batch. `NoMemory`.
+    pub fn latest(&self) -> Result<Version, Error> {
+        Ok(self.numbered()?.1)
+    }
+
+    /// How many batches of this graph made the last version, and the version, whose own `number` counts those since a rebase.
+    pub fn numbered(&self) -> Result<(u64, Version), Error> {
+        let latest = locked(&self.latest);
+        Ok((latest.0, latest.1.share()?))
+    }
+
+    /// Makes room for batches. Without memory for that the next batch tries it again, as long as there is room for batches.
+    fn forget(&self, writer: &mut Writer) -> Result<(), Error> {
+        let made = match writer.store.rebase() {
+            Err(Error::EpochsFull) => writer.store.pin().and_then(|version| copied(&version)).map(|store| {
+                writer.store = store;
+            }),
+            other => other.map(|_| ()),
+        };
+        match made {
+            Ok(()) => {
+                writer.before += writer.since;
+                writer.since = 0;
+                writer.edited = 0;
+                self.show(writer)
+            }
+            Err(Error::NoMemory) if writer.since < MOST_BATCHES => Ok(()),
+            Err(error) => Err(error),
+        }
+    }
+
+    fn show(&self, writer: &Writer) -> Result<(), Error> {
+        let version = writer.store.pin().map_err(|_| Error::NotShown)?;
+        let before = std::mem::replace(&mut *locked(&self.latest), (writer.before + writer.since, version));
+        // What it holds is dropped outside of the lock.
+        drop(before);
+        Ok(())
+    }
+}
