@@ -3,7 +3,7 @@
 
     examples/service/server.py --vertices 100000 --port 8080
 
-README.md has the requests. One batch is applied at a time; readers pin the last version, and each answer names the version that it is of.
+README.md has the requests. One batch is applied at a time; readers have the last version, and each answer names the version that it is of.
 """
 import argparse
 import asyncio
@@ -29,8 +29,8 @@ MOST_BYTES = 4 << 20
 MOST_TEXT = 1 << 18
 # A program takes 83 KB for each thread that runs it.
 MOST_PROGRAMS = 255
-# A version keeps the batches that made it. After so many of them a rebase forgets them; a store takes MOST_BATCHES without one.
-REBASE_BATCHES, MOST_BATCHES = 1_000, 4_096
+# A version keeps the batches that made it. After so many of them a rebase forgets them.
+REBASE_BATCHES = 1_000
 # So many programs in C are compiled at the same time.
 COMPILERS = 2
 # A run holds a thread: more instructions than these, some seconds of work, are refused before it begins.
@@ -68,13 +68,11 @@ class Histogram:
 
 
 class Service:
-    def __init__(self, store, has_c=False, rebase_batches=REBASE_BATCHES):
-        self.store, self.has_c, self.rebase_batches, self.programs = store, has_c, rebase_batches, {}
+    def __init__(self, live, has_c=False):
+        self.live, self.has_c, self.programs = live, has_c, {}
         self.writing = asyncio.Lock()
         # Compilers wait for each other, and nobody else for them.
         self.compilers = concurrent.futures.ThreadPoolExecutor(COMPILERS)
-        # How many batches there were, and before each epoch, and how many edges the last of them left.
-        self.number, self.before, self.edges = 0, [0], 0
         self.batches, self.runs = Histogram("edgebpf_batch_seconds"), Histogram("edgebpf_run_seconds")
 
     async def batch(self, request):
@@ -83,25 +81,8 @@ class Service:
         ends = [pairs(asked.get(name, [])) for name in ("inserts", "removes")]
         async with self.writing:
             with self.batches.time():
-                counts = await asyncio.to_thread(self.apply, asked.get("feed", "A"), *ends)
-        return web.json_response({"version": self.before[-1] + counts.version, "added": counts.added, "removed": counts.removed})
-
-    def apply(self, feed, inserts, removes):
-        """Applies a batch, after a rebase where it is time for one. One thread at a time is here."""
-        if self.number - self.before[-1] >= self.rebase_batches:
-            # First, so that whoever pins the new epoch finds it here.
-            self.before.append(self.number)
-            try:
-                self.store.rebase()
-            except (edgebpf.EpochsFull, edgebpf.NoMemory):
-                self.before.pop()
-        counts = self.store.batch(feed, inserts, removes)
-        self.number, self.edges = self.number + 1, self.edges + counts.added - counts.removed
-        return counts
-
-    def number_of(self, version):
-        """How many batches made a version, of all that the service applied."""
-        return self.before[version.epoch] + version.number
+                counts = await asyncio.to_thread(self.live.batch, asked.get("feed", "A"), *ends)
+        return web.json_response({"version": counts.version, "added": counts.added, "removed": counts.removed})
 
     async def program(self, request):
         """Keeps a program under a name: {"name": "score", "record": 16} with "text", which may be a list of lines, or "code" in hexadecimal digits, and perhaps "table" in
@@ -142,23 +123,25 @@ class Service:
         if frontier and len(set(frontier)) < len(frontier):
             raise ValueError("a frontier has no vertex twice")
         words = (program, asked.get("reduction", "sum"), frontier, argument)
-        with self.runs.time(), self.store.pin() as version:
+        number, version = self.live.numbered()
+        with self.runs.time():
             if program.bound * version.edges > MOST_INSTRUCTIONS:
                 raise web.HTTPUnprocessableEntity(text=f"the bound times the edges is more than {MOST_INSTRUCTIONS}")
             result = await asyncio.to_thread(version.run, *words)
-        about = {"version": self.number_of(version), "edges": result.edges, "total": result.total}
+        about = {"version": number, "edges": result.edges, "total": result.total}
         if request.query.get("format") == "bytes":
             heads = {f"X-{name.title()}": str(value) for name, value in about.items()}
             return web.Response(body=result.values.astype("<u8").tobytes(), headers=heads, content_type="application/octet-stream")
         return web.json_response({**about, "values": result.values.tolist()})
 
     async def neighbours(self, request):
-        with self.store.pin() as version:
-            targets = version.neighbours(int(request.match_info["vertex"]))
-        return web.json_response({"version": self.number_of(version), "neighbours": targets.tolist()})
+        number, version = self.live.numbered()
+        targets = version.neighbours(int(request.match_info["vertex"]))
+        return web.json_response({"version": number, "neighbours": targets.tolist()})
 
     async def metrics(self, request):
-        lines = [f"edgebpf_version {self.number}", f"edgebpf_edges {self.edges}", f"edgebpf_vertices {self.store.vertices}"]
+        number, version = self.live.numbered()
+        lines = [f"edgebpf_version {number}", f"edgebpf_edges {version.edges}", f"edgebpf_vertices {version.vertices}"]
         return web.Response(text="\n".join([*lines, *self.batches.lines(), *self.runs.lines()]) + "\n")
 
     async def page(self, request):
@@ -244,8 +227,8 @@ async def one_request(request, handler):
     return response
 
 
-def application(store, **words):
-    service = Service(store, **words)
+def application(live, has_c=False):
+    service = Service(live, has_c)
     # A short body that is compressed may be a long one.
     plain = {"auto_decompress": False}
     app = web.Application(middlewares=[one_request, told_errors], client_max_size=MOST_BYTES, handler_args=plain)
@@ -282,22 +265,20 @@ def main():
     parser = argparse.ArgumentParser(description=__doc__, formatter_class=argparse.RawDescriptionHelpFormatter)
     parser.add_argument("--vertices", type=int, default=100_000)
     parser.add_argument("--port", type=int, default=8080)
-    parser.add_argument("--rebase", type=int, default=REBASE_BATCHES, help="forget the batches after so many of them, 1 to 4,096")
+    parser.add_argument("--rebase", type=int, default=REBASE_BATCHES, help="forget the batches after so many of them, 1 to 4096")
     parser.add_argument("--with-c", action="store_true", help="also take programs in C, whose compiler reads any file")
     options = parser.parse_args()
     if not 0 <= options.port < 65_536:
         parser.error("a port is 0 to 65535")
-    if not 1 <= options.rebase <= MOST_BATCHES:
-        parser.error(f"a rebase comes after 1 to {MOST_BATCHES} batches")
     # Connections that are left open are files; where no more may be opened, nobody is served.
     most = resource.getrlimit(resource.RLIMIT_NOFILE)[1]
     resource.setrlimit(resource.RLIMIT_NOFILE, (most, most))
     try:
-        store = edgebpf.Store(options.vertices)
+        live = edgebpf.Live(options.vertices, batches=options.rebase)
     except (edgebpf.Error, ValueError) as error:
         sys.exit(f"server.py: {error}")
-    app = application(store, has_c=options.with_c, rebase_batches=options.rebase)
-    with store, contextlib.suppress(KeyboardInterrupt, asyncio.CancelledError):
+    app = application(live, options.with_c)
+    with live, contextlib.suppress(KeyboardInterrupt, asyncio.CancelledError):
         try:
             asyncio.run(serve_until_interrupted(app, options.port))
         except OSError as error:

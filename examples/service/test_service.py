@@ -179,25 +179,6 @@ class Service(unittest.TestCase):
             status, _, lines = self.client.ask("GET", "/metrics")
             self.assertEqual((status, lines.decode().splitlines()[:2]), (200, [f"edgebpf_version {number}", f"edgebpf_edges {number}"]))
 
-    def test_after_the_last_rebase(self):
-        """A store that takes no more rebases takes the batches for which it has room, then answers 503, and is still read."""
-        import server
-
-        store = server.edgebpf.Store(4)
-        for _ in range(1_024):
-            store.rebase()
-
-        async def asked():
-            service = server.Service(store, rebase_batches=2)
-            service.before = [0] * 1_025
-            for number in range(1, 4_097):
-                self.assertEqual(service.apply("A", ([0], [number % 4]), ((), ())).version, number)
-            with self.assertRaises(server.edgebpf.LogFull):
-                service.apply("A", ((), ()), ((), ()))
-            self.assertEqual((service.number, service.number_of(store.pin()), service.edges), (4_096, 4_096, 4))
-
-        asyncio.run(asked())
-
     def test_bytes(self):
         self.client.told("POST", "/batches", {"inserts": [[0, 7], [2, 9]]})
         self.assertEqual(self.client.told("POST", "/runs", {"program": "target", "frontier": [2, 1, 0]})[1]["values"], [9, 0, 7])
@@ -314,8 +295,8 @@ class Service(unittest.TestCase):
 
         async def closed():
             port = free_port()
-            with server.edgebpf.Store(4) as store:
-                serving = asyncio.create_task(server.serve(server.application(store), port))
+            with server.edgebpf.Live(4) as live:
+                serving = asyncio.create_task(server.serve(server.application(live), port))
                 await asyncio.sleep(0.2)
                 reader, writer = await asyncio.open_connection("127.0.0.1", port)
                 with contextlib.suppress(ConnectionResetError):
@@ -383,7 +364,7 @@ class Starts(unittest.TestCase):
         self.refused("^server.py: error: a port is 0 to 65535$", "--port", "99999", status=2)
         self.refused("^server.py: a graph has 1 to 1048576 vertices$", "--vertices", "0")
         for count in ("0", "4097"):
-            self.refused("^server.py: error: a rebase comes after 1 to 4096 batches$", "--rebase", count, status=2)
+            self.refused("^server.py: batches is 1 to 4096$", "--rebase", count)
         with socket.create_server(("127.0.0.1", 0)) as other:
             self.refused("^server.py: .*address already in use", "--vertices", "4", "--port", str(other.getsockname()[1]))
 
