@@ -1,16 +1,41 @@
 """Reads files of edges: SNAP and other lists of two columns, and Matrix Market."""
+import gzip
 import io
 import re
 import sys
 import warnings
+import zlib
 
 from edgebpf_tools import decimals, packages
 from edgebpf_tools.refusal import Refusal
 
 # How many bytes are read at a time, and of how many edges each the progress is told.
 BLOCK = 1 << 22
+BYTE_ORDER_MARK, GZIP = b"\xef\xbb\xbf", b"\x1f\x8b"
 PROGRESS = 1_000_000
 MOST_ID = 2**63 - 1
+
+
+class Text:
+    """What stands in a stream of bytes: without a mark of the byte order, and of a compressed one what is in it."""
+
+    def __init__(self, name, stream):
+        self.name, self.begun = name, False
+        self.stream = io.BufferedReader(stream) if not hasattr(stream, "peek") else stream
+        if self.stream.peek(2)[:2] == GZIP:
+            self.stream = gzip.GzipFile(fileobj=self.stream)
+
+    def read(self, count):
+        try:
+            block = self.stream.read(count)
+        except (EOFError, zlib.error, gzip.BadGzipFile) as error:
+            raise Refusal(f"{self.name}: what is compressed there is damaged or cut: {error}") from None
+        is_first, self.begun = not self.begun, True
+        return block.removeprefix(BYTE_ORDER_MARK) if is_first else block
+
+
+def text_of(name, stream):
+    return Text(name, stream)
 
 
 class EdgeFile:
@@ -26,6 +51,7 @@ class EdgeFile:
         self.is_matrix, self.size = False, None
         self.has_begun, self.has_more, self.separator = False, False, None
         self.line, self.count, self.told = 0, 0, 0
+        self.skip = options.skip
         self.sources, self.targets = [], []
 
     def fault(self, line, text):
@@ -57,9 +83,18 @@ class EdgeFile:
         return rows + columns if self.rectangle == "apart" and rows != columns else max(rows, columns)
 
     def _take_block(self, block):
+        while self.skip and block:
+            block, self.skip, self.line = block.partition(b"\n")[2], self.skip - 1, self.line + 1
         if stray := re.search(rb"\r(?!\r*(\n|\Z))", block):
             line = self.line + block.count(b"\n", 0, stray.start()) + 1
             raise self.fault(line, "a carriage return stands within the line; lines end with a line feed, or with both")
+        if block:
+            self._take_lines(block)
+        if not self.quiet and self.count // PROGRESS > self.told:
+            self.told = self.count // PROGRESS
+            print(f"edgebpf-import: {self.count} edges read", file=sys.stderr)
+
+    def _take_lines(self, block):
         if not self.has_begun:
             block = self._after_head(block)
         if block:
@@ -69,9 +104,6 @@ class EdgeFile:
             else:
                 self.line += block.count(b"\n") + (not block.endswith(b"\n"))
             self._keep(*columns)
-        if not self.quiet and self.count // PROGRESS > self.told:
-            self.told = self.count // PROGRESS
-            print(f"edgebpf-import: {self.count} edges read", file=sys.stderr)
 
     def _keep(self, sources, targets):
         """Keeps columns, in half as many bytes where their ids allow it."""
@@ -169,6 +201,10 @@ class EdgeFile:
             raise self.fault(self.line, "the matrix has more than 2^63 - 1 rows and columns in all")
         self.size = rows, columns, entries
 
+    def _help(self):
+        """What may be meant where no edge was read yet."""
+        return "; --skip 1 leaves out a header, and --names takes words as ids" if not self.count else "; --names takes words as ids"
+
     def _ids_of(self, words):
         if len(words) < 2:
             raise self.fault(self.line, "an edge is two ids, and here is one word")
@@ -177,5 +213,5 @@ class EdgeFile:
         for word in words[:2]:
             if not (decimals.is_number(word) and decimals.value(word) <= MOST_ID):
                 shown = word if len(word) <= 40 else word[:40] + ".."
-                raise self.fault(self.line, f"`{shown}` is no id: ids are decimal numbers from 0 to 2^63 - 1")
+                raise self.fault(self.line, f"`{shown}` is no id: ids are decimal numbers from 0 to 2^63 - 1{self._help()}")
         return decimals.value(words[0]), decimals.value(words[1])

@@ -4,10 +4,10 @@ import contextlib
 import sys
 
 from edgebpf_tools import decimals, ends, owned, packages
-from edgebpf_tools.edge_files import EdgeFile
+from edgebpf_tools.edge_files import EdgeFile, text_of
+from edgebpf_tools.named_edges import MOST_VERTICES, NamedEdgeFile
 from edgebpf_tools.refusal import Refusal
 
-MOST_VERTICES = 1_048_576
 MOST_EDITS = 65_536
 # So many batches at most go by without a rebase; a log has room for 4,096.
 MOST_BATCHES = 4_000
@@ -20,12 +20,15 @@ def arguments(words):
         prog="edgebpf-import",
         description="Turns a list of edges (SNAP, or columns separated by blanks, tabs or commas) or a Matrix Market file into a "
         "script: the graph, and its edges in batches of 65,536, sorted by source. The script goes to standard output.",
-        epilog="Lines that begin with # or % are comments. Columns after the second are not read, and a warning on standard "
-        "error says so. Ids stay if all are below 1,048,576; else they are renumbered in ascending order, and FILE.ids "
-        "maps them back. Needs numpy: apt-get install python3-numpy",
+        epilog="Lines that begin with # or % are comments. A file that is compressed by gzip is read as what is in it. Columns after the "
+        "second are not read, and a warning on standard error says so. Ids stay if all are below 1,048,576; else they are renumbered in "
+        "ascending order, and FILE.ids maps them back. Needs numpy: apt-get install python3-numpy",
     )
     parser.add_argument("file", metavar="FILE", help="the edges; - for standard input")
     parser.add_argument("--base", type=int, choices=[0, 1], default=None, help="the least id; else 0, in Matrix Market 1")
+    parser.add_argument("--skip", type=int, default=0, metavar="N", help="leave out the first N lines, such as a header's")
+    parser.add_argument("--names", action="store_true", help="ids are words; vertices are numbered in the order of the words' bytes, and FILE.ids "
+                        "has the word of each")
     parser.add_argument("--renumber", action="store_true", help="renumber the ids also if they are small")
     parser.add_argument("--table", metavar="TABLE", help="where the table of new and old ids goes; else FILE.ids")
     parser.add_argument("--undirected", action="store_true", help="each edge also leads back")
@@ -56,6 +59,20 @@ def test_matrix(file, sources, targets):
         raise Refusal(f"{file.name}: a matrix of {rows} rows and {columns} columns is not symmetric")
     if sources.max() >= rows + file.base or targets.max() >= columns + file.base:
         raise Refusal(f"{file.name}: an entry lies outside the {rows} rows and {columns} columns of the matrix")
+
+
+class NamedNumbering:
+    """Which vertex a name becomes: its place among all names. The columns have them so already."""
+
+    def __init__(self, file):
+        self.ids, self.count = file.names(), len(file.known)
+
+    def vertices(self, column):
+        return column
+
+    def write_table(self, stream):
+        stream.write("# vertex, name in the file\n")
+        stream.writelines(f"{new} {name}\n" for new, name in enumerate(self.ids))
 
 
 class Numbering:
@@ -120,12 +137,12 @@ def write_script(count, edges, out, ends_with_rebase):
 
 def read_file(options):
     name = "standard input" if options.file == "-" else options.file
-    file = EdgeFile(name, options, warn)
+    file = NamedEdgeFile(name, options, warn) if options.names else EdgeFile(name, options, warn)
     if options.file == "-":
-        file.read(ends.standard_input().buffer)
+        file.read(text_of(name, ends.standard_input().buffer))
     else:
         with open(options.file, "rb") as stream:
-            file.read(stream)
+            file.read(text_of(name, stream))
     if not file.count:
         raise Refusal(f"{name} has no edge")
     return file
@@ -138,12 +155,16 @@ def made(file, numbering, sources, targets):
 
 def perform(words):
     options = arguments(words)
+    if options.skip < 0:
+        raise Refusal("--skip is a number of lines")
+    if options.names and (options.renumber or options.base is not None or options.rectangular):
+        raise Refusal("--names numbers the vertices itself: drop --renumber, --base and --rectangular")
     file = read_file(options)
     sources, targets = file.columns()
     if file.size:
         test_matrix(file, sources, targets)
         targets = move_columns(file, targets)
-    numbering = Numbering(file, sources, targets, options.renumber)
+    numbering = NamedNumbering(file) if options.names else Numbering(file, sources, targets, options.renumber)
     edges = made(file, numbering, sources, targets)
     table = options.table or ("edges.ids" if options.file == "-" else options.file + ".ids")
     del sources, targets
@@ -154,7 +175,7 @@ def perform(words):
         sys.stdout.flush()
     if not options.quiet:
         if numbering.ids is not None:
-            print(f"edgebpf-import: ids are renumbered; the table is {table}", file=sys.stderr)
+            print(f"edgebpf-import: ids are {'numbered' if options.names else 'renumbered'}; the table is {table}", file=sys.stderr)
         print(f"edgebpf-import: {numbering.count} vertices, {len(edges)} edges, {batches} batches", file=sys.stderr)
     return 0
 

@@ -1,4 +1,5 @@
 """edgebpf-import: the formats that it reads, the scripts that it writes, and its errors."""
+import gzip
 import importlib.util
 import io
 import os
@@ -122,6 +123,67 @@ class EdgebpfImport(unittest.TestCase):
             os.chmod(table, 0o600)
             self.assertEqual(self.made("2 4\n2 6\n4 6\n", "--renumber", "--table", table).stdout, FIRST)
             self.assertEqual((stat.S_IMODE(os.stat(table).st_mode), pathlib.Path(table).read_text()), (0o600, TABLE))
+
+    def of_bytes(self, data, *words):
+        run = subprocess.run([PYTHON, TOOLS / "edgebpf-import", "--quiet", "-", *words], input=data, capture_output=True)
+        return run.returncode, run.stdout.decode(), run.stderr.decode(errors="replace")
+
+    def test_marks_and_headers(self):
+        """A mark of the byte order is no part of the first id, and the first lines may be left out."""
+        mark, plain = b"\xef\xbb\xbf", b"0 1\n0 2\n1 2\n"
+        self.assertEqual(self.of_bytes(mark + plain), (0, FIRST, ""))
+        self.assertEqual(self.of_bytes(mark + b"%%MatrixMarket matrix coordinate pattern general\n3 3 3\n1 2\n1 3\n2 3\n"), (0, FIRST, ""))
+        for skip, before in (("1", b"source target\n"), ("2", b"from,to\r\n\r\n"), ("1", mark + b"id\n"), ("0", b"")):
+            self.assertEqual(self.of_bytes(before + plain, "--skip", skip), (0, FIRST, ""))
+        self.refused("source target\n0 1\n", "line 1: `source` is no id: ids are decimal numbers from 0 to 2^63 - 1; --skip 1 leaves out a header")
+        self.refused("x\n0 1\n2 y\n", "line 3: `y` is no id", "--skip", "1")
+        self.refused("0 1\n", "has no edge", "--skip", "1")
+        self.refused("0 1\n", "--skip is a number of lines", "--skip", "-1")
+
+    def test_compressed(self):
+        """What gzip made is read as what is in it, also in several parts, and a cut or damaged file is refused in words."""
+        plain = b"0 1\n0 2\n1 2\n"
+        self.assertEqual(self.of_bytes(gzip.compress(plain)), (0, FIRST, ""))
+        self.assertEqual(self.of_bytes(gzip.compress(plain[:6]) + gzip.compress(plain[6:])), (0, FIRST, ""))
+        self.assertEqual(self.of_bytes(gzip.compress(b"\xef\xbb\xbfsource,target\n" + plain.replace(b" ", b",")), "--skip", "1")[:2], (0, FIRST))
+        whole = gzip.compress(plain * 1_000)
+        for wrong in (whole[:-9], whole[:20], whole[:12] + b"\0\0\0\0" + whole[16:], whole[:-8] + bytes(8)):
+            status, made, said = self.of_bytes(wrong)
+            self.assertEqual((status, made), (1, ""))
+            self.assertRegex(said, "^edgebpf-import: standard input: what is compressed there is damaged or cut: .*\n$")
+        with tempfile.TemporaryDirectory() as folder:
+            path = pathlib.Path(folder, "edges.gz")
+            path.write_bytes(gzip.compress(b"7 99999999999\n7 8\n8 99999999999\n"))
+            self.assertEqual(run_tool("edgebpf-import", "--quiet", path).stdout, FIRST)
+            self.assertEqual(pathlib.Path(folder, "edges.gz.ids").read_text(), "# vertex, id in the file\n0 7\n1 8\n2 99999999999\n")
+
+    def test_names(self):
+        """Words are numbered in the order of their bytes, and the table has them."""
+        with tempfile.TemporaryDirectory() as folder:
+            table = pathlib.Path(folder, "table")
+            apart = "graph 3\nbatch A\n+ 0 1\n+ 0 2\n+ 2 1\nend\n"
+            for data, wanted, names in (
+                (b"ann bob\nann eve\n# c\nbob\teve\r\nann bob\n", FIRST, "0 ann\n1 bob\n2 eve\n"),
+                (b"new york,Paris\nPARIS , new york\nPARIS,Paris", apart, "0 PARIS\n1 Paris\n2 new york\n"),
+                ("\u00e9 \u4e2d\n0 \u4e2d\n0 \u00e9".encode(), FIRST, "0 0\n1 \u00e9\n2 \u4e2d\n"),
+                (b"\xef\xbb\xbf10 9\n1 9\n1 10", FIRST, "0 1\n1 10\n2 9\n"),
+            ):
+                self.assertEqual(self.of_bytes(data, "--names", "--table", str(table)), (0, wanted, ""))
+                self.assertEqual(table.read_text(), "# vertex, name in the file\n" + names)
+            self.assertEqual(self.of_bytes(b"a\xff b", "--names", "--table", str(table))[0], 0)
+            self.assertEqual(table.read_bytes(), b"# vertex, name in the file\n0 a\xff\n1 b\n")
+            back = self.of_bytes(b"ann bob", "--names", "--undirected", "--table", str(table))
+            self.assertEqual(back, (0, "graph 2\nbatch A\n+ 0 1\n+ 1 0\nend\n", ""))
+            many = "".join(f"a b{number}\n" for number in range(1_048_576))
+            for text, part in (
+                ("ann\n", "line 1: an edge is two names, and here is one word"), ("a,\n", "line 1: an edge is two names"), ("a b\nc\rd e\n", "line 2: a carriage return stands within the line"),
+                ("a\x00 b\n", "line 1: a name has a byte that is no letter"), (f"a {'b' * 1_001}\n", "line 1: a name has more than 1000 bytes"), ("# a b\n", "has no edge"),
+                (many, "standard input has more than 1048576 names by line 1048576"),
+            ):
+                self.refused(text, part, "--names", "--table", str(table))
+            self.refused("a b\n", "--names numbers the vertices itself", "--names", "--renumber")
+            self.assertIn("line 1: columns after the second", self.made("a b c\n", "--names", "--table", str(table)).stderr)
+        self.refused("ann bob\n", "`ann` is no id: ids are decimal numbers from 0 to 2^63 - 1; --skip 1 leaves out a header, and --names takes words as ids")
 
     def test_a_table_for_a_pipe(self):
         run = self.made("2 4\n2 6\n4 6\n", "--quiet", "--renumber", "--table", "/dev/stdout")

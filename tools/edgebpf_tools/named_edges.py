@@ -1,0 +1,50 @@
+"""Files of edges whose ids are words."""
+import array
+
+from edgebpf_tools.edge_files import EdgeFile
+from edgebpf_tools.refusal import Refusal
+
+MOST_VERTICES = 1_048_576
+# A table has a line for each name, so no name is longer than a line should be.
+MOST_NAME_BYTES = 1_000
+LEAST_LETTER, DELETE = 32, 127
+
+
+class NamedEdgeFile(EdgeFile):
+    """The edges of a file of two columns of words, as columns of places among all words in the order of their bytes."""
+
+    def __init__(self, name, options, warn):
+        super().__init__(name, options, warn)
+        # The number of each name, by its first place in the file, and these numbers of each edge.
+        self.known, self.ends = {}, (array.array("I"), array.array("I"))
+
+    def names(self):
+        """The words, each as text, in the order of their bytes."""
+        return [name.decode("utf-8", "surrogateescape") for name in sorted(self.known)]
+
+    def columns(self):
+        places = self.numpy.empty(len(self.known), dtype=self.numpy.int64)
+        places[[self.known[name] for name in sorted(self.known)]] = self.numpy.arange(len(self.known))
+        return tuple(places[self.numpy.frombuffer(ends, dtype=self.numpy.uint32)] for ends in self.ends)
+
+    def _take_lines(self, block):
+        for line in block.removesuffix(b"\n").split(b"\n"):
+            self.line += 1
+            if line.strip() and line.strip()[:1] not in (b"#", b"%"):
+                # With a comma in it a line has its columns between commas, and its names may have blanks.
+                self._take_edge([word.strip() for word in line.split(b"," if b"," in line else None)])
+
+    def _take_edge(self, words):
+        if len(words) < 2 or not (words[0] and words[1]):
+            raise self.fault(self.line, "an edge is two names, and here is one word")
+        if len(words) > 2:
+            self._take_more(self.line)
+        for word, ends in zip(words, self.ends):
+            if len(word) > MOST_NAME_BYTES:
+                raise self.fault(self.line, f"a name has more than {MOST_NAME_BYTES} bytes")
+            if any(byte < LEAST_LETTER or byte == DELETE for byte in word):
+                raise self.fault(self.line, "a name has a byte that is no letter")
+            ends.append(self.known.setdefault(word, len(self.known)))
+        if len(self.known) > MOST_VERTICES:
+            raise Refusal(f"{self.name} has more than {MOST_VERTICES} names by line {self.line}, and a graph has at most so many vertices")
+        self.count += 1
