@@ -2,14 +2,18 @@
 import fcntl
 import os
 
+from edgebpf_tools import owned
 from edgebpf_tools.refusal import Refusal
+
+# So many bytes of what is left out are shown.
+MOST_SHOWN = 200
 
 
 class Journal:
     """A file that holds whole commands, from which a session can be taken up again."""
 
-    def __init__(self, path):
-        self.path = path
+    def __init__(self, path, is_synced=False):
+        self.path, self.is_synced = path, is_synced
         self.file = open(path, "a+b", buffering=0)
         if not self._is_ours():
             self.file.close()
@@ -26,6 +30,23 @@ class Journal:
             return not isinstance(error, BlockingIOError)
         return True
 
+    def cut(self, size):
+        """Keeps so many bytes of the file, which are whole lines, and returns the rest of them as text."""
+        rest = os.pread(self.file.fileno(), MOST_SHOWN, size).decode("utf-8", "replace")
+        self.file.truncate(size)
+        self.size, self.end = size, b""
+        return rest
+
+    def replace(self, lines):
+        """A journal with these lines in the place of this one, whole at any moment."""
+        with owned.whole_file(self.path) as stream:
+            stream.writelines(f"{line}\n" for line in lines)
+            stream.flush()
+            os.fsync(stream.fileno())
+        other = Journal(self.path, self.is_synced)
+        self.file.close()
+        return other
+
     def add(self, lines):
         """Keeps the lines of a command. If that fails, nothing of them is kept, and the error is raised."""
         text = self.end + "".join(f"{line}\n" for line in lines).encode("utf-8", "surrogateescape")
@@ -33,6 +54,8 @@ class Journal:
             written = 0
             while written < len(text):
                 written += self.file.write(text[written:])
+            if self.is_synced:
+                os.fsync(self.file.fileno())
         except OSError:
             self.file.truncate(self.size)
             raise

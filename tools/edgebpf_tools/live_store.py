@@ -9,19 +9,33 @@ from edgebpf_tools.refusal import Refusal
 class LiveStore:
     """The process that keeps the graph of a session."""
 
-    def __init__(self, process):
-        self.process = process
+    def __init__(self):
+        self.stack, self.process = contextlib.ExitStack(), None
 
     @classmethod
     @contextlib.contextmanager
     def started(cls):
         """A store for the time of a block. It has a process group of its own: a Ctrl-C at the terminal leaves it its graph."""
-        with owned.child(store.command(), stdin=subprocess.PIPE, stdout=subprocess.PIPE, text=True, errors="surrogateescape") as process:
-            live = cls(process)
+        live = cls()
+        try:
+            live._start()
             yield live
             with contextlib.suppress(BrokenPipeError):
-                process.stdin.close()
-            process.wait()
+                live.process.stdin.close()
+            live.process.wait()
+        finally:
+            live.stack.close()
+
+    def _start(self):
+        child = owned.child(store.command(), stdin=subprocess.PIPE, stdout=subprocess.PIPE, text=True, errors="surrogateescape")
+        self.process = self.stack.enter_context(child)
+
+    def restart(self, commands):
+        """Ends the process, and gives another one these commands."""
+        self.stack.close()
+        self._start()
+        for lines in commands:
+            self.ask(lines)
 
     def ask(self, lines):
         """What is written for the lines of one command."""

@@ -10,6 +10,8 @@ import sys
 import time
 
 from edgebpf_tools import decimals, ends, explain, owned, tables
+from edgebpf_tools.commands import QUESTIONS, changes, whole_length
+from edgebpf_tools.compact import compacted
 from edgebpf_tools.journal import Journal
 from edgebpf_tools.language import FORMS, MOST_BYTES, Complaint, Language
 from edgebpf_tools.live_store import LiveStore
@@ -22,7 +24,7 @@ DOTS = {
     ".import": ".import FILE: makes the graph of a file of edges, by edgebpf-import",
     ".load": ".load FILE.c [FUNCTION] LENGTH: compiles a function, by edgebpf-c, and sends its line",
     ".image": ".image NAME FILE: sends the image in a file, which begins with BPE1 or BPE2",
-    ".compact": ".compact: forgets all batches, by a rebase; the graph and pins stay",
+    ".compact": ".compact: forgets all batches, by a rebase; the graph and pins stay, and a journal has no more lines than these need",
     ".explain": ".explain NAME: what is known at each place of a program that was sent, and why it is refused, by edgebpf-explain",
     ".read": ".read FILE: takes the lines of a script",
     ".script": ".script: all lines that were sent",
@@ -55,6 +57,8 @@ class Shell:
         self.store, self.out, self.journal = live, out, None
         self.language = Language()
         self.sent, self.reading, self.top, self.has_timer, self.is_right = [], [], 10, False, True
+        # Whether a person is there; whether a journal is being taken up; and a block of which a line was wrong.
+        self.is_typed, self.is_taken_up, self.spoiled = False, False, None
 
     def prompt(self):
         return f"{self.language.block[0].split()[0] if self.language.block else 'edgebpf'}> "
@@ -78,23 +82,53 @@ class Shell:
         except OSError as error:
             self.say(ends.in_words(error))
         self.is_right = False
+        # A person sees what was wrong, and types it again.
+        if not self.is_typed:
+            self.spoiled = self.language.block
         return False
 
     def command(self, line):
+        if self.language.block is not None and self.spoiled is self.language.block and line.split() == ["end"]:
+            kind, self.language.block = self.language.block[0].split()[0], None
+            raise Complaint(f"the {kind} is not sent, since a line of it was wrong")
         self.language.check(line)
         begun = time.monotonic()
-        # A Ctrl-C waits until what was sent is answered and noted.
+        # A Ctrl-C waits until what was sent is answered and noted, but of a question.
         with ends.Signals.held({signal.SIGINT}):
             lines = self.language.take(line)
             if not lines:
                 return
-            said = self.store.ask(lines)
-            self.language.heard(lines, said[0])
-            self.sent += lines
-            self.keep(lines)
+            is_question = lines[0].split()[0] in QUESTIONS
+            if is_question and self.is_taken_up:
+                self.sent += lines
+                return
+            said = None if is_question and self.is_typed else self.store.ask(lines)
+            if said:
+                self.note(lines, said[0])
+        if not said:
+            said = self.asked(lines)
+            with ends.Signals.held({signal.SIGINT}):
+                self.note(lines, said[0])
         self.show(said)
         if self.has_timer:
             self.say(f"({time.monotonic() - begun:.3f} s)")
+
+    def note(self, lines, reply):
+        """Takes note of what was sent, and what it was answered."""
+        self.language.heard(lines, reply)
+        self.sent += lines
+        self.keep(lines)
+
+    def asked(self, lines):
+        """The answer to what changes nothing. After a Ctrl-C edgebpf is started again, with all that changed something."""
+        try:
+            return self.store.ask(lines)
+        except ends.Interrupted as interrupt:
+            if interrupt.number == signal.SIGINT:
+                self.say("\n(edgebpf is started again, with what was sent)")
+                with ends.Signals.held({signal.SIGINT}):
+                    self.store.restart(changes(self.sent))
+            raise
 
     def keep(self, lines):
         """Keeps lines in the journal. Without a journal the session goes on, but does not end well."""
@@ -186,6 +220,14 @@ class Shell:
     def _compact(self, words):
         self._wants(words, len(words) == 1)
         self.command("rebase")
+        if self.journal:
+            try:
+                with ends.Signals.held({signal.SIGINT}):
+                    lines = compacted(self.sent, self.language.programs)
+                    self.journal, self.sent = self.journal.replace(lines), lines
+            except (Refusal, OSError) as error:
+                raise Complaint(f"the journal stays as it is: {ends.in_words(error) if isinstance(error, OSError) else error}") from None
+            self.say(f"{self.journal.path} has {len(lines)} lines now")
 
     def _program(self, name):
         """The length of a program's records, its code or its text, the other of which is None, and its table: the last that was sent by
@@ -249,21 +291,38 @@ def arguments(words):
         prog="edgebpf-shell",
         description="A prompt for scripts. Each line is checked before it is sent, so that a slip ends nothing; refusals are "
         "explained; a batch or a program is sent once it has ended. At the prompt, help lists what there is, and Ctrl-C drops a "
-        "line. If the input is no terminal, a line that is wrong makes the status 1.",
+        "line, or ends a run. If the input is no terminal, a line that is wrong makes the status 1, and a batch with it is not sent.",
     )
     parser.add_argument("--journal", metavar="FILE", help="keep what was sent in FILE; if it has lines, resume that session")
+    parser.add_argument("--sync", action="store_true", help="with --journal: go on only when the disk has what was sent")
     return parser.parse_args(words)
 
 
-def take_up(shell, path):
-    """Sends the lines of a journal, whose answers were seen before, and keeps the session's lines there."""
+class Beginning:
+    """The first bytes of a stream."""
+
+    def __init__(self, stream, count):
+        self.stream, self.left = stream, count
+
+    def read1(self, count):
+        block = self.stream.read(min(count, self.left))
+        self.left -= len(block)
+        return block
+
+
+def take_up(shell, path, is_synced):
+    """Sends the lines of a journal that change something, and keeps the session's lines there. What a crash left of a last command is
+    left out."""
     if os.path.exists(path) and not os.path.isfile(path):
         raise Refusal(f"{path} is no file")
-    journal = Journal(path)
-    kept, shell.out = shell.out, io.StringIO()
+    journal = Journal(path, is_synced)
+    kept, shell.out, shell.is_taken_up = shell.out, io.StringIO(), True
     try:
         with open(path, "rb") as stream:
-            shell.lines(stream, True)
+            # A file without a whole command may be something else: it is looked at whole, and stays.
+            length = whole_length(stream) or journal.size
+            stream.seek(0)
+            shell.lines(Beginning(stream, length), True)
     except Complaint as complaint:
         said = shell.out.getvalue().splitlines()
         raise Refusal(f"{path} is no journal that can be taken up: {said[-1] if said else ''}; {complaint}") from None
@@ -271,9 +330,12 @@ def take_up(shell, path):
         raise Refusal(f"{path} is no journal that can be taken up: a line of it ends the session") from None
     if shell.language.block:
         raise Refusal(f"{path} is no journal that can be taken up: it ends within a {shell.language.block[0].split()[0]}")
-    shell.out, shell.journal = kept, journal
+    shell.out, shell.journal, shell.is_taken_up = kept, journal, False
     if shell.sent:
         shell.say(f"taken up again: {sum(lines.count(chr(10)) + 1 for lines in shell.sent)} lines of {path}")
+    if length < journal.size:
+        torn = journal.cut(length).splitlines()
+        shell.say(f"its last command is torn, and left out: {torn[0]}{' ..' if len(torn) > 1 else ''}")
 
 
 def complete_names(shell):
@@ -294,7 +356,7 @@ def complete_names(shell):
 
 def at_terminal(shell):
     """Takes the lines that a person types. A Ctrl-C drops the line, or what it asked for, and the graph stays."""
-    ends.Signals.survived, ends.Signals.note = frozenset({signal.SIGINT}), NOTE
+    ends.Signals.survived, ends.Signals.note, shell.is_typed = frozenset({signal.SIGINT}), NOTE, True
     complete_names(shell)
     while True:
         try:
@@ -310,10 +372,12 @@ def at_terminal(shell):
 
 def perform(words):
     options = arguments(words)
+    if options.sync and not options.journal:
+        raise Refusal("--sync is of a journal, which --journal names")
     with LiveStore.started() as live:
         shell = Shell(live, sys.stdout)
         if options.journal:
-            take_up(shell, options.journal)
+            take_up(shell, options.journal, options.sync)
         if ends.standard_input().isatty():
             at_terminal(shell)
             return 0

@@ -114,20 +114,101 @@ class EdgebpfShell(unittest.TestCase):
         again = self.said("run t a sum -\n", "--journal", journal)
         self.assertEqual(again, f"taken up again: 8 lines of {journal}\nrun t a edges 3 total 5\nrow 0 3\nrow 1 2\n")
 
-    def test_a_journal_without_its_last_newline(self):
+    def test_a_torn_journal(self):
+        """What a crash left of the last command is left out, and said; the journal goes on after the commands before it."""
         journal = self.folder / "journal"
-        journal.write_text(BEGUN.removesuffix("\n"))
-        for lines, name in ((7, "b"), (8, "c")):
-            again = self.said(f"pin {name}\n", "--journal", str(journal))
-            self.assertEqual(again, f"taken up again: {lines} lines of {journal}\npin {name} version 1 edges 3\n")
-        self.assertEqual(journal.read_text(), BEGUN + "pin b\npin c\n")
+        for torn, shown in (
+            ("pin ab", "pin ab"), ("batch A\n+ 0 1\n", "batch A .."), ("batch B\n+ 3\n", "batch B .."), ("program p 16\nexit", "program p 16 .."), ("\0\0\0", "\0\0\0"),
+            ("batch A\n+ 0 3\nend", "batch A .."), ("x", "x"), ("run t a sum -\nbatch C\n", "batch C"),
+        ):
+            journal.write_text(BEGUN + TARGET + torn)
+            kept = "run t a sum -\n" if torn.startswith("run") else ""
+            again = self.said("pin b\n", "--journal", str(journal))
+            taken = f"taken up again: {8 + kept.count(chr(10))} lines of {journal}\nits last command is torn, and left out: {shown}\n"
+            self.assertEqual(again, taken + "pin b version 1 edges 3\n")
+            self.assertEqual(journal.read_text(), BEGUN + TARGET + kept + "pin b\n")
+
+    def test_questions_are_not_asked_again(self):
+        """A session is taken up without its runs, which a journal keeps and `.script` shows."""
+        journal = self.folder / "journal"
+        text = BEGUN + TARGET + "run t a sum -\nlist t a -\nhome 0\npin b\n"
+        self.said(text, "--journal", str(journal))
+        store = self.folder / "store"
+        store.write_text(f'#!/bin/sh\nexec tee {self.folder}/asked | {PYTHON} {TOOLS}/tests/second_store.py\n')
+        store.chmod(0o755)
+        with unittest.mock.patch.dict(os.environ, EDGEBPF=str(store)):
+            again = self.said("home 1\n.script\n", "--journal", str(journal))
+        self.assertEqual(again, f"taken up again: 12 lines of {journal}\nhome 1 block degree 1\n{text}home 1\n")
+        self.assertEqual((self.folder / "asked").read_text(), BEGUN + TARGET + "pin b\nhome 1\n")
+
+    def test_synced_journals(self):
+        """With --sync each command is on the disk before its answer is shown, and without it none is waited for."""
+        journal = self.folder / "journal"
+        from edgebpf_tools.journal import Journal
+
+        for is_synced in (False, True):
+            with unittest.mock.patch("os.fsync") as synced:
+                kept = Journal(str(journal), is_synced)
+                kept.add(["graph 4"])
+                kept.add(["pin a"])
+                self.assertEqual(synced.call_count, 2 * is_synced)
+            with unittest.mock.patch("os.fsync", side_effect=OSError(28, "No space left on device")):
+                size = journal.stat().st_size
+                if is_synced:
+                    with self.assertRaises(OSError):
+                        kept.add(["pin b"])
+                    self.assertEqual(journal.stat().st_size, size)
+            kept.file.close()
+        journal.unlink()
+        self.said(BEGUN, "--journal", str(journal), "--sync")
+        self.assertEqual(journal.read_text(), BEGUN)
+        run = run_tool("edgebpf-shell", "--sync", text="")
+        self.assertEqual((run.stderr, run.returncode), ("edgebpf-shell: --sync is of a journal, which --journal names\n", 1))
+
+    def test_compact_journals(self):
+        """A journal that was shortened gives the same graph, pins, programs and edges, in fewer lines; `.script` shows these."""
+        journal = self.folder / "journal"
+        other = "code u 16 b7000000070000009500000000000000\n"
+        refused = "code u 16 61100d00000000009500000000000000\n"
+        edits = "".join(f"batch B\n+ 3 {number % 4}\n- 3 {(number + 1) % 4}\nend\n" for number in range(30))
+        text = BEGUN + TARGET + refused + edits + "pin b\nprogram p 16\nmov r0, 9\nexit\nend\nrebase\n" + other + "batch C\n- 0 1\nend\n"
+        asked = "".join(f"list {program} {pin} -\n" for pin in ("a", "b", "c") for program in ("t", "u", "p"))
+        before = self.said(text + "pin c\n" + asked)
+        wanted = before[before.index("list t a"):]
+        self.said(text, "--journal", str(journal))
+        said = self.said(".compact\n.script\n", "--journal", str(journal))
+        lines = journal.read_text()
+        # Of vertex 3 the edges to 3, 0 and 1 were inserted last, and that to 2 was removed last.
+        self.assertIn(f"rebase epoch 2 edges 5\n{journal} has {lines.count(chr(10))} lines now\n", said)
+        self.assertTrue(said.endswith(f"lines now\n{lines}"))
+        self.assertLess(lines.count("\n"), 30)
+        for _ in range(2):
+            again = self.said("pin c\n" + asked if _ == 0 else asked, "--journal", str(journal))
+            self.assertTrue(again.endswith(wanted), again)
+        self.assertEqual([path.name for path in self.folder.iterdir()], ["journal"])
+        kept = journal.read_text()
+        (self.folder / "once").write_text(f'#!/bin/sh\nif mkdir {self.folder}/begun 2>/dev/null; then exec {PYTHON} {TOOLS}/tests/second_store.py; fi\nexit 3\n')
+        (self.folder / "once").chmod(0o755)
+        with unittest.mock.patch.dict(os.environ, EDGEBPF=str(self.folder / "once")):
+            said = self.said(".compact\nhome 0\n", "--journal", str(journal), status=1)
+        self.assertIn("the journal stays as it is: edgebpf has ended, with status 3\nhome 0", said)
+        self.assertEqual(journal.read_text(), kept + "rebase\nhome 0\n")
+        self.assertIn("there are 256 pins", self.said("graph 1\n" + "".join(f"pin n{number}\n" for number in range(256)) + ".compact\n", "--journal", f"{journal}2", status=1))
+
+    def test_batches_in_part(self):
+        """A batch of input that is no terminal is sent whole or not at all, and so is a program."""
+        wrong = ("+ 1 0 5", "+ 0 77", "* 0 1", "+ 0 \x07", ".nothing", ".read /nowhere")
+        for line in wrong:
+            said = self.said(f"graph 4\nbatch A\n+ 0 1\n{line}\n+ 0 2\nend\nbatch A\n+ 0 3\nend\nprogram p 16\nmov r0, 1\n\x07\nexit\nend\nprogram p 16\nmov r0, 1\nexit\nend\n", status=1)
+            self.assertIn("the batch is not sent, since a line of it was wrong\nbatch A version 1 added 1 removed 0\n", said)
+            self.assertTrue(said.endswith("the program is not sent, since a line of it was wrong\nprogram p bound 2 frames 1\n"), said)
 
     def test_journals_that_cannot_be_taken_up(self):
         journal = self.folder / "journal"
         for lines, said in (
             ("graph 4\nquit\npin a\n", "a line of it ends the session"),
-            ("graph 4\nbatch A\n+ 0 1\n", "it ends within a batch"),
-            ("graph 4\nprogram p 16\nexit", "it ends within a program"),
+            ("batch A\n+ 0 1\n", "^^^^^ make a graph first: graph N; that was line 1; what follows it was not sent"),
+            ("graph 4\nno script\npin", "^^ no command has this name; .help lists them; that was line 2; what follows it was not sent"),
             ("no script", "^^ no command has this name; .help lists them; that was line 1; what follows it was not sent"),
         ):
             journal.write_text(lines)
@@ -243,10 +324,12 @@ class EdgebpfShell(unittest.TestCase):
         self.assertEqual(said, "graph 300\nbatch A version 1 added 65536 removed 0\npin a version 1 edges 65536\n" + text)
         run = run_tool("edgebpf-shell", text=text.replace("end\n", "+ 299 0\nend\n"))
         self.assertEqual(run.returncode, 1)
-        self.assertIn("the block is full; end it\nbatch A version 1 added 65536", run.stdout)
+        self.assertIn("the block is full; end it\nthe batch is not sent, since a line of it was wrong\npin a version 0", run.stdout)
         mixed = self.said(text.replace("+ 100 7\n", "+ 100 300\n\t+  100   7\n"), status=1)
         self.assertIn("+ 100 300\n      ^^^ a vertex is 0 to 299\n", mixed)
-        self.assertIn("version 1 added 65536 removed 0", mixed)
+        self.assertIn("the batch is not sent, since a line of it was wrong\npin a version 0 edges 0", mixed)
+        blanks = self.said(text.replace("+ 100 7\n", "\t+  100   7\n"))
+        self.assertIn("version 1 added 65536 removed 0", blanks)
 
     def test_too_many_edits(self):
         """Of more edits than a batch may have all that it may have are taken at once, and the first one more is told at its line."""
@@ -259,7 +342,7 @@ class EdgebpfShell(unittest.TestCase):
         (self.folder / "graph").write_text(f"graph 300\nbatch A\n{text}end\n")
         said = self.said(f".read {self.folder}/graph\nend\n", status=1)
         told = "graph 300\nthe block is full; end it\nthat was line 65539; what follows it was not sent\n"
-        self.assertEqual(said, told + "batch A version 1 added 65536 removed 0\n")
+        self.assertEqual(said, told + "the batch is not sent, since a line of it was wrong\n")
 
     def test_journal_that_cannot_be_kept(self):
         journal, lines = self.folder / "journal", "graph 4\nhome 0\n"
@@ -375,6 +458,41 @@ class Terminal(unittest.TestCase):
         self.until("a pin has this name\nedgebpf> ")
         self.types("\x04")
         self.assertEqual(self.status(), 0)
+
+    def test_interrupt_of_a_run(self):
+        """A run ends, also one that would go on for long: edgebpf is started again, with all that changed something."""
+        store = self.folder / "store"
+        store.write_text(f"""#!/bin/sh
+echo started >> {self.folder}/asked
+while read line; do
+    echo "$line" >> {self.folder}/asked
+    case "$line" in
+    run*) sleep 1000 ;;
+    code*) echo program t bound 2 frames 1 ;;
+    batch*) read edit; read end; echo batch A version 1 added 1 removed 0 ;;
+    *) echo "said $line" ;;
+    esac
+done
+""")
+        store.chmod(0o755)
+        self.start(store)
+        self.until("edgebpf> ")
+        self.types("graph 4\nbatch A\n+ 0 1\nend\npin a\ncode t 16 61100400000000009500000000000000\nhome 0\n")
+        self.until("said home 0\nedgebpf> ")
+        for _ in range(2):
+            self.types("run t a sum -\n")
+            self.until("run t a sum -\n")
+            time.sleep(0.5)
+            self.types("\x03")
+            self.until("(edgebpf is started again, with what was sent)", again="\x03")
+            self.until("(dropped)\nedgebpf> ")
+        self.types("home 1\n")
+        self.until("said home 1\nedgebpf> ")
+        self.types("\x04")
+        self.assertEqual(self.status(), 0)
+        changes = ["graph 4", "batch A", "pin a", "code t 16 61100400000000009500000000000000"]
+        asked = (self.folder / "asked").read_text().split("started\n")[1:]
+        self.assertEqual([part.splitlines() for part in asked], [[*changes, "home 0", "run t a sum -"], [*changes, "run t a sum -"], [*changes, "home 1"]])
 
     # Without numpy the import ends before it opens the file, and nobody would read what the test writes.
     @unittest.skipIf(importlib.util.find_spec("numpy") is None, "missing: numpy")
