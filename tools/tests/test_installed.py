@@ -2,12 +2,13 @@
 import importlib.util
 import os
 import pathlib
+import re
 import shutil
 import subprocess
 import tempfile
 import unittest
 
-from tools_here import MISSING, TOOLS
+from tools_here import MISSING, PYTHON, TOOLS
 
 TOP = TOOLS.parent
 NOBODY = {"user": 65534, "group": 65534, "extra_groups": []} if os.geteuid() == 0 else {}
@@ -230,9 +231,39 @@ class Installed(unittest.TestCase):
             run = subprocess.run([made], env={"LD_LIBRARY_PATH": f"{self.place}/lib"}, capture_output=True, text=True)
             self.assertEqual((run.stdout, run.stderr, run.returncode), ("0 has 2 neighbours: 1 and 2\ntotal 5\n", "", 0))
 
+    def test_how_the_library_is_found(self):
+        """By pkg-config where that is there, and by the number of its interface where a program is loaded."""
+        described = (self.place / "lib/pkgconfig/edgebpf.pc").read_text()
+        facts = dict(line.split(": ", 1) for line in (TOP / "dist" / "PROVED").read_text().splitlines() if ": " in line)
+        for line in (f"prefix={self.place}", f"Version: {facts['release']}", "Libs: -L${libdir} -ledgebpf", "Cflags: -I${includedir}"):
+            self.assertIn(line, described.splitlines())
+        if shutil.which("pkg-config"):
+            room = {**os.environ, "PKG_CONFIG_PATH": str(self.place / "lib/pkgconfig")}
+            found = subprocess.run(["pkg-config", "--cflags", "--libs", "edgebpf"], env=room, capture_output=True, text=True, check=True).stdout.split()
+            self.assertEqual(found, [f"-I{self.place}/include", f"-L{self.place}/lib", "-ledgebpf"])
+        libraries = sorted(path.name for path in (self.place / "lib").glob("libedgebpf*"))
+        self.assertEqual(libraries, ["libedgebpf.a", "libedgebpf.so", "libedgebpf.so.1"])
+        self.assertEqual(os.readlink(self.place / "lib/libedgebpf.so"), "libedgebpf.so.1")
+        for library in (self.place / "lib/libedgebpf.so.1", self.room / "build/libedgebpf.so.1"):
+            said = subprocess.run(["readelf", "-dW", library], capture_output=True, text=True, check=True).stdout
+            self.assertRegex(said, r"SONAME.*\[libedgebpf\.so\.1\]")
+
+    def test_links_of_pages(self):
+        """Each leads to a page that is installed, and those that would not are plain words."""
+        pages, seen = self.place / "share/doc/edgebpf", 0
+        for page in pages.rglob("*.md"):
+            for target in re.findall(r"\]\(([^()\s]+)\)", page.read_text()):
+                if "://" not in target and not target.startswith("#"):
+                    seen += 1
+                    self.assertTrue((page.parent / target.partition("#")[0]).exists(), f"{page}: {target}")
+        self.assertGreater(seen, 60)
+        self.assertNotIn("](../crates/", (pages / "docs/CRATES.md").read_text())
+        self.assertIn("`bpf_asm`", (pages / "docs/CRATES.md").read_text())
+
     def test_uninstall_leaves_nothing(self):
         place = self.room / "gone"
         make(f"BUILD={self.room / 'build'}", "install", f"PREFIX={place}")
+        make(f"BUILD={self.room / 'build'}", "install-python", f"PREFIX={place}")
         make(f"BUILD={self.room / 'build'}", "uninstall", f"PREFIX={place}")
         self.assertEqual([path for path in place.rglob("*") if not path.is_dir()], [])
         self.assertFalse((place / "lib/edgebpf").exists())
@@ -243,14 +274,33 @@ class Package(unittest.TestCase):
     def test_the_same_bytes_twice(self):
         with tempfile.TemporaryDirectory() as folder:
             rooms = [pathlib.Path(folder) / name for name in ("one", "another_place")]
-            made = [pathlib.Path(make(f"BUILD={room}", "deb").split()[-1]) for room in rooms]
-            self.assertEqual(made[0].read_bytes(), made[1].read_bytes())
+            both = [[pathlib.Path(line) for line in make(f"BUILD={room}", "deb").split()[-2:]] for room in rooms]
+            for one, other in zip(*both):
+                self.assertEqual(one.read_bytes(), other.read_bytes())
+            made = both[0]
             unpacked = pathlib.Path(folder) / "unpacked"
             subprocess.run(["dpkg-deb", "-x", made[0], unpacked], check=True)
             first = TOP / "examples" / "first"
             with open(first.with_suffix(".script")) as script:
                 run = subprocess.run([unpacked / "usr/bin/edgebpf"], stdin=script, capture_output=True, text=True)
             self.assertEqual((run.stdout, run.stderr), (first.with_suffix(".output").read_text(), ""))
-            listed = subprocess.run(["dpkg-deb", "-c", made[0]], stdout=subprocess.PIPE, text=True, check=True).stdout
-            self.assertNotIn("__pycache__", listed)
-            self.assertTrue(all(line.split()[1] == "root/root" for line in listed.splitlines()))
+            for package in made:
+                listed = subprocess.run(["dpkg-deb", "-c", package], stdout=subprocess.PIPE, text=True, check=True).stdout
+                self.assertNotIn("__pycache__", listed)
+                self.assertTrue(all(line.split()[1] == "root/root" for line in listed.splitlines()))
+            self.python_in(unpacked, made[1])
+
+    def python_in(self, unpacked, package):
+        """The package for Python has its library and the compiler of C from the other one."""
+        subprocess.run(["dpkg-deb", "-x", package, unpacked], check=True)
+        said = subprocess.run(["dpkg-deb", "-f", package, "Depends"], capture_output=True, text=True, check=True).stdout
+        self.assertRegex(said, r"^edgebpf \(= [0-9.]+\), python3 \(>= 3\.9\), python3-numpy, python3-cffi$")
+        if importlib.util.find_spec("numpy") is None or importlib.util.find_spec("cffi") is None:
+            return
+        code = "import edgebpf; print(edgebpf.library.path()); print(edgebpf.Store(4).apply([0], [1]).added)"
+        if not MISSING:
+            code += f"; print(edgebpf.compile_c(text={SCORE!r}, function='score').bound)"
+        room = {"PATH": f"{unpacked}/usr/bin:/usr/bin:/bin", "PYTHONPATH": f"{unpacked}/usr/lib/python3/dist-packages", "PYTHONDONTWRITEBYTECODE": "1"}
+        run = subprocess.run([PYTHON, "-c", code], env=room, cwd="/", capture_output=True, text=True)
+        wanted = f"{unpacked}/usr/lib/libedgebpf.so.1\n1\n" + ("" if MISSING else "2\n")
+        self.assertEqual((run.stdout, run.stderr), (wanted, ""))

@@ -22,6 +22,8 @@ HERE = pathlib.Path(__file__).resolve()
 # A package that lies near the root has fewer folders above it.
 DIST = HERE.parent.parent.parent.parent / "dist"
 NAME = "libedgebpf.so"
+# The number of the library's interface that this package calls, as dist/link has it.
+INTERFACE = 1
 DONE, NO_MEMORY, EMPTY = 0, 1, 2
 VERTEX_RANGE, TOO_MANY_EDITS, LOG_FULL, REFUSED, RECORD_LENGTH, CODE_LENGTH, ARGUMENT_LENGTH, WRONG_TEXT = 5, 6, 7, 10, 11, 12, 13, 15
 NO_NEIGHBOUR, EPOCHS_FULL, TABLE_LENGTH = 16, 17, 18
@@ -40,12 +42,13 @@ ERRORS: dict[int, tuple[type[Exception], str]] = {
 }
 # What bindings/c/edgebpf.h declares, as far as this package calls it. A slice is two numbers here, its address and its length, and totals
 # are two, too.
-DECLARATIONS = """
-typedef struct { void *at; } handle;
-typedef struct { uint64_t added, removed, number; } change;
-typedef struct { uint64_t number, edges, epoch; uint32_t vertices; } info;
-typedef struct { uint32_t bound, frames, cause, pc; } verdict;
-typedef struct { size_t length, line; uint32_t cause; } assembled;
+DECLARATIONS = f"""
+void edgebpf_interface_{INTERFACE}(void);
+typedef struct {{ void *at; }} handle;
+typedef struct {{ uint64_t added, removed, number; }} change;
+typedef struct {{ uint64_t number, edges, epoch; uint32_t vertices; }} info;
+typedef struct {{ uint32_t bound, frames, cause, pc; }} verdict;
+typedef struct {{ size_t length, line; uint32_t cause; }} assembled;
 uint32_t edgebpf_store_new(uint32_t, handle *);
 uint32_t edgebpf_store_apply(handle *, uint8_t, const uint32_t *, size_t, const uint32_t *, size_t, const uint8_t *, size_t, change *);
 uint32_t edgebpf_store_rebase(handle *, uint64_t *);
@@ -68,11 +71,11 @@ void edgebpf_close(handle *);
 
 def in_checkout() -> str | None:
     """The library of the checkout's `dist/`, which the C compiler builds at the first use; None where there is no checkout or compiler."""
-    text, built = DIST / "libedgebpf.s", DIST / "build" / NAME
+    built, parts = DIST / "build" / NAME, [DIST / "libedgebpf.s", DIST / "link"]
     # Path.is_file raises an error where a folder may not be read.
-    if not os.path.isfile(text):
+    if not all(map(os.path.isfile, parts)):
         return None
-    if not os.path.isfile(built) or built.stat().st_mtime < text.stat().st_mtime:
+    if not os.path.isfile(built) or built.stat().st_mtime < max(part.stat().st_mtime for part in parts):
         try:
             built.parent.mkdir(exist_ok=True)
             subprocess.run([DIST / "link", "libedgebpf", built], check=True, capture_output=True)
@@ -92,7 +95,9 @@ def path() -> str | None:
     beside = HERE.parent / NAME
     if os.path.isfile(beside):
         return str(beside)
-    return in_checkout() or ctypes.util.find_library("edgebpf")
+    # Where Debian's Python has packages, the libraries lie three folders above.
+    installed = HERE.parents[min(3, len(HERE.parents) - 1)] / f"{NAME}.{INTERFACE}"
+    return in_checkout() or (str(installed) if os.path.isfile(installed) else ctypes.util.find_library("edgebpf"))
 
 
 @functools.cache
@@ -122,7 +127,13 @@ def load() -> Any:
     found = path()
     if found is None:
         raise Error(f"{NAME} is not there: install edgebpf, or run make -C dist in a checkout, or name the library by EDGEBPF_LIBRARY")
-    return foreign().dlopen(found)
+    try:
+        library = foreign().dlopen(found)
+    except OSError as error:
+        raise Error(f"{found} cannot be loaded: {error}") from None
+    if not hasattr(library, f"edgebpf_interface_{INTERFACE}"):
+        raise Error(f"{found} is no {NAME}.{INTERFACE}, which this package needs: take edgebpf and the package of one release")
+    return library
 
 
 def check(status: int) -> None:

@@ -2,6 +2,8 @@
 import gc
 import os
 import pathlib
+import re
+import shutil
 import subprocess
 import sys
 import tempfile
@@ -11,7 +13,7 @@ import unittest.mock
 
 sys.path.insert(0, str(pathlib.Path(__file__).resolve().parent))
 import test_package
-from test_package import FOLDER, TARGET, edgebpf, np, told
+from test_package import FOLDER, TARGET, TOP, edgebpf, np, told
 
 
 @unittest.skipIf(np is None, "not there: numpy")
@@ -246,6 +248,26 @@ print(found, threading.stack_size())
             os.utime(built, (1, 1))
             with unittest.mock.patch(library + "DIST", folder):
                 self.assertEqual((edgebpf.library.in_checkout(), built.read_text()), (str(built), "new\n"))
+                built.write_text("kept")
+                self.assertEqual((edgebpf.library.in_checkout(), built.read_text()), (str(built), "kept"))
+                later = built.stat().st_mtime + 9
+                os.utime(link, (later, later))
+                self.assertEqual((edgebpf.library.in_checkout(), built.read_text()), (str(built), "new\n"))
+
+    def test_wrong_libraries(self):
+        """What is no library, or one of another interface, is named, whatever is asked first."""
+        number = re.search(r"^interface=(\d+)$", (TOP / "dist" / "link").read_text(), re.M)[1]
+        self.assertEqual(str(edgebpf.library.INTERFACE), number)
+        with tempfile.TemporaryDirectory() as folder:
+            other, older = pathlib.Path(folder, "other.so"), pathlib.Path(folder, "older.so")
+            other.write_text("no library")
+            shutil.copyfile(edgebpf.library.path(), older)
+            older.write_bytes(older.read_bytes().replace(f"edgebpf_interface_{number}".encode(), b"edgebpf_interface_0"))
+            for path, said in ((other, "cannot be loaded: "), (pathlib.Path(folder, "none.so"), "cannot be loaded: "), (older, f"is no libedgebpf.so.{number}, which this package needs")):
+                for ask in ("edgebpf.Store(4)", "edgebpf.assemble('exit')", "edgebpf.Program(bytes(8))", "edgebpf.Live(4)"):
+                    code = f"import edgebpf\ntry: {ask}\nexcept edgebpf.Error as error: print(error)"
+                    run = subprocess.run([sys.executable, "-c", code], env={**os.environ, "PYTHONPATH": str(FOLDER), "EDGEBPF_LIBRARY": str(path)}, capture_output=True, text=True)
+                    self.assertEqual((run.stderr, run.stdout.startswith(f"{path} {said}")), ("", True), run.stdout)
 
     def test_many_slices(self):
         """A list in a tree lies in many slices, which together have all targets."""
