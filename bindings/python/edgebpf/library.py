@@ -149,8 +149,8 @@ class Handle:
     __slots__ = ("at",)
 
     def __init__(self) -> None:
-        library = load()
-        self.at = foreign().gc(new("handle *"), library.edgebpf_close)
+        here = calls()
+        self.at = here.keep(here.new(here.handle), here.close)
 
 
 class Shared:
@@ -158,9 +158,11 @@ class Shared:
     go when it ends, and all with this object. `share` is the library's call that makes one handle of another."""
 
     __slots__ = ("first", "_share", "_lock", "_own")
+    _own: threading.local
 
     def __init__(self, first: Handle, share: Callable[[Any, Any], int]) -> None:
-        self.first, self._share, self._lock, self._own = first, share, threading.Lock(), threading.local()
+        # Most versions are pinned and used by one thread, so `_own` is made at the first use.
+        self.first, self._share, self._lock = first, share, threading.Lock()
 
     def another(self) -> Handle:
         """A new handle. Of the first one handles are made, and nothing else is asked."""
@@ -174,7 +176,11 @@ class Shared:
         try:
             return self._own.handle  # type: ignore[no-any-return]
         except AttributeError:
-            self._own.handle = made = self.another()
+            made = self.another()
+            with self._lock:
+                if not hasattr(self, "_own"):
+                    self._own = threading.local()
+            self._own.handle = made
             return made
 
 
@@ -183,10 +189,11 @@ class Calls:
 
     def __init__(self) -> None:
         library, types = load(), foreign()
-        self.new, self.buffer = types.new, types.from_buffer
+        self.new, self.buffer, self.keep, self.close = types.new, types.from_buffer, types.gc, library.edgebpf_close
         self.bytes, self.words, self.numbers = kind("uint8_t[]"), kind("uint32_t[]"), kind("uint64_t[]")
-        self.word, self.totals, self.sizes = kind("uint32_t *"), kind("uint64_t[2]"), kind("size_t[]")
-        self.run, self.lend = library.edgebpf_run, library.edgebpf_version_lend
+        self.totals, self.sizes, self.handle, self.info = kind("uint64_t[2]"), kind("size_t[]"), kind("handle *"), kind("info *")
+        self.run, self.lend, self.pin = library.edgebpf_run, library.edgebpf_version_lend, library.edgebpf_store_pin
+        self.share_version, self.describe = library.edgebpf_version_share, library.edgebpf_version_info
 
 
 @functools.cache

@@ -108,10 +108,10 @@ class Store:
 
     def _pinned(self) -> library.Shared:
         """The library's handles of the last version."""
-        handle, pin = self._open(), library.Handle()
+        handle, pin, calls = self._open(), library.Handle(), library.calls()
         with self._lock:
-            library.check(library.load().edgebpf_store_pin(handle.at, pin.at))
-        return library.Shared(pin, library.load().edgebpf_version_share)
+            library.check(calls.pin(handle.at, pin.at))
+        return library.Shared(pin, calls.share_version)
 
     def close(self) -> None:
         """Drops the store; its versions stay. May be called twice."""
@@ -130,15 +130,17 @@ class Version:
     and its shares are closed and no view of it is left."""
 
     def __init__(self, shared: library.Shared) -> None:
-        info = library.new("info *")
+        calls = self._calls = library.calls()
+        info = calls.new(calls.info)
         self._shared: library.Shared | None = shared
         self._csr: tuple[npt.NDArray[np.int64], Vertices] | None = None
-        self._calls = library.calls()
         # Made by the first question for a vertex's targets.
         self._memory: memoryview | None = None
-        library.check(library.load().edgebpf_version_info(shared.first.at, info))
-        self.epoch, self.number = int(info.epoch), int(info.number)
-        self.vertices, self.edges = int(info.vertices), int(info.edges)
+        library.check(calls.describe(shared.first.at, info))
+        self.epoch: int = info.epoch
+        self.number: int = info.number
+        self.vertices: int = info.vertices
+        self.edges: int = info.edges
 
     def _open(self) -> library.Shared:
         shared = self._shared
@@ -155,7 +157,7 @@ class Version:
         """The same version once more, which stays when this one is closed. Threads need none: each of them has a handle of its own."""
         other = Version.__new__(Version)
         other.__dict__.update(self.__dict__)
-        other._shared = library.Shared(self._open().another(), library.load().edgebpf_version_share)
+        other._shared = library.Shared(self._open().another(), self._calls.share_version)
         return other
 
     def __len__(self) -> int:
