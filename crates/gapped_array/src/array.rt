@@ -1,5 +1,5 @@
 //! The array and its calls.
-ghost use Rattle.std.specs.Prelude.{◌≡◌, ◌<◌, ◌≤◌, ◌+◌, ◌*◌, ◌^◌, ◌↔◌, ◌++◌, ◌∷◌, ◌⊎◌, [], length, not, replicate, None, Some, IsTrue, IsNone, IfOk, OnOk, OnErr, slice_index_or, slice_set};
+ghost use Rattle.std.specs.Prelude.{◌≡◌, ◌<◌, ◌≤◌, ◌+◌, ◌*◌, ◌↔◌, ◌++◌, ◌∷◌, ◌⊎◌, [], length, not, replicate, None, Some, IsTrue, IsNone, IfOk, OnOk, OnErr, slice_index_or, slice_set};
 ghost use Rattle.word_sets.specs.Words.{IsSet, has_word, with_word, without_word};
 ghost use Rattle.gapped_array.specs.Table.{IsOpen, list_at};
 
@@ -245,7 +245,7 @@ fn segments_for(words: &[u32]) -> usize
     requires { IsSet words.now }
     ensures room { length words.now ≤ SEGMENT * result }
     ensures filled { SEGMENT * result < length words.now + SEGMENT }
-    ensures fits { result ≤ 2 ^ 15 }
+    ensures fits { SEGMENT * result ≤ WORD_LIMIT }
 {
     words.len().div_ceil(SEGMENT)
 }

@@ -2,6 +2,7 @@
 use Rattle.std.proofs.Common.{◌≡◌, ℕ, suc, ◌+◌, ◌-◌, ◌*◌, ◌^◌, ◌<◌, ◌≤◌, Bool, List, [], ◌∷◌, ◌++◌, length, refl, sym, ap, ap₂, subst, inl, inr, le_trans, mul-le-mul, length-append, add-zero, arith}
 use Rattle.std.proofs.lemmas.Bool.{cases_lt}
 use Rattle.std.proofs.lemmas.List.{get_or_append_left, get_or-append_right}
+use Rattle.past_model.specs.declared.limits.TheConstants.{MOST_VERTICES}
 use Rattle.past_model.specs.declared.edit.Edit.{Edit}
 use Rattle.graph_model.specs.Graph.{Graph, count_pairs}
 use Rattle.past_model.specs.Edits.{after_batch, added, removed, AreEditsBelow}
@@ -104,19 +105,19 @@ block_kept es g count first (p ∷ parts) all unedited =
 -- ---- counts
 
 -- what was done to some parts is little
-pub few_edited : (es : List Edit) (g : Graph) (first : ℕ) (parts : List Part) (counts : Counts) → g.vertex_count ≤ 1048576 → AreEdited es g first parts counts → (counts.added ≤ 1048576 * 1048576) × (counts.removed ≤ 1048576 * 1048576)
+pub few_edited : (es : List Edit) (g : Graph) (first : ℕ) (parts : List Part) (counts : Counts) → g.vertex_count ≤ MOST_VERTICES → AreEdited es g first parts counts → (counts.added ≤ MOST_VERTICES * MOST_VERTICES) × (counts.removed ≤ MOST_VERTICES * MOST_VERTICES)
 few_edited es g first parts counts small done =
     let n = g.vertex_count in
     let end = first + length parts in
-    let short : vertices_in n end ≤ 1048576 = omega arith in
-    let new : count_in g end (is_new es g) ≤ 1048576 * 1048576 = le_trans (count_pairs-le (vertices_in n end) n (is_new es g)) (mul-le-mul short small) in
-    let gone : count_in g end (is_gone es g) ≤ 1048576 * 1048576 = le_trans (count_pairs-le (vertices_in n end) n (is_gone es g)) (mul-le-mul short small) in
+    let short : vertices_in n end ≤ MOST_VERTICES = omega arith in
+    let new : count_in g end (is_new es g) ≤ MOST_VERTICES * MOST_VERTICES = le_trans (count_pairs-le (vertices_in n end) n (is_new es g)) (mul-le-mul short small) in
+    let gone : count_in g end (is_gone es g) ≤ MOST_VERTICES * MOST_VERTICES = le_trans (count_pairs-le (vertices_in n end) n (is_gone es g)) (mul-le-mul short small) in
     let gained = done.gained in
     let lost = done.lost in
     (omega (arith, gained, new), omega (arith, lost, gone))
 
 -- so two such counts have a sum
-pub few_together : (c d : Counts) → (c.added ≤ 1048576 * 1048576) × (c.removed ≤ 1048576 * 1048576) → (d.added ≤ 1048576 * 1048576) × (d.removed ≤ 1048576 * 1048576) → (c.added + d.added < 2 ^ 64) × (c.removed + d.removed < 2 ^ 64)
+pub few_together : (c d : Counts) → (c.added ≤ MOST_VERTICES * MOST_VERTICES) × (c.removed ≤ MOST_VERTICES * MOST_VERTICES) → (d.added ≤ MOST_VERTICES * MOST_VERTICES) × (d.removed ≤ MOST_VERTICES * MOST_VERTICES) → (c.added + d.added < 2 ^ 64) × (c.removed + d.removed < 2 ^ 64)
 few_together c d few more =
     let a = few.0 in
     let b = few.1 in
@@ -125,8 +126,8 @@ few_together c d few more =
     (omega (arith, a, x), omega (arith, b, y))
 
 -- what was done to a part alone is little
-pub few_counted : (es : List Edit) (g : Graph) (p : Part) (more : Counts) (count range : ℕ) → g.vertex_count ≤ 1048576 → IsPartAt g range p → 256 * range < g.vertex_count → AreEditsBelow g.vertex_count es → (q : Part) → IsPartAfter (range_edits count es range) p q → AreCounts (range_edits count es range) p more
-    → (more.added ≤ 1048576 * 1048576) × (more.removed ≤ 1048576 * 1048576)
+pub few_counted : (es : List Edit) (g : Graph) (p : Part) (more : Counts) (count range : ℕ) → g.vertex_count ≤ MOST_VERTICES → IsPartAt g range p → 256 * range < g.vertex_count → AreEditsBelow g.vertex_count es → (q : Part) → IsPartAfter (range_edits count es range) p q → AreCounts (range_edits count es range) p more
+    → (more.added ≤ MOST_VERTICES * MOST_VERTICES) × (more.removed ≤ MOST_VERTICES * MOST_VERTICES)
 few_counted es g p more count range small at inside below q after counted =
     few_edited es g range (q ∷ []) more small (range_edited es g p q more count range at inside below after counted)
 

@@ -2,6 +2,7 @@
 use Rattle.std.proofs.Common.{◌≡◌, ℕ, ◌+◌, ◌<◌, Bool, List, [], ◌∷◌, ◌++◌, length, get_or, filter, sym, ap, subst, ◌∙◌, inl, inr, arith}
 use Rattle.std.proofs.lemmas.Bool.{cases_lt}
 use Rattle.std.proofs.lemmas.List.{length_push, get_or_append_left, get_or_push}
+use Rattle.past_model.specs.declared.limits.TheConstants.{MOST_VERTICES}
 use Rattle.past_model.specs.declared.edit.Edit.{Edit}
 use Rattle.past_model.specs.declared.home.Home.{Home}
 use Rattle.past_model.specs.declared.home.Home.TheVariants.{Block}
@@ -67,7 +68,7 @@ all_moved p range rows homes are long moved = (
 )
 
 -- a merged list is a set
-pub set_merged : (es : List Edit) (u n : ℕ) (p : ℕ → Bool) (row : List ℕ) (counts : Counts) → n ≡ 1048576 → IsMerged es u n p row counts → IsSet row
+pub set_merged : (es : List Edit) (u n : ℕ) (p : ℕ → Bool) (row : List ℕ) (counts : Counts) → n ≡ MOST_VERTICES → IsMerged es u n p row counts → IsSet row
 set_merged es u n p row counts is merged =
     subst IsSet (sym merged.list)
     (IsWithin-wider 0 0 n WORD_LIMIT (filter (decision es u p) (numbers_below n)) (omega arith) (omega (arith, is))

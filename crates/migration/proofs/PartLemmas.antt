@@ -3,6 +3,7 @@ use Rattle.std.proofs.Common.{◌≡◌, ◌==◌, ℕ, zero, suc, ◌+◌, ◌-
 use Rattle.std.proofs.lemmas.Bool.{cases_lt, cases_Bool, and_parts, false_from_ne_true}
 use Rattle.std.proofs.lemmas.List.{length_push, get_or_append_left, get_or_push, get_or-replicate, length-replicate}
 use Rattle.std.proofs.lemmas.List.Elements.{filter_agree}
+use Rattle.past_model.specs.declared.limits.TheConstants.{MOST_VERTICES, MOST_RANGES}
 use Rattle.past_model.specs.declared.edit.Edit.{Edit}
 use Rattle.graph_model.specs.Graph.{Graph, neighbours, numbers_below, count_pairs, empty_graph}
 use Rattle.past_model.specs.Edits.{source_of, target_of, inserts, names, decided_first, last_word, after_batch, added, removed, AreEditsBelow}
@@ -196,18 +197,18 @@ all_done es p q counts own range count done = (
 )
 
 -- a range without an edge
-pub empty_shard : (range vertices : ℕ) → range < 4096 → 1 ≤ vertices → vertices ≤ 256 → IsShard record { range = range; rows = replicate vertices []; homes = replicate vertices Block }
+pub empty_shard : (range vertices : ℕ) → range < MOST_RANGES → 1 ≤ vertices → vertices ≤ 256 → IsShard record { range = range; rows = replicate vertices []; homes = replicate vertices Block }
 empty_shard range vertices low some few =
     let long : length {A = List ℕ} (replicate vertices []) ≡ vertices = length-replicate vertices [] in
     record {
       low = low;
       some = omega (arith, long);
       few = omega (arith, long);
-      graph = empty_graph 1048576;
+      graph = empty_graph MOST_VERTICES;
       small = refl;
       part = record {
         within = omega (arith, long);
-        each = λ i h. get_or-replicate vertices i [] [] (omega (arith, long)) ∙ sym (neighbours-empty_graph 1048576 (256 * range + i));
+        each = λ i h. get_or-replicate vertices i [] [] (omega (arith, long)) ∙ sym (neighbours-empty_graph MOST_VERTICES (256 * range + i));
       };
       homes = record {
         count = length-replicate vertices Block ∙ sym long;
@@ -218,7 +219,7 @@ empty_shard range vertices low some few =
     }
 
 -- edits of a shard are edits of its graph
-pub below_graph : (n : ℕ) (p : Part) (es : List Edit) → n ≡ 1048576 → vertex_at p (length p.rows) ≤ n → AreEditsOf p es → AreEditsBelow n es
+pub below_graph : (n : ℕ) (p : Part) (es : List Edit) → n ≡ MOST_VERTICES → vertex_at p (length p.rows) ≤ n → AreEditsOf p es → AreEditsBelow n es
 below_graph n p [] is within own = tt
 below_graph n p (e ∷ es) is within own = (
   (
@@ -247,13 +248,13 @@ next_shard es p q is own after homes =
     }
 
 -- no count passes the number of pairs
-pub few_done : (es : List Edit) (p : Part) (g : Graph) (rows : List (List ℕ)) (counts : Counts) → g.vertex_count ≡ 1048576 → IsPart g p → length rows ≤ length p.rows → IsDone es p g rows counts → (counts.added ≤ 1048576 * 1048576) × (counts.removed ≤ 1048576 * 1048576)
+pub few_done : (es : List Edit) (p : Part) (g : Graph) (rows : List (List ℕ)) (counts : Counts) → g.vertex_count ≡ MOST_VERTICES → IsPart g p → length rows ≤ length p.rows → IsDone es p g rows counts → (counts.added ≤ MOST_VERTICES * MOST_VERTICES) × (counts.removed ≤ MOST_VERTICES * MOST_VERTICES)
 few_done es p g rows counts small part short done =
     let within = part.within in
-    let m : vertex_at p (length rows) ≤ 1048576 = omega arith in
-    let n : g.vertex_count ≤ 1048576 = omega arith in (
-      subst (λ k. k ≤ 1048576 * 1048576) (sym done.gained) (le_trans (count_pairs-le (vertex_at p (length rows)) g.vertex_count (is_new es g)) (mul-le-mul m n)),
-      subst (λ k. k ≤ 1048576 * 1048576) (sym done.lost) (le_trans (count_pairs-le (vertex_at p (length rows)) g.vertex_count (is_gone es g)) (mul-le-mul m n)),
+    let m : vertex_at p (length rows) ≤ MOST_VERTICES = omega arith in
+    let n : g.vertex_count ≤ MOST_VERTICES = omega arith in (
+      subst (λ k. k ≤ MOST_VERTICES * MOST_VERTICES) (sym done.gained) (le_trans (count_pairs-le (vertex_at p (length rows)) g.vertex_count (is_new es g)) (mul-le-mul m n)),
+      subst (λ k. k ≤ MOST_VERTICES * MOST_VERTICES) (sym done.lost) (le_trans (count_pairs-le (vertex_at p (length rows)) g.vertex_count (is_gone es g)) (mul-le-mul m n)),
     )
 
 -- the vertex at a place is done
@@ -296,7 +297,7 @@ rows_done es p rows homes counts own count done =
     all_done es p record { range = p.range; rows = rows; homes = homes } counts own refl count done
 
 -- a list of a shard is short
-pub few_targets : (p : Part) (i : ℕ) → IsShard p → i < length p.rows → length (row_at p i) ≤ 1048576
+pub few_targets : (p : Part) (i : ℕ) → IsShard p → i < length p.rows → length (row_at p i) ≤ MOST_VERTICES
 few_targets p i is inside =
     let small = is.small in
     omega (arith, ap length (is.part.each i inside), length-neighbours is.graph (vertex_at p i))

@@ -4,11 +4,13 @@ use Rattle.std.specs.List.{AllByRecursion}
 use Rattle.std.proofs.lemmas.Bool.{cases_lt, cases_eq, ne_eqb}
 use Rattle.std.proofs.lemmas.List.Elements.{All-nil, All-from_recursion}
 use Rattle.std.proofs.lemmas.List.Folds.{list_any-append}
+use Rattle.past_model.specs.declared.limits.TheConstants.{MOST_VERTICES}
 use Rattle.past_model.specs.declared.edit.Edit.{Edit}
 use Rattle.past_model.specs.declared.edit.Edit.TheVariants.{Insert, Remove}
 use Rattle.graph_model.specs.Graph.{numbers_below}
 use Rattle.past_model.specs.Edits.{source_of, target_of, inserts}
 use Rattle.graph_model.proofs.Around.{one}
+use Rattle.word_sets.specs.declared.places.TheConstants.{WORD_LIMIT}
 use Rattle.word_sets.specs.Words.{has_word, with_word, without_word, IsSet, IsWithin}
 use Rattle.word_sets.proofs.Within.{IsWithin-filter}
 use Rattle.word_sets.proofs.Targets.{IsWithin-numbers_below}
@@ -168,11 +170,11 @@ pub few_put : (e : Edit) (xs ys : List ℕ) (c k : Counts) → IsPut e xs c ys k
 few_put e xs ys c k put = subst (λ m. (m.added ≤ c.added + 1) × (m.removed ≤ c.removed + 1)) (sym put.counted) (once_at_most e (has_word (target_of e) xs) c)
 
 -- edits of a vertex go to vertices that a graph may have
-targets_below : (u n : ℕ) (es : List Edit) → n ≡ 1048576 → AreEditsFrom u n es → AllByRecursion (λ e. target_of e < 1048576) es
+targets_below : (u n : ℕ) (es : List Edit) → n ≡ MOST_VERTICES → AreEditsFrom u n es → AllByRecursion (λ e. target_of e < WORD_LIMIT) es
 targets_below u n [] small from = tt
 targets_below u n (e ∷ es) small from = (omega (arith, small, from.0.1), targets_below u n es small from.1)
 
-pub own_targets : (es : List Edit) (row : List ℕ) → AreOwnEdits es row → AllByRecursion (λ e. target_of e < 1048576) es
+pub own_targets : (es : List Edit) (row : List ℕ) → AreOwnEdits es row → AllByRecursion (λ e. target_of e < WORD_LIMIT) es
 own_targets es row own = targets_below own.vertex own.limit es own.small own.edits
 
 -- a vertex's list after its edits is a set

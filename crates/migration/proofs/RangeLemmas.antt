@@ -3,6 +3,7 @@ use Rattle.std.proofs.Common.{◌≡◌, ◌==◌, ℕ, zero, suc, ◌+◌, ◌-
 use Rattle.std.specs.List.{AllByRecursion}
 use Rattle.std.proofs.lemmas.Bool.{cases_Bool, and_parts, false_from_ne_true}
 use Rattle.std.proofs.lemmas.List.Elements.{filter_agree}
+use Rattle.past_model.specs.declared.limits.TheConstants.{MOST_VERTICES}
 use Rattle.past_model.specs.declared.edit.Edit.{Edit}
 use Rattle.graph_model.specs.Graph.{Graph, numbers_below, count_pairs}
 use Rattle.past_model.specs.Edits.{source_of, target_of, inserts, names, decided_first, last_word, after_batch, added, removed, AreEditsBelow}
@@ -36,7 +37,7 @@ range_below n count (e ∷ es) range below =
     ]
 
 -- those of a range are of its part
-pub range_own : (g : Graph) (p : Part) (count : ℕ) (es : List Edit) (range : ℕ) → g.vertex_count ≤ 1048576 → IsPartAt g range p → AreEditsBelow g.vertex_count es → AreEditsOf p (range_edits count es range)
+pub range_own : (g : Graph) (p : Part) (count : ℕ) (es : List Edit) (range : ℕ) → g.vertex_count ≤ MOST_VERTICES → IsPartAt g range p → AreEditsBelow g.vertex_count es → AreEditsOf p (range_edits count es range)
 range_own g p count [] range small at below = tt
 range_own g p count (e ∷ es) range small at below =
     elim (cases_Bool (source_of e / 256 == range)) [

@@ -5,6 +5,7 @@ use Rattle.std.specs.declared.alloc.Global.{Global}
 use Rattle.std.specs.Arc.{arc_value}
 use Rattle.std.proofs.lemmas.Bool.{cases_lt}
 use Rattle.std.proofs.lemmas.List.{length_push, get_or_append_left, get_or_push, get_or-replicate, length-replicate, get_or-map, map_push, map-append}
+use Rattle.past_model.specs.declared.limits.TheConstants.{MOST_VERTICES, MOST_RANGES}
 use Rattle.past_model.specs.declared.home.Home.TheVariants.{Block}
 use Rattle.graph_model.specs.Graph.{Graph, empty_graph}
 use Rattle.graph_model.proofs.Neighbours.{neighbours-empty_graph}
@@ -60,7 +61,7 @@ pub parts_append : (xs ys : List (Arc Part Global)) → parts_of (xs ++ ys) ≡ 
 parts_append xs ys = map-append arc_value xs ys
 
 -- a table of a graph that is no larger than one may be has few parts
-pub few_parts : (g : Graph) (parts : List Part) → IsTable g parts → g.vertex_count ≤ 1048576 → length parts ≤ 4096
+pub few_parts : (g : Graph) (parts : List Part) → IsTable g parts → g.vertex_count ≤ MOST_VERTICES → length parts ≤ MOST_RANGES
 few_parts g parts table small =
     elim (cases_lt 0 (length parts)) [
       | inl some ↦ (let last = (table.ranges (length parts - 1)).0 (omega arith) in omega arith)

@@ -3,6 +3,10 @@
 /// How many vertices a graph may have. A vertex is a number below it.
 pub const MOST_VERTICES: u32 = 1_048_576;
 
+/// How many vertices a graph may have in a store with feeds and readers, in a session and in a script. It is at most
+/// `MOST_VERTICES`.
+pub const SERVED_VERTICES: u32 = 1_048_576;
+
 /// How many vertices a range has: those from 256 times its number on. The last range of a graph may
 /// have fewer.
 pub const RANGE_VERTICES: u32 = 256;

@@ -1,7 +1,7 @@
 -- All ends of one store in one thread, and what comes of a batch that is handed in there.
 use Rattle.std.specs.Prelude.{◌≡◌, ◌≤◌, ◌⊎◌, ℕ, List, Option, Some, None, Result, Ok, Err}
 use Rattle.past_model.specs.declared.entry.Entry.{Entry}
-use Rattle.past_model.specs.declared.limits.TheConstants.{MOST_VERTICES}
+use Rattle.past_model.specs.declared.limits.TheConstants.{SERVED_VERTICES}
 use Rattle.past_model.specs.Edits.{added, removed}
 use Rattle.past_model.specs.Past.{Past, opening, graph_of, number_of, epoch_of, longer}
 use Rattle.history.specs.Moment.{Moment, Begins}
@@ -17,7 +17,7 @@ pub record AreHandles (n number epoch : ℕ) (publisher : Storing) (feeds : List
   pub feeds_are : AreFeedsOf publisher feeds
   pub seen : Begins publisher.moment reader
   pub count : n ≡ publisher.moment.past.vertex_count
-  pub few : n ≤ MOST_VERTICES
+  pub few : n ≤ SERVED_VERTICES
   pub number_is : number ≡ number_of publisher.moment.past
   pub epoch_is : epoch ≡ epoch_of publisher.moment.past
 

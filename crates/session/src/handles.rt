@@ -1,7 +1,7 @@
 //! All ends of one store, in one thread.
 
 ghost use Rattle.std.specs.Prelude.{◌≡◌, ◌<◌, ◌≤◌, ◌↔◌, ◌⊎◌, true, Some, IfOk, IfErr, IsErrOf};
-ghost use Rattle.past_model.specs.declared.limits.TheConstants.{MOST_BATCHES, MOST_EPOCHS, MOST_VERTICES};
+ghost use Rattle.past_model.specs.declared.limits.TheConstants.{MOST_BATCHES, MOST_EPOCHS, SERVED_VERTICES};
 ghost use Rattle.graph_model.specs.Graph.{edge_count};
 ghost use Rattle.past_model.specs.Past.{number_of, epoch_of, graph_of};
 ghost use Rattle.past_model.specs.Epochs.{rebased};
@@ -46,7 +46,7 @@ impl Handles {
     ) -> Result<Handles, StoreError>
         ensures opened { IfOk result (λ handles. handles ≡ new_store vertex_count) }
         ensures refused { IsErrOf result StoreError.VertexCount
-            ↔ ((vertex_count ≡ 0) ⊎ (MOST_VERTICES < vertex_count)) }
+            ↔ ((vertex_count ≡ 0) ⊎ (SERVED_VERTICES < vertex_count)) }
     {
         Ok(Handles {
             vertex_count,
@@ -59,7 +59,7 @@ impl Handles {
     /// How many vertices the graph has.
     pub(crate) fn vertex_count(&self) -> u32
         ensures value { result ≡ self.now.past.vertex_count }
-        ensures few { result ≤ MOST_VERTICES }
+        ensures few { result ≤ SERVED_VERTICES }
     {
         self.vertex_count
     }

@@ -7,7 +7,7 @@ use Rattle.past_model.specs.Edits.{is_edit_below, are_edits_below}
 use Rattle.past_model.specs.Past.{Past, number_of, epoch_of}
 use Rattle.session_model.specs.declared.fault.Fault.{Fault}
 use Rattle.session_model.specs.declared.fault.Fault.TheVariants as faults
-use Rattle.past_model.specs.declared.limits.TheConstants.{MOST_VERTICES, MOST_EDITS, MOST_BATCHES, MOST_EPOCHS, FEEDS}
+use Rattle.past_model.specs.declared.limits.TheConstants.{SERVED_VERTICES, MOST_EDITS, MOST_BATCHES, MOST_EPOCHS, FEEDS}
 use Rattle.map_model.specs.declared.limits.TheConstants.{EDGE_BYTES}
 use Rattle.session_model.specs.declared.limits.TheConstants.{MOST_KEPT}
 use Rattle.session_model.specs.Session.{Session, program_named, pin_named}
@@ -18,12 +18,12 @@ first_fault [] = None
 first_fault (test ∷ tests) = if test.0 then Some test.1 else first_fault tests
 
 abbrev pub is_vertex_count : ℕ → Bool
-is_vertex_count n = nat_le 1 n && nat_le n MOST_VERTICES
+is_vertex_count n = nat_le 1 n && nat_le n SERVED_VERTICES
 
 -- a graph has no more vertices than it may have
 abbrev pub AreFewVertices : Option Past → Type 0
 AreFewVertices None = Unit {0}
-AreFewVertices (Some past) = past.vertex_count ≤ MOST_VERTICES
+AreFewVertices (Some past) = past.vertex_count ≤ SERVED_VERTICES
 
 abbrev pub HasFewVertices : Session → Type 0
 HasFewVertices s = AreFewVertices s.past

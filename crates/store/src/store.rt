@@ -1,6 +1,6 @@
 //! How a store begins, with all its ends.
 ghost use Rattle.std.specs.Prelude.{◌≡◌, ◌<◌, ◌↔◌, ◌⊎◌, IfOk, IsErrOf};
-ghost use Rattle.past_model.specs.declared.limits.TheConstants.{MOST_VERTICES};
+ghost use Rattle.past_model.specs.declared.limits.TheConstants.{SERVED_VERTICES};
 ghost use Rattle.store.specs.Storing.{IsOpened};
 
 use crate::board::open_board;
@@ -12,7 +12,7 @@ use crate::queue::{Opened, open_queue};
 use crate::reader::Reader;
 use crate::recorded::Recorded;
 use history::Head;
-use past_model::MOST_VERTICES;
+use past_model::SERVED_VERTICES;
 use std::alloc::Global;
 use std::sync::{Arc, Wait};
 use version::Version;
@@ -36,9 +36,9 @@ impl Store {
     pub fn new<R: Wait>(vertex_count: u32, rt: &R, alloc: Global) -> Result<Ends, StoreError>
         ensures opened { IfOk result (λ ends. IsOpened vertex_count ends.publisher ends.feeds.items ends.reader) }
         ensures refused { IsErrOf result StoreError.VertexCount
-            ↔ ((vertex_count ≡ 0) ⊎ (MOST_VERTICES < vertex_count)) }
+            ↔ ((vertex_count ≡ 0) ⊎ (SERVED_VERTICES < vertex_count)) }
     {
-        if vertex_count == 0 || vertex_count > MOST_VERTICES {
+        if vertex_count == 0 || vertex_count > SERVED_VERTICES {
             return Err(StoreError::VertexCount);
         }
         let Opened { receiver, feeds } = open_queue(alloc, vertex_count)?;

@@ -2,6 +2,7 @@
 use Rattle.std.proofs.Common.{◌≡◌, ℕ, ◌+◌, ◌<◌, ◌≤◌, List, [], ◌++◌, Vec, length, take, drop, true, refl, sym, ap, ◌∙◌, append_assoc, append-nil, length-append, take_at, arith}
 use Rattle.std.specs.declared.alloc.Global.{Global}
 use Rattle.std.proofs.lemmas.List.{take-append-drop, length-take-le}
+use Rattle.past_model.specs.declared.limits.TheConstants.{MOST_VERTICES}
 use Rattle.past_model.specs.Past.{graph_of}
 use Rattle.graph_model.proofs.Neighbours.{length-neighbours}
 use Rattle.past_model.proofs.Pasts.{vertex_count-graph_of}
@@ -54,7 +55,7 @@ lent_slice n r words next = record {
     run_lent n r l = record { past = version_of n r; vertex = r.vertex; lent = l; ended = r.ended }
 
 -- a place fits
-pub few_lent : (n : ℕ) (r : ReaderRun) (words : List ℕ) → n ≤ 1048576 → IsRunIn n r → IsBeginning words (drop r.place (words_in n r)) → r.place + length words ≤ 1048576
+pub few_lent : (n : ℕ) (r : ReaderRun) (words : List ℕ) → n ≤ MOST_VERTICES → IsRunIn n r → IsBeginning words (drop r.place (words_in n r)) → r.place + length words ≤ MOST_VERTICES
 few_lent n r words small is more =
     let version = version_of n r in
     omega (arith, more_within r.place (words_in n r) words more.0 is.within more.1, length-neighbours (graph_of version) r.vertex, vertex_count-graph_of version)

@@ -7,7 +7,7 @@ use Rattle.std.proofs.lemmas.List.{map-set}
 use Rattle.past_model.specs.declared.edit.Edit.{Edit}
 use Rattle.past_model.specs.declared.entry.Entry.{Entry}
 use Rattle.graph_model.specs.Graph.{empty_graph}
-use Rattle.past_model.specs.declared.limits.TheConstants.{FEEDS}
+use Rattle.past_model.specs.declared.limits.TheConstants.{FEEDS, MOST_VERTICES}
 use Rattle.past_model.specs.Edits.{AreEditsBelow, are_edits_below}
 use Rattle.past_model.specs.Past.{Past, IsPast, graph_of, opening, longer}
 use Rattle.past_model.specs.Epochs.{rebased}
@@ -40,7 +40,7 @@ no_run zero reader run e = none-some run e
 no_run (suc count) zero run e = none-some run e
 no_run (suc count) (suc reader) run e = no_run count reader run e
 
-pub first_world : (n : ℕ) (parts : List Part) → 1 ≤ n → n ≤ 1048576 → IsTable (empty_graph n) parts → IsWorld (opening n) [] None parts (replicate 16 None)
+pub first_world : (n : ℕ) (parts : List Part) → 1 ≤ n → n ≤ MOST_VERTICES → IsTable (empty_graph n) parts → IsWorld (opening n) [] None parts (replicate 16 None)
 first_world n parts some most table = record {
   some = some;
   most = most;
@@ -107,7 +107,7 @@ pub held_editable : (past : Past) (queue : List Entry) (w : Work) (parts : List 
     → IsWorld past queue (Some w) parts runs → is_open (holding_of w) range ≡ true → IsEditable range w
 held_editable past queue w parts runs range is able = record {
   graph = graph_of past;
-  small = subst (λ n. n ≤ 1048576) (sym (vertex_count-graph_of past)) is.most;
+  small = subst (λ n. n ≤ MOST_VERTICES) (sym (vertex_count-graph_of past)) is.most;
   below = below_in_graph past w.entry.batch is.work.below;
   table = is.work.table;
   still_open = able;

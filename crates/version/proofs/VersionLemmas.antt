@@ -2,6 +2,7 @@
 use Rattle.std.proofs.Common.{◌≡◌, ℕ, ◌+◌, ◌-◌, ◌*◌, ◌/◌, ◌%◌, ◌<◌, ◌≤◌, Bool, true, false, List, [], length, map, Contains, sym, ap, subst, refl, ◌∙◌, inl, inr, le_trans, mul-le-mul, arith}
 use Rattle.std.proofs.lemmas.Bool.{cases_lt}
 use Rattle.std.proofs.lemmas.List.{get_or_past, length_push}
+use Rattle.past_model.specs.declared.limits.TheConstants.{MOST_VERTICES}
 use Rattle.past_model.specs.declared.home.Home.{Home}
 use Rattle.past_model.specs.declared.home.Home.TheVariants.{Block}
 use Rattle.past_model.specs.declared.edit.Edit.{Edit}
@@ -27,8 +28,8 @@ use Rattle.version.specs.Version.{IsVersion, IsVertexCount, IsMade}
 below_graph : (p : Past) (es : List Edit) → AreEditsBelow p.vertex_count es → AreEditsBelow (graph_of p).vertex_count es
 below_graph p es below = subst (λ n. AreEditsBelow n es) (sym (vertex_count-graph_of p)) below
 
-few_vertices : (p : Past) (parts : List Part) (edges : ℕ) → IsVersion p parts edges → (graph_of p).vertex_count ≤ 1048576
-few_vertices p parts edges v = subst (λ n. n ≤ 1048576) (sym (vertex_count-graph_of p)) v.most
+few_vertices : (p : Past) (parts : List Part) (edges : ℕ) → IsVersion p parts edges → (graph_of p).vertex_count ≤ MOST_VERTICES
+few_vertices p parts edges v = subst (λ n. n ≤ MOST_VERTICES) (sym (vertex_count-graph_of p)) v.most
 
 -- a version's parts can be edited
 pub editable : (p : Past) (parts : List Part) (edges : ℕ) (es : List Edit) → IsVersion p parts edges → AreEditsBelow p.vertex_count es → IsEditable parts es
@@ -52,17 +53,17 @@ first_version n parts h table homes = record {
 }
 
 -- a version's edges are few
-pub few_edges : (p : Past) (parts : List Part) (edges : ℕ) → IsVersion p parts edges → edges ≤ 1048576 * 1048576
+pub few_edges : (p : Past) (parts : List Part) (edges : ℕ) → IsVersion p parts edges → edges ≤ MOST_VERTICES * MOST_VERTICES
 few_edges p parts edges v =
     let n = few_vertices p parts edges v in
-    subst (λ k. k ≤ 1048576 * 1048576) (sym v.edges_are) (le_trans (edge_count-le (graph_of p)) (mul-le-mul n n))
+    subst (λ k. k ≤ MOST_VERTICES * MOST_VERTICES) (sym v.edges_are) (le_trans (edge_count-le (graph_of p)) (mul-le-mul n n))
 
 -- what a batch did to a version
 pub record Did (p : Past) (e : Entry) (edges : ℕ) (counts : Counts) : Type 0 where
   pub gained : counts.added ≡ added e.batch (graph_of p)
   pub lost : counts.removed ≡ removed e.batch (graph_of p)
   pub change : edge_count (graph_of (longer p e)) + counts.removed ≡ edges + counts.added
-  pub few : counts.added ≤ 1048576 * 1048576
+  pub few : counts.added ≤ MOST_VERTICES * MOST_VERTICES
 
 pub did : (p : Past) (parts next : List Part) (edges : ℕ) (e : Entry) (counts : Counts) → IsVersion p parts edges → AreEditsBelow p.vertex_count e.batch → AreAfter e.batch parts next counts → Did p e edges counts
 did p parts next edges e counts v below after =
@@ -77,7 +78,7 @@ did p parts next edges e counts v below after =
       gained = gained;
       lost = lost;
       change = omega (arith, gained, lost, size, longer_is, edges_are);
-      few = subst (λ k. k ≤ 1048576 * 1048576) (sym gained) (le_trans (new_edges-le (graph_of p) (after_batch e.batch (graph_of p))) (mul-le-mul n n));
+      few = subst (λ k. k ≤ MOST_VERTICES * MOST_VERTICES) (sym gained) (le_trans (new_edges-le (graph_of p) (after_batch e.batch (graph_of p))) (mul-le-mul n n));
     }
 
 -- a vertex's list in a table is its list in the graph

@@ -1,8 +1,9 @@
 -- The places of words in lists of one and of two.
-use Rattle.std.proofs.Common.{◌≡◌, ℕ, zero, suc, ◌<◌, ◌≤◌, true, false, [], ◌∷◌, Result, Ok, Err, refl, arith}
+use Rattle.std.proofs.Common.{◌≡◌, ℕ, zero, suc, ◌-◌, ◌<◌, ◌≤◌, true, false, [], ◌∷◌, Result, Ok, Err, refl, arith}
+use Rattle.word_sets.specs.declared.places.TheConstants.{WORD_LIMIT}
 use Rattle.word_sets.specs.Words.{IsPlace}
 
-pub only_place : (r : Result ℕ ℕ) → IsPlace 1048575 (1048575 ∷ []) r → r ≡ Ok 0
+pub only_place : (r : Result ℕ ℕ) → IsPlace (WORD_LIMIT - 1) ((WORD_LIMIT - 1) ∷ []) r → r ≡ Ok 0
 only_place (Ok zero) is = refl
 only_place (Ok (suc i)) is = absurd (let few : suc i < 1 = is.0 in omega (arith, few))
 only_place (Err i) is = absurd (let lacks : true ≡ false = is.2 in cc)

@@ -1,12 +1,13 @@
 use Rattle.std.proofs.Common.{◌<◌, sym, subst}
 use Rattle.std.specs.List.{AllByRecursion}
+use Rattle.word_sets.specs.declared.places.TheConstants.{WORD_LIMIT}
 use Rattle.past_model.specs.Edits.{target_of}
 use Rattle.migration.specs.Merge.{AreEditsFrom, IsMerged}
 use Rattle.migration.proofs.WordLemmas.{merged_same}
 use Rattle.migration.proofs.edited_tree.edited_tree.Goals as goal
 
 pub with_edits-requires-clause-targets : goal.with_edits-requires-clause-targets
-with_edits-requires-clause-targets c = subst (AllByRecursion (λ e. target_of e < 1048576)) (sym c.deref.ensures.value) (c.in_ok-sort_by_target.ensures.targets 1048576 c.requires)
+with_edits-requires-clause-targets c = subst (AllByRecursion (λ e. target_of e < WORD_LIMIT)) (sym c.deref.ensures.value) (c.in_ok-sort_by_target.ensures.targets WORD_LIMIT c.requires)
 
 pub returns : goal.returns
 returns c =

@@ -1,5 +1,6 @@
 use Rattle.std.proofs.Common.{◌<◌, length, sym, ap, subst, ◌∙◌, arith}
 use Rattle.std.specs.List.{AllByRecursion}
+use Rattle.word_sets.specs.declared.places.TheConstants.{WORD_LIMIT}
 use Rattle.gapped_array.specs.Table.{list_at}
 use Rattle.past_model.specs.declared.home.Home.TheVariants.{Gapped}
 use Rattle.past_model.specs.Edits.{target_of}
@@ -12,7 +13,7 @@ use Rattle.migration.proofs.PutLemmas.{own_targets}
 use Rattle.migration.proofs.in_place.edit_run.Goals as goal
 
 pub put_edits_in_run-requires-clause-targets : goal.put_edits_in_run-requires-clause-targets
-put_edits_in_run-requires-clause-targets c = subst (AllByRecursion (λ e. target_of e < 1048576)) (sym c.deref.ensures.value) (c.in_ok-sort_by_target.ensures.targets 1048576 (own_targets c.args.edits.now.items (list_at c.args.array.now c.args.run) c.requires.edits))
+put_edits_in_run-requires-clause-targets c = subst (AllByRecursion (λ e. target_of e < WORD_LIMIT)) (sym c.deref.ensures.value) (c.in_ok-sort_by_target.ensures.targets WORD_LIMIT (own_targets c.args.edits.now.items (list_at c.args.array.now c.args.run) c.requires.edits))
 
 pub words-requires : goal.words-requires
 words-requires c = run_stays_open c.args.array.now c.put_edits_in_run.new.array c.args.run (list_at c.put_edits_in_run.new.array c.args.run) c.requires.open c.in_ok-more.ensures.rest

@@ -1,5 +1,6 @@
 use Rattle.std.proofs.Common.{◌<◌, sym, ap, subst, ◌∙◌}
 use Rattle.std.specs.List.{AllByRecursion}
+use Rattle.word_sets.specs.declared.places.TheConstants.{WORD_LIMIT}
 use Rattle.past_model.specs.declared.home.Home.TheVariants.{Tree}
 use Rattle.past_model.specs.Edits.{target_of}
 use Rattle.past_model.specs.Homes.{home_after}
@@ -9,7 +10,7 @@ use Rattle.migration.proofs.PutLemmas.{own_targets}
 use Rattle.migration.proofs.in_place.edit_tree.Goals as goal
 
 pub put_edits-requires-clause-targets : goal.put_edits-requires-clause-targets
-put_edits-requires-clause-targets c = subst (AllByRecursion (λ e. target_of e < 1048576)) (sym c.deref.ensures.value) (c.in_ok-sort_by_target.ensures.targets 1048576 (own_targets c.args.edits.now.items c.args.tree.now c.requires))
+put_edits-requires-clause-targets c = subst (AllByRecursion (λ e. target_of e < WORD_LIMIT)) (sym c.deref.ensures.value) (c.in_ok-sort_by_target.ensures.targets WORD_LIMIT (own_targets c.args.edits.now.items c.args.tree.now c.requires))
 
 pub returns-in-Tree : goal.returns-in-Tree
 returns-in-Tree c = record {

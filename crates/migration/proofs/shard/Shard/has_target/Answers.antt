@@ -1,5 +1,6 @@
 use Rattle.std.proofs.Common.{◌≡◌, ◌↔◌, ◌%◌, ◌≤◌, [], true, Contains, get_or, sym, ap, subst, subst₂, ◌∙◌, arith}
 use Rattle.std.proofs.lemmas.Bool.{false≢true}
+use Rattle.past_model.specs.declared.limits.TheConstants.{MOST_VERTICES}
 use Rattle.word_sets.proofs.Members.{found_members}
 use Rattle.migration.specs.Part.{Part, IsShard, row_at}
 use Rattle.migration.specs.Lists.{rows_of}
@@ -9,7 +10,7 @@ use Rattle.migration.proofs.shard.Shard.has_target.Goals as goal
 
 pub returns-then-target-from : goal.returns-then-target-from
 returns-then-target-from c =
-    let far : 1048576 ≤ c.args.target = (let from = c.from.ensures in let test = c.if-target-from.true in omega arith) in (
+    let far : MOST_VERTICES ≤ c.args.target = (let from = c.from.ensures in let test = c.if-target-from.true in omega arith) in (
       λ t. absurd (false≢true t),
       λ among. absurd (no_far_target c.args.self.now c.args.vertex c.args.target (subst IsShard c.self.view_is c.self.invariant.2) c.requires far among),
     )

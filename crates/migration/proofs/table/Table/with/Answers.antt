@@ -4,6 +4,7 @@ use Rattle.std.specs.declared.alloc.Global.{Global}
 use Rattle.std.specs.Arc.{arc_value}
 use Rattle.std.proofs.lemmas.List.{length-map, take_all}
 use Rattle.graph_model.specs.Graph.{Graph}
+use Rattle.past_model.specs.declared.limits.TheConstants.{MOST_VERTICES, MOST_RANGES}
 use Rattle.past_model.specs.Edits.{AreEditsBelow}
 use Rattle.migration.specs.Groups.{filled_below}
 use Rattle.migration.specs.Made.{AreMade}
@@ -33,7 +34,7 @@ block_of items old n b same is = is ∙ ap (λ l. get_or l n b) same
 inside : (old : Blocks) (n count : ℕ) (b : Arc (List Part) Global) → AreFull (sizes_of old) → count ≡ length (parts_in old) → n < length old → b ≡ get_or old n b → 32 * n + length (arc_value b) ≤ count
 inside old n count b full all h is = omega (arith, block_inside old n b full h, all, ap (λ b. length (arc_value b)) is)
 
-few : (g : Graph) (parts : List Part) (old : Blocks) (count : ℕ) → count ≡ length (parts_in old) → parts_in old ≡ parts → IsTable g parts → g.vertex_count ≤ 1048576 → count ≤ 4096
+few : (g : Graph) (parts : List Part) (old : Blocks) (count : ℕ) → count ≡ length (parts_in old) → parts_in old ≡ parts → IsTable g parts → g.vertex_count ≤ MOST_VERTICES → count ≤ MOST_RANGES
 few g parts old count all is table small = omega (arith, few_parts g parts table small, all, ap length is)
 
 -- the shards that are looked at show the block
