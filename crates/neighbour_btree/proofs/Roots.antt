@@ -1,7 +1,7 @@
 -- Roots after a change.
 use Rattle.std.proofs.Common.{◌≡◌, ℕ, ◌*◌, ◌<◌, ◌≤◌, List, length, Result, Ok, Err, IfOk, sym, ap, subst, arith}
 use Rattle.word_sets.specs.declared.places.TheConstants.{WORD_LIMIT}
-use Rattle.word_sets.specs.Words.{with_word, without_word, IsSet}
+use Rattle.word_sets.specs.Words.{with_word, without_word, IsSet, IsWithin}
 use Rattle.word_sets.proofs.Within.{IsWithin-length}
 use Rattle.word_sets.proofs.Members.{IsWithin-with, IsWithin-without}
 use Rattle.neighbour_btree.specs.Node.{Node}
@@ -23,7 +23,16 @@ set_with w old new s small e =
 pub set_without : (w : ℕ) (old new : List ℕ) → IsSet old → new ≡ without_word w old → IsSet new
 set_without w old new s e = subst IsSet (sym e) (IsWithin-without 0 WORD_LIMIT w old s)
 
--- a sixth level would have more words than there are
-pub no_sixth : (w : ℕ) (old new : List ℕ) → IsSet old → w < WORD_LIMIT → new ≡ with_word w old → 2 * 1048576 ≤ length new → ⊥
-no_sixth w old new s small e many =
-    omega (arith, IsWithin-length 0 WORD_LIMIT new (set_with w old new s small e))
+-- words below a limit make no level that has more words than that
+no_level : (limit least w : ℕ) (old new : List ℕ) → IsWithin 0 limit old → w < limit → new ≡ with_word w old → limit < 2 * least → 2 * least ≤ length new → ⊥
+no_level limit least w old new s small e high many =
+    let set : IsWithin 0 limit new = subst (IsWithin 0 limit) (sym e) (IsWithin-with 0 limit w old (omega arith) small s) in
+    omega (arith, IsWithin-length 0 limit new set)
+
+-- an eighth level would have more words than there are
+pub no_eighth : (w : ℕ) (old new : List ℕ) → IsSet old → w < WORD_LIMIT → new ≡ with_word w old → 2 * 268435456 ≤ length new → ⊥
+no_eighth w old new s small e many = no_level WORD_LIMIT 268435456 w old new s small e (omega arith) many
+
+-- for words below 2^20 five levels are enough: they make no sixth
+pub no_sixth : (w : ℕ) (old new : List ℕ) → IsWithin 0 1048576 old → w < 1048576 → new ≡ with_word w old → 2 * 1048576 ≤ length new → ⊥
+no_sixth w old new s small e many = no_level 1048576 1048576 w old new s small e (omega arith) many

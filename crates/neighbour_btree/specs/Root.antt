@@ -5,7 +5,7 @@ use Rattle.neighbour_btree.specs.Node.{Node, IsChild}
 use Rattle.neighbour_btree.specs.declared.levels.change.Change.{Change}
 use Rattle.neighbour_btree.specs.declared.levels.change.Change.TheVariants.{Same, Changed, Unable}
 use Rattle.neighbour_btree.specs.declared.root.Root.{Root}
-use Rattle.neighbour_btree.specs.declared.root.Root.TheVariants.{One, Two, Three, Four, Five}
+use Rattle.neighbour_btree.specs.declared.root.Root.TheVariants.{One, Two, Three, Four, Five, Six, Seven}
 use Rattle.neighbour_btree.specs.declared.root.Raised.{Raised}
 use Rattle.neighbour_btree.specs.declared.root.Raised.TheVariants.{Same as NotRaised, Kept as StaysHigh, Above}
 use Rattle.neighbour_btree.specs.declared.root.Lowered.{Lowered}
@@ -18,6 +18,8 @@ node_of (Two n) = n
 node_of (Three n) = n
 node_of (Four n) = n
 node_of (Five n) = n
+node_of (Six n) = n
+node_of (Seven n) = n
 
 -- how many entries it has at least
 abbrev pub fewest_of : Root → ℕ
@@ -26,6 +28,8 @@ fewest_of (Two n) = 2
 fewest_of (Three n) = 2
 fewest_of (Four n) = 2
 fewest_of (Five n) = 2
+fewest_of (Six n) = 2
+fewest_of (Seven n) = 2
 
 -- the words of a tree
 abbrev pub words_of : Root → List ℕ

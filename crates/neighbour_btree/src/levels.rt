@@ -2,6 +2,7 @@
 //! or more. Nodes are shared by their owners, and one that is shared is never written.
 mod change;
 mod child;
+mod fifth;
 mod in_place;
 mod inner;
 mod leaf;
@@ -12,6 +13,7 @@ mod search;
 mod third;
 
 pub(crate) use change::{Change, Grown};
+pub(crate) use fifth::{Fifth, fifths};
 pub(crate) use inner::Inner;
 pub(crate) use leaf::Leaf;
 pub(crate) use level::{Level, MOST};

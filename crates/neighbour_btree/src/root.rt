@@ -4,18 +4,22 @@ ghost use Rattle.word_sets.specs.Words.{IsSet, has_word};
 ghost use Rattle.neighbour_btree.specs.Changes.{IsSliceAt};
 ghost use Rattle.neighbour_btree.specs.Root.{node_of, fewest_of, words_of, Raises, Lowers, RootWith, RootWithout, WordsAdded, WordsTaken};
 
-use crate::levels::{Change, Grown, Inner, Leaf, Level, MOST, Third, leaves, nodes, thirds};
+use crate::levels::{
+    Change, Fifth, Grown, Inner, Leaf, Level, MOST, Third, fifths, leaves, nodes, thirds,
+};
 use std::alloc::{AllocError, Global};
 use word_sets::WORD_LIMIT;
 
-/// A root of each of the five levels. Words are below 2^20, so that five are enough.
+/// A root of each of the seven levels, which are enough for words below 2^28.
 #[derive(Drop)]
 pub(crate) enum Root {
     One(Leaf),
     Two(Inner<Leaf>),
     Three(Third),
     Four(Inner<Third>),
-    Five(Inner<Inner<Third>>),
+    Five(Fifth),
+    Six(Inner<Fifth>),
+    Seven(Inner<Inner<Fifth>>),
 }
 
 /// What a root becomes by one word more.
@@ -87,8 +91,18 @@ impl Root {
             return Ok(Root::Three(Third { node }));
         }
         let row = thirds(alloc, nodes(alloc, row)?)?;
+        if row.len() <= MOST {
+            let node = Inner::new(alloc, row)?;
+            return Ok(Root::Four(node));
+        }
+        let row = nodes(alloc, row)?;
+        if row.len() <= MOST {
+            let node = Inner::new(alloc, row)?;
+            return Ok(Root::Five(Fifth { node }));
+        }
+        let row = fifths(alloc, nodes(alloc, row)?)?;
         let node = Inner::new(alloc, row)?;
-        Ok(Root::Four(node))
+        Ok(Root::Six(node))
     }
 
     /// Another owner of the same root.
@@ -101,6 +115,8 @@ impl Root {
             Root::Three(node) => Ok(Root::Three(node.share()?)),
             Root::Four(node) => Ok(Root::Four(node.share()?)),
             Root::Five(node) => Ok(Root::Five(node.share()?)),
+            Root::Six(node) => Ok(Root::Six(node.share()?)),
+            Root::Seven(node) => Ok(Root::Seven(node.share()?)),
         }
     }
 
@@ -114,6 +130,8 @@ impl Root {
             Root::Three(node) => node.count(),
             Root::Four(node) => node.count(),
             Root::Five(node) => node.count(),
+            Root::Six(node) => node.count(),
+            Root::Seven(node) => node.count(),
         }
     }
 
@@ -128,6 +146,8 @@ impl Root {
             Root::Three(node) => node.contains(word),
             Root::Four(node) => node.contains(word),
             Root::Five(node) => node.contains(word),
+            Root::Six(node) => node.contains(word),
+            Root::Seven(node) => node.contains(word),
         }
     }
 
@@ -142,6 +162,8 @@ impl Root {
             Root::Three(node) => node.slice_at(place),
             Root::Four(node) => node.slice_at(place),
             Root::Five(node) => node.slice_at(place),
+            Root::Six(node) => node.slice_at(place),
+            Root::Seven(node) => node.slice_at(place),
         }
     }
 
@@ -171,11 +193,21 @@ impl Root {
             Root::Four(node) => match grow(alloc, node, word)? {
                 Raised::Same => Ok(None),
                 Raised::Kept(node) => Ok(Some(Root::Four(node))),
-                Raised::Above(node) => Ok(Some(Root::Five(node))),
+                Raised::Above(node) => Ok(Some(Root::Five(Fifth { node }))),
             },
             Root::Five(node) => match grow(alloc, node, word)? {
                 Raised::Same => Ok(None),
                 Raised::Kept(node) => Ok(Some(Root::Five(node))),
+                Raised::Above(node) => Ok(Some(Root::Six(node))),
+            },
+            Root::Six(node) => match grow(alloc, node, word)? {
+                Raised::Same => Ok(None),
+                Raised::Kept(node) => Ok(Some(Root::Six(node))),
+                Raised::Above(node) => Ok(Some(Root::Seven(node))),
+            },
+            Root::Seven(node) => match grow(alloc, node, word)? {
+                Raised::Same => Ok(None),
+                Raised::Kept(node) => Ok(Some(Root::Seven(node))),
                 Raised::Above(_) => unreachable!(),
             },
         }
@@ -208,10 +240,20 @@ impl Root {
                 Lowered::Kept(node) => Ok(Some(Root::Four(node))),
                 Lowered::Below(node) => Ok(Some(Root::Three(node))),
             },
-            Root::Five(node) => match shrink(alloc, node, word)? {
+            Root::Five(fifth) => match shrink(alloc, &fifth.node, word)? {
                 Lowered::Same => Ok(None),
-                Lowered::Kept(node) => Ok(Some(Root::Five(node))),
+                Lowered::Kept(node) => Ok(Some(Root::Five(Fifth { node }))),
                 Lowered::Below(node) => Ok(Some(Root::Four(node))),
+            },
+            Root::Six(node) => match shrink(alloc, node, word)? {
+                Lowered::Same => Ok(None),
+                Lowered::Kept(node) => Ok(Some(Root::Six(node))),
+                Lowered::Below(node) => Ok(Some(Root::Five(node))),
+            },
+            Root::Seven(node) => match shrink(alloc, node, word)? {
+                Lowered::Same => Ok(None),
+                Lowered::Kept(node) => Ok(Some(Root::Seven(node))),
+                Lowered::Below(node) => Ok(Some(Root::Six(node))),
             },
         }
     }
@@ -230,6 +272,8 @@ impl Root {
             Root::Three(node) => node.insert(alloc, word),
             Root::Four(node) => node.insert(alloc, word),
             Root::Five(node) => node.insert(alloc, word),
+            Root::Six(node) => node.insert(alloc, word),
+            Root::Seven(node) => node.insert(alloc, word),
         }
     }
 
@@ -246,7 +290,9 @@ impl Root {
             Root::Two(node) => node.remove_from_root(alloc, word),
             Root::Three(third) => third.node.remove_from_root(alloc, word),
             Root::Four(node) => node.remove_from_root(alloc, word),
-            Root::Five(node) => node.remove_from_root(alloc, word),
+            Root::Five(fifth) => fifth.node.remove_from_root(alloc, word),
+            Root::Six(node) => node.remove_from_root(alloc, word),
+            Root::Seven(node) => node.remove_from_root(alloc, word),
         }
     }
 }

@@ -10,7 +10,7 @@ use std::alloc::{AllocError, Global};
 use std::marker::Model;
 use word_sets::WORD_LIMIT;
 
-/// A set of words, each below `WORD_LIMIT`, in a tree of at most five levels. Clauses see it as the ascending list of
+/// A set of words, each below `WORD_LIMIT`, in a tree of at most seven levels. Clauses see it as the ascending list of
 /// its words.
 pub struct NeighbourTree {
     root: Root,

@@ -5,6 +5,7 @@ ghost use Rattle.neighbour_btree.specs.Node.{Node, IsChild, IsEntry};
 ghost use Rattle.neighbour_btree.specs.Changes.{Adds, Takes};
 
 use crate::levels::change::Change;
+use crate::levels::fifth::Fifth;
 use crate::levels::inner::Inner;
 use crate::levels::leaf::Leaf;
 use crate::levels::level::{FEWEST, Level};
@@ -40,6 +41,19 @@ impl Child<Inner<Inner<Leaf>>> {
             first: self.first,
             count: self.count,
             node: Third { node: self.node },
+        }
+    }
+}
+
+impl Child<Inner<Inner<Third>>> {
+    /// The same child, of a node with a name of its own.
+    pub(crate) fn named_fifth(self) -> Child<Fifth>
+        ensures { result ≡ self }
+    {
+        Child {
+            first: self.first,
+            count: self.count,
+            node: Fifth { node: self.node },
         }
     }
 }

@@ -28,3 +28,13 @@ pub returns-in-Five-clause-ok : goal.returns-in-Five-clause-ok
 returns-in-Five-clause-ok c =
     let P : Root → Type 0 = λ r. IfOk c.insert-in-Five.result (WordsAdded (words_of r) c.insert-in-Five.new.self.words c.args.word) in
     subst P (sym c.in-Five.is) (words_added 1048576 c.args.word c.in-Five.node c.insert-in-Five.new.self c.insert-in-Five.result c.insert-in-Five.ensures.ok)
+
+pub returns-in-Six-clause-ok : goal.returns-in-Six-clause-ok
+returns-in-Six-clause-ok c =
+    let P : Root → Type 0 = λ r. IfOk c.insert-in-Six.result (WordsAdded (words_of r) c.insert-in-Six.new.self.words c.args.word) in
+    subst P (sym c.in-Six.is) (words_added 16777216 c.args.word c.in-Six.node c.insert-in-Six.new.self c.insert-in-Six.result c.insert-in-Six.ensures.ok)
+
+pub returns-in-Seven-clause-ok : goal.returns-in-Seven-clause-ok
+returns-in-Seven-clause-ok c =
+    let P : Root → Type 0 = λ r. IfOk c.insert-in-Seven.result (WordsAdded (words_of r) c.insert-in-Seven.new.self.words c.args.word) in
+    subst P (sym c.in-Seven.is) (words_added 268435456 c.args.word c.in-Seven.node c.insert-in-Seven.new.self c.insert-in-Seven.result c.insert-in-Seven.ensures.ok)
