@@ -82,16 +82,16 @@ done_to groups range p e by_range made =
     )
 
 -- the shards of a block, among all
-pub block_made : (groups : Grouped) (made : List (Bor EditedShard)) (blocks : Blocks) (n : ℕ) (d : Arc (List Part) Global) (shards : List Part) → AreFull (sizes_of blocks) → n < length blocks → shards ≡ arc_value (get_or blocks n d) → AreMade groups 0 (parts_in blocks) made → AreMade groups (32 * n) shards made
-block_made groups made blocks n d shards full h is all =
+pub block_made : (w : ℕ) (groups : Grouped) (made : List (Bor EditedShard)) (blocks : Blocks) (n : ℕ) (d : Arc (List Part) Global) (shards : List Part) → AreFull w (sizes_of blocks) → n < length blocks → shards ≡ arc_value (get_or blocks n d) → AreMade groups 0 (parts_in blocks) made → AreMade groups (w * n) shards made
+block_made w groups made blocks n d shards full h is all =
     λ k within some.
     let at : k < length (arc_value (get_or blocks n d)) = subst (λ l. k < length l) is within in
-    let place : 0 + (32 * n + k) ≡ 32 * n + k = omega arith in
-    let fact = all (32 * n + k) (part_inside blocks n k d full h at) (subst (λ r. is_filled groups r ≡ true) (sym place) some) in
-    subst₂ (λ p r. (length (filled_below groups r) < length made) × ((e : Bor EditedShard) → IsMade p (edits_of groups r) (get_or made (length (filled_below groups r)) e).now)) (part_in_block blocks n k d full h at ∙ ap (λ l. part_at l k) (sym is)) place fact
+    let place : 0 + (w * n + k) ≡ w * n + k = omega arith in
+    let fact = all (w * n + k) (part_inside w blocks n k d full h at) (subst (λ r. is_filled groups r ≡ true) (sym place) some) in
+    subst₂ (λ p r. (length (filled_below groups r) < length made) × ((e : Bor EditedShard) → IsMade p (edits_of groups r) (get_or made (length (filled_below groups r)) e).now)) (part_in_block w blocks n k d full h at ∙ ap (λ l. part_at l k) (sym is)) place fact
 
 -- a block before the last has all its shards
-pub full_block : (blocks : Blocks) (i : ℕ) (d : Arc (List Part) Global) → AreFull (sizes_of blocks) → i + 1 < length blocks → length (arc_value (get_or blocks i d)) ≡ 32
-full_block blocks i d full more =
+pub full_block : (w : ℕ) (blocks : Blocks) (i : ℕ) (d : Arc (List Part) Global) → AreFull w (sizes_of blocks) → i + 1 < length blocks → length (arc_value (get_or blocks i d)) ≡ w
+full_block w blocks i d full more =
     sym (get_or-map (λ block. length (arc_value block)) blocks i d 0 (omega arith))
     ∙ full.full i (omega (arith, length-map blocks (λ block. length (arc_value block))))

@@ -10,7 +10,6 @@ use Rattle.past_model.specs.declared.home.Home.TheVariants.{Block}
 use Rattle.graph_model.specs.Graph.{Graph, count_pairs}
 use Rattle.past_model.specs.Edits.{after_batch, AreEditsBelow}
 use Rattle.migration.specs.declared.counts.Counts.{Counts}
-use Rattle.migration.specs.declared.block.TheConstants.{BLOCK_SHARDS}
 use Rattle.migration.specs.Part.{Part, AreHomes, AreHomesAfter}
 use Rattle.migration.specs.Table.{IsPartAt, part_at}
 
@@ -21,10 +20,10 @@ parts_in blocks = flat_map arc_value blocks
 abbrev pub sizes_of : List (Arc (List Part) Global) → List ℕ
 sizes_of blocks = map (λ block. length (arc_value block)) blocks
 
--- each block but the last is full
-pub record AreFull (sizes : List ℕ) : Type 0 where
-  pub full : (i : ℕ) → i + 1 < length sizes → slice_index_or sizes i 0 ≡ BLOCK_SHARDS
-  pub few : (i : ℕ) → i < length sizes → slice_index_or sizes i 0 ≤ BLOCK_SHARDS
+-- each block but the last is as wide as the table says
+pub record AreFull (width : ℕ) (sizes : List ℕ) : Type 0 where
+  pub full : (i : ℕ) → i + 1 < length sizes → slice_index_or sizes i 0 ≡ width
+  pub few : (i : ℕ) → i < length sizes → slice_index_or sizes i 0 ≤ width
 
 -- parts of a graph, one for each range from one on
 pub record ArePartsFrom (g : Graph) (first : ℕ) (parts : List Part) : Type 0 where

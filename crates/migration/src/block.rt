@@ -17,9 +17,6 @@ use std::alloc::{AllocError, Global};
 use std::marker::Model;
 use std::sync::Arc;
 
-/// How many shards a full block has.
-pub(crate) const BLOCK_SHARDS: usize = 32;
-
 /// The shards of ranges one after another.
 #[derive(Drop)]
 pub(crate) struct Block {

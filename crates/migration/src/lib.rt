@@ -27,6 +27,7 @@ mod shard;
 mod shards;
 mod short_blocks;
 mod table;
+mod width;
 
 pub use counts::Counts;
 pub use edited_shard::EditedShard;

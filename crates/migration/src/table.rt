@@ -8,7 +8,7 @@ ghost use Rattle.migration.specs.Part.{AreEditsOf};
 ghost use Rattle.migration.specs.Made.{IsBatch, IsMade, AreMade, IsNoneBelow};
 ghost use Rattle.migration.specs.Table.{IsTable, IsOfGraph, IsShardOf, AreAfter, AreMoved, part_at, parts_of, home_in};
 
-use crate::block::{BLOCK_SHARDS, Block};
+use crate::block::Block;
 use crate::counts::Counts;
 use crate::edited_shard::EditedShard;
 use crate::groups::Groups;
@@ -16,6 +16,7 @@ use crate::letting_go::let_go_each;
 use crate::scratch::Scratch;
 use crate::shard::Shard;
 use crate::shards::{empty_shards, share_shards};
+use crate::width::Width;
 use past_model::{Edit, Home, RANGE_VERTICES};
 use std::alloc::{AllocError, Global};
 use std::marker::Model;
@@ -28,6 +29,8 @@ use std::thread::Threads;
 pub struct Table {
     blocks: Vec<Arc<Block>>,
     count: usize,
+    // How many shards each block has but for the last.
+    width: Width,
 }
 
 impl Drop for Table {
@@ -36,6 +39,7 @@ impl Drop for Table {
         let Table {
             blocks: _blocks,
             count: _count,
+            width: _,
         } = self;
     }
 }
@@ -49,7 +53,7 @@ impl Model for Table {
 
     ghost view = { λ t. parts_in t.blocks.items };
 
-    ghost invariant = { λ t. AreFull (sizes_of t.blocks.items)
+    ghost invariant = { λ t. AreFull t.width.shards (sizes_of t.blocks.items)
         × (t.count ≡ length (parts_in t.blocks.items))
         × AreHoused (parts_in t.blocks.items) };
 }
@@ -61,15 +65,21 @@ fn is_past(made: &[&EditedShard], next: usize, end: usize) -> bool
     next >= made.len() || made[next].range() as usize >= end
 }
 
-/// Blocks of these shards.
-fn blocks_of(alloc: Global, shards: &[Arc<Shard>]) -> Result<Vec<Arc<Block>>, AllocError>
+/// Blocks of these shards, each of so many but for the last.
+fn blocks_of(
+    alloc: Global,
+    shards: &[Arc<Shard>],
+    width: usize,
+) -> Result<Vec<Arc<Block>>, AllocError>
+    requires some { 0 < width }
+    requires small { width ≤ 1024 }
     ensures parts { IfOk result (λ blocks. parts_in blocks.items ≡ parts_of shards.now) }
-    ensures full { IfOk result (λ blocks. AreFull (sizes_of blocks.items)) }
+    ensures full { IfOk result (λ blocks. AreFull width (sizes_of blocks.items)) }
 {
     let mut blocks = Vec::new(alloc);
-    for number in 0..shards.len().div_ceil(BLOCK_SHARDS) {
-        let first = BLOCK_SHARDS * number;
-        let behind = shards.len().min(first + BLOCK_SHARDS);
+    for number in 0..shards.len().div_ceil(width) {
+        let first = width * number;
+        let behind = shards.len().min(first + width);
         let own = share_shards(alloc, &shards[first..behind])?;
         blocks.push(Arc::new(alloc, Block::of(own))?)?;
     }
@@ -85,9 +95,14 @@ impl Table {
         ensures homes { IfOk result (λ table. (v : ℕ) → home_in table v ≡ InBlock) }
     {
         let shards = empty_shards(alloc, vertex_count)?;
-        let blocks = blocks_of(alloc, &shards)?;
         let count = shards.len();
-        Ok(Table { blocks, count })
+        let width = Width::of(count);
+        let blocks = blocks_of(alloc, &shards, width.shards)?;
+        Ok(Table {
+            blocks,
+            count,
+            width,
+        })
     }
 
     // The shard of a range, if there is one.
@@ -95,8 +110,10 @@ impl Table {
         ensures { MatchOption result (length self.now ≤ range)
             (λ shard. (range < length self.now) × (shard.now ≡ part_at self.now range)) }
     {
-        let block: &Block = self.blocks.get(range / BLOCK_SHARDS)?;
-        let shard: &Shard = block.shards().get(range % BLOCK_SHARDS)?;
+        let number = self.width.block_of(range);
+        let place = self.width.place_of(range);
+        let block: &Block = self.blocks.get(number)?;
+        let shard: &Shard = block.shards().get(place)?;
         Some(shard)
     }
 
@@ -182,7 +199,7 @@ impl Table {
         let mut counts = Counts::NONE;
         let mut next = 0;
         for (number, block) in self.blocks.iter().enumerate() {
-            let first = BLOCK_SHARDS * number;
+            let first = self.width.shards * number;
             let behind = first + block.shards().len();
             if is_past(made, next, behind) {
                 blocks.push(Arc::try_clone(block)?)?;
@@ -193,7 +210,15 @@ impl Table {
             counts = counts.plus(more);
         }
         let count = self.count;
-        Ok((Table { blocks, count }, counts))
+        let width = self.width;
+        Ok((
+            Table {
+                blocks,
+                count,
+                width,
+            },
+            counts,
+        ))
     }
 
     // The shards of its blocks that no other table has, dealt in turn to so many lists.
@@ -201,7 +226,11 @@ impl Table {
         requires some { 0 < hands }
         ensures { IfOk result (λ lists. length lists.items ≡ hands) }
     {
-        let Table { blocks, count } = self;
+        let Table {
+            blocks,
+            count,
+            width: _,
+        } = self;
         let mut lists = Vec::with_capacity(alloc, hands)?;
         for _ in 0..hands {
             lists.push(Vec::with_capacity(alloc, count.div_ceil(hands))?)?;

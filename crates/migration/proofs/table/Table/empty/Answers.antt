@@ -8,11 +8,17 @@ use Rattle.migration.specs.Part.{Part}
 use Rattle.migration.specs.Table.{IsTable, IsPartAt, part_at, parts_of}
 use Rattle.migration.specs.Blocks.{parts_in, AreInBlocks, AreHoused}
 use Rattle.migration.proofs.HousedLemmas.{all_in_blocks, empty_parts_housed}
+use Rattle.migration.proofs.TableLemmas.{few_parts}
 use Rattle.migration.proofs.table.Table.empty.Goals as goal
 
 -- parts of a graph without an edge, in blocks
 housed : (n : ℕ) (shards : List (Arc Part Global)) (blocks : List (Arc (List Part) Global)) → IsTable (empty_graph n) (parts_of shards) → AreInBlocks (parts_of shards) → parts_in blocks ≡ parts_of shards → AreHoused (parts_in blocks)
 housed n shards blocks table are is = subst AreHoused (sym is) (empty_parts_housed n 0 (parts_of shards) (λ k h. (let whole : k ≡ 0 + k = omega arith in subst (λ r. IsPartAt (empty_graph n) r (part_at (parts_of shards) k)) whole (table.each k h))) are)
+
+pub of-width-requires : goal.of-width-requires
+of-width-requires c =
+    let size = length-map c.in_ok-shards.shards.items arc_value in
+    omega (arith, few_parts (empty_graph c.args.vertex_count) (parts_of c.in_ok-shards.shards.items) c.in_ok-shards.ensures.table c.requires.most, size, c.len-count.ensures, c.in_ok-shards.shards.ok)
 
 pub invariant_of-result : goal.invariant_of-result
 invariant_of-result c =

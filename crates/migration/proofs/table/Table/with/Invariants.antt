@@ -10,6 +10,6 @@ abbrev pub invariant-loop-number : goal.invariant-loop-number
 invariant-loop-number l = record {
   sizes : sizes_of l.blocks.items ≡ take l.number (sizes_of l.self-inside.blocks.items);
   done : (g : Graph) → AreEditsBelow g.vertex_count l.groups.edits → IsTable g (parts_in l.self-inside.blocks.items) → AreEdited l.groups.edits g 0 (parts_in l.blocks.items) l.counts;
-  next : l.number < length l.self-inside.blocks.items → l.next ≡ length (filled_below l.groups (32 * l.number));
+  next : l.number < length l.self-inside.blocks.items → l.next ≡ length (filled_below l.groups (l.self-inside.width.shards * l.number));
   homes : AreRehoused (parts_in (take l.number l.self-inside.blocks.items)) (parts_in l.blocks.items);
 }
