@@ -40,7 +40,7 @@ static inline const char *edgebpf_words(uint32_t status) {
         "out of memory",
         "the handle is empty",
         "the handle holds something of another kind",
-        "the number of vertices is not from 1 to 1048576",
+        "the number of vertices is not from 1 to 268435456",
         "an edit names a vertex that the graph does not have",
         "there are more than 65536 edits",
         "4096 batches were applied, and there is room for no more before a rebase",
@@ -63,7 +63,7 @@ static inline const char *edgebpf_words(uint32_t status) {
 #define EDGEBPF_NO_BYTES ((const uint8_t *)"")
 
 /* Limits. */
-#define EDGEBPF_MOST_VERTICES 1048576u
+#define EDGEBPF_MOST_VERTICES 268435456u
 #define EDGEBPF_MOST_EDITS 65536u
 #define EDGEBPF_MOST_BATCHES 4096u /* between two rebases */
 #define EDGEBPF_MOST_EPOCHS 1024u
@@ -96,7 +96,7 @@ typedef struct edgebpf_totals { uint64_t edges, total; } edgebpf_totals;
 
 enum { EDGEBPF_SUM = 0, EDGEBPF_MIN = 1, EDGEBPF_MAX = 2 };
 
-/* A store of a graph of 1 to 1,048,576 vertices, without an edge. VERTEX_COUNT. */
+/* A store of a graph of 1 to 268,435,456 vertices, without an edge. VERTEX_COUNT. */
 uint32_t edgebpf_store_new(uint32_t vertices, edgebpf_store *out);
 
 /* Applies a batch of edits in their order, of feed 0 to 3: an edge from each source to the target at its place, which is taken
@@ -151,7 +151,7 @@ uint32_t edgebpf_assemble(const uint8_t *text, size_t text_length, uint8_t *code
 uint32_t edgebpf_explain(uint16_t record_length, const uint8_t *code, size_t code_length, const uint8_t *table,
                          size_t table_length, uint8_t *text, size_t room, size_t *count);
 
-/* Runs a program on each edge of the vertices of a frontier, which may name vertices in any order, at most 1,048,576 of them.
+/* Runs a program on each edge of the vertices of a frontier, which may name vertices in any order, at most 268,435,456 of them.
    `values` has one place for each: the reduction over its edges. A vertex without neighbours, or outside the graph, has 0, and
    2^64 - 1 for MIN. REDUCTION, LENGTHS, ARGUMENT_LENGTH, tested in this order. */
 uint32_t edgebpf_run(edgebpf_version *version, edgebpf_program *program, const uint8_t *argument, size_t argument_length,

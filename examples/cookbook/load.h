@@ -13,6 +13,13 @@ static inline void check(uint32_t status) {
     exit(1);
 }
 
+/* An array of so many zeros, until the program ends. */
+static inline void *room(size_t count, size_t size) {
+    void *made = calloc(count, size);
+    if (!made) check(EDGEBPF_NO_MEMORY);
+    return made;
+}
+
 /* Adds edges in one batch. */
 static inline void add(edgebpf_store *store, const uint32_t *sources, const uint32_t *targets, size_t count) {
     edgebpf_change change;

@@ -1,8 +1,7 @@
 /* The vertices with the most edges that lead back: top VERTICES COUNT < EDGES */
 #include "load.h"
 
-static uint64_t values[EDGEBPF_MOST_VERTICES];
-static uint32_t all[EDGEBPF_MOST_VERTICES];
+static uint64_t *values;
 
 static int by_value(const void *left, const void *right) {
     uint32_t one = *(const uint32_t *)left, other = *(const uint32_t *)right;
@@ -18,6 +17,8 @@ int main(int count, char **words) {
     edgebpf_version version = {{0}};
     edgebpf_totals totals;
     check(edgebpf_store_new(vertices, &store));
+    values = room(vertices, sizeof *values);
+    uint32_t *all = room(vertices, sizeof *all);
     if (most > (int)vertices) most = vertices;
     load(stdin, &store);
     check(edgebpf_store_pin(&store, &version));

@@ -362,7 +362,7 @@ class Starts(unittest.TestCase):
 
     def test_what_it_cannot_serve(self):
         self.refused("^server.py: error: a port is 0 to 65535$", "--port", "99999", status=2)
-        self.refused("^server.py: a graph has 1 to 1048576 vertices$", "--vertices", "0")
+        self.refused("^server.py: a graph has 1 to 268435456 vertices$", "--vertices", "0")
         for count in ("0", "4097"):
             self.refused("^server.py: batches is 1 to 4096$", "--rebase", count)
         with socket.create_server(("127.0.0.1", 0)) as other:

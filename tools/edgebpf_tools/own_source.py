@@ -96,7 +96,7 @@ def _computed(opcode, registers, destination, source, offset, immediate):
     """What an arithmetic instruction leaves in its destination."""
     if opcode == 0xBF and offset == 0:
         return registers[source]
-    # The low half of the source is the source: a vertex has at most 20 bits.
+    # The low half of the source is the source: a vertex has at most 28 bits.
     if opcode == 0xBC and offset == 0 and registers[source] == SOURCE:
         return SOURCE
     old = registers[destination]

@@ -281,7 +281,7 @@ static void takes_a_long_text(void) {
 
 /* Of each vertex of a version the slices have the neighbours that are copied, at their places. */
 static void lends_what_it_copies(edgebpf_version *version) {
-    enum { MOST = EDGEBPF_MOST_VERTICES, ROOM = 4096 };
+    enum { MOST = 1 << 20, ROOM = 4096 };
     static edgebpf_slice slices[ROOM];
     static uint64_t starts[MOST + 1];
     edgebpf_info info;
@@ -299,12 +299,12 @@ static void lends_what_it_copies(edgebpf_version *version) {
     free(targets);
 }
 
-/* The greatest graph, in which each 16th vertex has an edge to the fifth one after it, and all vertices as the frontier, from the last one. */
-static void runs_over_the_longest_frontier(void) {
-    enum { APART = 16, MOST = EDGEBPF_MOST_VERTICES };
-    static uint32_t sources[MOST / APART], targets[MOST / APART], frontier[MOST + 1];
+/* A large graph, in which each 16th vertex has an edge to the fifth one after it, and all vertices as the frontier, from the last one. */
+static void runs_over_a_long_frontier(void) {
+    enum { APART = 16, MOST = 1 << 20 };
+    static uint32_t sources[MOST / APART], targets[MOST / APART], frontier[MOST];
     static uint8_t marks[MOST / APART];
-    static uint64_t values[MOST + 1];
+    static uint64_t values[MOST];
     edgebpf_store greatest = {{0}};
     edgebpf_version pin = {{0}};
     edgebpf_change change;
@@ -318,7 +318,6 @@ static void runs_over_the_longest_frontier(void) {
     CHECK(edgebpf_run(&pin, &targets_of, EDGEBPF_NO_BYTES, 0, frontier, MOST, EDGEBPF_SUM, values, MOST, &totals) == EDGEBPF_DONE);
     for (uint32_t i = 0; i < MOST; i++) CHECK(values[i] == (frontier[i] % APART ? 0 : frontier[i] + 5));
     CHECK(totals.edges == COUNT(sources) && totals.total == total);
-    CHECK(edgebpf_run(&pin, &targets_of, EDGEBPF_NO_BYTES, 0, frontier, MOST + 1, EDGEBPF_SUM, values, MOST + 1, &totals) == EDGEBPF_LENGTHS);
     lends_what_it_copies(&pin);
     edgebpf_close_version(&pin);
     /* Each vertex gets an edge more, and then two of them lose one: a million edges, over a rebase. Then the last vertex gets many. */
@@ -343,6 +342,31 @@ static void runs_over_the_longest_frontier(void) {
     lends_what_it_copies(&pin);
     edgebpf_close_version(&pin);
     edgebpf_close_store(&greatest);
+}
+
+/* A graph of more vertices than a script may have: an edge from its greatest vertex to itself. */
+static void has_an_edge_of_the_greatest_vertex(void) {
+    const uint32_t greatest = 1u << 20;
+    uint8_t mark = 0;
+    uint32_t answer = 9, degree = 9;
+    uint64_t value = 9, number = 9;
+    size_t lent = 9;
+    edgebpf_slice slice;
+    edgebpf_store wide = {{0}};
+    edgebpf_version pin = {{0}};
+    edgebpf_change change;
+    edgebpf_totals totals;
+    CHECK(edgebpf_store_new(greatest + 1, &wide) == EDGEBPF_DONE);
+    CHECK(edgebpf_store_apply(&wide, 0, &greatest, 1, &greatest, 1, &mark, 1, &change) == EDGEBPF_DONE && change.added == 1);
+    CHECK(edgebpf_store_pin(&wide, &pin) == EDGEBPF_DONE);
+    CHECK(edgebpf_version_has_edge(&pin, greatest, greatest, &answer) == EDGEBPF_DONE && answer == 1);
+    CHECK(edgebpf_version_has_edge(&pin, greatest - 1, greatest, &answer) == EDGEBPF_DONE && answer == 0);
+    CHECK(edgebpf_version_degree(&pin, greatest, &degree) == EDGEBPF_DONE && degree == 1);
+    CHECK(edgebpf_version_lend(&pin, greatest, &slice, 1, &lent) == EDGEBPF_DONE && lent == 1 && slice.count == 1 && *slice.at == greatest);
+    CHECK(edgebpf_run(&pin, &targets_of, EDGEBPF_NO_BYTES, 0, &greatest, 1, EDGEBPF_SUM, &value, 1, &totals) == EDGEBPF_DONE && value == greatest);
+    CHECK(edgebpf_numbers(&pin, &targets_of, EDGEBPF_NO_BYTES, 0, &number, 1) == EDGEBPF_DONE && number == greatest);
+    edgebpf_close_version(&pin);
+    edgebpf_close_store(&wide);
 }
 
 /* A record of 256 bytes, of which the program reads the last one of the argument. */
@@ -409,7 +433,8 @@ int main(void) {
     keeps_tables();
     takes_the_longest_program();
     takes_a_long_text();
-    runs_over_the_longest_frontier();
+    runs_over_a_long_frontier();
+    has_an_edge_of_the_greatest_vertex();
     runs_with_the_longest_argument();
     refuses_batches();
     rebases();

@@ -9,7 +9,8 @@ import numpy.typing as npt
 
 from edgebpf.errors import VertexRange
 
-MOST_VERTICES = 1 << 20
+# The most vertices of a graph in this process, and of one behind a script.
+MOST_VERTICES, SERVED_VERTICES = 1 << 28, 1 << 20
 FEEDS = ("A", "B", "C", "D")
 # The number of each reduction in the library.
 REDUCTIONS = {"sum": 0, "min": 1, "max": 2}
@@ -43,11 +44,11 @@ def bytes_of(value: Any, name: str) -> bytes:
         raise TypeError(f"{name} is bytes, or an array, not {type(value).__name__}") from None
 
 
-def vertex_count(vertices: int) -> int:
-    """How many vertices a graph has."""
+def vertex_count(vertices: int, most: int) -> int:
+    """How many vertices a graph has, which may have `most`."""
     count = whole(vertices, "vertices")
-    if not 1 <= count <= MOST_VERTICES:
-        raise ValueError(f"a graph has 1 to {MOST_VERTICES} vertices")
+    if not 1 <= count <= most:
+        raise ValueError(f"a graph has 1 to {most} vertices")
     return count
 
 

@@ -38,7 +38,7 @@ def copied(version: Version) -> Store:
 class Live:
     """A graph in this process of which threads read the last version, without waiting, while one at a time edits it. It is a context manager.
 
-    vertices: 1 to 1,048,576. A rebase comes by itself after `batches` batches, 1 to 4,096, or after `edits` edits, so that the memory of what
+    vertices: 1 to 268,435,456. A rebase comes by itself after `batches` batches, 1 to 4,096, or after `edits` edits, so that the memory of what
     was edited stays small. A store takes 1,024 rebases: then its edges are copied into a new store, also by itself, and that batch takes
     longer.
     """

@@ -45,10 +45,10 @@ def memory_of(handle: library.Handle) -> memoryview:
 
 class Store:
     """A graph in this process, without an edge at first. Batches and runs have one worker; it may be used by several threads, which take
-    turns, and is a context manager. vertices: 1 to 1,048,576."""
+    turns, and is a context manager. vertices: 1 to 268,435,456."""
 
     def __init__(self, vertices: int) -> None:
-        vertices = vertex_count(vertices)
+        vertices = vertex_count(vertices, MOST_VERTICES)
         handle = library.Handle()
         library.check(library.load().edgebpf_store_new(vertices, handle.at))
         self.vertices = vertices

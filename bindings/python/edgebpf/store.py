@@ -17,7 +17,8 @@ import numpy.typing as npt
 
 from edgebpf.errors import Closed, EpochsFull, Error, LogFull, NoMemory, TooManyEdits, TooManyNames
 from edgebpf.given import (
-    FEEDS, Edges, Numbers, Pairs, Vertices, edits_of, edits_of_batch, feed_of, frozen, reduction_of, vertex_count, vertex_of, vertices_of, whole,
+    FEEDS, SERVED_VERTICES, Edges, Numbers, Pairs, Vertices, edits_of, edits_of_batch, feed_of, frozen, reduction_of, vertex_count, vertex_of,
+    vertices_of, whole,
 )
 from edgebpf.programs import Program, argument_of, command, said_lines
 
@@ -387,7 +388,7 @@ def connect(vertices: int, workers: int = 1, program: str | None = None) -> Stor
     vertices: 1 to 1,048,576. workers: 1 to 16 threads that apply batches and make runs. program: the path of `edgebpf`; by default the
     variable EDGEBPF, the checkout's launcher, or what is on PATH.
     """
-    vertices, workers = vertex_count(vertices), whole(workers, "workers")
+    vertices, workers = vertex_count(vertices, SERVED_VERTICES), whole(workers, "workers")
     if not 1 <= workers <= 16:
         raise ValueError("there are 1 to 16 workers")
     return Store(Process([program or command("edgebpf"), "--workers", str(workers)]), vertices)

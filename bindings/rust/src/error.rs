@@ -8,7 +8,7 @@ use std::fmt;
 pub enum Error {
     /// There is no memory. The same call may be made again.
     NoMemory,
-    /// A graph has 1 to 1,048,576 vertices.
+    /// A graph has 1 to 268,435,456 vertices.
     VertexCount,
     /// An edit names a vertex that the graph does not have.
     VertexRange,
@@ -80,7 +80,7 @@ impl fmt::Display for Error {
     fn fmt(&self, to: &mut fmt::Formatter<'_>) -> fmt::Result {
         match self {
             Error::NoMemory => to.write_str("out of memory"),
-            Error::VertexCount => to.write_str("the number of vertices is not from 1 to 1048576"),
+            Error::VertexCount => to.write_str("the number of vertices is not from 1 to 268435456"),
             Error::VertexRange => to.write_str("a vertex is not in the graph"),
             Error::TooManyEdits => to.write_str("there are more than 65536 edits"),
             Error::LogFull => to.write_str("4096 batches were applied, and there is room for no more before a rebase"),

@@ -18,7 +18,7 @@ pub use store::{Change, Store};
 pub use version::{Csr, Reduction, Totals, Version};
 
 /// The greatest number of vertices of a graph.
-pub const MOST_VERTICES: u32 = 1_048_576;
+pub const MOST_VERTICES: u32 = 268_435_456;
 /// The greatest number of edits of a batch.
 pub const MOST_EDITS: usize = 65_536;
 /// The greatest number of batches between two rebases.

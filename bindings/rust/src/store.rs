@@ -21,7 +21,7 @@ pub struct Change {
 }
 
 impl Store {
-    /// A graph without an edge. `VertexCount` unless it has 1 to 1,048,576 vertices, and `NoMemory`.
+    /// A graph without an edge. `VertexCount` unless it has 1 to 268,435,456 vertices, and `NoMemory`.
     pub fn new(vertices: u32) -> Result<Store, Error> {
         let handle = Handle::empty();
         // SAFETY: `at` is an empty handle.

@@ -143,7 +143,7 @@ impl Version {
         Ok(csr)
     }
 
-    /// Runs a program on each edge of the vertices of a frontier, in any order and at most 1,048,576 of them, and writes for each
+    /// Runs a program on each edge of the vertices of a frontier, in any order and at most 268,435,456 of them, and writes for each
     /// vertex the reduction of its edges' numbers. `Lengths` where there are not as many values as vertices, and `ArgumentLength`;
     /// then nothing is written.
     pub fn run(

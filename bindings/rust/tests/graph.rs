@@ -195,7 +195,9 @@ fn programs_are_refused_and_explained() {
 
 #[test]
 fn a_long_list_lies_in_many_slices() {
-    let mut store = Store::new(MOST_VERTICES).unwrap();
+    // More than a script may have.
+    const VERTICES: u32 = (1 << 20) + 1;
+    let mut store = Store::new(VERTICES).unwrap();
     for part in 0..4 {
         store.apply(Feed::A, &(0..60_000).map(|each| (7, 4 * each + part)).collect()).unwrap();
     }
@@ -208,9 +210,9 @@ fn a_long_list_lies_in_many_slices() {
     let target = program(TARGET, 16);
     assert_eq!(version.numbers(&target, &[]).unwrap(), (0..240_000).collect::<Vec<u64>>());
     let csr = version.csr().unwrap();
-    assert_eq!((csr.starts.len(), csr.starts[7], csr.starts[8]), (MOST_VERTICES as usize + 1, 0, 240_000));
+    assert_eq!((csr.starts.len(), csr.starts[7], csr.starts[8]), (VERTICES as usize + 1, 0, 240_000));
     assert_eq!(csr.targets, (0..240_000).collect::<Vec<u32>>());
-    let (frontier, mut values) = ((0..MOST_VERTICES).collect::<Vec<u32>>(), vec![1; MOST_VERTICES as usize]);
+    let (frontier, mut values) = ((0..VERTICES).collect::<Vec<u32>>(), vec![1; VERTICES as usize]);
     let totals = version.run(&target, &[], &frontier, Reduction::Max, &mut values).unwrap();
     assert_eq!((totals.edges, totals.total, values[7], values[8]), (240_000, 239_999, 239_999, 0));
     let most: Batch = (0..MOST_EDITS as u32).map(|each| (8, each)).collect();

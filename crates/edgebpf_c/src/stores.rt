@@ -9,7 +9,7 @@ ghost use Rattle.embedding.specs.Batches.{IsAppliedTo, IsRebasedTo, IsHandedOut}
 use embedding::{Arrays, Change, EMPTY, Handle, apply_held, new_store, pin_held, rebase_held};
 use std::alloc::Global;
 
-/// A store of a graph of so many vertices, from 1 to 1,048,576, without an edge.
+/// A store of a graph of so many vertices, from 1 to 268,435,456, without an edge.
 #[unsafe(no_mangle)]
 pub extern "C" fn edgebpf_store_new(alloc: Global, vertex_count: u32, out: &mut Handle) -> u32
     ensures made { result ≡ DONE → HoldsStore out.new.held (opening vertex_count) }

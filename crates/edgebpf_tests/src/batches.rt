@@ -1,8 +1,8 @@
 //! A batch in its ranges, below the number of edits from which threads sort them, at it, and at the most; and the greatest batch on
-//! the greatest graph.
+//! the greatest graph that is served.
 use batch_apply::{ApplyError, apply_batch, split};
 use migration::Table;
-use past_model::{Batch, Edit, MOST_VERTICES};
+use past_model::{Batch, Edit, SERVED_VERTICES};
 use std::alloc::{AllocError, Global};
 use std::sync::Wait;
 use std::test::Fail;
@@ -50,10 +50,10 @@ fn a_batch_is_split(rt: HostRuntime) -> Result<(), Fail> {
     Ok(())
 }
 
-// How many edges a batch adds to the greatest graph, by four workers.
+// How many edges a batch adds to the greatest graph that is served, by four workers.
 fn added<R: Threads + Wait>(rt: &R, alloc: Global, batch: &Batch) -> Result<u64, ApplyError> {
     let workers = Workers::new(4).unwrap_or(Workers::one());
-    let table = Table::empty(alloc, MOST_VERTICES)?;
+    let table = Table::empty(alloc, SERVED_VERTICES)?;
     let (_, counts) = apply_batch(rt, alloc, &table, batch, workers, &OpenGate)?;
     Ok(counts.added)
 }

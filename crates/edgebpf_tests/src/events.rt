@@ -1,6 +1,6 @@
 //! Rows of events and replies, by hand: a letter for each.
 use crate::edits::batch_of;
-use past_model::{Edit, FEEDS, MOST_EDITS, MOST_VERTICES};
+use past_model::{Edit, FEEDS, MOST_EDITS, SERVED_VERTICES};
 use std::alloc::{AllocError, Global};
 use std::test::Fail;
 use stream_core::{Event, Reply, World, run, step};
@@ -54,7 +54,7 @@ fn event_of(alloc: Global, letter: char) -> Result<Event, AllocError> {
         'C' => Ok(pin(16, 0)),
         'c' => Ok(Event::Lend { reader: 16 }),
         'D' => Ok(pin(0, 300)),
-        'E' => Ok(pin(0, MOST_VERTICES - 1)),
+        'E' => Ok(pin(0, SERVED_VERTICES - 1)),
         _ => Ok(Event::Publish),
     }
 }
@@ -94,9 +94,9 @@ fn from_opening(alloc: Global, letters: &str) -> Result<String, AllocError> {
     signs_of(alloc, &mut world, letters)
 }
 
-// The same in the greatest store.
+// The same in the greatest store that is served.
 fn from_greatest(alloc: Global, letters: &str) -> Result<String, AllocError> {
-    let mut world = World::new(alloc, MOST_VERTICES)?;
+    let mut world = World::new(alloc, SERVED_VERTICES)?;
     signs_of(alloc, &mut world, letters)
 }
 
@@ -138,7 +138,7 @@ fn run_from_greatest(alloc: Global, letters: &str) -> Result<String, AllocError>
     for letter in letters.chars() {
         events.push(event_of(alloc, letter)?)?;
     }
-    let (_, replies) = run(alloc, MOST_VERTICES, &events)?;
+    let (_, replies) = run(alloc, SERVED_VERTICES, &events)?;
     let mut signs = String::new(alloc);
     for reply in &replies {
         signs.push(sign_of(reply))?;
@@ -169,7 +169,7 @@ fn many_publications(rt: HostRuntime) -> Result<(), Fail> {
 #[test]
 fn the_most_edits_in_the_greatest_store(rt: HostRuntime) -> Result<(), Fail> {
     let alloc = rt.alloc();
-    let mut world = World::new(alloc, MOST_VERTICES)?;
+    let mut world = World::new(alloc, SERVED_VERTICES)?;
     let signs = signs_of(alloc, &mut world, "mt0pA")?;
     assert_eq!(rt; signs.as_str(), "ddddd");
     let mut lent = Vec::new(alloc);

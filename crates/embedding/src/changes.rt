@@ -15,7 +15,7 @@ use crate::store::{Change, Store};
 use past_model::{MOST_EDITS, MOST_VERTICES};
 use std::alloc::Global;
 
-/// A store of a graph of so many vertices without an edge. `VERTEX_COUNT` exactly where they are not 1 to 1,048,576.
+/// A store of a graph of so many vertices without an edge. `VERTEX_COUNT` exactly where they are not 1 to 268,435,456.
 pub fn new_store(alloc: Global, vertex_count: u32, out: &mut Handle) -> u32
     ensures made { result ≡ DONE → HoldsStore out.new.held (opening vertex_count) }
     ensures left { result ≢ DONE → out.new.held ≡ out.old.held }

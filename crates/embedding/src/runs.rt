@@ -97,7 +97,7 @@ fn run(
 
 /// Runs the program that a handle holds on each edge of the vertices of a frontier, in the version that another handle holds,
 /// and writes for each vertex what its numbers reduce to, and for all together how many edges there were and what their
-/// numbers reduce to. The frontier may have at most 1,048,576 vertices, in any order. Else nothing is written: `REDUCTION`
+/// numbers reduce to. The frontier may have at most 268,435,456 vertices, in any order. Else nothing is written: `REDUCTION`
 /// where there is none of this number, then `LENGTHS` where there is not one value for each vertex or they are too many,
 /// then `ARGUMENT_LENGTH`, then `NO_MEMORY`.
 pub fn run_held(

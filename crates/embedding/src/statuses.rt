@@ -8,7 +8,7 @@ pub const NO_MEMORY: u32 = 1;
 pub const EMPTY: u32 = 2;
 /// The handle holds something of another kind.
 pub const OTHER_KIND: u32 = 3;
-/// The number of vertices is not from 1 to 1,048,576.
+/// The number of vertices is not from 1 to 268,435,456.
 pub const VERTEX_COUNT: u32 = 4;
 /// An edit names a vertex that the graph does not have.
 pub const VERTEX_RANGE: u32 = 5;
@@ -18,7 +18,7 @@ pub const TOO_MANY_EDITS: u32 = 6;
 pub const LOG_FULL: u32 = 7;
 /// There is no such feed: they are 0 to 3.
 pub const FEED: u32 = 8;
-/// Arrays whose lengths do not fit together, one with too little room, or a frontier of more than 1,048,576 vertices.
+/// Arrays whose lengths do not fit together, one with too little room, or a frontier of more than 268,435,456 vertices.
 pub const LENGTHS: u32 = 9;
 /// The verifier refuses the program.
 pub const REFUSED: u32 = 10;

@@ -60,7 +60,7 @@ pub record AreHomes (p : Part) : Type 0 where
   pub count : length p.homes ≡ length p.rows
   pub each : (i : ℕ) → i < length p.homes → IsHomeOf (home_at p i) (length (row_at p i))
 
--- a range of a graph of at most 1,048,576 vertices, and what its vertices' lists are in some such graph
+-- a range of a graph of at most 268,435,456 vertices, and what its vertices' lists are in some such graph
 pub record IsShard (p : Part) : Type 0 where
   pub low : p.range < MOST_RANGES
   pub some : 1 ≤ length p.rows

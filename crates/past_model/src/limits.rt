@@ -1,7 +1,7 @@
 //! The limits that several crates share. Clauses and definitions cite them by name.
 
 /// How many vertices a graph may have. A vertex is a number below it.
-pub const MOST_VERTICES: u32 = 1_048_576;
+pub const MOST_VERTICES: u32 = 268_435_456;
 
 /// How many vertices a graph may have in a store with feeds and readers, in a session and in a script. It is at most
 /// `MOST_VERTICES`.
@@ -12,7 +12,7 @@ pub const SERVED_VERTICES: u32 = 1_048_576;
 pub const RANGE_VERTICES: u32 = 256;
 
 /// How many ranges a graph may have: `MOST_VERTICES` divided by `RANGE_VERTICES`.
-pub const MOST_RANGES: u32 = 4_096;
+pub const MOST_RANGES: u32 = 1_048_576;
 
 /// How many feeds hand in batches: A is 0, and D is 3.
 pub const FEEDS: u8 = 4;

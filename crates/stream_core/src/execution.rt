@@ -51,7 +51,7 @@ pub fn step(world: &mut World, event: Event) -> Result<Reply, AllocError>
     }
 }
 
-/// A store of a graph of so many vertices, from 1 to 1,048,576, after these events, and what each was
+/// A store of a graph of so many vertices, from 1 to 268,435,456, after these events, and what each was
 /// answered. It fails where there is no memory for what an event makes.
 pub fn run(
     alloc: Global,

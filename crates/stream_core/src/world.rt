@@ -71,7 +71,7 @@ impl World {
     ghost use Rattle.store_model.specs.declared.event.Event.TheVariants as events;
     ghost use Rattle.store_model.specs.declared.reply.Reply.TheVariants as replies;
 
-    /// A store of a graph of so many vertices, from 1 to 1,048,576, without an edge, in which nothing has
+    /// A store of a graph of so many vertices, from 1 to 268,435,456, without an edge, in which nothing has
     /// happened yet.
     pub fn new(alloc: Global, vertex_count: u32) -> Result<World, AllocError>
         requires some { 1 ≤ vertex_count }

@@ -91,7 +91,7 @@ impl Version {
         self.epoch.number()
     }
 
-    /// How many vertices it has: from 1 to 1,048,576.
+    /// How many vertices it has: from 1 to 268,435,456.
     pub fn vertex_count(&self) -> u32
         ensures value { result ≡ self.now.vertex_count }
         ensures range { IsVertexCount result }
