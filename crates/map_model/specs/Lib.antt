@@ -1,1 +1,2 @@
 pub mod EdgeMap
+pub mod Parts

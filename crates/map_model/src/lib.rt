@@ -2,12 +2,15 @@
 //! what they reduce to. Definitions (in `specs/`), and the types that they name.
 #![tactic(auto)]
 
+pub mod laws;
 mod limits;
 mod listed_edge;
+mod progress;
 mod reduction;
 mod row;
 
 pub use limits::EDGE_BYTES;
 pub use listed_edge::ListedEdge;
+pub use progress::Progress;
 pub use reduction::Reduction;
 pub use row::Row;
