@@ -1,5 +1,5 @@
 //! A version: what it answers, and the next one of it and a batch.
-ghost use Rattle.std.specs.Prelude.{◌≡◌, ◌/◌, ◌%◌, ◌<◌, ◌≤◌, length, slice_get, IfOk, IfErr};
+ghost use Rattle.std.specs.Prelude.{◌≡◌, ◌/◌, ◌%◌, ◌<◌, ◌≤◌, drop, length, slice_get, IfOk, IfErr};
 ghost use Rattle.past_model.specs.declared.limits.TheConstants.{MOST_BATCHES, MOST_EPOCHS, MOST_VERTICES};
 ghost use Rattle.graph_model.specs.Graph.{neighbours, edge_count, degree};
 ghost use Rattle.past_model.specs.Edits.{AreEditsBelow, added, removed};
@@ -113,11 +113,22 @@ impl Version {
         Cursor::over(self.shards.shard_of(u64::from(vertex)), vertex)
     }
 
+    /// The neighbours of a vertex from a place on, to be lent in the same way. There are none past their end.
+    pub fn cursor_from(&self, vertex: u32, place: u32) -> Cursor<'_>
+        ensures left { result ≡ drop place (neighbours (graph_of self.now) vertex) }
+        ensures small { length result ≤ MOST_VERTICES }
+    {
+        let vertex = u64::from(vertex);
+        Cursor::from_place(self.shards.shard_of(vertex), vertex, u64::from(place))
+    }
+
     /// How many neighbours a vertex has. A vertex outside has none.
+    #[inline(always)]
     pub fn degree(&self, vertex: u64) -> u32
         ensures value { result ≡ degree (graph_of self.now) vertex }
         ensures small { result ≤ MOST_VERTICES }
     {
+        // A run asks for each vertex, from more places than LLVM makes this part of by itself.
         cursors::degree(self.shards.shard_of(vertex), vertex)
     }
 
