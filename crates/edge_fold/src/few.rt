@@ -4,18 +4,19 @@ ghost use Rattle.past_model.specs.Past.{graph_of};
 ghost use Rattle.graph_model.specs.Graph.{Graph, degree};
 ghost use Rattle.bpf_image.specs.Program.{Program};
 ghost use Rattle.map_model.specs.EdgeMap.{reduction_of_numbers};
-ghost use Rattle.map_model.specs.declared.limits.TheConstants.{EDGE_BYTES};
 ghost use Rattle.bpf_blocks.specs.declared.columns.TheConstants.{LANES};
 ghost use Rattle.edge_fold.specs.Kept.{AreNumbered, IsFor};
 ghost use Rattle.edge_fold.specs.Numbers.{span_numbers};
 
 use crate::edge::Edge;
-use crate::fold::{LEAST_IN_BLOCK, combine, nothing};
+use crate::fold::LEAST_IN_BLOCK;
 use crate::kept::Kept;
+use crate::mapped::Mapped;
 use crate::memory::Memory;
+use crate::reducing::{combine, nothing};
 use crate::span::Span;
 use bpf_blocks::{Edges, LANES};
-use map_model::{EDGE_BYTES, Reduction};
+use map_model::Reduction;
 use verifier::Verified;
 use version::Version;
 
@@ -83,26 +84,24 @@ fn gather(version: &Version, kept: &mut Kept, frontier: &[u32], least_alone: u32
 /// Runs the edges of the next vertices that have few in one block, if they are enough for one and that can be done at once, and
 /// keeps their numbers. Returns how many vertices it has looked at: those after them are worth another try.
 pub(crate) fn keep_next(
-    version: &Version,
-    program: &Verified,
-    argument: &[u8],
+    mapped: &Mapped<'_>,
     memory: &mut Memory,
     frontier: &[u32],
     least_alone: u32,
 ) -> usize
-    requires argument { length argument.now + EDGE_BYTES ≡ program.now.record_length }
-    requires memory { IsFor program.now memory.old }
-    ensures kept { AreNumbered program.now (graph_of version.now) argument.now memory.new.kept }
-    ensures memory { IsFor program.now memory.new }
+    requires memory { IsFor mapped.now.program.now memory.old }
+    ensures kept { let m = mapped.now in AreNumbered m.program.now
+        (graph_of m.version.now) m.argument.now memory.new.kept }
+    ensures memory { IsFor mapped.now.program.now memory.new }
 {
     if !memory.blocks.is_useful || frontier.len() < 2 {
         memory.kept.forget();
         return frontier.len();
     }
-    let looked = gather(version, &mut memory.kept, frontier, least_alone);
+    let looked = gather(mapped.version, &mut memory.kept, frontier, least_alone);
     if memory.kept.edges.count >= LEAST_IN_BLOCK {
         let columns = &mut memory.blocks.columns;
-        memory.blocks.is_useful = memory.kept.run(version, program, argument, columns);
+        memory.blocks.is_useful = memory.kept.run(mapped, columns);
     }
     looked
 }
@@ -110,21 +109,20 @@ pub(crate) fn keep_next(
 /// What the numbers of edges in a row reduce to, if they are kept. Each of them has one.
 #[inline(always)]
 pub(crate) fn fold_kept(
-    version: &Version,
-    program: &Verified,
-    argument: &[u8],
+    mapped: &Mapped<'_>,
     kept: &mut Kept,
     reduction: Reduction,
     span: Span<'_>,
 ) -> Option<u64>
-    requires degree { span.degree ≡ degree (graph_of version.now) span.source }
+    requires degree { span.degree ≡ degree (graph_of mapped.now.version.now) span.source }
     requires few { span.place + length span.targets.now ≤ 2 ^ 32 }
-    requires kept { AreNumbered program.now (graph_of version.now) argument.now kept.old }
-    ensures value { IfSome result (λ value. value ≡ reduction_of_numbers reduction
-        (span_numbers program.now (graph_of version.now) argument.now span.entry)) }
-    ensures count { IfSome result (λ _. length (span_numbers program.now (graph_of version.now) argument.now span.entry)
+    requires kept { let m = mapped.now in AreNumbered m.program.now (graph_of m.version.now) m.argument.now kept.old }
+    ensures value { let m = mapped.now in IfSome result (λ value. value ≡ reduction_of_numbers reduction
+        (span_numbers m.program.now (graph_of m.version.now) m.argument.now span.entry)) }
+    ensures count { let m = mapped.now in IfSome result
+        (λ _. length (span_numbers m.program.now (graph_of m.version.now) m.argument.now span.entry)
         ≡ length span.entry.targets.now) }
-    ensures kept { AreNumbered program.now (graph_of version.now) argument.now kept.new }
+    ensures kept { let m = mapped.now in AreNumbered m.program.now (graph_of m.version.now) m.argument.now kept.new }
 {
     if kept.count == 0 {
         return None;

@@ -6,16 +6,13 @@ ghost use Rattle.bpf_image.specs.Program.{Program};
 ghost use Rattle.bpf_model.specs.Run.{number_for};
 ghost use Rattle.bpf_blocks.specs.declared.columns.TheConstants.{LANES};
 ghost use Rattle.map_model.specs.EdgeMap.{edge_record};
-ghost use Rattle.map_model.specs.declared.limits.TheConstants.{EDGE_BYTES};
 ghost use Rattle.verifier.specs.Walks.{longest};
 ghost use Rattle.edge_fold.specs.Kept.{AreNumbered, IsEdgeAt};
 
 use crate::blocks::number_of_lane;
 use crate::edge::Edge;
+use crate::mapped::Mapped;
 use bpf_blocks::{Columns, Edges, LANES, sweep_edges};
-use map_model::EDGE_BYTES;
-use verifier::Verified;
-use version::Version;
 
 /// A block of edges, and the numbers of those that have been run.
 #[derive(Drop)]
@@ -70,24 +67,17 @@ impl Kept {
     }
 
     /// Runs the block's edges at once, if that can be done, and keeps their numbers. The answer is whether it could.
-    pub fn run(
-        &mut self,
-        version: &Version,
-        program: &Verified,
-        argument: &[u8],
-        columns: &mut Columns,
-    ) -> bool
-        requires argument { length argument.now + EDGE_BYTES ≡ program.now.record_length }
-        requires few { self.old.edges.count ≤ LANES }
-        ensures { AreNumbered program.now (graph_of version.now) argument.now self.new }
+    pub fn run(&mut self, mapped: &Mapped<'_>, columns: &mut Columns) -> bool
+        requires { self.old.edges.count ≤ LANES }
+        ensures { let m = mapped.now in AreNumbered m.program.now (graph_of m.version.now) m.argument.now self.new }
     {
         self.count = 0;
         self.at = 0;
         if !sweep_edges(
-            program,
-            version,
+            mapped.program,
+            mapped.version,
             &self.edges,
-            argument,
+            mapped.argument,
             columns,
             &mut self.numbers,
         ) {
@@ -100,7 +90,8 @@ impl Kept {
     /// The number of an edge, if it is the one that is looked for next.
     #[inline(always)]
     pub fn number_of(&mut self, edge: Edge) -> Option<u64>
-        ensures same { (p : Program) (g : Graph) (argument : List ℕ) → AreNumbered p g argument self.old → AreNumbered p g argument self.new }
+        ensures same { (p : Program) (g : Graph) (argument : List ℕ) → AreNumbered p g argument self.old
+            → AreNumbered p g argument self.new }
         ensures number { (p : Program) (g : Graph) (argument : List ℕ) (n : ℕ) → AreNumbered p g argument self.old
             → result ≡ Some n → edge.degree ≡ degree g edge.source
             → number_for p (longest p) g (edge_record g edge.source edge.target edge.place argument) ≡ Some n }

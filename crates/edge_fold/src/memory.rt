@@ -10,6 +10,8 @@ pub struct Memory {
     pub(crate) blocks: Blocks,
     /// The numbers of a block of edges, for those that are asked for next. A map forgets them when it begins.
     pub(crate) kept: Kept,
+    /// How much work the call under way may still do.
+    pub(crate) budget: u64,
 }
 
 impl Memory {
@@ -28,6 +30,7 @@ impl Memory {
             run: bpf_runs::Memory::new(),
             blocks: Blocks::for_program(program),
             kept: Kept::new(),
+            budget: 0,
         };
         memory.run.put_table(program);
         memory

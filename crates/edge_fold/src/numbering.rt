@@ -1,10 +1,10 @@
 //! The numbers of a version's edges, each written to its place.
-ghost use Rattle.std.specs.Prelude.{◌≡◌, ◌+◌, ◌<◌, ◌≤◌, ◌++◌, length, drop};
+ghost use Rattle.std.specs.Prelude.{◌≡◌, ◌+◌, ◌≤◌, ◌++◌, length, drop};
 ghost use Rattle.past_model.specs.declared.limits.TheConstants.{MOST_VERTICES};
-ghost use Rattle.graph_model.specs.Graph.{degree, edge_count, numbers_below};
+ghost use Rattle.graph_model.specs.Graph.{degree as degree_of};
+ghost use Rattle.graph_model.specs.Graph.{edge_count, numbers_below};
 ghost use Rattle.past_model.specs.Past.{graph_of};
 ghost use Rattle.map_model.specs.EdgeMap.{exit_numbers, all_numbers};
-ghost use Rattle.map_model.specs.declared.limits.TheConstants.{EDGE_BYTES};
 ghost use Rattle.verifier.specs.Walks.{longest};
 ghost use Rattle.edge_fold.specs.Kept.{IsFor};
 ghost use Rattle.edge_fold.specs.Numbers.{first_numbers, span_numbers};
@@ -12,31 +12,27 @@ ghost use Rattle.bpf_runs.specs.Held.{HoldsTable};
 
 use crate::blocks::{Blocks, fill, targets_from};
 use crate::edge::Edge;
-use crate::fold::{LEAST_IN_BLOCK, run_edge};
+use crate::fold::LEAST_IN_BLOCK;
+use crate::mapped::Mapped;
 use crate::memory::Memory;
+use crate::running::run_edge;
 use crate::span::Span;
 use bpf_blocks::{LANES, sweep_edges};
-use map_model::EDGE_BYTES;
-use verifier::Verified;
-use version::Version;
 
 /// Writes the numbers of a span's first edges to the first places, if there are edges enough for a block and it can be run at
 /// once. Returns how many; 0 if it cannot.
-fn number_block(
-    version: &Version,
-    program: &Verified,
-    argument: &[u8],
+pub(crate) fn number_block(
+    mapped: &Mapped<'_>,
     blocks: &mut Blocks,
     span: Span<'_>,
     numbers: &mut [u64],
 ) -> usize
-    requires argument { length argument.now + EDGE_BYTES ≡ program.now.record_length }
-    requires degree { span.degree ≡ degree (graph_of version.now) span.source }
+    requires degree { span.degree ≡ degree_of (graph_of mapped.now.version.now) span.source }
     requires few { span.place + length span.targets.now ≤ MOST_VERTICES }
     requires long { length numbers.old ≡ length span.targets.now }
     ensures count { result ≤ length span.entry.targets.now }
-    ensures numbers { numbers.new
-        ≡ first_numbers program.now (graph_of version.now) argument.now span.entry result ++ drop result numbers.old }
+    ensures numbers { let m = mapped.now in numbers.new
+        ≡ first_numbers m.program.now (graph_of m.version.now) m.argument.now span.entry result ++ drop result numbers.old }
 {
     let count = LANES.min(span.targets.len());
     if count < LEAST_IN_BLOCK || !blocks.is_useful {
@@ -44,10 +40,10 @@ fn number_block(
     }
     fill(&mut blocks.edges, &span, 0, count);
     if !sweep_edges(
-        program,
-        version,
+        mapped.program,
+        mapped.version,
         &blocks.edges,
-        argument,
+        mapped.argument,
         &mut blocks.columns,
         &mut blocks.numbers,
     ) {
@@ -60,23 +56,23 @@ fn number_block(
 
 /// Writes the numbers of edges in a row, edge by edge. The record is written once, and for each further edge what differs, where
 /// the program never writes to memory.
-fn number_singly(
-    version: &Version,
-    program: &Verified,
-    argument: &[u8],
+#[inline(always)]
+pub(crate) fn number_singly(
+    mapped: &Mapped<'_>,
     memory: &mut bpf_runs::Memory,
     span: Span<'_>,
     numbers: &mut [u64],
 )
-    requires argument { length argument.now + EDGE_BYTES ≡ program.now.record_length }
-    requires degree { span.degree ≡ degree (graph_of version.now) span.source }
+    requires degree { span.degree ≡ degree_of (graph_of mapped.now.version.now) span.source }
     requires few { span.place + length span.targets.now ≤ MOST_VERTICES }
     requires long { length numbers.old ≡ length span.targets.now }
-    requires table { HoldsTable program.now.table memory.old.bytes }
-    ensures numbers { numbers.new ≡ span_numbers program.now (graph_of version.now) argument.now span.entry }
-    ensures table { HoldsTable program.now.table memory.new.bytes }
+    requires table { HoldsTable mapped.now.program.now.table memory.old.bytes }
+    ensures numbers { let m = mapped.now in
+        numbers.new ≡ span_numbers m.program.now (graph_of m.version.now) m.argument.now span.entry }
+    ensures table { HoldsTable mapped.now.program.now.table memory.new.bytes }
 {
-    let keeps = !program.writes();
+    let mapped = *mapped;
+    let keeps = !mapped.program.writes();
     let mut is_begun = false;
     'targets: for at in 0..span.targets.len() {
         let edge = Edge {
@@ -85,27 +81,20 @@ fn number_singly(
             place: span.place + at as u32,
             degree: span.degree,
         };
-        numbers[at] = run_edge(version, program, argument, memory, edge, is_begun);
+        numbers[at] = run_edge(&mapped, memory, edge, is_begun);
         is_begun = keeps;
     }
 }
 
 /// Writes the numbers of edges in a row: by blocks, as far as these can be run at once and are worth it, and the rest edge by edge.
-fn number_span(
-    version: &Version,
-    program: &Verified,
-    argument: &[u8],
-    memory: &mut Memory,
-    span: Span<'_>,
-    numbers: &mut [u64],
-)
-    requires argument { length argument.now + EDGE_BYTES ≡ program.now.record_length }
-    requires degree { span.degree ≡ degree (graph_of version.now) span.source }
+fn number_span(mapped: &Mapped<'_>, memory: &mut Memory, span: Span<'_>, numbers: &mut [u64])
+    requires degree { span.degree ≡ degree_of (graph_of mapped.now.version.now) span.source }
     requires few { span.place + length span.targets.now ≤ MOST_VERTICES }
     requires long { length numbers.old ≡ length span.targets.now }
-    requires memory { IsFor program.now memory.old }
-    ensures numbers { numbers.new ≡ span_numbers program.now (graph_of version.now) argument.now span.entry }
-    ensures memory { IsFor program.now memory.new }
+    requires memory { IsFor mapped.now.program.now memory.old }
+    ensures numbers { let m = mapped.now in
+        numbers.new ≡ span_numbers m.program.now (graph_of m.version.now) m.argument.now span.entry }
+    ensures memory { IsFor mapped.now.program.now memory.new }
 {
     let mut at = 0usize;
     'rounds: while at < span.targets.len() {
@@ -115,23 +104,9 @@ fn number_span(
             place: span.place + at as u32,
             targets: targets_from(span.targets, at),
         };
-        let count = number_block(
-            version,
-            program,
-            argument,
-            &mut memory.blocks,
-            rest,
-            &mut numbers[at..],
-        );
+        let count = number_block(mapped, &mut memory.blocks, rest, &mut numbers[at..]);
         if count == 0 {
-            number_singly(
-                version,
-                program,
-                argument,
-                &mut memory.run,
-                rest,
-                &mut numbers[at..],
-            );
+            number_singly(mapped, &mut memory.run, rest, &mut numbers[at..]);
             return;
         }
         at += count;
@@ -139,23 +114,15 @@ fn number_span(
 }
 
 /// Writes the numbers of a vertex's edges.
-fn number_vertex(
-    version: &Version,
-    program: &Verified,
-    argument: &[u8],
-    memory: &mut Memory,
-    source: u32,
-    numbers: &mut [u64],
-)
-    requires argument { length argument.now + EDGE_BYTES ≡ program.now.record_length }
-    requires long { length numbers.old ≡ degree (graph_of version.now) source }
-    requires memory { IsFor program.now memory.old }
-    ensures numbers { numbers.new
-        ≡ exit_numbers program.now (longest program.now) (graph_of version.now) argument.now source }
-    ensures memory { IsFor program.now memory.new }
+fn number_vertex(mapped: &Mapped<'_>, memory: &mut Memory, source: u32, numbers: &mut [u64])
+    requires long { length numbers.old ≡ degree_of (graph_of mapped.now.version.now) source }
+    requires memory { IsFor mapped.now.program.now memory.old }
+    ensures numbers { let m = mapped.now in let p = m.program.now in
+        numbers.new ≡ exit_numbers p (longest p) (graph_of m.version.now) m.argument.now source }
+    ensures memory { IsFor mapped.now.program.now memory.new }
 {
-    let degree = version.degree(u64::from(source));
-    let mut cursor = version.cursor(source);
+    let degree = mapped.version.degree(u64::from(source));
+    let mut cursor = mapped.version.cursor(source);
     let mut place = 0u32;
     'slices: while place < degree {
         let Some(targets) = cursor.next_slice() else {
@@ -169,45 +136,23 @@ fn number_vertex(
         };
         let from = place as usize;
         place += targets.len() as u32;
-        number_span(
-            version,
-            program,
-            argument,
-            memory,
-            span,
-            &mut numbers[from..place as usize],
-        );
+        number_span(mapped, memory, span, &mut numbers[from..place as usize]);
     }
 }
 
 /// Writes the number of each edge of a version: sources ascending, and targets ascending for each. The memory is one for this
 /// program; what else it held before does not matter. It takes no memory besides.
-pub fn number_edges(
-    version: &Version,
-    program: &Verified,
-    argument: &[u8],
-    memory: &mut Memory,
-    numbers: &mut [u64],
-)
-    requires argument { length argument.now + EDGE_BYTES ≡ program.now.record_length }
-    requires long { length numbers.old ≡ edge_count (graph_of version.now) }
-    requires memory { IsFor program.now memory.old }
-    ensures numbers { let g = graph_of version.now in
-        numbers.new
-        ≡ all_numbers program.now (longest program.now) g argument.now (numbers_below g.vertex_count) }
-    ensures memory { IsFor program.now memory.new }
+pub fn number_edges(mapped: &Mapped<'_>, memory: &mut Memory, numbers: &mut [u64])
+    requires long { length numbers.old ≡ edge_count (graph_of mapped.now.version.now) }
+    requires memory { IsFor mapped.now.program.now memory.old }
+    ensures numbers { let m = mapped.now in let p = m.program.now in let g = graph_of m.version.now in
+        numbers.new ≡ all_numbers p (longest p) g m.argument.now (numbers_below g.vertex_count) }
+    ensures memory { IsFor mapped.now.program.now memory.new }
 {
     let mut at = 0usize;
-    'sources: for source in 0..version.vertex_count() {
-        let end = at + version.degree(u64::from(source)) as usize;
-        number_vertex(
-            version,
-            program,
-            argument,
-            memory,
-            source,
-            &mut numbers[at..end],
-        );
+    'sources: for source in 0..mapped.version.vertex_count() {
+        let end = at + mapped.version.degree(u64::from(source)) as usize;
+        number_vertex(mapped, memory, source, &mut numbers[at..end]);
         at = end;
     }
 }

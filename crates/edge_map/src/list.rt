@@ -11,7 +11,7 @@ ghost use Rattle.edge_map.specs.Workspaces.{IsWorkspace};
 use crate::errors::MapError;
 use crate::limits::BLOCK_EDGES;
 use crate::walk::Walk;
-use edge_fold::{Memory, number_ahead};
+use edge_fold::{Mapped, Memory, number_ahead};
 use map_model::{EDGE_BYTES, ListedEdge};
 use std::alloc::{AllocError, Global};
 use std::marker::Model;
@@ -66,7 +66,12 @@ fn fill(
         let Some(edge) = walk.next() else {
             return;
         };
-        let number = number_ahead(version, program, argument, workspace, edge, walk.later());
+        let mapped = Mapped {
+            version,
+            program,
+            argument,
+        };
+        let number = number_ahead(&mapped, workspace, edge, walk.later());
         let listed = ListedEdge {
             source: edge.source,
             target: edge.target,

@@ -7,7 +7,7 @@ ghost use Rattle.edge_fold.specs.Kept.{IsFor};
 
 use crate::limits::PIECE_VERTICES;
 use crate::plan::Plan;
-use edge_fold::{MapOutcome, Memory, map_frontier};
+use edge_fold::{MapOutcome, Mapped, Memory, Request, map_frontier};
 use std::alloc::{AllocError, Global};
 
 /// What a piece gave, under its number.
@@ -41,15 +41,15 @@ pub(crate) fn map_piece(
     let from = number as usize * PIECE_VERTICES;
     let until = plan.frontier.len().min(from + PIECE_VERTICES);
     let part = &plan.frontier[from..until];
-    let outcome = map_frontier(
-        alloc,
-        memory,
-        plan.version,
-        plan.program,
-        plan.argument,
-        part,
-        plan.reduction,
-        plan.rows,
-    )?;
+    let mapped = Mapped {
+        version: plan.version,
+        program: plan.program,
+        argument: plan.argument,
+    };
+    let request = Request {
+        frontier: part,
+        reduction: plan.reduction,
+    };
+    let outcome = map_frontier(alloc, memory, &mapped, &request, plan.rows)?;
     Ok(outcome)
 }

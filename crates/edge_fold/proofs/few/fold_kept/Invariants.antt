@@ -5,6 +5,6 @@ use Rattle.edge_fold.proofs.few.fold_kept.Given as goal
 
 abbrev pub invariant-targets : goal.invariant-targets
 invariant-targets l = record {
-  folded : IsFolded l.reduction l.program (graph_of l.version) l.argument l.span.source l.span.place l.span.targets.now l.at l.so_far;
-  kept : AreNumbered l.program (graph_of l.version) l.argument l.kept;
+  folded : IsFolded l.reduction l.mapped.program.now (graph_of l.mapped.version.now) l.mapped.argument.now l.span.source l.span.place l.span.targets.now l.at l.so_far;
+  kept : AreNumbered l.mapped.program.now (graph_of l.mapped.version.now) l.mapped.argument.now l.kept;
 }

@@ -8,13 +8,13 @@ use Rattle.edge_fold.proofs.Numbers.{IsFolded, none_folded, one_folded, rest_fol
 use Rattle.edge_fold.proofs.fold.fold_slice.Goals as goal
 
 pub rounds-init : goal.rounds-init
-rounds-init c = none_folded c.args.reduction c.args.program.now (graph_of c.args.version.now) c.args.argument.now c.args.span.source c.args.span.place c.args.span.targets.now c.nothing-so_far.result c.nothing-so_far.ensures
+rounds-init c = none_folded c.args.reduction c.args.mapped.now.program.now (graph_of c.args.mapped.now.version.now) c.args.mapped.now.argument.now c.args.span.source c.args.span.place c.args.span.targets.now c.nothing-so_far.result c.nothing-so_far.ensures
 
 pub lanes-preserved : goal.lanes-preserved
 lanes-preserved c =
-    let p = c.args.program.now in
-    let g = graph_of c.args.version.now in
-    let a = c.args.argument.now in
+    let p = c.args.mapped.now.program.now in
+    let g = graph_of c.args.mapped.now.version.now in
+    let a = c.args.mapped.now.argument.now in
     let s = c.args.span in
     let lane = c.lanes.lane in
     let e = c.fill.new.edges in
@@ -38,32 +38,32 @@ overflow_add-rest c = record { fits = omega (arith, c.rounds.invariant.within, c
 
 pub returns-clause-value : goal.returns-clause-value
 returns-clause-value c =
-    let p = c.args.program.now in
-    let g = graph_of c.args.version.now in
+    let p = c.args.mapped.now.program.now in
+    let g = graph_of c.args.mapped.now.version.now in
     let s = c.args.span in
-    (rest_folded c.args.reduction p g c.args.argument.now s.source s.place s.targets.now c.rounds.at c.rounds.so_far c.fold_span-value.result c.combine.result
+    (rest_folded c.args.reduction p g c.args.mapped.now.argument.now s.source s.place s.targets.now c.rounds.at c.rounds.so_far c.fold_span-value.result c.combine.result
     c.rounds.invariant
-    (subst (λ (xs : List ℕ). c.fold_span-value.result ≡ reduction_of_numbers c.args.reduction (found p g c.args.argument.now s.source (s.place + c.rounds.at) xs)) c.targets_from.ensures c.fold_span-value.ensures.value)
-    (subst (λ (xs : List ℕ). length (found p g c.args.argument.now s.source (s.place + c.rounds.at) xs) ≡ length xs) c.targets_from.ensures c.fold_span-value.ensures.count)
+    (subst (λ (xs : List ℕ). c.fold_span-value.result ≡ reduction_of_numbers c.args.reduction (found p g c.args.mapped.now.argument.now s.source (s.place + c.rounds.at) xs)) c.targets_from.ensures c.fold_span-value.ensures.value)
+    (subst (λ (xs : List ℕ). length (found p g c.args.mapped.now.argument.now s.source (s.place + c.rounds.at) xs) ≡ length xs) c.targets_from.ensures c.fold_span-value.ensures.count)
     c.combine.ensures).0
 
 pub returns-clause-count : goal.returns-clause-count
 returns-clause-count c =
-    let p = c.args.program.now in
-    let g = graph_of c.args.version.now in
+    let p = c.args.mapped.now.program.now in
+    let g = graph_of c.args.mapped.now.version.now in
     let s = c.args.span in
-    (rest_folded c.args.reduction p g c.args.argument.now s.source s.place s.targets.now c.rounds.at c.rounds.so_far c.fold_span-value.result c.combine.result
+    (rest_folded c.args.reduction p g c.args.mapped.now.argument.now s.source s.place s.targets.now c.rounds.at c.rounds.so_far c.fold_span-value.result c.combine.result
     c.rounds.invariant
-    (subst (λ (xs : List ℕ). c.fold_span-value.result ≡ reduction_of_numbers c.args.reduction (found p g c.args.argument.now s.source (s.place + c.rounds.at) xs)) c.targets_from.ensures c.fold_span-value.ensures.value)
-    (subst (λ (xs : List ℕ). length (found p g c.args.argument.now s.source (s.place + c.rounds.at) xs) ≡ length xs) c.targets_from.ensures c.fold_span-value.ensures.count)
+    (subst (λ (xs : List ℕ). c.fold_span-value.result ≡ reduction_of_numbers c.args.reduction (found p g c.args.mapped.now.argument.now s.source (s.place + c.rounds.at) xs)) c.targets_from.ensures c.fold_span-value.ensures.value)
+    (subst (λ (xs : List ℕ). length (found p g c.args.mapped.now.argument.now s.source (s.place + c.rounds.at) xs) ≡ length xs) c.targets_from.ensures c.fold_span-value.ensures.count)
     c.combine.ensures).1
 
 pub returns-then-at-span-clause-value : goal.returns-then-at-span-clause-value
 returns-then-at-span-clause-value c =
     let s = c.args.span in
-    (all_folded c.args.reduction c.args.program.now (graph_of c.args.version.now) c.args.argument.now s.source s.place s.targets.now c.rounds.at c.rounds.so_far c.rounds.invariant (omega (arith, c.if-at-span.true))).0
+    (all_folded c.args.reduction c.args.mapped.now.program.now (graph_of c.args.mapped.now.version.now) c.args.mapped.now.argument.now s.source s.place s.targets.now c.rounds.at c.rounds.so_far c.rounds.invariant (omega (arith, c.if-at-span.true))).0
 
 pub returns-then-at-span-clause-count : goal.returns-then-at-span-clause-count
 returns-then-at-span-clause-count c =
     let s = c.args.span in
-    (all_folded c.args.reduction c.args.program.now (graph_of c.args.version.now) c.args.argument.now s.source s.place s.targets.now c.rounds.at c.rounds.so_far c.rounds.invariant (omega (arith, c.if-at-span.true))).1
+    (all_folded c.args.reduction c.args.mapped.now.program.now (graph_of c.args.mapped.now.version.now) c.args.mapped.now.argument.now s.source s.place s.targets.now c.rounds.at c.rounds.so_far c.rounds.invariant (omega (arith, c.if-at-span.true))).1

@@ -4,10 +4,10 @@ use Rattle.edge_fold.proofs.Numbers.{IsFolded}
 use Rattle.edge_fold.proofs.fold.fold_slice.Given as goal
 
 abbrev pub invariant-rounds : goal.invariant-rounds
-invariant-rounds l = IsFolded l.reduction l.program (graph_of l.version) l.argument l.span.source l.span.place l.span.targets.now l.at l.so_far
+invariant-rounds l = IsFolded l.reduction l.mapped.program.now (graph_of l.mapped.version.now) l.mapped.argument.now l.span.source l.span.place l.span.targets.now l.at l.so_far
 
 abbrev pub decreases-rounds : goal.decreases-rounds
 decreases-rounds l = length l.span.targets.now - l.at
 
 abbrev pub invariant-lanes : goal.invariant-lanes
-invariant-lanes l = IsFolded l.reduction l.program (graph_of l.version) l.argument l.span.source l.span.place l.span.targets.now (l.at + l.lane) l.so_far
+invariant-lanes l = IsFolded l.reduction l.mapped.program.now (graph_of l.mapped.version.now) l.mapped.argument.now l.span.source l.span.place l.span.targets.now (l.at + l.lane) l.so_far

@@ -11,9 +11,9 @@ use Rattle.edge_fold.proofs.numbering.number_block.Goals as goal
 
 pub returns-clause-numbers : goal.returns-clause-numbers
 returns-clause-numbers c =
-    let p = c.args.program.now in
-    let g = graph_of c.args.version.now in
-    let a = c.args.argument.now in
+    let p = c.args.mapped.now.program.now in
+    let g = graph_of c.args.mapped.now.version.now in
+    let a = c.args.mapped.now.argument.now in
     let s = c.args.span in
     let e = c.fill.new.edges in
     let count = c.min-count.result in

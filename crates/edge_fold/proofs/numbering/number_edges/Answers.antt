@@ -8,36 +8,36 @@ use Rattle.edge_fold.proofs.Written.{AreWritten, none_written, vertex_written, p
 use Rattle.edge_fold.proofs.numbering.number_edges.Goals as goal
 
 pub sources-init : goal.sources-init
-sources-init c = (none_written c.args.program.now (graph_of c.args.version.now) c.args.argument.now c.args.numbers.now c.requires.long, c.requires.memory)
+sources-init c = (none_written c.args.mapped.now.program.now (graph_of c.args.mapped.now.version.now) c.args.mapped.now.argument.now c.args.numbers.now c.requires.long, c.requires.memory)
 
 pub overflow_add-end : goal.overflow_add-end
 overflow_add-end c =
-    let g = graph_of c.args.version.now in
-    let below : c.sources.source < g.vertex_count = omega (arith, c.sources-test.true, c.vertex_count-source-end.ensures.value, vertex_count-graph_of c.args.version.now) in
+    let g = graph_of c.args.mapped.now.version.now in
+    let below : c.sources.source < g.vertex_count = omega (arith, c.sources-test.true, c.vertex_count-source-end.ensures.value, vertex_count-graph_of c.args.mapped.now.version.now) in
     let many : c.degree.result ≡ degree g c.sources.source = c.degree.ensures.value ∙ ap (degree g) c.from.ensures in
     let left : c.sources.at + c.degree.result ≤ length c.sources.numbers = omega (arith, places_left g c.sources.source c.sources.at below c.sources.invariant.0.place, many, c.sources.invariant.0.long) in
     search (rules, left)
 
 pub offset_bounds-numbers-at : goal.offset_bounds-numbers-at
 offset_bounds-numbers-at c =
-    let g = graph_of c.args.version.now in
-    let below : c.sources.source < g.vertex_count = omega (arith, c.sources-test.true, c.vertex_count-source-end.ensures.value, vertex_count-graph_of c.args.version.now) in
+    let g = graph_of c.args.mapped.now.version.now in
+    let below : c.sources.source < g.vertex_count = omega (arith, c.sources-test.true, c.vertex_count-source-end.ensures.value, vertex_count-graph_of c.args.mapped.now.version.now) in
     let many : c.degree.result ≡ degree g c.sources.source = c.degree.ensures.value ∙ ap (degree g) c.from.ensures in
     let left : c.sources.at + c.degree.result ≤ length c.sources.numbers = omega (arith, places_left g c.sources.source c.sources.at below c.sources.invariant.0.place, many, c.sources.invariant.0.long) in
     search (rules, left)
 
 pub slice_bounds-number_vertex-end : goal.slice_bounds-number_vertex-end
 slice_bounds-number_vertex-end c =
-    let g = graph_of c.args.version.now in
-    let below : c.sources.source < g.vertex_count = omega (arith, c.sources-test.true, c.vertex_count-source-end.ensures.value, vertex_count-graph_of c.args.version.now) in
+    let g = graph_of c.args.mapped.now.version.now in
+    let below : c.sources.source < g.vertex_count = omega (arith, c.sources-test.true, c.vertex_count-source-end.ensures.value, vertex_count-graph_of c.args.mapped.now.version.now) in
     let many : c.degree.result ≡ degree g c.sources.source = c.degree.ensures.value ∙ ap (degree g) c.from.ensures in
     let left : c.sources.at + c.degree.result ≤ length c.sources.numbers = omega (arith, places_left g c.sources.source c.sources.at below c.sources.invariant.0.place, many, c.sources.invariant.0.long) in
     left
 
 pub sources-preserved : goal.sources-preserved
 sources-preserved c =
-    let g = graph_of c.args.version.now in
-    let below : c.sources.source < g.vertex_count = omega (arith, c.sources-test.true, c.vertex_count-source-end.ensures.value, vertex_count-graph_of c.args.version.now) in
+    let g = graph_of c.args.mapped.now.version.now in
+    let below : c.sources.source < g.vertex_count = omega (arith, c.sources-test.true, c.vertex_count-source-end.ensures.value, vertex_count-graph_of c.args.mapped.now.version.now) in
     let many : c.degree.result ≡ degree g c.sources.source = c.degree.ensures.value ∙ ap (degree g) c.from.ensures in
     let left : c.sources.at + c.degree.result ≤ length c.sources.numbers = omega (arith, places_left g c.sources.source c.sources.at below c.sources.invariant.0.place, many, c.sources.invariant.0.long) in
     let at = c.sources.at in
@@ -47,8 +47,8 @@ sources-preserved c =
     let kept : length c.number_vertex.new.numbers ≡ length old = c.number_vertex.auto.numbers in
     let long : length c.number_vertex.new.numbers ≡ size =
     (let whole = length-drop at c.sources.numbers in omega (arith, kept, length-take-le size (drop at c.sources.numbers) (omega (arith, whole, left, same)))) in
-    let next = vertex_written c.args.program.now g c.args.argument.now c.sources.numbers c.sources.source at size c.number_vertex.new.numbers c.sources.invariant.0 below (omega (arith, many, same)) long c.number_vertex.ensures.numbers in
-    (subst (λ n. AreWritten c.args.program.now g c.args.argument.now (put_mid at size c.sources.numbers c.number_vertex.new.numbers) (c.sources.source + 1) (at + n)) same next, c.number_vertex.ensures.memory)
+    let next = vertex_written c.args.mapped.now.program.now g c.args.mapped.now.argument.now c.sources.numbers c.sources.source at size c.number_vertex.new.numbers c.sources.invariant.0 below (omega (arith, many, same)) long c.number_vertex.ensures.numbers in
+    (subst (λ n. AreWritten c.args.mapped.now.program.now g c.args.mapped.now.argument.now (put_mid at size c.sources.numbers c.number_vertex.new.numbers) (c.sources.source + 1) (at + n)) same next, c.number_vertex.ensures.memory)
 
 pub returns-clause-numbers : goal.returns-clause-numbers
-returns-clause-numbers c = all_are_written c.args.program.now (graph_of c.args.version.now) c.args.argument.now c.sources.numbers c.sources.source c.sources.at c.sources.invariant.0 (omega (arith, c.sources-test.false, c.sources.auto.source-end, c.vertex_count-source-end.ensures.value, vertex_count-graph_of c.args.version.now))
+returns-clause-numbers c = all_are_written c.args.mapped.now.program.now (graph_of c.args.mapped.now.version.now) c.args.mapped.now.argument.now c.sources.numbers c.sources.source c.sources.at c.sources.invariant.0 (omega (arith, c.sources-test.false, c.sources.auto.source-end, c.vertex_count-source-end.ensures.value, vertex_count-graph_of c.args.mapped.now.version.now))

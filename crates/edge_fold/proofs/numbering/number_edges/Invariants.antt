@@ -4,4 +4,4 @@ use Rattle.edge_fold.proofs.Written.{AreWritten}
 use Rattle.edge_fold.proofs.numbering.number_edges.Given as goal
 
 abbrev pub invariant-sources : goal.invariant-sources
-invariant-sources l = AreWritten l.program (graph_of l.version) l.argument l.numbers l.source l.at × IsFor l.program l.memory
+invariant-sources l = AreWritten l.mapped.program.now (graph_of l.mapped.version.now) l.mapped.argument.now l.numbers l.source l.at × IsFor l.mapped.program.now l.memory

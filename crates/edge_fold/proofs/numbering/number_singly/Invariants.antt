@@ -7,7 +7,7 @@ use Rattle.edge_fold.proofs.numbering.number_singly.Given as goal
 
 abbrev pub invariant-targets : goal.invariant-targets
 invariant-targets l = record {
-  written : IsWritten l.program (graph_of l.version) l.argument l.span.source l.span.place l.span.targets.now l.numbers l.at;
-  table : HoldsTable l.program.table l.memory.bytes;
-  begun : l.is_begun ≡ true → IsBegun l.span.source l.span.degree l.argument l.memory.bytes;
+  written : IsWritten l.mapped.program.now (graph_of l.mapped.version.now) l.mapped.argument.now l.span.source l.span.place l.span.targets.now l.numbers l.at;
+  table : HoldsTable l.mapped.program.now.table l.memory.bytes;
+  begun : l.is_begun ≡ true → IsBegun l.span.source l.span.degree l.mapped.argument.now l.memory.bytes;
 }

@@ -5,7 +5,7 @@ use Rattle.edge_fold.proofs.Written.{IsWritten}
 use Rattle.edge_fold.proofs.numbering.number_span.Given as goal
 
 abbrev pub invariant-rounds : goal.invariant-rounds
-invariant-rounds l = IsWritten l.program (graph_of l.version) l.argument l.span.source l.span.place l.span.targets.now l.numbers l.at × IsFor l.program l.memory
+invariant-rounds l = IsWritten l.mapped.program.now (graph_of l.mapped.version.now) l.mapped.argument.now l.span.source l.span.place l.span.targets.now l.numbers l.at × IsFor l.mapped.program.now l.memory
 
 abbrev pub decreases-rounds : goal.decreases-rounds
 decreases-rounds l = length l.span.targets.now - l.at

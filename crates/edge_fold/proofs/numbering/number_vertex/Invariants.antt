@@ -7,9 +7,9 @@ use Rattle.edge_fold.proofs.numbering.number_vertex.Given as goal
 
 abbrev pub invariant-slices : goal.invariant-slices
 invariant-slices l = record {
-  rest : drop l.place (neighbours (graph_of l.version) l.source) ≡ l.cursor;
-  memory : IsFor l.program l.memory;
-  written : IsWritten l.program (graph_of l.version) l.argument l.source 0 (neighbours (graph_of l.version) l.source) l.numbers l.place;
+  rest : drop l.place (neighbours (graph_of l.mapped.version.now) l.source) ≡ l.cursor;
+  memory : IsFor l.mapped.program.now l.memory;
+  written : IsWritten l.mapped.program.now (graph_of l.mapped.version.now) l.mapped.argument.now l.source 0 (neighbours (graph_of l.mapped.version.now) l.source) l.numbers l.place;
 }
 
 abbrev pub decreases-slices : goal.decreases-slices

@@ -1,0 +1,33 @@
+use Rattle.std.proofs.Common.{◌≡◌, ◌+◌, ◌-◌, ◌≤◌, false, length, drop}
+use Rattle.std.specs.Prelude.{◌⊎◌}
+use Rattle.past_model.specs.Past.{graph_of}
+use Rattle.map_model.specs.Parts.{IsPlace, IsBefore, IsSoFar, HasBegun, cost_before}
+use Rattle.verifier.specs.Walks.{longest}
+use Rattle.edge_fold.specs.declared.budget.TheConstants.{EDGE_COST, VERTEX_COST}
+use Rattle.edge_fold.specs.Kept.{AreNumbered, IsFor}
+use Rattle.edge_fold.proofs.parts.map_some.Given as goal
+
+abbrev pub invariant-vertices : goal.invariant-vertices
+invariant-vertices l =
+    let p = l.mapped.program.now in
+    let g = graph_of l.mapped.version.now in
+    let a = l.mapped.argument.now in
+    let r = l.request.reduction in
+    let f = l.request.frontier.now in
+    let most = cost_before (longest p + EDGE_COST) VERTEX_COST p (longest p) g a f in
+    let least = cost_before EDGE_COST VERTEX_COST p (longest p) g a f in
+    record {
+      place : IsPlace g f l.progress;
+      long : length l.values ≡ length f;
+      far : ((l.fn.progress.vertex ≡ l.progress.vertex) × (l.fn.progress.place ≡ l.progress.place)) ⊎ IsBefore l.fn.progress l.progress;
+      used : l.goes_on ≡ false → IsBefore l.fn.progress l.progress × (l.progress.budget ≡ 0);
+      so_far : HasBegun p (longest p) g r a f l.fn.progress l.fn.values → IsSoFar p (longest p) g r a f l.progress l.values;
+      rest : drop l.progress.vertex l.values ≡ drop l.progress.vertex l.fn.values;
+      cost : l.fn.progress.budget + most l.fn.progress ≤ l.progress.budget + most l.progress;
+      falls : l.progress.budget ≤ l.fn.progress.budget + least l.fn.progress - least l.progress;
+      memory : IsFor p l.memory;
+      kept : AreNumbered p g a l.memory.kept;
+    }
+
+abbrev pub decreases-vertices : goal.decreases-vertices
+decreases-vertices l = length l.frontier - l.progress.vertex

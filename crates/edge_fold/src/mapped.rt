@@ -1,0 +1,28 @@
+//! What runs over edges are runs of.
+ghost use Rattle.std.specs.Prelude.{◌≡◌, ◌+◌, length};
+ghost use Rattle.map_model.specs.declared.limits.TheConstants.{EDGE_BYTES};
+
+use map_model::Reduction;
+use verifier::Verified;
+use version::Version;
+
+/// What runs over edges are runs of: a verified program, with an argument that fits its record, on the edges of a version.
+#[derive(Clone, Copy)]
+pub struct Mapped<'a> {
+    /// The version whose edges they are.
+    pub version: &'a Version,
+    /// The program that is run on each edge.
+    pub program: &'a Verified,
+    /// What its record has after the edge: the record's length less 16 bytes.
+    pub argument: &'a [u8],
+    ghost fits: { length argument.now + EDGE_BYTES ≡ program.now.record_length },
+}
+
+/// The vertices whose edges are mapped, and what the numbers of these become.
+#[derive(Clone, Copy)]
+pub struct Request<'a> {
+    /// The vertices. One that is outside the graph has no edge, and one that stands twice is mapped twice.
+    pub frontier: &'a [u32],
+    /// What the numbers are reduced to.
+    pub reduction: Reduction,
+}
