@@ -3,9 +3,13 @@ ghost use Rattle.std.specs.Prelude.{◌≡◌};
 ghost use Rattle.past_model.specs.Past.{graph_of};
 ghost use Rattle.embedding.specs.Arrays.{AreNumbers};
 ghost use Rattle.embedding.specs.Holding.{OnBoth};
+ghost use Rattle.embedding.specs.Parts.{IsRunSome, AreNumbersSome, ArePairs};
 ghost use Rattle.embedding.specs.Runs.{IsRun};
 
-use embedding::{EMPTY, Handle, Totals, number_held, run_held};
+use embedding::{
+    EMPTY, Handle, NumbersAsked, PairsAsked, Progress, RunAsked, Totals, number_held,
+    numbers_some_held, pairs_held, run_held, run_some_held,
+};
 use std::alloc::Global;
 
 /// Runs a program on each edge of the vertices of a frontier, and reduces its numbers: 0 is the sum, 1 the least and 2 the
@@ -33,9 +37,47 @@ pub extern "C" fn edgebpf_run(
         version.put(graph);
         return EMPTY;
     };
-    let answer = run_held(
-        alloc, &graph, &mut code, argument, frontier, reduction, values, totals,
-    );
+    let asked = RunAsked {
+        argument,
+        frontier,
+        reduction,
+    };
+    let answer = run_held(&graph, &mut code, &asked, values, totals);
+    version.put(graph);
+    program.put(code);
+    answer
+}
+
+/// Goes on with a run over a frontier, as far as the budget goes: one edge or one vertex at least.
+#[unsafe(no_mangle)]
+pub extern "C" fn edgebpf_run_some(
+    alloc: Global,
+    version: &mut Handle,
+    program: &mut Handle,
+    argument: &[u8],
+    frontier: &[u32],
+    reduction: u32,
+    at: &mut Progress,
+    values: &mut [u64],
+) -> u32
+    ensures version { version.new.held ≡ version.old.held }
+    ensures program { program.new.held ≡ program.old.held }
+    ensures answered { OnBoth version.old.held program.old.held result ((values.new ≡ values.old) × (at.new ≡ at.old))
+        (λ past p. IsRunSome (graph_of past) p argument.now frontier.now reduction result at.old at.new values.old values.new) }
+{
+    let Some(graph) = version.take(alloc) else {
+        return EMPTY;
+    };
+    let Some(mut code) = program.take(alloc) else {
+        version.put(graph);
+        return EMPTY;
+    };
+    let asked = RunAsked {
+        argument,
+        frontier,
+        reduction,
+    };
+    let answer = run_some_held(&graph, &mut code, &asked, at, values);
     version.put(graph);
     program.put(code);
     answer
@@ -63,6 +105,73 @@ pub extern "C" fn edgebpf_numbers(
         return EMPTY;
     };
     let answer = number_held(&graph, &mut code, argument, numbers);
+    version.put(graph);
+    program.put(code);
+    answer
+}
+
+/// The numbers of the next edges of a frontier's vertices, as far as there is room and the budget goes.
+#[unsafe(no_mangle)]
+pub extern "C" fn edgebpf_numbers_some(
+    alloc: Global,
+    version: &mut Handle,
+    program: &mut Handle,
+    argument: &[u8],
+    frontier: &[u32],
+    at: &mut Progress,
+    numbers: &mut [u64],
+    written: &mut usize,
+) -> u32
+    ensures version { version.new.held ≡ version.old.held }
+    ensures program { program.new.held ≡ program.old.held }
+    ensures answered { OnBoth version.old.held program.old.held result
+        ((numbers.new ≡ numbers.old) × (written.new ≡ written.old) × (at.new ≡ at.old))
+        (λ past p. AreNumbersSome (graph_of past) p argument.now frontier.now result at.old at.new numbers.old numbers.new written.old written.new) }
+{
+    let Some(graph) = version.take(alloc) else {
+        return EMPTY;
+    };
+    let Some(mut code) = program.take(alloc) else {
+        version.put(graph);
+        return EMPTY;
+    };
+    let asked = NumbersAsked { argument, frontier };
+    let answer = numbers_some_held(&graph, &mut code, &asked, at, numbers, written);
+    version.put(graph);
+    program.put(code);
+    answer
+}
+
+/// The numbers of the next pairs of vertices, which need not be edges, as far as the budget goes: one at least.
+#[unsafe(no_mangle)]
+pub extern "C" fn edgebpf_pairs(
+    alloc: Global,
+    version: &mut Handle,
+    program: &mut Handle,
+    argument: &[u8],
+    sources: &[u32],
+    targets: &[u32],
+    at: &mut Progress,
+    numbers: &mut [u64],
+) -> u32
+    ensures version { version.new.held ≡ version.old.held }
+    ensures program { program.new.held ≡ program.old.held }
+    ensures answered { OnBoth version.old.held program.old.held result ((numbers.new ≡ numbers.old) × (at.new ≡ at.old))
+        (λ past p. ArePairs (graph_of past) p argument.now sources.now targets.now result at.old at.new numbers.old numbers.new) }
+{
+    let Some(graph) = version.take(alloc) else {
+        return EMPTY;
+    };
+    let Some(mut code) = program.take(alloc) else {
+        version.put(graph);
+        return EMPTY;
+    };
+    let asked = PairsAsked {
+        argument,
+        sources,
+        targets,
+    };
+    let answer = pairs_held(&graph, &mut code, &asked, at, numbers);
     version.put(graph);
     program.put(code);
     answer

@@ -1,5 +1,5 @@
 //! Versions, and what is asked of them.
-ghost use Rattle.std.specs.Prelude.{◌≡◌};
+ghost use Rattle.std.specs.Prelude.{◌≡◌, drop};
 ghost use Rattle.graph_model.specs.Graph.{degree, neighbours};
 ghost use Rattle.graph_model.specs.Views.{is_edge};
 ghost use Rattle.past_model.specs.Past.{graph_of};
@@ -11,8 +11,8 @@ ghost use Rattle.embedding.specs.Questions.{info_of, answer_of, IsNeighbour};
 ghost use Rattle.embedding.specs.Slices.{AreLent};
 
 use embedding::{
-    EMPTY, Handle, Info, Slice, copy_held, degree_held, has_edge_held, info_held, lend_held,
-    neighbour_held, share_version_held,
+    EMPTY, Handle, Info, Slice, copy_held, degree_held, has_edge_held, info_held, lend_from_held,
+    lend_held, neighbour_held, share_version_held,
 };
 use std::alloc::Global;
 
@@ -140,6 +140,31 @@ pub extern "C" fn edgebpf_version_lend(
         None => EMPTY,
         Some(held) => {
             let answer = lend_held(&held, vertex, slices, lent);
+            version.put(held);
+            answer
+        }
+    }
+}
+
+/// The slices in which a vertex's neighbours lie from a place on, as many as there is room for. They stay where they are while any
+/// handle of the version is open.
+#[unsafe(no_mangle)]
+pub extern "C" fn edgebpf_version_lend_from(
+    alloc: Global,
+    version: &mut Handle,
+    vertex: u32,
+    place: u32,
+    slices: &mut [Slice],
+    lent: &mut usize,
+) -> u32
+    ensures kept { version.new.held ≡ version.old.held }
+    ensures answered { OnVersion version.old.held result ((slices.new ≡ slices.old) × (lent.new ≡ lent.old))
+        (λ p. (result ≡ DONE) × AreLent (drop place (neighbours (graph_of p) vertex)) lent.new slices.old slices.new) }
+{
+    match version.take(alloc) {
+        None => EMPTY,
+        Some(held) => {
+            let answer = lend_from_held(&held, vertex, place, slices, lent);
             version.put(held);
             answer
         }

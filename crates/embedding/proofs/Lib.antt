@@ -2,3 +2,4 @@ pub mod CopyLemmas
 pub mod Boxes
 pub mod EditLists
 pub mod SliceCounts
+pub mod RunValues

@@ -9,3 +9,4 @@ pub mod Slices
 pub mod Programs
 pub mod Texts
 pub mod Runs
+pub mod Parts

@@ -9,7 +9,7 @@ use Rattle.map_model.specs.EdgeMap.{all_numbers, reduction_of_numbers, rows_of}
 use Rattle.verifier.specs.Walks.{longest}
 use Rattle.map_model.specs.declared.limits.TheConstants.{EDGE_BYTES}
 use Rattle.past_model.specs.declared.limits.TheConstants.{MOST_VERTICES}
-use Rattle.embedding.specs.declared.statuses.TheConstants.{DONE, NO_MEMORY, REDUCTION, LENGTHS, ARGUMENT_LENGTH}
+use Rattle.embedding.specs.declared.statuses.TheConstants.{DONE, REDUCTION, LENGTHS, ARGUMENT_LENGTH}
 use Rattle.embedding.specs.declared.runs.Totals.{Totals}
 
 -- the reduction of a number
@@ -35,10 +35,8 @@ run_status p argument frontier values (Some r) =
     then (if length argument + EDGE_BYTES == p.record_length then DONE else ARGUMENT_LENGTH)
     else LENGTHS
 
--- the status is that of the first test that fails; if none fails, there may be no memory. A run that is done writes its numbers,
--- and else nothing is written
+-- the status is that of the first test that fails. A run that is done writes its numbers, and else nothing is written
 pub record IsRun (g : Graph) (p : Program) (argument frontier : List ℕ) (reduction : ℕ) (status : ℕ) (values : List ℕ) (totals : Totals) (new_values : List ℕ) (new_totals : Totals) : Type 0 where
-  pub status_is : status ≢ NO_MEMORY → status ≡ run_status p argument frontier values (reduction_at reduction)
-  pub memory : status ≡ NO_MEMORY → run_status p argument frontier values (reduction_at reduction) ≡ DONE
+  pub status_is : status ≡ run_status p argument frontier values (reduction_at reduction)
   pub done : (r : Reduction) → reduction_at reduction ≡ Some r → status ≡ DONE → IsTold g p argument frontier r new_values new_totals
   pub left : status ≢ DONE → (new_values ≡ values) × (new_totals ≡ totals)

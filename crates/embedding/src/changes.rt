@@ -41,7 +41,8 @@ fn apply_arrays(
     arrays: Arrays<'_>,
     change: &mut Change,
 ) -> u32
-    ensures { IsAnswered feed arrays.entry.sources.now arrays.entry.targets.now arrays.entry.removes.now store.old result store.new change.old change.new }
+    ensures { IsAnswered feed arrays.entry.sources.now arrays.entry.targets.now arrays.entry.removes.now store.old
+        result store.new change.old change.new }
 {
     let count = arrays.sources.len();
     if arrays.targets.len() != count || arrays.removes.len() != count {
@@ -64,7 +65,8 @@ pub fn apply_held(
     arrays: Arrays<'_>,
     change: &mut Change,
 ) -> u32
-    ensures { IsAppliedTo feed arrays.entry.sources.now arrays.entry.targets.now arrays.entry.removes.now (Some held.old) result (Some held.new) change.old change.new }
+    ensures { IsAppliedTo feed arrays.entry.sources.now arrays.entry.targets.now arrays.entry.removes.now
+        (Some held.old) result (Some held.new) change.old change.new }
 {
     match held {
         Held::Store(store) => apply_arrays(alloc, store, feed, arrays, change),

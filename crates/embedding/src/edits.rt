@@ -32,7 +32,8 @@ fn edit_from(source: u32, target: u32, remove: u8) -> Edit
 fn edits_of(alloc: Global, arrays: Arrays<'_>) -> Result<Vec<Edit>, AllocError>
     requires targets { length arrays.targets.now ≡ length arrays.sources.now }
     requires removes { length arrays.removes.now ≡ length arrays.sources.now }
-    ensures { IfOk result (λ edits. edits.items ≡ spelled arrays.entry.sources.now arrays.entry.targets.now arrays.entry.removes.now) }
+    ensures { IfOk result (λ edits. edits.items
+        ≡ spelled arrays.entry.sources.now arrays.entry.targets.now arrays.entry.removes.now) }
 {
     let mut edits = Vec::with_capacity(alloc, arrays.sources.len())?;
     'edits: for at in 0..arrays.sources.len() {

@@ -8,6 +8,8 @@ mod edits;
 mod handle;
 mod held;
 mod numbers;
+mod pairs;
+mod places;
 mod programs;
 mod questions;
 mod raw_box;
@@ -20,21 +22,23 @@ mod texts;
 
 pub use changes::{apply_held, new_store, pin_held, rebase_held};
 pub use copies::copy_held;
+pub use edge_fold::Progress;
 pub use edits::Arrays;
 pub use handle::{Handle, hand_out};
 pub use held::Held;
-pub use numbers::number_held;
+pub use numbers::{NumbersAsked, number_held, numbers_some_held};
+pub use pairs::{PairsAsked, pairs_held};
 pub use programs::{ProgramBytes, Verdict, new_program, share_program_held};
 pub use questions::{
     Info, degree_held, has_edge_held, info_held, neighbour_held, share_version_held,
 };
-pub use runnable::Runnable;
-pub use runs::{Totals, run_held};
-pub use slices::{Slice, lend_held};
+pub use runnable::{Edges, Runnable};
+pub use runs::{RunAsked, Totals, run_held, run_some_held};
+pub use slices::{Slice, lend_from_held, lend_held};
 pub use statuses::{
     ARGUMENT_LENGTH, CODE_LENGTH, DONE, EMPTY, EPOCHS_FULL, FEED, LENGTHS, LOG_FULL, NO_MEMORY,
-    NO_NEIGHBOUR, OTHER_KIND, RECORD_LENGTH, REDUCTION, REFUSED, TABLE_LENGTH, TOO_MANY_EDITS,
-    VERTEX_COUNT, VERTEX_RANGE, WRONG_TEXT,
+    NO_NEIGHBOUR, OTHER_KIND, PROGRESS, RECORD_LENGTH, REDUCTION, REFUSED, TABLE_LENGTH,
+    TOO_MANY_EDITS, VERTEX_COUNT, VERTEX_RANGE, WRONG_TEXT,
 };
 pub use store::{Change, Store};
 pub use texts::{Assembled, assemble_into, explain_into};

@@ -1,21 +1,37 @@
 //! A program with the memory of its runs.
-ghost use Rattle.std.specs.Prelude.{◌≡◌, ◌+◌, ◌≤◌, IfOk, length};
+ghost use Rattle.std.specs.Prelude.{◌≡◌, ◌+◌, ◌-◌, ◌*◌, ◌^◌, ◌%◌, ◌<◌, ◌≤◌, ◌⊎◌, ◌++◌, IfOk, length, take, drop, slice_range};
 ghost use Rattle.past_model.specs.Past.{graph_of};
 ghost use Rattle.past_model.specs.declared.limits.TheConstants.{MOST_VERTICES};
 ghost use Rattle.graph_model.specs.Graph.{edge_count, numbers_below};
-ghost use Rattle.map_model.specs.EdgeMap.{all_numbers, reduction_of_numbers, rows_of};
+ghost use Rattle.map_model.specs.EdgeMap.{all_numbers, reduction_of_numbers};
+ghost use Rattle.map_model.specs.Parts.{IsPlace, IsBefore, IsSoFar, HasBegun, numbers_before, pair_numbers, values_for};
 ghost use Rattle.map_model.specs.declared.limits.TheConstants.{EDGE_BYTES};
 ghost use Rattle.verifier.specs.Walks.{longest};
+ghost use Rattle.edge_fold.specs.declared.budget.TheConstants.{EDGE_COST};
+ghost use Rattle.embedding.specs.Parts.{least_of, most_of};
 
-use edge_fold::{MapOutcome, Memory, Reduction, Rows, map_frontier, number_edges};
+use edge_fold::{
+    Mapped, Memory, Pairs, Progress, Request, map_some, map_whole, number_edges, number_pairs,
+    number_some,
+};
 use std::alloc::{AllocError, Global};
 use std::marker::Model;
 use std::sync::Arc;
 use verifier::Verified;
 use version::Version;
 
+/// What a program runs on: the edges of a version, each with the same argument.
+#[derive(Clone, Copy)]
+pub struct Edges<'a> {
+    /// The version whose edges they are.
+    pub version: &'a Version,
+    /// What each record has after the edge.
+    pub argument: &'a [u8],
+}
+
 /// A verified program, and the memory in which the runs by one handle work. The memory is made once: a run over few edges costs less
-/// than making it. Contracts see the program alone: the memory has its table, and no run depends on what else it held before.
+/// than making it. Contracts see the program alone: the memory has its table, and no run depends on what else it held before. No run
+/// takes memory besides. A run over some edges asks that the argument has the record's length less 16 bytes.
 pub struct Runnable {
     program: Arc<Verified>,
     memory: Box<Memory>,
@@ -75,45 +91,153 @@ impl Runnable {
         self.program.image().record_length()
     }
 
-    /// Runs it on each edge of the vertices of a frontier, and reduces the numbers: a row for each vertex, and all together.
-    pub fn map(
-        &mut self,
-        alloc: Global,
-        version: &Version,
-        argument: &[u8],
-        frontier: &[u32],
-        reduction: Reduction,
-    ) -> Result<MapOutcome, AllocError>
-        requires argument { length argument.now + EDGE_BYTES ≡ self.old.record_length }
-        requires few { length frontier.now ≤ MOST_VERTICES }
+    /// Runs it on each edge of the vertices of a frontier, and reduces the numbers: it writes a value for each vertex, and answers the
+    /// progress at the end, which has what all have together.
+    pub fn map(&mut self, on: &Edges<'_>, request: &Request<'_>, values: &mut [u64]) -> Progress
+        requires argument { length on.now.argument.now + EDGE_BYTES ≡ self.old.record_length }
+        requires few { length request.now.frontier.now ≤ MOST_VERTICES }
+        requires long { length values.old ≡ length request.now.frontier.now }
         ensures program { self.new ≡ self.old }
-        ensures edges { IfOk result (λ out. out.edges
-            ≡ length (all_numbers self.old (longest self.old) (graph_of version.now) argument.now frontier.now)) }
-        ensures total { IfOk result (λ out. out.total ≡ reduction_of_numbers reduction
-            (all_numbers self.old (longest self.old) (graph_of version.now) argument.now frontier.now)) }
-        ensures rows { IfOk result (λ out. out.rows.items
-            ≡ rows_of self.old (longest self.old) (graph_of version.now) reduction argument.now frontier.now) }
+        ensures values { let p = self.old in let g = graph_of on.now.version.now in
+            values.new ≡ values_for p (longest p) g request.now.reduction on.now.argument.now request.now.frontier.now }
+        ensures edges { let p = self.old in let g = graph_of on.now.version.now in
+            result.edges ≡ length (all_numbers p (longest p) g on.now.argument.now request.now.frontier.now) }
+        ensures total { let p = self.old in let g = graph_of on.now.version.now in result.total
+            ≡ reduction_of_numbers request.now.reduction (all_numbers p (longest p) g on.now.argument.now request.now.frontier.now) }
     {
-        map_frontier(
-            alloc,
-            &mut self.memory,
-            version,
-            &self.program,
-            argument,
-            frontier,
-            reduction,
-            Rows::OfEach,
-        )
+        let mapped = Mapped {
+            version: on.version,
+            program: &self.program,
+            argument: on.argument,
+        };
+        map_whole(&mut self.memory, &mapped, request, values)
+    }
+
+    /// Goes on with a run over a frontier, as far as the budget goes: one edge or vertex at least, if any is left.
+    pub fn map_some(
+        &mut self,
+        on: &Edges<'_>,
+        request: &Request<'_>,
+        progress: &mut Progress,
+        values: &mut [u64],
+    )
+        requires argument { length on.now.argument.now + EDGE_BYTES ≡ self.old.record_length }
+        requires few { length request.now.frontier.now ≤ MOST_VERTICES }
+        requires long { length values.old ≡ length request.now.frontier.now }
+        requires place { IsPlace (graph_of on.now.version.now) request.now.frontier.now progress.old }
+        ensures program { self.new ≡ self.old }
+        ensures so_far { let p = self.old in let g = graph_of on.now.version.now in let f = request.now.frontier.now in
+            HasBegun p (longest p) g request.now.reduction on.now.argument.now f progress.old values.old
+            → IsSoFar p (longest p) g request.now.reduction on.now.argument.now f progress.new values.new }
+        ensures place { IsPlace (graph_of on.now.version.now) request.now.frontier.now progress.new }
+        ensures on { progress.old.vertex < length request.now.frontier.now → IsBefore progress.old progress.new }
+        ensures rest { drop (progress.new.vertex + 1) values.new ≡ drop (progress.new.vertex + 1) values.old }
+        ensures stops { (progress.new.vertex ≡ length request.now.frontier.now) ⊎ (progress.new.budget ≡ 0) }
+        ensures cost { let most = most_of (graph_of on.now.version.now) self.old on.now.argument.now
+            request.now.frontier.now in
+            progress.old.budget + most progress.old ≤ progress.new.budget + most progress.new }
+        ensures falls { let least = least_of (graph_of on.now.version.now) self.old on.now.argument.now
+            request.now.frontier.now in
+            progress.new.budget ≤ progress.old.budget + least progress.old - least progress.new }
+    {
+        let mapped = Mapped {
+            version: on.version,
+            program: &self.program,
+            argument: on.argument,
+        };
+        map_some(&mut self.memory, &mapped, request, progress, values);
     }
 
     /// Writes the number of each edge of a version.
-    pub fn number(&mut self, version: &Version, argument: &[u8], numbers: &mut [u64])
-        requires argument { length argument.now + EDGE_BYTES ≡ self.old.record_length }
-        requires long { length numbers.old ≡ edge_count (graph_of version.now) }
+    pub fn number(&mut self, on: &Edges<'_>, numbers: &mut [u64])
+        requires argument { length on.now.argument.now + EDGE_BYTES ≡ self.old.record_length }
+        requires long { length numbers.old ≡ edge_count (graph_of on.now.version.now) }
         ensures program { self.new ≡ self.old }
-        ensures numbers { let g = graph_of version.now in
-            numbers.new ≡ all_numbers self.old (longest self.old) g argument.now (numbers_below g.vertex_count) }
+        ensures numbers { let p = self.old in let g = graph_of on.now.version.now in
+            numbers.new ≡ all_numbers p (longest p) g on.now.argument.now (numbers_below g.vertex_count) }
     {
-        number_edges(version, &self.program, argument, &mut self.memory, numbers);
+        let mapped = Mapped {
+            version: on.version,
+            program: &self.program,
+            argument: on.argument,
+        };
+        number_edges(&mapped, &mut self.memory, numbers);
+    }
+
+    /// Writes the numbers of the next edges of a frontier, as far as the budget and the room go, and answers how many: one edge or
+    /// vertex at least, if any is left and there is room.
+    pub fn number_some(
+        &mut self,
+        on: &Edges<'_>,
+        frontier: &[u32],
+        progress: &mut Progress,
+        numbers: &mut [u64],
+    ) -> usize
+        requires argument { length on.now.argument.now + EDGE_BYTES ≡ self.old.record_length }
+        requires few { length frontier.now ≤ MOST_VERTICES }
+        requires place { IsPlace (graph_of on.now.version.now) frontier.now progress.old }
+        ensures program { self.new ≡ self.old }
+        ensures numbers { let p = self.old in let g = graph_of on.now.version.now in
+            numbers_before p (longest p) g on.now.argument.now frontier.now progress.new
+            ≡ numbers_before p (longest p) g on.now.argument.now frontier.now progress.old ++ take result numbers.new }
+        ensures rest { drop result numbers.new ≡ drop result numbers.old }
+        ensures room { result ≤ length numbers.old }
+        ensures edges { progress.new.edges ≡ (progress.old.edges + result) % 2 ^ 64 }
+        ensures total { progress.new.total ≡ progress.old.total }
+        ensures place { IsPlace (graph_of on.now.version.now) frontier.now progress.new }
+        ensures on { progress.old.vertex < length frontier.now → 0 < length numbers.old
+            → IsBefore progress.old progress.new }
+        ensures stops { (progress.new.vertex ≡ length frontier.now) ⊎ (progress.new.budget ≡ 0) ⊎ (result
+            ≡ length numbers.old) }
+        ensures cost { let most = most_of (graph_of on.now.version.now) self.old on.now.argument.now frontier.now in
+            progress.old.budget + most progress.old ≤ progress.new.budget + most progress.new }
+        ensures falls { let least = least_of (graph_of on.now.version.now) self.old on.now.argument.now frontier.now in
+            progress.new.budget ≤ progress.old.budget + least progress.old - least progress.new }
+    {
+        let mapped = Mapped {
+            version: on.version,
+            program: &self.program,
+            argument: on.argument,
+        };
+        number_some(&mut self.memory, &mapped, frontier, progress, numbers)
+    }
+
+    /// Writes the numbers of the next pairs, as far as the budget goes: one at least, if any is left.
+    pub fn number_pairs(
+        &mut self,
+        on: &Edges<'_>,
+        pairs: &Pairs<'_>,
+        progress: &mut Progress,
+        numbers: &mut [u64],
+    )
+        requires argument { length on.now.argument.now + EDGE_BYTES ≡ self.old.record_length }
+        requires few { length pairs.now.sources.now < 2 ^ 32 }
+        requires long { length numbers.old ≡ length pairs.now.sources.now }
+        requires place { progress.old.vertex ≤ length pairs.now.sources.now }
+        ensures program { self.new ≡ self.old }
+        ensures numbers { let p = self.old in let g = graph_of on.now.version.now in
+            let a = progress.old.vertex in let b = progress.new.vertex in
+            take b numbers.new ≡ take a numbers.old ++ pair_numbers p (longest p) g on.now.argument.now
+            (slice_range pairs.now.sources.now a b) (slice_range pairs.now.targets.now a b) }
+        ensures rest { drop progress.new.vertex numbers.new ≡ drop progress.new.vertex numbers.old }
+        ensures edges { progress.new.edges ≡ (progress.old.edges +
+            (progress.new.vertex - progress.old.vertex)) % 2 ^ 64 }
+        ensures total { progress.new.total ≡ progress.old.total }
+        ensures place { progress.new.place ≡ progress.old.place }
+        ensures inside { progress.new.vertex ≤ length pairs.now.sources.now }
+        ensures back { progress.old.vertex ≤ progress.new.vertex }
+        ensures on { progress.old.vertex < length pairs.now.sources.now → progress.old.vertex < progress.new.vertex }
+        ensures stops { (progress.new.vertex ≡ length pairs.now.sources.now) ⊎ (progress.new.budget ≡ 0) }
+        ensures cost { let k = longest self.old + EDGE_COST in
+            progress.old.budget + k * progress.old.vertex ≤ progress.new.budget + k * progress.new.vertex }
+        ensures falls { progress.new.budget ≤ progress.old.budget + EDGE_COST * progress.old.vertex - EDGE_COST *
+            progress.new.vertex }
+    {
+        let mapped = Mapped {
+            version: on.version,
+            program: &self.program,
+            argument: on.argument,
+        };
+        number_pairs(&mut self.memory, &mapped, pairs, progress, numbers);
     }
 }

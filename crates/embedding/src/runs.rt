@@ -1,20 +1,16 @@
 //! Programs over the edges of a version's vertices.
-ghost use Rattle.std.specs.Prelude.{◌≡◌, ◌+◌, Some, None, length, map};
-ghost use Rattle.bpf_image.specs.Program.{Program};
+ghost use Rattle.std.specs.Prelude.{◌≡◌, Some, None};
 ghost use Rattle.past_model.specs.Past.{graph_of};
-ghost use Rattle.map_model.specs.declared.limits.TheConstants.{EDGE_BYTES};
-ghost use Rattle.map_model.specs.declared.row.Row.{Row};
-ghost use Rattle.embedding.specs.declared.statuses.TheConstants.{DONE};
 ghost use Rattle.embedding.specs.Holding.{OnBoth};
-ghost use Rattle.embedding.specs.Runs.{reduction_at, values_of, IsRun};
+ghost use Rattle.embedding.specs.Parts.{IsRunSome};
+ghost use Rattle.embedding.specs.Runs.{reduction_at, IsRun};
 
 use crate::held::Held;
-use crate::runnable::Runnable;
-use crate::statuses::{ARGUMENT_LENGTH, DONE, LENGTHS, NO_MEMORY, OTHER_KIND, REDUCTION};
-use edge_fold::{EDGE_BYTES, MapOutcome, Reduction};
-use map_model::Row;
+use crate::places::is_at_place;
+use crate::runnable::{Edges, Runnable};
+use crate::statuses::{ARGUMENT_LENGTH, DONE, LENGTHS, OTHER_KIND, PROGRESS, REDUCTION};
+use edge_fold::{EDGE_BYTES, Progress, Reduction, Request};
 use past_model::MOST_VERTICES;
-use std::alloc::Global;
 use version::Version;
 
 /// What all edges of a run have together.
@@ -25,6 +21,17 @@ pub struct Totals {
     pub edges: u64,
     /// What all numbers reduce to.
     pub total: u64,
+}
+
+/// What a host asks of a run.
+#[derive(Clone, Copy)]
+pub struct RunAsked<'a> {
+    /// What each record has after the edge.
+    pub argument: &'a [u8],
+    /// The vertices whose edges the program runs on, at most 268,435,456 of them in any order.
+    pub frontier: &'a [u32],
+    /// What the numbers are reduced to: 0 is the sum, 1 the least and 2 the greatest.
+    pub reduction: u32,
 }
 
 /// The reduction of a number: 0 is the sum, 1 the least and 2 the greatest.
@@ -39,80 +46,58 @@ fn reduction_from(number: u32) -> Option<Reduction>
     }
 }
 
-// Writes the rows' values.
-fn put_values(rows: &[Row], values: &mut [u64])
-    requires { length values.old ≡ length rows.now }
-    ensures { values.new ≡ values_of rows.now }
-{
-    let mut at = 0usize;
-    'rows: while at < rows.len() {
-        values[at] = rows[at].value;
-        at += 1;
-    }
-}
-
-// Writes what came of a map.
-fn put_outcome(out: &MapOutcome, values: &mut [u64], totals: &mut Totals)
-    requires { length values.old ≡ length out.now.rows.items }
-    ensures values { values.new ≡ values_of out.now.rows.items }
-    ensures edges { totals.new.edges ≡ out.now.edges }
-    ensures total { totals.new.total ≡ out.now.total }
-{
-    put_values(&out.rows, values);
-    totals.edges = out.edges;
-    totals.total = out.total;
-}
-
-// Runs a program over a frontier. All is tested and all memory taken before anything is written.
+// Runs a program over a frontier. All is tested before anything is written.
+#[tactic(auto, using(crate::proofs::RunValues::values_of_rows))]
 fn run(
-    alloc: Global,
     version: &Version,
     program: &mut Runnable,
-    argument: &[u8],
-    frontier: &[u32],
-    reduction: u32,
+    asked: &RunAsked<'_>,
     values: &mut [u64],
     totals: &mut Totals,
 ) -> u32
     ensures program { program.new ≡ program.old }
-    ensures answered { IsRun (graph_of version.now) program.old argument.now frontier.now reduction result values.old totals.old values.new totals.new }
+    ensures answered { let a = asked.now in IsRun
+        (graph_of version.now) program.old a.argument.now a.frontier.now a.reduction result values.old totals.old
+        values.new totals.new }
 {
-    let Some(reduction) = reduction_from(reduction) else {
+    let Some(reduction) = reduction_from(asked.reduction) else {
         return REDUCTION;
     };
+    let frontier = asked.frontier;
     if values.len() != frontier.len() || frontier.len() > MOST_VERTICES as usize {
         return LENGTHS;
     }
+    let argument = asked.argument;
     if argument.len() + EDGE_BYTES != usize::from(program.record_length()) {
         return ARGUMENT_LENGTH;
     }
-    match program.map(alloc, version, argument, frontier, reduction) {
-        Ok(out) => {
-            put_outcome(&out, values, totals);
-            DONE
-        }
-        Err(_) => NO_MEMORY,
-    }
+    let on = Edges { version, argument };
+    let request = Request {
+        frontier,
+        reduction,
+    };
+    let end = program.map(&on, &request, values);
+    totals.edges = end.edges;
+    totals.total = end.total;
+    DONE
 }
 
 /// Runs the program that a handle holds on each edge of the vertices of a frontier, in the version that another handle holds,
 /// and writes for each vertex what its numbers reduce to, and for all together how many edges there were and what their
-/// numbers reduce to. The frontier may have at most 268,435,456 vertices, in any order. Else nothing is written: `REDUCTION`
-/// where there is none of this number, then `LENGTHS` where there is not one value for each vertex or they are too many,
-/// then `ARGUMENT_LENGTH`, then `NO_MEMORY`.
+/// numbers reduce to. The frontier may have at most 268,435,456 vertices, in any order. It takes no memory. Else nothing is written:
+/// `REDUCTION` where there is none of this number, then `LENGTHS` where there is not one value for each vertex or they are too
+/// many, then `ARGUMENT_LENGTH`.
 pub fn run_held(
-    alloc: Global,
     graph: &Held,
     code: &mut Held,
-    argument: &[u8],
-    frontier: &[u32],
-    reduction: u32,
+    asked: &RunAsked<'_>,
     values: &mut [u64],
     totals: &mut Totals,
 ) -> u32
     ensures program { code.new ≡ code.old }
-    ensures answered { OnBoth (Some graph.now) (Some code.old) result ((values.new ≡ values.old) × (totals.new ≡ totals.old))
-        (λ past p. IsRun (graph_of past) p argument.now frontier.now reduction result values.old totals.old values.new totals.new) }
+    ensures answered { OnBoth (Some graph.now) (Some code.old) result ((values.new ≡ values.old) × (totals.new
+        ≡ totals.old))
+        (λ past p. IsRun (graph_of past) p asked.now.argument.now asked.now.frontier.now asked.now.reduction result values.old totals.old values.new totals.new) }
 {
     let version = match graph {
         Held::Version(version) => version,
@@ -120,9 +105,73 @@ pub fn run_held(
         Held::Program(_) => return OTHER_KIND,
     };
     match code {
-        Held::Program(program) => run(
-            alloc, version, program, argument, frontier, reduction, values, totals,
-        ),
+        Held::Program(program) => run(version, program, asked, values, totals),
+        Held::Store(_) => OTHER_KIND,
+        Held::Version(_) => OTHER_KIND,
+    }
+}
+
+// Goes on with a run. All is tested before anything is written.
+fn run_some(
+    version: &Version,
+    program: &mut Runnable,
+    asked: &RunAsked<'_>,
+    progress: &mut Progress,
+    values: &mut [u64],
+) -> u32
+    ensures program { program.new ≡ program.old }
+    ensures answered { let a = asked.now in IsRunSome
+        (graph_of version.now) program.old a.argument.now a.frontier.now a.reduction result progress.old progress.new
+        values.old values.new }
+{
+    let Some(reduction) = reduction_from(asked.reduction) else {
+        return REDUCTION;
+    };
+    let frontier = asked.frontier;
+    if values.len() != frontier.len() || frontier.len() > MOST_VERTICES as usize {
+        return LENGTHS;
+    }
+    let argument = asked.argument;
+    if argument.len() + EDGE_BYTES != usize::from(program.record_length()) {
+        return ARGUMENT_LENGTH;
+    }
+    if !is_at_place(version, frontier, progress) {
+        return PROGRESS;
+    }
+    let on = Edges { version, argument };
+    let request = Request {
+        frontier,
+        reduction,
+    };
+    program.map_some(&on, &request, progress, values);
+    DONE
+}
+
+/// Goes on with a run over a frontier: it does the next edges, as far as the progress's budget goes, and one edge or one vertex at
+/// least, if any is left. `values` has one place for each vertex, and keeps its content from call to call. The run begins at vertex 0
+/// and place 0, and is done where the progress is at the frontier's end: then it has written what `run_held` writes. Hand in the same
+/// version, program, argument, frontier and reduction each time. It takes no memory. Else nothing is written: `REDUCTION`,
+/// `LENGTHS` and `ARGUMENT_LENGTH` as for a run, then `PROGRESS` where the progress is past the frontier, past a vertex's edges, or at
+/// the frontier's end with a place.
+pub fn run_some_held(
+    graph: &Held,
+    code: &mut Held,
+    asked: &RunAsked<'_>,
+    progress: &mut Progress,
+    values: &mut [u64],
+) -> u32
+    ensures program { code.new ≡ code.old }
+    ensures answered { OnBoth (Some graph.now) (Some code.old) result ((values.new ≡ values.old) × (progress.new
+        ≡ progress.old))
+        (λ past p. IsRunSome (graph_of past) p asked.now.argument.now asked.now.frontier.now asked.now.reduction result progress.old progress.new values.old values.new) }
+{
+    let version = match graph {
+        Held::Version(version) => version,
+        Held::Store(_) => return OTHER_KIND,
+        Held::Program(_) => return OTHER_KIND,
+    };
+    match code {
+        Held::Program(program) => run_some(version, program, asked, progress, values),
         Held::Store(_) => OTHER_KIND,
         Held::Version(_) => OTHER_KIND,
     }

@@ -1,5 +1,5 @@
 //! The slices in which a vertex's neighbours lie, lent where they lie.
-ghost use Rattle.std.specs.Prelude.{◌≡◌, ◌<◌, Some, length, slice_index_or};
+ghost use Rattle.std.specs.Prelude.{◌≡◌, ◌<◌, Some, drop, length, slice_index_or};
 ghost use Rattle.std.specs.Ptr.{as_ptr};
 ghost use Rattle.graph_model.specs.Graph.{neighbours};
 ghost use Rattle.past_model.specs.Past.{graph_of};
@@ -40,11 +40,11 @@ fn slice_from(first: &u32, count: usize) -> Slice
     }
 }
 
-// Writes the slices of a vertex, as far as there is room, and returns how many.
-fn lend(version: &Version, vertex: u32, slices: &mut [Slice]) -> usize
-    ensures { AreLent (neighbours (graph_of version.now) vertex) result slices.old slices.new }
+// Writes the slices of a vertex's neighbours from a place on, as far as there is room, and returns how many.
+fn lend(version: &Version, vertex: u32, place: u32, slices: &mut [Slice]) -> usize
+    ensures { AreLent (drop place (neighbours (graph_of version.now) vertex)) result slices.old slices.new }
 {
-    let mut cursor = version.cursor(vertex);
+    let mut cursor = version.cursor_from(vertex, place);
     let mut lent = 0usize;
     'slices: while lent < slices.len() {
         let Some(words) = cursor.next_slice() else {
@@ -62,9 +62,24 @@ pub fn lend_held(held: &Held, vertex: u32, slices: &mut [Slice], lent: &mut usiz
     ensures { OnVersion (Some held.now) result ((slices.new ≡ slices.old) × (lent.new ≡ lent.old))
         (λ p. (result ≡ DONE) × AreLent (neighbours (graph_of p) vertex) lent.new slices.old slices.new) }
 {
+    lend_from_held(held, vertex, 0, slices, lent)
+}
+
+/// Writes the slices in which a vertex's neighbours lie from a place on, from 0, and returns how many it wrote, as `lend_held` does.
+/// There are none past the neighbours' end.
+pub fn lend_from_held(
+    held: &Held,
+    vertex: u32,
+    place: u32,
+    slices: &mut [Slice],
+    lent: &mut usize,
+) -> u32
+    ensures { OnVersion (Some held.now) result ((slices.new ≡ slices.old) × (lent.new ≡ lent.old))
+        (λ p. (result ≡ DONE) × AreLent (drop place (neighbours (graph_of p) vertex)) lent.new slices.old slices.new) }
+{
     match held {
         Held::Version(version) => {
-            *lent = lend(version, vertex, slices);
+            *lent = lend(version, vertex, place, slices);
             DONE
         }
         Held::Store(_) => OTHER_KIND,

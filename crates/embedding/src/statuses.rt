@@ -38,3 +38,5 @@ pub const NO_NEIGHBOUR: u32 = 16;
 pub const EPOCHS_FULL: u32 = 17;
 /// The table has more than 4,096 bytes.
 pub const TABLE_LENGTH: u32 = 18;
+/// The progress names no place of this frontier.
+pub const PROGRESS: u32 = 20;

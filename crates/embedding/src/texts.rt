@@ -67,7 +67,8 @@ pub fn explain_into(
     text: &mut [u8],
     count: &mut usize,
 ) -> u32
-    ensures explained { (result ≡ DONE) ⊎ (result ≡ LENGTHS) → IsExplained bytes.now text.old result text.new count.new }
+    ensures explained { (result ≡ DONE) ⊎ (result
+        ≡ LENGTHS) → IsExplained bytes.now text.old result text.new count.new }
     ensures lengths { NamesLength bytes.now result }
     ensures others { result ≢ DONE → result ≢ LENGTHS → (IsOfLength result → ⊥) → result ≡ NO_MEMORY }
     ensures left { result ≢ DONE → text.new ≡ text.old }

@@ -9,8 +9,8 @@ slices-init c = record {
   fit = omega arith;
   filled = λ k d below. absurd (omega (arith, below));
   rest = refl;
-  some = omega (arith, ap length c.cursor-cursor.ensures);
-  begins = sym c.cursor-cursor.ensures;
+  some = omega (arith, ap length c.cursor_from-cursor.ensures.left);
+  begins = sym c.cursor_from-cursor.ensures.left;
 }
 
 pub slices-preserved : goal.slices-preserved

@@ -11,8 +11,8 @@ invariant-slices l = record {
   fit : l.lent ≤ length l.slices;
   filled : All (λ (s : Slice). 0 < s.count) (take l.lent l.slices);
   rest : drop l.lent l.slices ≡ drop l.lent l.initial.slices;
-  some : counted (take l.lent l.slices) + length l.cursor ≡ length (neighbours (graph_of l.version) l.vertex);
-  begins : Follow (neighbours (graph_of l.version) l.vertex) (take l.lent l.slices) l.cursor;
+  some : counted (take l.lent l.slices) + length l.cursor ≡ length (drop l.place (neighbours (graph_of l.version) l.vertex));
+  begins : Follow (drop l.place (neighbours (graph_of l.version) l.vertex)) (take l.lent l.slices) l.cursor;
 }
 
 abbrev pub decreases-slices : goal.decreases-slices
