@@ -30,7 +30,8 @@ enum {
     EDGEBPF_WRONG_TEXT = 15,
     EDGEBPF_NO_NEIGHBOUR = 16,
     EDGEBPF_EPOCHS_FULL = 17,
-    EDGEBPF_TABLE_LENGTH = 18
+    EDGEBPF_TABLE_LENGTH = 18,
+    EDGEBPF_PROGRESS = 20
 };
 
 /* The same in words. */
@@ -55,8 +56,10 @@ static inline const char *edgebpf_words(uint32_t status) {
         "the vertex has no neighbour at this place",
         "1024 rebases were made, and there is room for no more",
         "the table has more than 4096 bytes",
+        NULL, /* no call returns 19 */
+        "the progress names no place of this frontier",
     };
-    return status < sizeof words / sizeof *words ? words[status] : "there is no such status";
+    return status < sizeof words / sizeof *words && words[status] ? words[status] : "there is no such status";
 }
 
 /* An array is a pointer that is not NULL, and a count. This is one without a byte. */
@@ -94,6 +97,12 @@ typedef struct edgebpf_assembled { size_t length, line; uint32_t cause; } edgebp
 /* What all edges of a run have together. */
 typedef struct edgebpf_totals { uint64_t edges, total; } edgebpf_totals;
 
+/* Work under way, which goes on from call to call: {0} is its beginning. `budget` is how much the next call may do, and falls by what
+   is done. Of a frontier `vertex` vertices are done, and `place` edges of the next one; of pairs `vertex` are done, and `place` is
+   0. `edges` edges in all have a number, and those of a run reduce to `total`. There is no pointer in it, so it may be kept, sent, or
+   written to a file. */
+typedef struct edgebpf_progress { uint64_t budget, edges, total; uint32_t vertex, place; } edgebpf_progress;
+
 enum { EDGEBPF_SUM = 0, EDGEBPF_MIN = 1, EDGEBPF_MAX = 2 };
 
 /* A store of a graph of 1 to 268,435,456 vertices, without an edge. VERTEX_COUNT. */
@@ -130,6 +139,11 @@ uint32_t edgebpf_version_neighbour(edgebpf_version *version, uint32_t vertex, ui
    all. Nobody may write to them, and they end with the last handle of the version. */
 uint32_t edgebpf_version_lend(edgebpf_version *version, uint32_t vertex, edgebpf_slice *slices, size_t room, size_t *lent);
 
+/* The same from the neighbour at a place on, from 0: where there was too little room, go on at the place after the last neighbour
+   that was lent. There are none past the neighbours' end. */
+uint32_t edgebpf_version_lend_from(edgebpf_version *version, uint32_t vertex, uint32_t place, edgebpf_slice *slices, size_t room,
+                                   size_t *lent);
+
 /* All edges: `starts` has one place for each vertex and one more, `targets` one for each edge. LENGTHS. */
 uint32_t edgebpf_version_copy(edgebpf_version *version, uint64_t *starts, size_t start_count, uint32_t *targets,
                               size_t target_count);
@@ -158,9 +172,35 @@ uint32_t edgebpf_run(edgebpf_version *version, edgebpf_program *program, const u
                      const uint32_t *frontier, size_t frontier_count, uint32_t reduction, uint64_t *values,
                      size_t value_count, edgebpf_totals *totals);
 
+/* Goes on with a run over a frontier, as far as `at->budget` goes; it is done where `at->vertex` is `frontier_count`, and has then
+   written what edgebpf_run writes. Each call does one edge or one vertex at least, also with a budget of 0. An edge takes at most
+   the verdict's bound and 4 from the budget, a vertex 16; a call may do more than its budget by one edge, or by the 64 edges of a
+   block. `values` has one place for each vertex, and keeps its content from call to call: those of vertices that are done are
+   final. Hand in the same version (or another handle of it), program, argument, frontier and reduction each time. REDUCTION,
+   LENGTHS, ARGUMENT_LENGTH, PROGRESS, tested in this order; it takes no memory. For a status other than 0 nothing is written, also
+   not `at`. */
+uint32_t edgebpf_run_some(edgebpf_version *version, edgebpf_program *program, const uint8_t *argument, size_t argument_length,
+                          const uint32_t *frontier, size_t frontier_count, uint32_t reduction, edgebpf_progress *at,
+                          uint64_t *values, size_t value_count);
+
 /* The number of each edge, in the order of edgebpf_version_copy. LENGTHS, ARGUMENT_LENGTH. */
 uint32_t edgebpf_numbers(edgebpf_version *version, edgebpf_program *program, const uint8_t *argument,
                          size_t argument_length, uint64_t *numbers, size_t number_count);
+
+/* Writes the numbers of the next edges of a frontier's vertices, one vertex after another, targets ascending, as far as there is
+   room and the budget goes; `written` is how many. It is done where `at->vertex` is `frontier_count`. `at->total` stays. LENGTHS (a
+   frontier of more than 268,435,456 vertices), ARGUMENT_LENGTH, PROGRESS, tested in this order. */
+uint32_t edgebpf_numbers_some(edgebpf_version *version, edgebpf_program *program, const uint8_t *argument, size_t argument_length,
+                              const uint32_t *frontier, size_t frontier_count, edgebpf_progress *at, uint64_t *numbers,
+                              size_t number_count, size_t *written);
+
+/* Writes a number for each pair of a source and a target, from the pair `at->vertex` on, as far as the budget goes, and for one at
+   least; it is done where `at->vertex` is `source_count`. A pair need not be an edge: its record has the target's place among the
+   source's neighbours, or the source's degree where it is none of them. So a pair that is an edge has the number of that edge.
+   `numbers` has one place for each pair. LENGTHS, ARGUMENT_LENGTH, PROGRESS, tested in this order. */
+uint32_t edgebpf_pairs(edgebpf_version *version, edgebpf_program *program, const uint8_t *argument, size_t argument_length,
+                       const uint32_t *sources, size_t source_count, const uint32_t *targets, size_t target_count,
+                       edgebpf_progress *at, uint64_t *numbers, size_t number_count);
 
 /* Drops what a handle holds, and leaves it empty. An empty one may be closed. */
 void edgebpf_close(edgebpf_handle *handle);

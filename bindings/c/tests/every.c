@@ -5,6 +5,10 @@ static edgebpf_store store;
 static edgebpf_version first, last;
 static edgebpf_program targets_of;
 
+static int is_at(const edgebpf_progress *at, uint64_t budget, uint32_t vertex, uint32_t place, uint64_t edges, uint64_t total) {
+    return at->budget == budget && at->vertex == vertex && at->place == place && at->edges == edges && at->total == total;
+}
+
 /* 0 to 1, 2 and 3; 2 to 0; 3 to itself: after a batch of five edges, and one that takes out two of which one is there. */
 static void applies_batches(void) {
     const uint32_t sources[] = {0, 0, 1, 2, 3}, targets[] = {1, 2, 2, 0, 3};
@@ -54,6 +58,17 @@ static void lends_and_copies(void) {
     CHECK(seen == 3);
     CHECK(edgebpf_version_lend(&last, 1, slices, 8, &lent) == EDGEBPF_DONE && lent == 0);
     CHECK(edgebpf_version_lend(&last, 77, slices, 8, &lent) == EDGEBPF_DONE && lent == 0);
+    for (uint32_t place = 0; place < 5; place++) { /* 3 is the end of the neighbours */
+        seen = place < 3 ? place : 3;
+        CHECK(edgebpf_version_lend_from(&last, 0, place, slices, 8, &lent) == EDGEBPF_DONE && lent <= 3 - seen);
+        for (size_t i = 0; i < lent; i++)
+            for (size_t j = 0; j < slices[i].count; j++) CHECK(slices[i].at[j] == ++seen);
+        CHECK(seen == 3);
+    }
+    CHECK(edgebpf_version_lend_from(&last, 77, 0, slices, 8, &lent) == EDGEBPF_DONE && lent == 0);
+    CHECK(edgebpf_version_lend_from(&last, 0, UINT32_MAX, slices, 8, &lent) == EDGEBPF_DONE && lent == 0);
+    lent = 9;
+    CHECK(edgebpf_version_lend_from(&last, 0, 1, slices, 0, &lent) == EDGEBPF_DONE && lent == 0);
     CHECK(edgebpf_version_copy(&last, starts, 5, targets, 5) == EDGEBPF_DONE);
     CHECK(!memcmp(starts, wanted_starts, sizeof starts) && !memcmp(targets, wanted, sizeof targets));
     CHECK(edgebpf_version_copy(&last, starts, 4, targets, 5) == EDGEBPF_LENGTHS);
@@ -405,6 +420,16 @@ static void tells_what_handles_hold(void) {
     CHECK(edgebpf_version_info(&out, &info) == EDGEBPF_EMPTY);
     CHECK(edgebpf_version_lend(&out, 0, &slice, 1, &lent) == EDGEBPF_EMPTY);
     CHECK(edgebpf_run(&out, &targets_of, EDGEBPF_NO_BYTES, 0, &one, 1, 0, &value, 1, &totals) == EDGEBPF_EMPTY);
+    CHECK(edgebpf_version_lend_from(&out, 0, 0, &slice, 1, &lent) == EDGEBPF_EMPTY);
+    edgebpf_progress at = {5, 6, 7, 0, 0};
+    lent = 9, value = 8;
+    CHECK(edgebpf_run_some(&out, &targets_of, EDGEBPF_NO_BYTES, 0, &one, 1, 0, &at, &value, 1) == EDGEBPF_EMPTY);
+    CHECK(edgebpf_numbers_some(&last, (edgebpf_program *)&none, EDGEBPF_NO_BYTES, 0, &one, 1, &at, &value, 1, &lent) == EDGEBPF_EMPTY);
+    CHECK(edgebpf_pairs(&out, &targets_of, EDGEBPF_NO_BYTES, 0, &one, 1, &one, 1, &at, &value, 1) == EDGEBPF_EMPTY);
+    CHECK(edgebpf_run_some((edgebpf_version *)&store, &targets_of, EDGEBPF_NO_BYTES, 0, &one, 1, 0, &at, &value, 1) == EDGEBPF_OTHER_KIND);
+    CHECK(edgebpf_numbers_some(&last, (edgebpf_program *)&store, EDGEBPF_NO_BYTES, 0, &one, 1, &at, &value, 1, &lent) == EDGEBPF_OTHER_KIND);
+    CHECK(edgebpf_pairs(&last, (edgebpf_program *)&store, EDGEBPF_NO_BYTES, 0, &one, 1, &one, 1, &at, &value, 1) == EDGEBPF_OTHER_KIND);
+    CHECK(is_at(&at, 5, 0, 0, 6, 7) && lent == 9 && value == 8);
     CHECK(edgebpf_store_pin((edgebpf_store *)&last, &out) == EDGEBPF_OTHER_KIND && !out.handle.at);
     CHECK(edgebpf_version_share((edgebpf_version *)&store, &out) == EDGEBPF_OTHER_KIND);
     CHECK(edgebpf_version_degree((edgebpf_version *)&targets_of, 0, &answer) == EDGEBPF_OTHER_KIND);
@@ -416,10 +441,10 @@ static void tells_what_handles_hold(void) {
     static const char *const words[] = {
         "done", "memory", "empty", "another kind", "number of vertices", "an edit names", "65536 edits", "4096 batches",
         "feed", "lengths", "refuses", "record length", "code is not", "argument", "reduction", "means no code", "neighbour", "1024 rebases",
-        "the table has more than 4096",
+        "the table has more than 4096", "there is no such status", "the progress names no place",
     };
     for (uint32_t status = 0; status < COUNT(words); status++) CHECK(strstr(edgebpf_words(status), words[status]));
-    CHECK(!strcmp(edgebpf_words(EDGEBPF_TABLE_LENGTH + 1), "there is no such status"));
+    CHECK(!strcmp(edgebpf_words(EDGEBPF_PROGRESS + 1), "there is no such status"));
 }
 
 int main(void) {

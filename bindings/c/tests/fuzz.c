@@ -115,10 +115,14 @@ static void share(input *in) {
 }
 
 /* The neighbours that a version lends, as a word; they ascend. */
-static uint64_t lent_row(version *one, uint32_t at, size_t room) {
+static uint64_t lent_row(version *one, uint32_t at, uint32_t skipped, size_t room) {
     edgebpf_slice slices[ROOM];
     size_t lent = 0;
-    MUST(CALL(edgebpf_version_lend(&one->handle, at, slices, room, &lent)) == EDGEBPF_DONE && lent <= room);
+    uint32_t status = skipped ? CALL(edgebpf_version_lend_from(&one->handle, at, skipped, slices, room, &lent))
+                              : CALL(edgebpf_version_lend(&one->handle, at, slices, room, &lent));
+    uint64_t wanted = row(&one->graph, at);
+    for (; skipped && wanted; skipped--) wanted &= wanted - 1;
+    MUST(status == EDGEBPF_DONE && lent <= room);
     uint64_t found = 0;
     int64_t last = -1;
     for (size_t slice = 0; slice < lent; slice++) {
@@ -128,7 +132,7 @@ static uint64_t lent_row(version *one, uint32_t at, size_t room) {
             last = slices[slice].at[place], found |= 1ull << last;
         }
     }
-    MUST(lent == room || found == row(&one->graph, at));
+    MUST(lent == room || found == wanted);
     return found;
 }
 
@@ -147,7 +151,7 @@ static void ask(input *in) {
     for (uint32_t skip = 0; skip < place && wanted; skip++) wanted &= wanted - 1;
     status = CALL(edgebpf_version_neighbour(&one->handle, source, place, &answer));
     MUST(status == (wanted ? EDGEBPF_DONE : EDGEBPF_NO_NEIGHBOUR) && (!wanted || answer == (uint32_t)__builtin_ctzll(wanted)));
-    lent_row(one, source, byte(in) % (ROOM + 1));
+    lent_row(one, source, byte(in) < 128 ? 0 : place, byte(in) % (ROOM + 1));
 }
 
 static void copy(input *in) {
@@ -246,6 +250,77 @@ static void numbers(input *in) {
         for (uint64_t left = one->graph.rows[at]; left; left &= left - 1) MUST(found[place++] == (uint64_t)__builtin_ctzll(left));
 }
 
+/* A place of a frontier, which the library is to take, or one that a host made up. */
+static edgebpf_progress chosen_progress(input *in, const graph *of, const uint32_t *frontier, size_t count, uint32_t *wanted) {
+    edgebpf_progress at = {0, 0, 0, 0, 0};
+    if (byte(in) < 200) return *wanted = EDGEBPF_DONE, at;
+    at.vertex = byte(in) % (EDITS + 2), at.place = byte(in) % 4;
+    int is_place = at.vertex < count ? at.place <= (uint32_t)__builtin_popcountll(row(of, frontier[at.vertex])) : at.vertex == count && !at.place;
+    *wanted = is_place ? EDGEBPF_DONE : EDGEBPF_PROGRESS;
+    return at;
+}
+
+/* A run in parts and the numbers in parts, of a program whose numbers are the targets, against the run as a whole and the model. */
+static void run_parts(input *in) {
+    static const uint64_t budgets[] = {0, 1, 10, 100, 1000, UINT64_MAX};
+    version *one = &versions[byte(in) % HANDLES];
+    program *with = &programs[byte(in) % HANDLES];
+    uint32_t frontier[EDITS], reduction = byte(in) % 3, wanted;
+    static uint64_t values[EDITS], whole[EDITS], found[EDITS * MOST];
+    uint8_t argument[256] = {0};
+    size_t count = byte(in) % (EDITS + 1), length = with->length ? with->length - 16u : 0, written = 0, all = 0, room = 1 + byte(in) % 100;
+    uint64_t budget = budgets[byte(in) % 6];
+    for (size_t at = 0; at < count; at++) frontier[at] = vertex(in, one->graph.vertices);
+    edgebpf_progress run = chosen_progress(in, &one->graph, frontier, count, &wanted), numbered = run, before = run;
+    edgebpf_totals totals;
+    if (!one->graph.vertices || !with->length) wanted = EDGEBPF_EMPTY;
+    int is_begun = run.vertex || run.place;
+    for (int calls_left = 3 * EDITS * MOST;; calls_left--) {
+        run.budget = budget;
+        before = run;
+        uint32_t status = CALL(edgebpf_run_some(&one->handle, &with->handle, argument, length, frontier, count, reduction, &run, values, count));
+        MUST(status == wanted && calls_left && (!status || !memcmp(&run, &before, sizeof run)));
+        if (status) break;
+        MUST(run.vertex == count || (!run.budget && (run.vertex > before.vertex || run.place > before.place)));
+        if (run.vertex == count) break;
+    }
+    while (numbered.vertex < count) {
+        numbered.budget = budget;
+        if (room > EDITS * MOST - all) room = EDITS * MOST - all;
+        uint32_t status = CALL(edgebpf_numbers_some(&one->handle, &with->handle, argument, length, frontier, count, &numbered, found + all, room, &written));
+        MUST(status == wanted);
+        if (status) return;
+        MUST(written <= room), all += written;
+    }
+    if (wanted || is_begun || CALL(edgebpf_run(&one->handle, &with->handle, argument, length, frontier, count, reduction, whole, count, &totals))) return;
+    MUST(run.edges == totals.edges && run.total == totals.total && !memcmp(values, whole, count * sizeof *whole) && all == totals.edges);
+    size_t place = 0;
+    for (size_t at = 0; at < count && with->is_target; at++)
+        for (uint64_t left = row(&one->graph, frontier[at]); left; left &= left - 1) MUST(found[place++] == (uint64_t)__builtin_ctzll(left));
+}
+
+/* Pairs that are edges have the numbers of the edges; of a program whose numbers are the targets, all pairs have their target. */
+static void number_pairs(input *in) {
+    version *one = &versions[byte(in) % HANDLES];
+    program *with = &programs[byte(in) % HANDLES];
+    uint32_t sources[EDITS], targets[EDITS];
+    uint64_t found[EDITS];
+    uint8_t argument[256] = {0};
+    size_t count = byte(in) % (EDITS + 1), length = with->length ? with->length - 16u : 0;
+    uint64_t budget = byte(in);
+    for (size_t at = 0; at < count; at++) sources[at] = vertex(in, one->graph.vertices), targets[at] = vertex(in, one->graph.vertices);
+    edgebpf_progress at = {0, 0, 0, 0, 0};
+    do {
+        at.budget = budget;
+        uint32_t done = at.vertex, status = CALL(edgebpf_pairs(&one->handle, &with->handle, argument, length, sources, count, targets, count, &at, found, count));
+        MUST(status == (one->graph.vertices && with->length ? EDGEBPF_DONE : EDGEBPF_EMPTY));
+        if (status) return;
+        MUST(at.vertex == count || (!at.budget && at.vertex > done && at.vertex < count));
+    } while (at.vertex < count);
+    MUST(at.edges == count && !at.place && !at.total);
+    for (size_t pair = 0; pair < count && with->is_target; pair++) MUST(found[pair] == targets[pair]);
+}
+
 static void close_some(input *in) {
     uint32_t at = byte(in) % HANDLES;
     edgebpf_close_store(&stores[at].handle), stores[at].graph.vertices = 0;
@@ -258,7 +333,7 @@ static void close_some(input *in) {
 static void print_calls(void) { fprintf(stderr, "fuzz: %llu calls\n", calls); }
 
 int LLVMFuzzerTestOneInput(const uint8_t *bytes, size_t count) {
-    static void (*const actions[])(input *) = {new_store, apply, apply, apply, apply, rebase, pin, pin, share, ask, ask, copy, new_program, assemble, run, run, numbers, close_some};
+    static void (*const actions[])(input *) = {new_store, apply, apply, apply, apply, rebase, pin, pin, share, ask, ask, copy, new_program, assemble, run, run, numbers, run_parts, run_parts, number_pairs, close_some};
     static int begun;
     if (!begun++) atexit(print_calls);
     input in = {bytes, bytes + count};
