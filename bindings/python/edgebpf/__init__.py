@@ -13,17 +13,19 @@ The graph of a `Store` lives in this process, in the memory of `libedgebpf.so`. 
 starts and `close` ends; batches and runs may have several workers there.
 """
 from edgebpf.errors import (
-    ArgumentLength, Closed, EpochsFull, Error, LogFull, NoMemory, Refused, TooManyEdits, TooManyNames, VertexRange, WrongText,
+    ArgumentLength, Closed, EpochsFull, Error, LogFull, NoMemory, NotHere, Refused, TimedOut, TooManyEdits, TooManyNames, VertexRange, WrongText,
 )
 from edgebpf.from_c import compile_c
 from edgebpf.live import Live
 from edgebpf.native import Store, Version
 from edgebpf.programs import Program, assemble
+from edgebpf.steps import NumbersRun, PairsRun, Run, Steps
 from edgebpf.store import Counts, Result, connect
 
 __version__ = "0.1.0"
 
 __all__ = [
-    "ArgumentLength", "Closed", "Counts", "EpochsFull", "Error", "Live", "LogFull", "NoMemory", "Program", "Refused", "Result", "Store",
-    "TooManyEdits", "TooManyNames", "Version", "VertexRange", "WrongText", "assemble", "compile_c", "connect",
+    "ArgumentLength", "Closed", "Counts", "EpochsFull", "Error", "Live", "LogFull", "NoMemory", "NotHere", "NumbersRun", "PairsRun", "Program",
+    "Refused", "Result", "Run", "Steps", "Store", "TimedOut", "TooManyEdits", "TooManyNames", "Version", "VertexRange", "WrongText", "assemble",
+    "compile_c", "connect",
 ]

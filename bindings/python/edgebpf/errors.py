@@ -5,6 +5,7 @@ import typing
 
 if typing.TYPE_CHECKING:
     from edgebpf.programs import Program
+    from edgebpf.steps import Steps
 
 CAUSES = {
     1: "no instruction stands there",
@@ -94,3 +95,15 @@ class NoMemory(Error):
 
 class Closed(Error):
     """The store or the version was closed, or its process has ended, as after a call that was interrupted."""
+
+
+class TimedOut(Error):
+    """The seconds that a call was given are over. `run` has what was done until then, and may be stepped on."""
+
+    def __init__(self, words: str, run: Steps) -> None:
+        super().__init__(words)
+        self.run = run
+
+
+class NotHere(Error):
+    """A version of `connect` has no steps, no limit of time, no pairs and no numbers of a frontier; one of `Store` has them."""

@@ -14,6 +14,10 @@ MOST_VERTICES, SERVED_VERTICES = 1 << 28, 1 << 20
 FEEDS = ("A", "B", "C", "D")
 # The number of each reduction in the library.
 REDUCTIONS = {"sum": 0, "min": 1, "max": 2}
+# Numbers and budgets are below this.
+WORD = 1 << 64
+MOST_THREADS = 64
+MOST_SECONDS = 1_000_000_000
 # Of arrays up to this length Python finds the greatest number sooner than numpy does.
 SHORT = 100
 
@@ -168,6 +172,39 @@ def edits_of_batch(inserts: Edges, removes: Edges, edges: Pairs | None, count: i
     marks = np.zeros(len(sources), np.uint8)
     marks[len(sources) - len(parts[2][0]):] = 1
     return sources, targets, marks
+
+
+def ends_of_pairs(sources: npt.ArrayLike, targets: npt.ArrayLike) -> Ends:
+    """The sources and the targets of pairs, which may name vertices that the graph does not have."""
+    ends = vertices_of(sources, 1 << 32, "sources"), vertices_of(targets, 1 << 32, "targets")
+    if len(ends[0]) != len(ends[1]):
+        raise ValueError(f"there are {len(ends[0])} sources and {len(ends[1])} targets, which are one of each for a pair")
+    return ends
+
+
+def budget_of(budget: int) -> int:
+    """How much work a step may do."""
+    number = budget if type(budget) is int else whole(budget, "budget")
+    if not 0 <= number < WORD:
+        raise ValueError("a budget is 0 to 2^64 - 1")
+    return number
+
+
+def seconds_of(seconds: float) -> float:
+    """How long a call may take."""
+    if isinstance(seconds, bool) or not isinstance(seconds, (int, float, np.integer, np.floating)):
+        raise TypeError(f"seconds is a number, not {type(seconds).__name__}")
+    if not 0 <= seconds <= MOST_SECONDS:
+        raise ValueError(f"seconds is 0 to {MOST_SECONDS}")
+    return float(seconds)
+
+
+def threads_of(threads: int) -> int:
+    """How many threads share a run."""
+    number = threads if type(threads) is int else whole(threads, "threads")
+    if not 1 <= number <= MOST_THREADS:
+        raise ValueError(f"threads is 1 to {MOST_THREADS}")
+    return number
 
 
 def frozen(array: npt.NDArray[Any]) -> npt.NDArray[Any]:

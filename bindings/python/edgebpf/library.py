@@ -26,7 +26,9 @@ NAME = "libedgebpf.so"
 INTERFACE = 1
 DONE, NO_MEMORY, EMPTY = 0, 1, 2
 VERTEX_RANGE, TOO_MANY_EDITS, LOG_FULL, REFUSED, RECORD_LENGTH, CODE_LENGTH, ARGUMENT_LENGTH, WRONG_TEXT = 5, 6, 7, 10, 11, 12, 13, 15
-NO_NEIGHBOUR, EPOCHS_FULL, TABLE_LENGTH = 16, 17, 18
+NO_NEIGHBOUR, EPOCHS_FULL, TABLE_LENGTH, PROGRESS = 16, 17, 18, 20
+# The last call that was added to the interface: a library without it is of an older release.
+NEWEST = "edgebpf_pairs"
 ERRORS: dict[int, tuple[type[Exception], str]] = {
     NO_MEMORY: (NoMemory, "there is no memory; nothing was changed"),
     EMPTY: (Closed, "it is closed"),
@@ -39,9 +41,9 @@ ERRORS: dict[int, tuple[type[Exception], str]] = {
     CODE_LENGTH: (ValueError, "code has 1 to 4,096 whole units of 8 bytes"),
     TABLE_LENGTH: (ValueError, "a table has at most 4,096 bytes"),
     ARGUMENT_LENGTH: (ArgumentLength, "the argument does not have the record's length less 16 bytes"),
+    PROGRESS: (Error, "the progress names no place of this frontier"),
 }
-# What bindings/c/edgebpf.h declares, as far as this package calls it. A slice is two numbers here, its address and its length, and totals
-# are two, too.
+# What bindings/c/edgebpf.h declares, as far as this package calls it. A slice is two numbers here, its address and its length.
 DECLARATIONS = f"""
 void edgebpf_interface_{INTERFACE}(void);
 typedef struct {{ void *at; }} handle;
@@ -49,6 +51,7 @@ typedef struct {{ uint64_t added, removed, number; }} change;
 typedef struct {{ uint64_t number, edges, epoch; uint32_t vertices; }} info;
 typedef struct {{ uint32_t bound, frames, cause, pc; }} verdict;
 typedef struct {{ size_t length, line; uint32_t cause; }} assembled;
+typedef struct {{ uint64_t budget, edges, total; uint32_t vertex, place; }} progress;
 uint32_t edgebpf_store_new(uint32_t, handle *);
 uint32_t edgebpf_store_apply(handle *, uint8_t, const uint32_t *, size_t, const uint32_t *, size_t, const uint8_t *, size_t, change *);
 uint32_t edgebpf_store_rebase(handle *, uint64_t *);
@@ -63,8 +66,10 @@ uint32_t edgebpf_version_copy(handle *, uint64_t *, size_t, uint32_t *, size_t);
 uint32_t edgebpf_program_new(uint16_t, const uint8_t *, size_t, const uint8_t *, size_t, verdict *, handle *);
 uint32_t edgebpf_program_share(handle *, handle *);
 uint32_t edgebpf_assemble(const uint8_t *, size_t, uint8_t *, size_t, assembled *);
-uint32_t edgebpf_run(handle *, handle *, const uint8_t *, size_t, const uint32_t *, size_t, uint32_t, uint64_t *, size_t, uint64_t *);
-uint32_t edgebpf_numbers(handle *, handle *, const uint8_t *, size_t, uint64_t *, size_t);
+uint32_t edgebpf_run_some(handle *, handle *, const uint8_t *, size_t, const uint32_t *, size_t, uint32_t, progress *, uint64_t *, size_t);
+uint32_t edgebpf_numbers_some(handle *, handle *, const uint8_t *, size_t, const uint32_t *, size_t, progress *, uint64_t *, size_t, size_t *);
+uint32_t edgebpf_pairs(
+    handle *, handle *, const uint8_t *, size_t, const uint32_t *, size_t, const uint32_t *, size_t, progress *, uint64_t *, size_t);
 void edgebpf_close(handle *);
 """
 
@@ -133,6 +138,8 @@ def load() -> Any:
         raise Error(f"{found} cannot be loaded: {error}") from None
     if not hasattr(library, f"edgebpf_interface_{INTERFACE}"):
         raise Error(f"{found} is no {NAME}.{INTERFACE}, which this package needs: take edgebpf and the package of one release")
+    if not hasattr(library, NEWEST):
+        raise Error(f"{found} is older than this package, and lacks {NEWEST}: take edgebpf and the package of one release")
     return library
 
 
@@ -191,8 +198,10 @@ class Calls:
         library, types = load(), foreign()
         self.new, self.buffer, self.keep, self.close = types.new, types.from_buffer, types.gc, library.edgebpf_close
         self.bytes, self.words, self.numbers = kind("uint8_t[]"), kind("uint32_t[]"), kind("uint64_t[]")
-        self.totals, self.sizes, self.handle, self.info = kind("uint64_t[2]"), kind("size_t[]"), kind("handle *"), kind("info *")
-        self.run, self.lend, self.pin = library.edgebpf_run, library.edgebpf_version_lend, library.edgebpf_store_pin
+        self.progress, self.size, self.sizes = kind("progress *"), kind("size_t *"), kind("size_t[]")
+        self.handle, self.info = kind("handle *"), kind("info *")
+        self.run_some, self.numbers_some, self.pairs = library.edgebpf_run_some, library.edgebpf_numbers_some, library.edgebpf_pairs
+        self.lend, self.pin = library.edgebpf_version_lend, library.edgebpf_store_pin
         self.share_version, self.describe = library.edgebpf_version_share, library.edgebpf_version_info
 
 

@@ -3,7 +3,6 @@ from __future__ import annotations
 
 import ctypes
 import threading
-from collections.abc import Callable
 from typing import Any
 
 import numpy as np
@@ -12,22 +11,17 @@ import numpy.typing as npt
 from edgebpf import library
 from edgebpf.errors import Closed, TooManyEdits, VertexRange
 from edgebpf.given import (
-    MOST_VERTICES, REDUCTIONS, Edges, Numbers, Pairs, Vertices, edits_of, edits_of_batch, feed_of, frozen, reduction_of, vertex_count, vertex_of,
-    vertices_of, whole,
+    MOST_VERTICES, REDUCTIONS, Edges, Numbers, Pairs, Vertices, edits_of, edits_of_batch, ends_of_pairs, feed_of, frozen, reduction_of,
+    threads_of, vertex_count, vertex_of, vertices_of, whole,
 )
-from edgebpf.programs import Program, argument_of
+from edgebpf.parts import Parts
+from edgebpf.programs import Program, argument_of, handle_of
+from edgebpf.steps import FIRST_BUDGET, LEAST_NUMBERS, End, NumbersRun, PairsRun, Run, end_after
 from edgebpf.store import MOST_EDITS, Counts, Result, described
 
 # Most lists lie in one slice. `lend` fills the room if there may be more.
 LEAST_ROOM, MORE_ROOM = 2, 64
 U32, U64 = np.dtype(np.uint32), np.dtype(np.uint64)
-
-
-def handle_of(program: Program) -> library.Handle:
-    """This thread's handle of a program."""
-    if not isinstance(program, Program):
-        raise TypeError("a program is made by Program, assemble or compile_c")
-    return (program._shared or program._handles()).own()
 
 
 class Memory(ctypes.c_uint8 * (1 << 47)):  # type: ignore[misc]
@@ -167,28 +161,91 @@ class Version:
         return described(self, self._shared is None)
 
     def run(
-        self, program: Program, reduction: str = "sum", frontier: npt.ArrayLike | None = None, argument: bytes = b"",
+        self, program: Program, reduction: str = "sum", frontier: npt.ArrayLike | None = None, argument: bytes = b"", *,
+        seconds: float | None = None, threads: int = 1,
     ) -> Result:
         """Runs a program for each edge of some vertices, and reduces the numbers.
 
         reduction: "sum" (modulo 2^64), "min" or "max". frontier: an array of vertices in any order, each of which counts as often
-        as it stands there, or None for all. argument: as many bytes as the program's record has beyond 16.
+        as it stands there, or None for all. argument: as many bytes as the program's record has beyond 16. seconds: after so long it
+        raises `TimedOut`, whose `run` may be stepped on. threads: 1 to 64 of this process, which share the frontier; the answer is the
+        same for each number. A Ctrl-C ends it within some 20 ms.
         """
-        number = REDUCTIONS[reduction_of(reduction)]
-        chosen = np.arange(self.vertices, dtype=U32) if frontier is None else vertices_of(frontier, self.vertices, "frontier")
+        number, chosen = REDUCTIONS[reduction_of(reduction)], self._frontier(frontier)
+        end = None if seconds is None else end_after(seconds)
+        if threads != 1 or type(threads) is not int:
+            return self._run_in_parts(program, reduction, chosen, argument, end, threads_of(threads))
+        # Most runs are short, and done by this one call.
+        calls, count = self._calls, len(chosen)
+        values, at = np.empty(count, U64), calls.new(calls.progress)
+        at.budget = FIRST_BUDGET
+        arrays = calls.buffer(calls.words, chosen), count, number, at, calls.buffer(calls.numbers, values), count
+        shared = self._shared or self._open()
+        code, given = handle_of(program), argument_of(program, argument)
+        status = calls.run_some(shared.own().at, code.at, given, len(given), *arrays)
+        if status:
+            library.check(status)
+        if at.vertex != count:
+            run = Run(self, program, reduction, chosen, argument, values)
+            run._go_on_from(at, FIRST_BUDGET)
+            run._finish(end, shared)
+            return Result(values, run.edges, run.total)
+        return Result(values, at.edges, at.total)
+
+    def _run_in_parts(
+        self, program: Program, reduction: str, chosen: Vertices, argument: bytes, end: End | None, threads: int,
+    ) -> Result:
+        shared = self._open()
+        parts = Parts._over(self, program, reduction, chosen, argument, threads)
+        parts._finish_by(threads, end, shared)
+        return Result(parts._values, parts.edges, parts.total)
+
+    def begin(
+        self, program: Program, reduction: str = "sum", frontier: npt.ArrayLike | None = None, argument: bytes = b"",
+    ) -> Run:
+        """A run as `run` makes it, of which nothing is done yet: each `step` of it goes on with it."""
+        self._open()
+        return Run(self, program, reduction_of(reduction), self._frontier(frontier), argument)
+
+    def numbers(
+        self, program: Program, argument: bytes = b"", frontier: npt.ArrayLike | None = None, *, seconds: float | None = None,
+    ) -> Numbers:
+        """The number of each edge, a uint64 array in the order of `csr`; or those of a frontier's edges, one vertex after another, each of
+        which counts as often as it stands there. seconds: after so long it raises `TimedOut`."""
+        end, shared, run = end_after(seconds), self._open(), self.begin_numbers(program, frontier, argument)
+        run._finish(end, shared)
+        return run._numbers[:run.edges]
+
+    def begin_numbers(self, program: Program, frontier: npt.ArrayLike | None = None, argument: bytes = b"") -> NumbersRun:
+        """The numbers as `numbers` has them, none of which is there yet: each `step` goes on with them."""
+        self._open()
+        chosen = self._frontier(frontier)
+        room = self.edges if frontier is None else len(chosen) * (1 + self.edges // self.vertices) + LEAST_NUMBERS
+        return NumbersRun(self, program, chosen, argument, room)
+
+    def pairs(
+        self, program: Program, sources: npt.ArrayLike, targets: npt.ArrayLike, argument: bytes = b"", *, seconds: float | None = None,
+    ) -> Numbers:
+        """A number for each pair of a source and a target, a uint64 array. A pair need not be an edge, nor its ends in the graph: its record
+        has the target's place among the source's targets, or the source's degree where it is none of them. seconds: after so long it
+        raises `TimedOut`."""
+        end, shared, run = end_after(seconds), self._open(), self.begin_pairs(program, sources, targets, argument)
+        run._finish(end, shared)
+        return run._numbers
+
+    def begin_pairs(self, program: Program, sources: npt.ArrayLike, targets: npt.ArrayLike, argument: bytes = b"") -> PairsRun:
+        """The numbers as `pairs` has them, none of which is there yet: each `step` goes on with them."""
+        self._open()
+        return PairsRun(self, program, ends_of_pairs(sources, targets), argument)
+
+    def _frontier(self, frontier: npt.ArrayLike | None) -> Vertices:
+        """The vertices of a frontier, or all."""
+        if frontier is None:
+            return np.arange(self.vertices, dtype=U32)
+        chosen = vertices_of(frontier, self.vertices, "frontier")
         if len(chosen) > MOST_VERTICES:
             raise ValueError(f"a frontier has at most {MOST_VERTICES} vertices, not {len(chosen)}")
-        calls, count = self._calls, len(chosen)
-        values, totals = np.empty(count, U64), calls.new(calls.totals)
-        arrays = calls.buffer(calls.words, chosen), count, number, calls.buffer(calls.numbers, values), count, totals
-        self._ask(calls.run, program, argument, arrays)
-        return Result(values, totals[0], totals[1])
-
-    def numbers(self, program: Program, argument: bytes = b"") -> Numbers:
-        """The number of each edge, a uint64 array in the order of `csr`."""
-        calls, numbers = self._calls, np.empty(self.edges, U64)
-        self._ask(library.load().edgebpf_numbers, program, argument, (calls.buffer(calls.numbers, numbers), self.edges))
-        return numbers
+        return chosen
 
     def csr(self) -> tuple[npt.NDArray[np.int64], Vertices]:
         """All edges: `starts`, an int64 array of `vertices` + 1 places, and `targets`, a uint32 array, ascending for each source. Both
@@ -281,10 +338,3 @@ class Version:
 
     def __exit__(self, *_: object) -> None:
         self.close()
-
-    def _ask(self, call: Callable[..., int], program: Program, argument: bytes, arrays: tuple[Any, ...]) -> None:
-        """One call of a program over this version; `arrays` are its further arguments."""
-        at, code, given = self._at(), handle_of(program), argument_of(program, argument)
-        status = call(at, code.at, given, len(given), *arrays)
-        if status:
-            library.check(status)

@@ -21,6 +21,8 @@ MOST_RECORD = 256
 UNIT = 8
 MOST_UNITS = 4_096
 MOST_TABLE = 4_096
+# The opcode of a call; one of a function of the program's own has a 1 as its source.
+CALL = 0x85
 WRONG_CODE = "code has 1 to 4,096 whole units of 8 bytes"
 # The bytes of an image with a table before its code: what it begins with, and the lengths of record, code (in units) and table.
 IMAGE = struct.Struct("<4sHHH")
@@ -102,7 +104,7 @@ class Program:
             raise ValueError(f"a table has at most {MOST_TABLE} bytes, not {len(self.table)}")
         self._shared: library.Shared | None = None
         # By this a process knows the program, and each share of it.
-        self._same, self._lock = object(), threading.Lock()
+        self._same, self._lock, self._has_helpers = object(), threading.Lock(), False
         if library.path():
             self._handles()
             return
@@ -153,6 +155,7 @@ class Program:
             raise Refused(verdict.cause, verdict.pc, self)
         library.check(status)
         self.bound, self.frames = verdict.bound, verdict.frames
+        self._has_helpers = calls_helpers(code)
         return handle
 
     def _bytes(self) -> bytes:
@@ -184,6 +187,19 @@ class Program:
         given = None if self.text is None else self.text + "\n"
         run = subprocess.run(words, input=given, capture_output=True, text=True)
         return run.stdout or run.stderr
+
+
+def calls_helpers(code: bytes) -> bool:
+    """Whether one of its units may be the call of a helper, and not of a function of its own."""
+    units = zip(code[::UNIT], code[1::UNIT])
+    return any(opcode == CALL and registers >> 4 == 0 for opcode, registers in units)
+
+
+def handle_of(program: Program) -> library.Handle:
+    """This thread's handle of a program."""
+    if not isinstance(program, Program):
+        raise TypeError("a program is made by Program, assemble or compile_c")
+    return (program._shared or program._handles()).own()
 
 
 def argument_of(program: Program, argument: bytes) -> bytes:

@@ -10,15 +10,15 @@ import signal
 import subprocess
 import threading
 from collections.abc import Iterator, Sequence
-from typing import IO, Any, cast
+from typing import IO, Any, NoReturn, cast
 
 import numpy as np
 import numpy.typing as npt
 
-from edgebpf.errors import Closed, EpochsFull, Error, LogFull, NoMemory, TooManyEdits, TooManyNames
+from edgebpf.errors import Closed, EpochsFull, Error, LogFull, NoMemory, NotHere, TooManyEdits, TooManyNames
 from edgebpf.given import (
-    FEEDS, SERVED_VERTICES, Edges, Numbers, Pairs, Vertices, edits_of, edits_of_batch, feed_of, frozen, reduction_of, vertex_count, vertex_of,
-    vertices_of, whole,
+    FEEDS, SERVED_VERTICES, Edges, Numbers, Pairs, Vertices, edits_of, edits_of_batch, feed_of, frozen, reduction_of, threads_of,
+    vertex_count, vertex_of, vertices_of, whole,
 )
 from edgebpf.programs import Program, argument_of, command, said_lines
 
@@ -43,7 +43,7 @@ class Counts:
     removed: int
 
 
-@dataclasses.dataclass(frozen=True)
+@dataclasses.dataclass(frozen=True, init=False)
 class Result:
     """What a run gave. `values` is a uint64 array with one number for each vertex of the frontier, `edges` the number of runs, and
     `total` the reduction of all numbers. A vertex without neighbours has 0, and 2^64 - 1 for `min`."""
@@ -51,6 +51,11 @@ class Result:
     values: Numbers
     edges: int
     total: int
+
+    def __init__(self, values: Numbers, edges: int, total: int) -> None:
+        # Each short run makes one. The class would set these in twice the time.
+        own = self.__dict__
+        own["values"], own["edges"], own["total"] = values, edges, total
 
 
 def described(version: Any, is_closed: bool) -> str:
@@ -243,13 +248,16 @@ class Version:
         self._is_closed = False
 
     def run(
-        self, program: Program, reduction: str = "sum", frontier: npt.ArrayLike | None = None, argument: bytes = b"",
+        self, program: Program, reduction: str = "sum", frontier: npt.ArrayLike | None = None, argument: bytes = b"", *,
+        seconds: float | None = None, threads: int = 1,
     ) -> Result:
         """Runs a program for each edge of some vertices, and reduces the numbers.
 
         reduction: "sum" (modulo 2^64), "min" or "max". frontier: an ascending array of vertices, or None for all.
-        argument: as many bytes as the program's record has beyond 16.
+        argument: as many bytes as the program's record has beyond 16. A limit by `seconds` and `threads` of this process are `NotHere`.
         """
+        if seconds is not None or threads_of(threads) > 1:
+            raise NotHere("an edgebpf process has no limit of time, and workers of its own: pass them to connect, or use edgebpf.Store")
         start, combine = REDUCTIONS[reduction_of(reduction)]
         digits = self._argument(program, argument)
         if frontier is None:
@@ -265,9 +273,23 @@ class Version:
             edges, total = edges + some, int(combine(np.uint64(total), np.uint64(part)))
         return Result(self._filled(chosen, np.concatenate(found), start), edges, total)
 
-    def numbers(self, program: Program, argument: bytes = b"") -> Numbers:
-        """The number of each edge, a uint64 array in the order of `csr`."""
+    def numbers(
+        self, program: Program, argument: bytes = b"", frontier: npt.ArrayLike | None = None, *, seconds: float | None = None,
+    ) -> Numbers:
+        """The number of each edge, a uint64 array in the order of `csr`. A `frontier` and a limit by `seconds` are `NotHere`."""
+        if frontier is not None or seconds is not None:
+            raise NotHere("an edgebpf process gives the numbers of all edges, without a limit of time: use edgebpf.Store")
         return self._list(program, argument)[:, 2]
+
+    def begin(self, *_: Any, **__: Any) -> NoReturn:
+        """Raises `NotHere`."""
+        raise NotHere("an edgebpf process makes no runs in steps: use edgebpf.Store")
+
+    begin_numbers = begin_pairs = begin
+
+    def pairs(self, *_: Any, **__: Any) -> NoReturn:
+        """Raises `NotHere`."""
+        raise NotHere("an edgebpf process gives no numbers of pairs: use edgebpf.Store")
 
     def csr(self) -> tuple[npt.NDArray[np.int64], Vertices]:
         """All edges: `starts`, an int64 array of `vertices` + 1 places, and `targets`, a uint32 array, ascending for each source. Both

@@ -22,7 +22,7 @@ class Native(test_package.Package):
     # These are of a process, or of the package as it lies on disk.
     test_ended = test_killed = test_interrupted = test_cookbook = test_first_runs_at_once = test_from_c = test_installed = None
     test_compilers_that_go_on = test_wrong_words_of_compile_c = None
-    test_interrupted_at_a_terminal = test_near_the_root = None
+    test_interrupted_at_a_terminal = test_near_the_root = test_not_here = None
 
     def store(self, vertices, workers=1):
         store = edgebpf.Store(vertices)
@@ -139,7 +139,7 @@ class Native(test_package.Package):
         store.batch("A", ([0], [3]))
 
         def watch(name, call, given):
-            if name in ("run", "version_lend"):
+            if name in ("run_some", "version_lend"):
                 together.wait(20)
             return call(*given)
 
@@ -224,8 +224,11 @@ print(found, threading.stack_size())
         for kind in ("<i8", ">i8", "<u2", ">u4", "i1", "<u8"):
             self.assertEqual(version.run(target, "sum", frozen.astype(kind)[-2::-2]).values.tolist(), [3, 2])
         self.assertEqual(version.run(target, "sum", frozen[::2]).values.tolist(), [2, 3])
-        with self.assertRaisesRegex(ValueError, "^a frontier has at most 1048576 vertices, not 1048577$"):
-            version.run(target, "sum", np.zeros((1 << 20) + 1, int))
+        with unittest.mock.patch.object(edgebpf.native, "MOST_VERTICES", 6):
+            self.assertEqual(len(version.run(target, "sum", [0] * 6).values), 6)
+            with self.assertRaisesRegex(ValueError, "^a frontier has at most 6 vertices, not 7$"):
+                version.run(target, "sum", [0] * 7)
+        self.assertEqual(edgebpf.native.MOST_VERTICES, 1 << 28)
         self.assertEqual(len(version.run(target, "sum", np.zeros(1 << 20, np.uint8)).values), 1 << 20)
 
     def test_which_library(self):
@@ -259,11 +262,15 @@ print(found, threading.stack_size())
         number = re.search(r"^interface=(\d+)$", (TOP / "dist" / "link").read_text(), re.M)[1]
         self.assertEqual(str(edgebpf.library.INTERFACE), number)
         with tempfile.TemporaryDirectory() as folder:
-            other, older = pathlib.Path(folder, "other.so"), pathlib.Path(folder, "older.so")
+            other, older, short = (pathlib.Path(folder, name) for name in ("other.so", "older.so", "short.so"))
             other.write_text("no library")
             shutil.copyfile(edgebpf.library.path(), older)
             older.write_bytes(older.read_bytes().replace(f"edgebpf_interface_{number}".encode(), b"edgebpf_interface_0"))
-            for path, said in ((other, "cannot be loaded: "), (pathlib.Path(folder, "none.so"), "cannot be loaded: "), (older, f"is no libedgebpf.so.{number}, which this package needs")):
+            newest = edgebpf.library.NEWEST
+            short.write_bytes(pathlib.Path(edgebpf.library.path()).read_bytes().replace(newest.encode(), newest.encode()[:-1] + b"_"))
+            for path, said in (
+                (short, f"is older than this package, and lacks {newest}: "), (other, "cannot be loaded: "), (pathlib.Path(folder, "none.so"), "cannot be loaded: "), (older, f"is no libedgebpf.so.{number}, which this package needs"),
+            ):
                 for ask in ("edgebpf.Store(4)", "edgebpf.assemble('exit')", "edgebpf.Program(bytes(8))", "edgebpf.Live(4)"):
                     code = f"import edgebpf\ntry: {ask}\nexcept edgebpf.Error as error: print(error)"
                     run = subprocess.run([sys.executable, "-c", code], env={**os.environ, "PYTHONPATH": str(FOLDER), "EDGEBPF_LIBRARY": str(path)}, capture_output=True, text=True)

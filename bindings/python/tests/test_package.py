@@ -72,6 +72,20 @@ class Package(unittest.TestCase):
         self.assertEqual(list(follow(self.store(4), [([0, 1], [1, 0]), ([0, 1], [2, 2]), ([2, 3], [0, 2])])), [2, 2, 1])
         self.assertEqual(total(4, sources, targets, edgebpf.assemble(TARGET), 3), 11)
 
+    def test_not_here(self):
+        """What a process has not is refused in words, and the store goes on."""
+        store, target = self.store(4), edgebpf.assemble(TARGET)
+        store.batch("A", ([0, 0], [1, 2]))
+        version = store.pin()
+        for ask in (
+            lambda: version.begin(target), lambda: version.begin_numbers(target, [0]), lambda: version.begin_pairs(target, [0], [1]),
+            lambda: version.pairs(target, [0], [1]), lambda: version.numbers(target, frontier=[0]), lambda: version.numbers(target, seconds=1),
+            lambda: version.run(target, seconds=1), lambda: version.run(target, threads=2),
+        ):
+            with self.assertRaisesRegex(edgebpf.NotHere, "^an edgebpf process .*edgebpf.Store$"):
+                ask()
+        self.assertEqual((version.run(target, threads=1).total, version.numbers(target).tolist()), (3, [1, 2]))
+
     def test_random_batches(self):
         """After each batch the pinned version has the edges of a set, and an earlier pin those of its own moment."""
         chance, count = random.Random(11), 400
