@@ -28,6 +28,8 @@ VERTICES, FIRST_EDGES, MOST_INSERTS, MOST_REMOVES, MOST_HELD = 300, 3_000, 60, 6
 BATCHES, REBASE, PROGRAMS = 600, 100, 6
 WORD, MOST_GROWTH = 2**64, 64
 WAIT = 60
+# So long may a run take: those of honest clients take some milliseconds, and turns with hostile ones.
+RUN_SECONDS = 1.0
 # The text of a program by numbers that are drawn, and what it returns for an edge.
 KINDS = {
     "affine": ("ldxw r0, [r1+4]\nmul r0, {0}\nadd r0, {1}\nexit", lambda own, edge: edge.target * own[0] + own[1]),
@@ -251,6 +253,7 @@ def started(log):
         free.bind(("127.0.0.1", 0))
         port = free.getsockname()[1]
     words = [sys.executable, HERE / "server.py", "--vertices", str(VERTICES), "--port", str(port), "--rebase", str(REBASE)]
+    words += ["--seconds", str(RUN_SECONDS)]
     # Whoever runs this may ignore the signal that ends the server.
     server = subprocess.Popen(words, stderr=log, preexec_fn=lambda: signal.signal(signal.SIGINT, signal.SIG_DFL))
     for _ in range(200):

@@ -13,6 +13,7 @@ import json
 import pathlib
 import re
 import resource
+import select
 import signal
 import sys
 import time
@@ -33,15 +34,17 @@ MOST_PROGRAMS = 255
 REBASE_BATCHES = 1_000
 # So many programs in C are compiled at the same time.
 COMPILERS = 2
-# A run holds a thread: more instructions than these, some seconds of work, are refused before it begins.
-MOST_INSTRUCTIONS = 10**9
+# Runs go in steps of some milliseconds, so many at the same time, and a request gets so many seconds for its run, with its waiting for turns.
+RUNNERS = 2
+RUN_SECONDS = 2.0
+MOST_RUN_SECONDS = 3_600.0
 # A connection that stays for so long is closed, at the latest after twice as long.
 CONNECTION_SECONDS = 60
 NAME = re.compile(r"[A-Za-z_][A-Za-z0-9_-]{0,63}")
 BUCKETS = (0.001, 0.01, 0.1, 1.0, 10.0)
 # What a client did wrong, and what the service cannot do now.
 WRONG = (edgebpf.VertexRange, edgebpf.TooManyEdits, edgebpf.ArgumentLength, edgebpf.WrongText)
-NOT_NOW = (edgebpf.LogFull, edgebpf.TooManyNames, edgebpf.NoMemory, edgebpf.Closed, OSError)
+NOT_NOW = (edgebpf.LogFull, edgebpf.TooManyNames, edgebpf.NoMemory, edgebpf.Closed, edgebpf.TimedOut, OSError)
 
 
 class Histogram:
@@ -68,12 +71,16 @@ class Histogram:
 
 
 class Service:
-    def __init__(self, live, has_c=False):
-        self.live, self.has_c, self.programs = live, has_c, {}
+    def __init__(self, live, has_c=False, seconds=RUN_SECONDS):
+        self.live, self.has_c, self.seconds, self.programs = live, has_c, seconds, {}
         self.writing = asyncio.Lock()
         # Compilers wait for each other, and nobody else for them.
         self.compilers = concurrent.futures.ThreadPoolExecutor(COMPILERS)
+        # Each step of a run waits here behind those of the others; batches have threads of their own.
+        self.runners = concurrent.futures.ThreadPoolExecutor(RUNNERS)
         self.batches, self.runs = Histogram("edgebpf_batch_seconds"), Histogram("edgebpf_run_seconds")
+        # How many runs were ended before they were done, by what.
+        self.ended = {"time": 0, "client": 0}
 
     async def batch(self, request):
         """Applies a batch: {"feed": "A", "inserts": [[source, target], ..], "removes": [..]}."""
@@ -119,20 +126,32 @@ class Service:
             raise web.HTTPNotFound(text="no program has this name")
         program, argument = self.programs[asked["program"]], bytes.fromhex(asked.get("argument", ""))
         frontier = None if asked.get("frontier") is None else whole(asked["frontier"])
-        # Each vertex once: so a run has no more edges than the graph.
         if frontier and len(set(frontier)) < len(frontier):
             raise ValueError("a frontier has no vertex twice")
         words = (program, asked.get("reduction", "sum"), frontier, argument)
         number, version = self.live.numbered()
         with self.runs.time():
-            if program.bound * version.edges > MOST_INSTRUCTIONS:
-                raise web.HTTPUnprocessableEntity(text=f"the bound times the edges is more than {MOST_INSTRUCTIONS}")
-            result = await asyncio.to_thread(version.run, *words)
+            result = await self.finished(request, version, words)
         about = {"version": number, "edges": result.edges, "total": result.total}
         if request.query.get("format") == "bytes":
             heads = {f"X-{name.title()}": str(value) for name, value in about.items()}
             return web.Response(body=result.values.astype("<u8").tobytes(), headers=heads, content_type="application/octet-stream")
         return web.json_response({**about, "values": result.values.tolist()})
+
+    async def finished(self, request, version, words):
+        """A run that is done, by steps that take turns with those of other runs. It ends after its time, and if the client has gone."""
+        end, turn = time.monotonic() + self.seconds, asyncio.get_running_loop().run_in_executor
+        run = await turn(self.runners, begun, version, words)
+        while not run.done:
+            if time.monotonic() >= end:
+                self.ended["time"] += 1
+                done = f"{run.edges} edges and {run.vertex} vertices of the frontier were done"
+                raise edgebpf.TimedOut(f"the run took more than {self.seconds:g} seconds: {done}", run)
+            if has_gone(request):
+                self.ended["client"] += 1
+                raise web.HTTPServiceUnavailable(text="the client has gone")
+            await turn(self.runners, run.step)
+        return run
 
     async def neighbours(self, request):
         number, version = self.live.numbered()
@@ -142,10 +161,28 @@ class Service:
     async def metrics(self, request):
         number, version = self.live.numbered()
         lines = [f"edgebpf_version {number}", f"edgebpf_edges {version.edges}", f"edgebpf_vertices {version.vertices}"]
+        lines += [f'edgebpf_runs_ended{{by="{what}"}} {count}' for what, count in self.ended.items()]
         return web.Response(text="\n".join([*lines, *self.batches.lines(), *self.runs.lines()]) + "\n")
 
     async def page(self, request):
         return web.FileResponse(HERE / "page.html")
+
+
+def begun(version, words):
+    """A run after its first step, with which most are done."""
+    run = version.begin(*words)
+    run.step()
+    return run
+
+
+def has_gone(request):
+    """Whether the client has closed its connection. Nothing of it is read during a request, so that the loop sees no end of it."""
+    connection = request.transport and request.transport.get_extra_info("socket")
+    if connection is None or connection.fileno() < 0:
+        return True
+    ending = select.poll()
+    ending.register(connection.fileno(), select.POLLRDHUP)
+    return bool(ending.poll(0))
 
 
 def verified(asked, name, record):
@@ -227,8 +264,8 @@ async def one_request(request, handler):
     return response
 
 
-def application(live, has_c=False):
-    service = Service(live, has_c)
+def application(live, has_c=False, seconds=RUN_SECONDS):
+    service = Service(live, has_c, seconds)
     # A short body that is compressed may be a long one.
     plain = {"auto_decompress": False}
     app = web.Application(middlewares=[one_request, told_errors], client_max_size=MOST_BYTES, handler_args=plain)
@@ -267,7 +304,10 @@ def main():
     parser.add_argument("--port", type=int, default=8080)
     parser.add_argument("--rebase", type=int, default=REBASE_BATCHES, help="forget the batches after so many of them, 1 to 4096")
     parser.add_argument("--with-c", action="store_true", help="also take programs in C, whose compiler reads any file")
+    parser.add_argument("--seconds", type=float, default=RUN_SECONDS, help="end a run that is not done after so long, above 0 and up to 3600")
     options = parser.parse_args()
+    if not 0 < options.seconds <= MOST_RUN_SECONDS:
+        parser.error("seconds is above 0, and up to 3600")
     if not 0 <= options.port < 65_536:
         parser.error("a port is 0 to 65535")
     # Connections that are left open are files; where no more may be opened, nobody is served.
@@ -277,7 +317,7 @@ def main():
         live = edgebpf.Live(options.vertices, batches=options.rebase)
     except (edgebpf.Error, ValueError) as error:
         sys.exit(f"server.py: {error}")
-    app = application(live, options.with_c)
+    app = application(live, options.with_c, options.seconds)
     with live, contextlib.suppress(KeyboardInterrupt, asyncio.CancelledError):
         try:
             asyncio.run(serve_until_interrupted(app, options.port))

@@ -7,6 +7,7 @@ import json
 import os
 import pathlib
 import random
+import re
 import shutil
 import signal
 import socket
@@ -32,6 +33,8 @@ except ImportError as error:
     MISSING = error.name
 # Of the batches of a test some come after each of two rebases.
 VERTICES, BATCHES, REBASE = 300, 80, 30
+# So long may a run take.
+SECONDS = 1.0
 REQUESTS = int(os.environ.get("SERVICE_REQUESTS", "2000"))
 READERS = 4
 # A library that has a program interrupted just before its first long wait, when it looks at no signal any more.
@@ -62,7 +65,7 @@ def free_port():
 
 def started(port, **environment):
     words = ["sh", "-c", 'ulimit -Sn 64; exec "$@"', "sh"]
-    words += [sys.executable, HERE / "server.py", "--vertices", str(VERTICES), "--port", str(port), "--rebase", str(REBASE)]
+    words += [sys.executable, HERE / "server.py", "--vertices", str(VERTICES), "--port", str(port), "--rebase", str(REBASE), "--seconds", str(SECONDS)]
     # Whoever runs this may ignore the signal that ends the server.
     return subprocess.Popen(words, env={**os.environ, **environment}, preexec_fn=lambda: signal.signal(signal.SIGINT, signal.SIG_DFL))
 
@@ -266,13 +269,65 @@ class Service(unittest.TestCase):
             self.assertEqual(self.client.told("POST", "/runs", {"program": name, "frontier": [0]})[1]["values"], wanted)
         self.assertEqual(self.client.told("GET", "/neighbours/0")[1]["neighbours"], [7])
 
-    def test_long_run(self):
-        """A program that may run for 946,010 instructions is not run on 2,000 edges."""
+    def heavy(self):
+        """A program that runs for 946,010 instructions an edge, on 2,000 edges."""
         functions = [line for level in range(3) for line in (f"f{level}:", *[f"calllocal f{level + 1}"] * 21, "mov r0, 0", "exit")]
         text = "\n".join([*functions, "f3:", *["mov r0, 1"] * 100, "exit"])
         self.assertEqual(self.client.told("POST", "/programs", {"name": "heavy", "text": text})[1]["bound"], 946_010)
         self.client.told("POST", "/batches", {"inserts": [[number % 300, number // 300] for number in range(2_000)]})
-        self.assertEqual(self.client.ask("POST", "/runs", {"program": "heavy"})[0], 422)
+
+    def ended(self, what):
+        """How many runs were ended so."""
+        lines = self.client.ask("GET", "/metrics")[2].decode()
+        return int(re.search(rf'^edgebpf_runs_ended{{by="{what}"}} ([0-9]+)$', lines, re.M)[1])
+
+    def test_long_run(self):
+        """It is ended by time, and says how far it came; one for few edges is answered."""
+        self.heavy()
+        begun = time.monotonic()
+        status, told = self.client.told("POST", "/runs", {"program": "heavy"})
+        self.assertLess(time.monotonic() - begun, SECONDS + 2)
+        self.assertEqual((status, told["error"]), (503, "TimedOut"))
+        said = re.fullmatch(rf"the run took more than {SECONDS:g} seconds: ([0-9]+) edges and ([0-9]+) vertices of the frontier were done", told["words"])
+        # Vertices up to 199 have 7 edges each, and the others 6.
+        edges, vertices = map(int, said.groups())
+        self.assertTrue(0 < edges < 2_000 and 6 * vertices <= edges <= 7 * (vertices + 1), said[0])
+        self.assertEqual(self.ended("time"), 1)
+        status, told = self.client.told("POST", "/runs", {"program": "heavy", "frontier": [7]})
+        self.assertEqual((status, told["edges"], told["values"]), (200, 7, [0]))
+
+    def test_beside_a_long_run(self):
+        """Batches and short runs are answered at once beside runs that take long."""
+        self.heavy()
+        others = [threading.Thread(target=lambda: Client(self.port).ask("POST", "/runs", {"program": "heavy"})) for _ in range(4)]
+        for other in others:
+            other.start()
+        time.sleep(0.1)
+        took = {"batch": [], "run": []}
+        while any(other.is_alive() for other in others):
+            for what, path, asked in (("batch", "/batches", {"inserts": [[1, len(took["batch"])]]}), ("run", "/runs", {"program": "target", "frontier": [250]})):
+                begun = time.monotonic()
+                self.assertEqual(self.client.ask("POST", path, asked)[0], 200)
+                took[what].append(time.monotonic() - begun)
+        self.assertEqual(self.ended("time"), 4)
+        self.assertGreater(len(took["batch"]), 10)
+        # Other processes may have the machine for one of them.
+        for what in took:
+            self.assertLess(sorted(took[what])[len(took[what]) // 2], 0.1, what)
+
+    def test_a_client_that_goes_away(self):
+        """Its run ends."""
+        self.heavy()
+        body = json.dumps({"program": "heavy"}).encode()
+        for count in range(1, 4):
+            with socket.create_connection(("127.0.0.1", self.port)) as connection:
+                connection.sendall(b"POST /runs HTTP/1.1\r\nHost: x\r\nContent-Length: %d\r\n\r\n" % len(body) + body)
+                time.sleep(0.1)
+            gone = time.monotonic()
+            while self.ended("client") < count:
+                self.assertLess(time.monotonic() - gone, SECONDS / 2)
+                time.sleep(0.005)
+        self.assertEqual(self.ended("time"), 0)
 
     def test_one_request_of_a_connection(self):
         """What follows a request is not read, so it cannot fill the memory."""
@@ -365,6 +420,8 @@ class Starts(unittest.TestCase):
         self.refused("^server.py: a graph has 1 to 268435456 vertices$", "--vertices", "0")
         for count in ("0", "4097"):
             self.refused("^server.py: batches is 1 to 4096$", "--rebase", count)
+        for seconds in ("0", "-1", "nan", "inf", "3601"):
+            self.refused("^server.py: error: seconds is above 0, and up to 3600$", "--seconds", seconds, status=2)
         with socket.create_server(("127.0.0.1", 0)) as other:
             self.refused("^server.py: .*address already in use", "--vertices", "4", "--port", str(other.getsockname()[1]))
 
