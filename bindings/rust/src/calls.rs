@@ -53,6 +53,15 @@ pub(crate) struct RawTotals {
     pub(crate) total: u64,
 }
 
+#[repr(C)]
+pub(crate) struct RawProgress {
+    pub(crate) budget: u64,
+    pub(crate) edges: u64,
+    pub(crate) total: u64,
+    pub(crate) vertex: u32,
+    pub(crate) place: u32,
+}
+
 extern "C" {
     pub(crate) fn edgebpf_store_new(vertices: u32, out: *mut RawHandle) -> u32;
     pub(crate) fn edgebpf_store_apply(
@@ -78,9 +87,10 @@ extern "C" {
         place: u32,
         neighbour: *mut u32,
     ) -> u32;
-    pub(crate) fn edgebpf_version_lend(
+    pub(crate) fn edgebpf_version_lend_from(
         version: *mut RawHandle,
         vertex: u32,
+        place: u32,
         slices: *mut RawSlice,
         room: usize,
         lent: *mut usize,
@@ -136,6 +146,43 @@ extern "C" {
         program: *mut RawHandle,
         argument: *const u8,
         argument_length: usize,
+        numbers: *mut u64,
+        number_count: usize,
+    ) -> u32;
+    pub(crate) fn edgebpf_run_some(
+        version: *mut RawHandle,
+        program: *mut RawHandle,
+        argument: *const u8,
+        argument_length: usize,
+        frontier: *const u32,
+        frontier_count: usize,
+        reduction: u32,
+        at: *mut RawProgress,
+        values: *mut u64,
+        value_count: usize,
+    ) -> u32;
+    pub(crate) fn edgebpf_numbers_some(
+        version: *mut RawHandle,
+        program: *mut RawHandle,
+        argument: *const u8,
+        argument_length: usize,
+        frontier: *const u32,
+        frontier_count: usize,
+        at: *mut RawProgress,
+        numbers: *mut u64,
+        number_count: usize,
+        written: *mut usize,
+    ) -> u32;
+    pub(crate) fn edgebpf_pairs(
+        version: *mut RawHandle,
+        program: *mut RawHandle,
+        argument: *const u8,
+        argument_length: usize,
+        sources: *const u32,
+        source_count: usize,
+        targets: *const u32,
+        target_count: usize,
+        at: *mut RawProgress,
         numbers: *mut u64,
         number_count: usize,
     ) -> u32;

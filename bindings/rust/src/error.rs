@@ -28,6 +28,8 @@ pub enum Error {
     TableLength,
     /// The argument of a run is as long as the record less 16 bytes.
     ArgumentLength,
+    /// A progress names no place of the frontier.
+    Progress,
     /// A batch of a `Live` was applied, and there was no memory to show its version before the next one.
     NotShown,
     /// The library answered a status of which this crate knows nothing.
@@ -54,6 +56,7 @@ impl Error {
             12 => Error::CodeLength,
             18 => Error::TableLength,
             13 => Error::ArgumentLength,
+            20 => Error::Progress,
             other => Error::Unknown(other),
         }
     }
@@ -90,6 +93,7 @@ impl fmt::Display for Error {
             Error::CodeLength => to.write_str("the code is not 1 to 4096 units of 8 bytes"),
             Error::TableLength => to.write_str("the table has more than 4096 bytes"),
             Error::ArgumentLength => to.write_str("the argument is not as long as the record less 16 bytes"),
+            Error::Progress => to.write_str("the progress names no place of this frontier"),
             Error::NotShown => {
                 to.write_str("the batch was applied, and there is no memory to show its version before the next one")
             }
@@ -182,8 +186,9 @@ mod tests {
     #[test]
     fn errors_are_the_statuses_of_the_header() {
         let header = include_str!("../../c/edgebpf.h");
-        let words: Vec<&str> =
-            header.split("words[] = {").nth(1).unwrap().split('"').skip(1).step_by(2).take(19).collect();
+        let told = header.split("words[] = {").nth(1).unwrap().split("};").next().unwrap();
+        // Each line has one status, and one that no call returns has no words.
+        let words: Vec<&str> = told.trim().lines().map(|line| line.split('"').nth(1).unwrap_or("")).collect();
         for (status, error) in [
             (1, Error::NoMemory),
             (4, Error::VertexCount),
@@ -195,6 +200,7 @@ mod tests {
             (13, Error::ArgumentLength),
             (17, Error::EpochsFull),
             (18, Error::TableLength),
+            (20, Error::Progress),
         ] {
             assert_eq!((Error::of(status), error.to_string().as_str()), (error, words[status as usize]));
         }

@@ -7,6 +7,7 @@ mod error;
 mod handle;
 mod live;
 mod program;
+mod steps;
 mod store;
 mod version;
 
@@ -14,6 +15,7 @@ pub use batch::{Batch, Feed};
 pub use error::{Error, NotAssembled, Refusal, Refused};
 pub use live::Live;
 pub use program::{assemble, explain, Program, Verdict};
+pub use steps::{Numbers, Pairs, Progress, Run};
 pub use store::{Change, Store};
 pub use version::{Csr, Reduction, Totals, Version};
 

@@ -12,6 +12,7 @@ const MOST_UNITS: usize = 4096;
 #[derive(Debug)]
 pub struct Program {
     pub(crate) handle: Handle,
+    pub(crate) record_length: u16,
     verdict: Verdict,
 }
 
@@ -48,7 +49,10 @@ impl Program {
             )
         };
         match status {
-            DONE => Ok(Program { handle, verdict: Verdict { bound: verdict.bound, frames: verdict.frames } }),
+            DONE => {
+                let verdict = Verdict { bound: verdict.bound, frames: verdict.frames };
+                Ok(Program { handle, record_length, verdict })
+            }
             REFUSED => Err(Refusal::Refused(Refused {
                 cause: verdict.cause,
                 pc: verdict.pc,
@@ -70,7 +74,7 @@ impl Program {
         let handle = Handle::empty();
         // SAFETY: the program's handle was written by the library, and `handle` is empty.
         done(unsafe { edgebpf_program_share(self.handle.at(), handle.at()) })?;
-        Ok(Program { handle, verdict: self.verdict })
+        Ok(Program { handle, record_length: self.record_length, verdict: self.verdict })
     }
 }
 
@@ -81,7 +85,8 @@ pub fn assemble(text: &str) -> Result<Vec<u8>, NotAssembled> {
     loop {
         let mut assembled = RawAssembled::default();
         // SAFETY: the text and the code are as long as said.
-        let status = unsafe { edgebpf_assemble(text.as_ptr(), text.len(), code.as_mut_ptr(), code.len(), &mut assembled) };
+        let status =
+            unsafe { edgebpf_assemble(text.as_ptr(), text.len(), code.as_mut_ptr(), code.len(), &mut assembled) };
         match status {
             DONE => {
                 code.truncate(assembled.length);

@@ -1,8 +1,8 @@
 //! A version of a store's graph.
 use crate::calls::{
     edgebpf_numbers, edgebpf_run, edgebpf_version_copy, edgebpf_version_degree, edgebpf_version_has_edge,
-    edgebpf_version_info, edgebpf_version_lend, edgebpf_version_neighbour, edgebpf_version_share, RawInfo, RawSlice,
-    RawTotals,
+    edgebpf_version_info, edgebpf_version_lend_from, edgebpf_version_neighbour, edgebpf_version_share, RawInfo,
+    RawSlice, RawTotals,
 };
 use crate::error::{done, zeros, Error, NO_NEIGHBOUR};
 use crate::handle::Handle;
@@ -10,7 +10,7 @@ use crate::program::Program;
 use std::ptr::null;
 use std::slice::from_raw_parts;
 
-const SLICES_AT_FIRST: usize = 64;
+const SLICES_AT_ONCE: usize = 64;
 
 /// A version of a graph. It stays as it is while its store is edited, and after its store is dropped.
 ///
@@ -28,6 +28,34 @@ pub enum Reduction {
     Min,
     /// The greatest; 0 where there is none.
     Max,
+}
+
+impl Reduction {
+    /// Its number in the library.
+    pub(crate) fn number(self) -> u32 {
+        match self {
+            Reduction::Sum => 0,
+            Reduction::Min => 1,
+            Reduction::Max => 2,
+        }
+    }
+
+    /// What no edge gives.
+    pub(crate) fn none(self) -> u64 {
+        match self {
+            Reduction::Min => u64::MAX,
+            _ => 0,
+        }
+    }
+
+    /// What the edges of two parts give together.
+    pub(crate) fn combine(self, one: u64, other: u64) -> u64 {
+        match self {
+            Reduction::Sum => one.wrapping_add(other),
+            Reduction::Min => one.min(other),
+            Reduction::Max => one.max(other),
+        }
+    }
 }
 
 /// What all edges of a run have together.
@@ -110,18 +138,26 @@ impl Version {
 
     /// The slices in which the targets of a vertex lie, ascending. They are not copied: each lies in the version, which it borrows.
     pub fn slices(&self, vertex: u32) -> Vec<&[u32]> {
-        let mut room = vec![RawSlice { at: null(), count: 0 }; SLICES_AT_FIRST];
+        let (mut found, mut place) = (Vec::new(), 0);
         loop {
-            let mut lent = 0;
-            // SAFETY: the handle holds a version, and there is room for as many slices as said.
-            unsafe { edgebpf_version_lend(self.0.at(), vertex, room.as_mut_ptr(), room.len(), &mut lent) };
-            if lent < room.len() {
-                // SAFETY: the library wrote these slices. They stay as they are while the handle holds the version, which is at
-                // least as long as `self` is borrowed.
-                return room[..lent].iter().map(|slice| unsafe { from_raw_parts(slice.at, slice.count) }).collect();
+            let before = found.len();
+            self.lend_from(vertex, place, &mut found);
+            place += found[before..].iter().map(|slice: &&[u32]| slice.len() as u32).sum::<u32>();
+            if found.len() - before < SLICES_AT_ONCE {
+                return found;
             }
-            room.resize(4 * room.len(), RawSlice { at: null(), count: 0 });
         }
+    }
+
+    /// Some slices more, from the neighbour at a place on: all that are left if they are fewer than `SLICES_AT_ONCE`.
+    fn lend_from<'a>(&'a self, vertex: u32, place: u32, found: &mut Vec<&'a [u32]>) {
+        let mut room = [RawSlice { at: null(), count: 0 }; SLICES_AT_ONCE];
+        let mut lent = 0;
+        // SAFETY: the handle holds a version, and there is room for as many slices as said.
+        unsafe { edgebpf_version_lend_from(self.0.at(), vertex, place, room.as_mut_ptr(), room.len(), &mut lent) };
+        // SAFETY: the library wrote these slices. They stay as they are while the handle holds the version, which is at least as long
+        // as `self` is borrowed.
+        found.extend(room[..lent].iter().map(|slice| unsafe { from_raw_parts(slice.at, slice.count) }));
     }
 
     /// The targets of a vertex, ascending.
@@ -155,11 +191,6 @@ impl Version {
         values: &mut [u64],
     ) -> Result<Totals, Error> {
         let mut totals = RawTotals::default();
-        let number = match reduction {
-            Reduction::Sum => 0,
-            Reduction::Min => 1,
-            Reduction::Max => 2,
-        };
         // SAFETY: the handles hold a version and a program, and the slices are as long as said.
         done(unsafe {
             edgebpf_run(
@@ -169,7 +200,7 @@ impl Version {
                 argument.len(),
                 frontier.as_ptr(),
                 frontier.len(),
-                number,
+                reduction.number(),
                 values.as_mut_ptr(),
                 values.len(),
                 &mut totals,
