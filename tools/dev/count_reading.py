@@ -26,6 +26,7 @@ LIST = [
         ("bpf_model/specs/Run.antt", "steps in turn; the outcome of a run, and its number"),
         ("map_model/src/limits.rt", "the edge's part of a record"),
         ("map_model/specs/EdgeMap.antt", "the record of an edge; all edges with their numbers"),
+        ("map_model/specs/Parts.antt", "a map in parts; the numbers of pairs"),
         ("verifier/specs/Sound.antt", "`IsFine`, `IsRecord`, `NeverGoesWrong`, `AlwaysExits`; the others are inner"),
         ("bpf_locality/specs/Locality.antt", "what a step touches"),
     ]),

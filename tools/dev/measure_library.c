@@ -5,7 +5,7 @@
 #include <stdlib.h>
 #include <time.h>
 
-enum { VERTICES = 262144, EDITS = 65536, BATCHES = 32, TRIES = 7, CALLS = 200000, ROOM = 64 };
+enum { VERTICES = 262144, EDITS = 65536, BATCHES = 32, TRIES = 7, CALLS = 200000, ROOM = 64, BUDGET = 100000 };
 
 static uint32_t sources[EDITS], targets[EDITS], frontier[VERTICES];
 static uint8_t removes[EDITS];
@@ -40,6 +40,23 @@ static void done(uint32_t status) {
     }                                                                     \
     least;                                                                \
 })
+
+/* Calls that pause, over a frontier of all vertices and over one. */
+static void measure_steps(edgebpf_version *version, edgebpf_program *program, double edges) {
+    const edgebpf_progress begin = {.budget = BUDGET}, without = {.budget = 0};
+    edgebpf_progress place;
+    size_t written;
+    printf("a run over all edges in steps: %.2f ns an edge\n", 1e9 / edges * BEST(1,
+           for (place = begin; place.vertex < VERTICES; place.budget = BUDGET)
+               done(edgebpf_run_some(version, program, EDGEBPF_NO_BYTES, 0, frontier, VERTICES, EDGEBPF_SUM, &place, values, VERTICES))));
+    printf("a step over one edge: %.2f us\n", 1e6 * BEST(CALLS, frontier[0] = chance(); place = without;
+           done(edgebpf_run_some(version, program, EDGEBPF_NO_BYTES, 0, frontier, 1, EDGEBPF_SUM, &place, values, 1))));
+    printf("the numbers of one vertex's edges: %.2f us\n", 1e6 * BEST(CALLS, frontier[0] = chance(); place = begin;
+           done(edgebpf_numbers_some(version, program, EDGEBPF_NO_BYTES, 0, frontier, 1, &place, values, VERTICES, &written))));
+    printf("the numbers of pairs: %.1f ns a pair\n", 1e9 / EDITS * BEST(1,
+           for (place = begin; place.vertex < EDITS; place.budget = BUDGET)
+               done(edgebpf_pairs(version, program, EDGEBPF_NO_BYTES, 0, sources, EDITS, targets, EDITS, &place, values, EDITS))));
+}
 
 int main(void) {
     const uint8_t code[] = {0x61, 0x10, 4, 0, 0, 0, 0, 0, 0x95, 0, 0, 0, 0, 0, 0, 0};
@@ -76,6 +93,7 @@ int main(void) {
            1e9 / edges * BEST(1, done(edgebpf_run(&version, &program, EDGEBPF_NO_BYTES, 0, frontier, VERTICES, EDGEBPF_SUM, values, VERTICES, &totals))));
     printf("a run over one vertex: %.2f us\n",
            1e6 * BEST(CALLS, frontier[0] = chance(); done(edgebpf_run(&version, &program, EDGEBPF_NO_BYTES, 0, frontier, 1, EDGEBPF_SUM, values, 1, &totals))));
+    measure_steps(&version, &program, edges);
     uint64_t *numbers = malloc(info.edges * sizeof *numbers), *starts = malloc((VERTICES + 1) * sizeof *starts);
     uint32_t *all = malloc(info.edges * sizeof *all);
     if (!numbers || !starts || !all) return 1;
