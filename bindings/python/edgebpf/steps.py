@@ -97,7 +97,7 @@ class Steps:
 
     @property
     def used(self) -> int:
-        """What all steps together took from their budgets: the bill, in the same unit for all programs."""
+        """What all steps together took from their budgets: the bill, in the same unit for all programs. A step takes its budget at most."""
         return self._granted - int(self._at.budget)
 
     def _go_on(self, budget: int, shared: library.Shared) -> None:

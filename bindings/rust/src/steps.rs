@@ -21,6 +21,7 @@ pub struct Progress {
     /// How many edges of the next vertex are done.
     pub place: u32,
     /// What all steps took from their budgets: for an edge what its run takes, the bound at most, and 4; for a vertex 16.
+    /// A step takes its budget at most, also where its last edges took more.
     pub used: u64,
 }
 
