@@ -9,7 +9,7 @@ mod progress;
 mod reduction;
 mod row;
 
-pub use limits::EDGE_BYTES;
+pub use limits::{COLUMN_BYTES, EDGE_BYTES, MOST_COLUMNS};
 pub use listed_edge::ListedEdge;
 pub use progress::Progress;
 pub use reduction::Reduction;
