@@ -10,7 +10,7 @@ use Rattle.map_model.specs.declared.reduction.Reduction.TheVariants.{Min, Max, S
 use Rattle.map_model.specs.EdgeMap.{least, reduction_of_numbers}
 use Rattle.map_model.specs.Pushes.{joint, pushed, numbers_to, changed}
 
-least_limit : (xs : List ℕ) → least xs ≤ 2 ^ 64 - 1
+pub least_limit : (xs : List ℕ) → least xs ≤ 2 ^ 64 - 1
 least_limit [] = omega arith
 least_limit (x ∷ xs) = omega (arith, least_limit xs)
 

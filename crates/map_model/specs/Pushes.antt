@@ -1,5 +1,5 @@
 -- Pushes: the number of an edge goes to the place of its target.
-use Rattle.std.specs.Prelude.{◌≡◌, ℕ, ◌+◌, ◌<◌, ◌^◌, ◌==◌, if◌then◌else◌, List, [], ◌∷◌, ◌++◌, length, slice_index, slice_set}
+use Rattle.std.specs.Prelude.{◌≡◌, ℕ, ◌+◌, ◌<◌, ◌^◌, ◌==◌, if◌then◌else◌, List, [], ◌∷◌, ◌++◌, length, replicate, slice_index, slice_set}
 use Rattle.map_model.specs.declared.reduction.Reduction.{Reduction}
 use Rattle.map_model.specs.EdgeMap.{reduction_of_numbers}
 
@@ -25,6 +25,12 @@ changed [] new = 0
 changed (a ∷ old) [] = 0
 changed (a ∷ old) (b ∷ new) = (if a == b then 0 else 1) + changed old new
 
+-- two values at each place as one
+unfoldable pub joined : Reduction → (values others : List ℕ) → List ℕ
+joined r [] others = []
+joined r (a ∷ values) [] = a ∷ values
+joined r (a ∷ values) (b ∷ others) = joint r a b ∷ joined r values others
+
 -- a push leaves at each vertex what the number before and all that go there reduce to
 abbrev pub PushedNumbersReduce : Type 0
 PushedNumbersReduce =
@@ -36,3 +42,10 @@ abbrev pub PushesInTurn : Type 0
 PushesInTurn =
     (r : Reduction) (targets others numbers more values : List ℕ) → length targets ≡ length numbers
     → pushed r (targets ++ others) (numbers ++ more) values ≡ pushed r others more (pushed r targets numbers values)
+
+-- A push of some numbers, and one of others into values that no number reduces to, joined at each place, are a push of all.
+abbrev pub PushesJoin : Type 0
+PushesJoin =
+    (r : Reduction) (targets others numbers more values : List ℕ) → length targets ≡ length numbers → ((v : ℕ) → slice_index values v < 2 ^ 64)
+    → pushed r (targets ++ others) (numbers ++ more) values
+    ≡ joined r (pushed r targets numbers values) (pushed r others more (replicate (length values) (reduction_of_numbers r [])))

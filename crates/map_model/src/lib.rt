@@ -13,6 +13,6 @@ mod row;
 pub use limits::EDGE_BYTES;
 pub use listed_edge::ListedEdge;
 pub use progress::Progress;
-pub use push::{count_changed, push_numbers};
+pub use push::{count_changed, join_values, push_numbers};
 pub use reduction::Reduction;
 pub use row::Row;

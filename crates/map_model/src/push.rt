@@ -1,6 +1,6 @@
 //! Pushes: each number goes to the place of its target.
 ghost use Rattle.std.specs.Prelude.{◌≡◌, ◌<◌, ◌≤◌, ℕ, length, slice_index, slice_set};
-ghost use Rattle.map_model.specs.Pushes.{changed, joint, pushed};
+ghost use Rattle.map_model.specs.Pushes.{changed, joined, joint, pushed};
 
 use crate::reduction::Reduction;
 
@@ -49,6 +49,23 @@ pub fn count_changed(before: &[u64], after: &[u64]) -> usize
         if before[at] != after[at] {
             count += 1;
         }
+    }
+    count
+}
+
+/// Reduces another value into each value, at the same place. Returns at how many places the value has changed.
+pub fn join_values(reduction: Reduction, values: &mut [u64], others: &[u64]) -> usize
+    requires { length values.old ≡ length others.now }
+    ensures joined { values.new ≡ joined reduction values.old others.now }
+    ensures changed { result ≡ changed values.old values.new }
+{
+    let mut count = 0;
+    'places: for at in 0..values.len() {
+        let value = join(reduction, values[at], others[at]);
+        if value != values[at] {
+            count += 1;
+        }
+        values[at] = value;
     }
     count
 }
