@@ -1,2 +1,4 @@
 pub mod EdgeMap
 pub mod Parts
+pub mod Pushes
+pub mod PushRows
