@@ -6,6 +6,7 @@ use Rattle.bpf_image.specs.Program.{Program}
 use Rattle.graph_model.specs.Graph.{Graph}
 use Rattle.edge_fold.proofs.Numbers.{found}
 use Rattle.edge_fold.proofs.Written.{more_found}
+use Rattle.map_model.specs.EdgeMap.{Inputs}
 
 -- a part after the first places is written as far as it goes
 pub filled : (old numbers part early late : List ℕ) (at n k : ℕ)
@@ -39,29 +40,29 @@ late_count numbers part late at n k fits few long is =
     )
 
 -- the numbers of the first targets are written, and the other places are as they were
-pub record IsFilled (p : Program) (g : Graph) (argument : List ℕ) (source first : ℕ) (targets old numbers : List ℕ) (at : ℕ) : Type 0 where
+pub record IsFilled (p : Program) (g : Graph) (inputs : Inputs) (source first : ℕ) (targets old numbers : List ℕ) (at : ℕ) : Type 0 where
   pub within : at ≤ length targets
   pub room : at ≤ length old
-  pub count : length (found p g argument source first (take at targets)) ≡ at
-  pub written : numbers ≡ found p g argument source first (take at targets) ++ drop at old
+  pub count : length (found p g inputs source first (take at targets)) ≡ at
+  pub written : numbers ≡ found p g inputs source first (take at targets) ++ drop at old
 
-pub filled_long : (p : Program) (g : Graph) (argument : List ℕ) (source first : ℕ) (targets old numbers : List ℕ) (at : ℕ)
-    → IsFilled p g argument source first targets old numbers at → length numbers ≡ length old
-filled_long p g argument source first targets old numbers at done =
-    omega (arith, ap length done.written, length-append (found p g argument source first (take at targets)) (drop at old), done.count, length-drop at old, done.room)
+pub filled_long : (p : Program) (g : Graph) (inputs : Inputs) (source first : ℕ) (targets old numbers : List ℕ) (at : ℕ)
+    → IsFilled p g inputs source first targets old numbers at → length numbers ≡ length old
+filled_long p g inputs source first targets old numbers at done =
+    omega (arith, ap length done.written, length-append (found p g inputs source first (take at targets)) (drop at old), done.count, length-drop at old, done.room)
 
-pub none_filled : (p : Program) (g : Graph) (argument : List ℕ) (source first : ℕ) (targets old : List ℕ) → IsFilled p g argument source first targets old old 0
-none_filled p g argument source first targets old = record { within = omega arith; room = omega arith; count = refl; written = refl }
+pub none_filled : (p : Program) (g : Graph) (inputs : Inputs) (source first : ℕ) (targets old : List ℕ) → IsFilled p g inputs source first targets old old 0
+none_filled p g inputs source first targets old = record { within = omega arith; room = omega arith; count = refl; written = refl }
 
-pub more_filled : (p : Program) (g : Graph) (argument : List ℕ) (source first : ℕ) (targets old numbers part : List ℕ) (at n k : ℕ)
-    → IsFilled p g argument source first targets old numbers at → at + k ≤ length old → n ≤ k → at + n ≤ length targets → length part ≡ k
-    → part ≡ found p g argument source (first + at) (take n (drop at targets)) ++ drop n (take k (drop at numbers))
-    → IsFilled p g argument source first targets old (put_mid at k numbers part) (at + n)
-more_filled p g argument source first targets old numbers part at n k done fits few inside long is =
-    let early = found p g argument source first (take at targets) in
-    let late = found p g argument source (first + at) (take n (drop at targets)) in
-    let more : found p g argument source first (take (at + n) targets) ≡ early ++ late = more_found p g argument source first targets at n done.within in
-    let same = filled_long p g argument source first targets old numbers at done in
+pub more_filled : (p : Program) (g : Graph) (inputs : Inputs) (source first : ℕ) (targets old numbers part : List ℕ) (at n k : ℕ)
+    → IsFilled p g inputs source first targets old numbers at → at + k ≤ length old → n ≤ k → at + n ≤ length targets → length part ≡ k
+    → part ≡ found p g inputs source (first + at) (take n (drop at targets)) ++ drop n (take k (drop at numbers))
+    → IsFilled p g inputs source first targets old (put_mid at k numbers part) (at + n)
+more_filled p g inputs source first targets old numbers part at n k done fits few inside long is =
+    let early = found p g inputs source first (take at targets) in
+    let late = found p g inputs source (first + at) (take n (drop at targets)) in
+    let more : found p g inputs source first (take (at + n) targets) ≡ early ++ late = more_found p g inputs source first targets at n done.within in
+    let same = filled_long p g inputs source first targets old numbers at done in
     let count : length late ≡ n = late_count numbers part late at n k (omega (arith, fits, same)) few long is in
     record {
       within = inside;
@@ -71,12 +72,12 @@ more_filled p g argument source first targets old numbers part at n k done fits 
     }
 
 -- the same of a part that reaches to the end
-pub rest_filled : (p : Program) (g : Graph) (argument : List ℕ) (source first : ℕ) (targets old numbers part : List ℕ) (at n : ℕ)
-    → IsFilled p g argument source first targets old numbers at → n ≤ length old - at → at + n ≤ length targets
+pub rest_filled : (p : Program) (g : Graph) (inputs : Inputs) (source first : ℕ) (targets old numbers part : List ℕ) (at n : ℕ)
+    → IsFilled p g inputs source first targets old numbers at → n ≤ length old - at → at + n ≤ length targets
     → length part ≡ length (take (length numbers - at) (drop at numbers))
-    → part ≡ found p g argument source (first + at) (take n (drop at targets)) ++ drop n (take (length numbers - at) (drop at numbers))
-    → IsFilled p g argument source first targets old (put_mid at (length numbers - at) numbers part) (at + n)
-rest_filled p g argument source first targets old numbers part at n done few inside long is =
-    let same = filled_long p g argument source first targets old numbers at done in
+    → part ≡ found p g inputs source (first + at) (take n (drop at targets)) ++ drop n (take (length numbers - at) (drop at numbers))
+    → IsFilled p g inputs source first targets old (put_mid at (length numbers - at) numbers part) (at + n)
+rest_filled p g inputs source first targets old numbers part at n done few inside long is =
+    let same = filled_long p g inputs source first targets old numbers at done in
     let held : length (take (length numbers - at) (drop at numbers)) ≡ length numbers - at = length-take-le (length numbers - at) (drop at numbers) (omega (arith, length-drop at numbers)) in
-    more_filled p g argument source first targets old numbers part at n (length numbers - at) done (omega (arith, same, done.room)) (omega (arith, same, few)) inside (long ∙ held) is
+    more_filled p g inputs source first targets old numbers part at n (length numbers - at) done (omega (arith, same, done.room)) (omega (arith, same, few)) inside (long ∙ held) is

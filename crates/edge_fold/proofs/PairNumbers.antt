@@ -6,22 +6,23 @@ use Rattle.std.proofs.lemmas.List.{take_more, take_more_set, drop-set-lt, drop-d
 use Rattle.bpf_image.specs.Program.{Program}
 use Rattle.bpf_model.specs.Run.{number_for}
 use Rattle.graph_model.specs.Graph.{Graph}
-use Rattle.map_model.specs.EdgeMap.{edge_record}
+use Rattle.map_model.specs.EdgeMap.{input_record}
 use Rattle.map_model.specs.Parts.{place_of, pair_numbers}
 use Rattle.verifier.specs.Walks.{longest}
+use Rattle.map_model.specs.EdgeMap.{Inputs}
 
-module _ (p : Program) (g : Graph) (argument : List ℕ) where
+module _ (p : Program) (g : Graph) (inputs : Inputs) where
   -- one pair more
   pub pair_more : (xs ys : List ℕ) (x y n : ℕ) → length ys ≡ length xs
-      → number_for p (longest p) g (edge_record g x y (place_of g x y) argument) ≡ Some n
-      → pair_numbers p (longest p) g argument (xs ++ x ∷ []) (ys ++ y ∷ []) ≡ pair_numbers p (longest p) g argument xs ys ++ n ∷ []
+      → number_for p (longest p) g (input_record g x y (place_of g x y) inputs) ≡ Some n
+      → pair_numbers p (longest p) g inputs (xs ++ x ∷ []) (ys ++ y ∷ []) ≡ pair_numbers p (longest p) g inputs xs ys ++ n ∷ []
   pair_more [] [] x y n alike is = rw is refl
   pair_more [] (b ∷ ys) x y n alike is = absurd (omega (arith, alike))
   pair_more (a ∷ xs) [] x y n alike is = absurd (omega (arith, alike))
   pair_more (a ∷ xs) (b ∷ ys) x y n alike is =
-      let first = filter_map (λ (number : Option ℕ). number) (number_for p (longest p) g (edge_record g a b (place_of g a b) argument) ∷ []) in
+      let first = filter_map (λ (number : Option ℕ). number) (number_for p (longest p) g (input_record g a b (place_of g a b) inputs) ∷ []) in
       ap (λ l. first ++ l) (pair_more xs ys x y n (omega (arith, alike)) is)
-      ∙ sym (append_assoc first (pair_numbers p (longest p) g argument xs ys) (n ∷ []))
+      ∙ sym (append_assoc first (pair_numbers p (longest p) g inputs xs ys) (n ∷ []))
 
   -- one item more of a range
   range_more : (xs : List ℕ) (from at : ℕ) → from ≤ at → at < length xs → slice_range xs from (at + 1) ≡ slice_range xs from at ++ get_or xs at 0 ∷ []
@@ -35,7 +36,7 @@ module _ (p : Program) (g : Graph) (argument : List ℕ) where
   -- the pairs from one place to another have their numbers, and the others are as they were
   pub record ArePaired (sources targets old numbers : List ℕ) (from at : ℕ) : Type 0 where
     pub long : length numbers ≡ length old
-    pub written : take at numbers ≡ take from old ++ pair_numbers p (longest p) g argument (slice_range sources from at) (slice_range targets from at)
+    pub written : take at numbers ≡ take from old ++ pair_numbers p (longest p) g inputs (slice_range sources from at) (slice_range targets from at)
     pub rest : drop at numbers ≡ drop at old
 
   pub none_paired : (sources targets old : List ℕ) (from : ℕ) → ArePaired sources targets old old from from
@@ -43,13 +44,13 @@ module _ (p : Program) (g : Graph) (argument : List ℕ) where
       let none : from - from ≡ 0 = omega arith in
       record {
         long = refl;
-        written = sym (ap (λ k. take from old ++ pair_numbers p (longest p) g argument (take k (drop from sources)) (take k (drop from targets))) none ∙ append-nil (take from old));
+        written = sym (ap (λ k. take from old ++ pair_numbers p (longest p) g inputs (take k (drop from sources)) (take k (drop from targets))) none ∙ append-nil (take from old));
         rest = refl;
       }
 
   pub one_paired : (sources targets old numbers : List ℕ) (from at n : ℕ) → ArePaired sources targets old numbers from at
       → length targets ≡ length sources → from ≤ at → at < length sources → length old ≡ length sources
-      → number_for p (longest p) g (edge_record g (get_or sources at 0) (get_or targets at 0) (place_of g (get_or sources at 0) (get_or targets at 0)) argument) ≡ Some n
+      → number_for p (longest p) g (input_record g (get_or sources at 0) (get_or targets at 0) (place_of g (get_or sources at 0) (get_or targets at 0)) inputs) ≡ Some n
       → ArePaired sources targets old (slice_set numbers at n) from (at + 1)
   one_paired sources targets old numbers from at n done alike back inside long is =
       let xs = slice_range sources from at in
@@ -61,9 +62,9 @@ module _ (p : Program) (g : Graph) (argument : List ℕ) where
         long = length-set numbers at n ∙ done.long;
         written = take_more_set numbers at n (omega (arith, done.long, long, inside))
             ∙ ap (λ l. l ++ n ∷ []) done.written
-            ∙ append_assoc (take from old) (pair_numbers p (longest p) g argument xs ys) (n ∷ [])
+            ∙ append_assoc (take from old) (pair_numbers p (longest p) g inputs xs ys) (n ∷ [])
             ∙ ap (λ l. take from old ++ l) (sym more)
-            ∙ ap (λ l. take from old ++ pair_numbers p (longest p) g argument l (ys ++ get_or targets at 0 ∷ [])) (sym (range_more sources from at back inside))
-            ∙ ap (λ l. take from old ++ pair_numbers p (longest p) g argument (slice_range sources from (at + 1)) l) (sym (range_more targets from at back (omega (arith, inside, alike))));
+            ∙ ap (λ l. take from old ++ pair_numbers p (longest p) g inputs l (ys ++ get_or targets at 0 ∷ [])) (sym (range_more sources from at back inside))
+            ∙ ap (λ l. take from old ++ pair_numbers p (longest p) g inputs (slice_range sources from (at + 1)) l) (sym (range_more targets from at back (omega (arith, inside, alike))));
         rest = drop-set-lt (at + 1) numbers at n (omega arith) ∙ sym (drop-drop 1 at numbers) ∙ ap (drop 1) done.rest ∙ drop-drop 1 at old;
       }

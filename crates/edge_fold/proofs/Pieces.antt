@@ -11,17 +11,18 @@ use Rattle.edge_fold.specs.declared.budget.TheConstants.{EDGE_COST}
 use Rattle.edge_fold.proofs.Reductions.{reduced-append}
 use Rattle.edge_fold.proofs.Numbers.{IsFolded, found}
 use Rattle.edge_fold.proofs.Written.{more_found}
+use Rattle.map_model.specs.EdgeMap.{Inputs}
 
 -- so many edges more
-pub some_folded : (r : Reduction) (p : Program) (g : Graph) (argument : List ℕ) (source first : ℕ) (targets : List ℕ) (place count so_far value next : ℕ)
-    → IsFolded r p g argument source first targets place so_far → place + count ≤ length targets
-    → value ≡ reduction_of_numbers r (found p g argument source (first + place) (take count (drop place targets)))
-    → length (found p g argument source (first + place) (take count (drop place targets))) ≡ count
-    → next ≡ combination r so_far value → IsFolded r p g argument source first targets (place + count) next
-some_folded r p g argument source first targets place count so_far value next done fits row long combines =
-    let early = found p g argument source first (take place targets) in
-    let late = found p g argument source (first + place) (take count (drop place targets)) in
-    let more : found p g argument source first (take (place + count) targets) ≡ early ++ late = more_found p g argument source first targets place count done.within in
+pub some_folded : (r : Reduction) (p : Program) (g : Graph) (inputs : Inputs) (source first : ℕ) (targets : List ℕ) (place count so_far value next : ℕ)
+    → IsFolded r p g inputs source first targets place so_far → place + count ≤ length targets
+    → value ≡ reduction_of_numbers r (found p g inputs source (first + place) (take count (drop place targets)))
+    → length (found p g inputs source (first + place) (take count (drop place targets))) ≡ count
+    → next ≡ combination r so_far value → IsFolded r p g inputs source first targets (place + count) next
+some_folded r p g inputs source first targets place count so_far value next done fits row long combines =
+    let early = found p g inputs source first (take place targets) in
+    let late = found p g inputs source (first + place) (take count (drop place targets)) in
+    let more : found p g inputs source first (take (place + count) targets) ≡ early ++ late = more_found p g inputs source first targets place count done.within in
     record {
       value = combines ∙ ap (λ k. combination r k value) done.value ∙ ap (combination r (reduction_of_numbers r early)) row
           ∙ sym (reduced-append r early late) ∙ ap (reduction_of_numbers r) (sym more);

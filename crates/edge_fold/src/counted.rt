@@ -4,13 +4,14 @@ ghost use Rattle.graph_model.specs.Graph.{degree};
 ghost use Rattle.past_model.specs.declared.limits.TheConstants.{MOST_VERTICES};
 ghost use Rattle.past_model.specs.Past.{graph_of};
 ghost use Rattle.bpf_model.specs.Run.{number_for};
-ghost use Rattle.map_model.specs.EdgeMap.{edge_record, reduction_of_numbers};
+ghost use Rattle.map_model.specs.EdgeMap.{input_record, reduction_of_numbers};
 ghost use Rattle.map_model.specs.declared.limits.TheConstants.{EDGE_BYTES};
 ghost use Rattle.verifier.specs.Walks.{longest};
 ghost use Rattle.verifier.specs.Writing.{KeepsRecords};
 ghost use Rattle.edge_fold.specs.Numbers.{record_bytes, BeginAlike, span_numbers};
 ghost use Rattle.edge_fold.specs.declared.budget.TheConstants.{EDGE_COST};
 ghost use Rattle.bpf_runs.specs.Held.{HoldsTable};
+ghost use Rattle.edge_fold.specs.Inputs.{inputs_of};
 
 use crate::budget::{cost_alone, cost_in_block};
 use crate::edge::Edge;
@@ -40,15 +41,14 @@ fn run_edge_counted(
     requires begun { is_begun ≡ true → BeginAlike edge mapped.now.argument.now memory.old.bytes }
     requires table { HoldsTable mapped.now.program.now.table memory.old.bytes }
     ensures number { let m = mapped.now in let p = m.program.now in let g = graph_of m.version.now in
-        let bytes = edge_record g edge.source edge.target edge.place m.argument.now in
+        let bytes = input_record g edge.source edge.target edge.place (inputs_of m) in
         number_for p (longest p) g bytes ≡ Some result.number }
     // A program that keeps its records leaves this one in the memory.
     ensures kept { let a = mapped.now.argument.now in KeepsRecords mapped.now.program.now →
         take (length a + EDGE_BYTES) memory.new.bytes ≡ record_bytes edge a }
     ensures table { HoldsTable mapped.now.program.now.table memory.new.bytes }
 {
-    let _length = mapped.program.image().record_length();
-    prepare(memory, edge, mapped.argument, is_begun);
+    prepare(mapped, memory, edge, is_begun);
     run_counted(mapped.program, memory, mapped.version)
 }
 
@@ -74,9 +74,9 @@ fn fold_counted(
     requires short { length span.targets.now ≤ MOST_VERTICES }
     requires table { HoldsTable mapped.now.program.now.table memory.old.bytes }
     ensures value { let m = mapped.now in result.value
-        ≡ reduction_of_numbers reduction (span_numbers m.program.now (graph_of m.version.now) m.argument.now span.entry) }
+        ≡ reduction_of_numbers reduction (span_numbers m.program.now (graph_of m.version.now) (inputs_of m) span.entry) }
     ensures count { let m = mapped.now in
-        length (span_numbers m.program.now (graph_of m.version.now) m.argument.now span.entry)
+        length (span_numbers m.program.now (graph_of m.version.now) (inputs_of m) span.entry)
         ≡ length span.entry.targets.now }
     ensures cost { result.cost ≤ (longest mapped.now.program.now + EDGE_COST) * length span.entry.targets.now }
     ensures least { EDGE_COST * length span.entry.targets.now ≤ result.cost }
@@ -115,9 +115,9 @@ pub(crate) fn fold_part(
     requires short { length span.targets.now ≤ MOST_VERTICES }
     requires table { HoldsTable mapped.now.program.now.table memory.old.bytes }
     ensures value { let m = mapped.now in result.value
-        ≡ reduction_of_numbers reduction (span_numbers m.program.now (graph_of m.version.now) m.argument.now span.entry) }
+        ≡ reduction_of_numbers reduction (span_numbers m.program.now (graph_of m.version.now) (inputs_of m) span.entry) }
     ensures count { let m = mapped.now in
-        length (span_numbers m.program.now (graph_of m.version.now) m.argument.now span.entry)
+        length (span_numbers m.program.now (graph_of m.version.now) (inputs_of m) span.entry)
         ≡ length span.entry.targets.now }
     ensures cost { result.cost ≤ (longest mapped.now.program.now + EDGE_COST) * length span.entry.targets.now }
     ensures least { EDGE_COST * length span.entry.targets.now ≤ result.cost }
@@ -144,7 +144,7 @@ fn number_counted(
     requires long { length numbers.old ≡ length span.targets.now }
     requires table { HoldsTable mapped.now.program.now.table memory.old.bytes }
     ensures numbers { let m = mapped.now in
-        numbers.new ≡ span_numbers m.program.now (graph_of m.version.now) m.argument.now span.entry }
+        numbers.new ≡ span_numbers m.program.now (graph_of m.version.now) (inputs_of m) span.entry }
     ensures cost { result ≤ (longest mapped.now.program.now + EDGE_COST) * length span.entry.targets.now }
     ensures least { EDGE_COST * length span.entry.targets.now ≤ result }
     ensures table { HoldsTable mapped.now.program.now.table memory.new.bytes }
@@ -179,7 +179,7 @@ pub(crate) fn number_row(
     requires long { length numbers.old ≡ length span.targets.now }
     requires table { HoldsTable mapped.now.program.now.table memory.old.bytes }
     ensures numbers { let m = mapped.now in
-        numbers.new ≡ span_numbers m.program.now (graph_of m.version.now) m.argument.now span.entry }
+        numbers.new ≡ span_numbers m.program.now (graph_of m.version.now) (inputs_of m) span.entry }
     ensures cost { result ≤ (longest mapped.now.program.now + EDGE_COST) * length span.entry.targets.now }
     ensures least { EDGE_COST * length span.entry.targets.now ≤ result }
     ensures table { HoldsTable mapped.now.program.now.table memory.new.bytes }
@@ -201,7 +201,7 @@ pub(crate) fn number_and_cost(
     requires degree { edge.degree ≡ degree (graph_of mapped.now.version.now) edge.source }
     requires table { HoldsTable mapped.now.program.now.table memory.old.bytes }
     ensures number { let m = mapped.now in let p = m.program.now in let g = graph_of m.version.now in
-        let bytes = edge_record g edge.source edge.target edge.place m.argument.now in
+        let bytes = input_record g edge.source edge.target edge.place (inputs_of m) in
         number_for p (longest p) g bytes ≡ Some result.value }
     ensures cost { result.cost ≤ longest mapped.now.program.now + EDGE_COST }
     ensures least { EDGE_COST ≤ result.cost }

@@ -7,6 +7,8 @@ ghost use Rattle.map_model.specs.EdgeMap.{reduction_of_numbers};
 ghost use Rattle.bpf_blocks.specs.declared.columns.TheConstants.{LANES};
 ghost use Rattle.edge_fold.specs.Kept.{AreNumbered, IsFor};
 ghost use Rattle.edge_fold.specs.Numbers.{span_numbers};
+ghost use Rattle.edge_fold.specs.Inputs.{inputs_of};
+ghost use Rattle.map_model.specs.EdgeMap.{Inputs};
 
 use crate::edge::Edge;
 use crate::fold::LEAST_IN_BLOCK;
@@ -59,7 +61,7 @@ fn put_edges(edges: &mut Edges, first: usize, source: u32, targets: &[u32])
 /// were looked at.
 fn gather(version: &Version, kept: &mut Kept, frontier: &[u32], least_alone: u32) -> usize
     ensures few { kept.new.edges.count ≤ LANES }
-    ensures numbered { (p : Program) (g : Graph) (argument : List ℕ) → AreNumbered p g argument kept.new }
+    ensures numbered { (p : Program) (g : Graph) (inputs : Inputs) → AreNumbered p g inputs kept.new }
 {
     let mut count = 0usize;
     let mut looked = 0usize;
@@ -91,7 +93,7 @@ pub(crate) fn keep_next(
 ) -> usize
     requires memory { IsFor mapped.now.program.now memory.old }
     ensures kept { let m = mapped.now in AreNumbered m.program.now
-        (graph_of m.version.now) m.argument.now memory.new.kept }
+        (graph_of m.version.now) (inputs_of m) memory.new.kept }
     ensures memory { IsFor mapped.now.program.now memory.new }
 {
     if !memory.blocks.is_useful || frontier.len() < 2 {
@@ -116,13 +118,13 @@ pub(crate) fn fold_kept(
 ) -> Option<u64>
     requires degree { span.degree ≡ degree (graph_of mapped.now.version.now) span.source }
     requires few { span.place + length span.targets.now ≤ 2 ^ 32 }
-    requires kept { let m = mapped.now in AreNumbered m.program.now (graph_of m.version.now) m.argument.now kept.old }
+    requires kept { let m = mapped.now in AreNumbered m.program.now (graph_of m.version.now) (inputs_of m) kept.old }
     ensures value { let m = mapped.now in IfSome result (λ value. value ≡ reduction_of_numbers reduction
-        (span_numbers m.program.now (graph_of m.version.now) m.argument.now span.entry)) }
+        (span_numbers m.program.now (graph_of m.version.now) (inputs_of m) span.entry)) }
     ensures count { let m = mapped.now in IfSome result
-        (λ _. length (span_numbers m.program.now (graph_of m.version.now) m.argument.now span.entry)
+        (λ _. length (span_numbers m.program.now (graph_of m.version.now) (inputs_of m) span.entry)
         ≡ length span.entry.targets.now) }
-    ensures kept { let m = mapped.now in AreNumbered m.program.now (graph_of m.version.now) m.argument.now kept.new }
+    ensures kept { let m = mapped.now in AreNumbered m.program.now (graph_of m.version.now) (inputs_of m) kept.new }
 {
     if kept.count == 0 {
         return None;

@@ -5,14 +5,16 @@ ghost use Rattle.graph_model.specs.Graph.{Graph, degree};
 ghost use Rattle.bpf_image.specs.Program.{Program};
 ghost use Rattle.bpf_model.specs.Run.{number_for};
 ghost use Rattle.bpf_blocks.specs.declared.columns.TheConstants.{LANES};
-ghost use Rattle.map_model.specs.EdgeMap.{edge_record};
+ghost use Rattle.map_model.specs.EdgeMap.{input_record};
 ghost use Rattle.verifier.specs.Walks.{longest};
 ghost use Rattle.edge_fold.specs.Kept.{AreNumbered, IsEdgeAt};
+ghost use Rattle.edge_fold.specs.Inputs.{inputs_of};
+ghost use Rattle.map_model.specs.EdgeMap.{Inputs};
 
-use crate::blocks::number_of_lane;
+use crate::blocks::{number_of_lane, sweep};
 use crate::edge::Edge;
 use crate::mapped::Mapped;
-use bpf_blocks::{Columns, Edges, LANES, sweep_edges};
+use bpf_blocks::{Columns, Edges, LANES};
 
 /// A block of edges, and the numbers of those that have been run.
 #[derive(Drop)]
@@ -40,16 +42,10 @@ fn is_edge_at(edges: &Edges, lane: usize, edge: Edge) -> bool
 impl Kept {
     /// No numbers.
     pub fn new() -> Kept
-        ensures { (p : Program) (g : Graph) (argument : List ℕ) → AreNumbered p g argument result }
+        ensures { (p : Program) (g : Graph) (inputs : Inputs) → AreNumbered p g inputs result }
     {
         Kept {
-            edges: Edges {
-                count: 0,
-                sources: [0; LANES],
-                targets: [0; LANES],
-                places: [0; LANES],
-                degrees: [0; LANES],
-            },
+            edges: Edges::empty(),
             numbers: [0; LANES],
             count: 0,
             at: 0,
@@ -59,7 +55,7 @@ impl Kept {
     /// Forgets all numbers.
     #[inline(always)]
     pub fn forget(&mut self)
-        ensures numbered { (p : Program) (g : Graph) (argument : List ℕ) → AreNumbered p g argument self.new }
+        ensures numbered { (p : Program) (g : Graph) (inputs : Inputs) → AreNumbered p g inputs self.new }
         ensures edges { self.new.edges ≡ self.old.edges }
     {
         self.count = 0;
@@ -69,18 +65,11 @@ impl Kept {
     /// Runs the block's edges at once, if that can be done, and keeps their numbers. The answer is whether it could.
     pub fn run(&mut self, mapped: &Mapped<'_>, columns: &mut Columns) -> bool
         requires { self.old.edges.count ≤ LANES }
-        ensures { let m = mapped.now in AreNumbered m.program.now (graph_of m.version.now) m.argument.now self.new }
+        ensures { let m = mapped.now in AreNumbered m.program.now (graph_of m.version.now) (inputs_of m) self.new }
     {
         self.count = 0;
         self.at = 0;
-        if !sweep_edges(
-            mapped.program,
-            mapped.version,
-            &self.edges,
-            mapped.argument,
-            columns,
-            &mut self.numbers,
-        ) {
+        if !sweep(mapped, &mut self.edges, columns, &mut self.numbers) {
             return false;
         }
         self.count = self.edges.count;
@@ -90,11 +79,11 @@ impl Kept {
     /// The number of an edge, if it is the one that is looked for next.
     #[inline(always)]
     pub fn number_of(&mut self, edge: Edge) -> Option<u64>
-        ensures same { (p : Program) (g : Graph) (argument : List ℕ) → AreNumbered p g argument self.old
-            → AreNumbered p g argument self.new }
-        ensures number { (p : Program) (g : Graph) (argument : List ℕ) (n : ℕ) → AreNumbered p g argument self.old
+        ensures same { (p : Program) (g : Graph) (inputs : Inputs) → AreNumbered p g inputs self.old
+            → AreNumbered p g inputs self.new }
+        ensures number { (p : Program) (g : Graph) (inputs : Inputs) (n : ℕ) → AreNumbered p g inputs self.old
             → result ≡ Some n → edge.degree ≡ degree g edge.source
-            → number_for p (longest p) g (edge_record g edge.source edge.target edge.place argument) ≡ Some n }
+            → number_for p (longest p) g (input_record g edge.source edge.target edge.place inputs) ≡ Some n }
     {
         let lane = self.at;
         if lane >= self.count || lane >= LANES || !is_edge_at(&self.edges, lane, edge) {

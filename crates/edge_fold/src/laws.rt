@@ -3,8 +3,10 @@ ghost use Rattle.std.specs.Prelude.{◌≡◌, ◌+◌, ◌<◌, ℕ, length, sl
 ghost use Rattle.bpf_model.specs.Helpers.{IsView};
 ghost use Rattle.past_model.specs.Past.{graph_of};
 ghost use Rattle.map_model.specs.declared.limits.TheConstants.{EDGE_BYTES};
-ghost use Rattle.edge_fold.specs.Laws.{EveryEdgeHasItsNumber};
+ghost use Rattle.edge_fold.specs.Inputs.{inputs_of};
+ghost use Rattle.edge_fold.specs.Laws.{EveryEdgeHasItsNumber, EveryEdgeIsListed};
 
+use crate::mapped::Mapped;
 use graph_model::GraphView;
 use verifier::Verified;
 use version::Version;
@@ -22,10 +24,19 @@ fn is_view<G: GraphView>(graph: &G)
 }
 
 /// No run is left out of a map. Over any frontier an accepted program has as many numbers as the frontier's vertices have
-/// neighbours, and the list of all edges of a version has as many entries as the version has edges.
-pub fn every_edge_has_its_number(program: &Verified, version: &Version, argument: &[u8])
+/// neighbours.
+pub fn every_edge_has_its_number(mapped: &Mapped<'_>)
+    ensures { let m = mapped.now in EveryEdgeHasItsNumber m.program.now (graph_of m.version.now) (inputs_of m) }
+{
+    are_bytes(mapped.argument);
+    is_view(mapped.version);
+    let _image = mapped.program.image();
+}
+
+/// The list of all edges of a version has as many entries as the version has edges.
+pub fn every_edge_is_listed(program: &Verified, version: &Version, argument: &[u8])
     requires { length argument.now + EDGE_BYTES ≡ program.now.record_length }
-    ensures { EveryEdgeHasItsNumber program.now (graph_of version.now) argument.now }
+    ensures { EveryEdgeIsListed program.now (graph_of version.now) argument.now }
 {
     are_bytes(argument);
     is_view(version);

@@ -2,11 +2,12 @@
 ghost use Rattle.std.specs.Prelude.{◌≡◌, ◌*◌, ◌≤◌, length, IfOk};
 ghost use Rattle.past_model.specs.declared.limits.TheConstants.{MOST_VERTICES};
 ghost use Rattle.past_model.specs.Past.{graph_of};
-ghost use Rattle.map_model.specs.EdgeMap.{reduction_of_numbers, all_numbers, rows_of};
+ghost use Rattle.map_model.specs.EdgeMap.{reduction_of_numbers, all_with, rows_with};
 ghost use Rattle.map_model.specs.Parts.{values_for};
 ghost use Rattle.verifier.specs.Walks.{longest};
 ghost use Rattle.edge_fold.specs.Kept.{IsFor};
 ghost use Rattle.edge_fold.specs.Rows.{reported_rows};
+ghost use Rattle.edge_fold.specs.Inputs.{inputs_of};
 
 use crate::few::{are_few, keep_next, least_alone};
 use crate::fold::fold_vertex;
@@ -38,13 +39,13 @@ pub fn map_frontier(
     requires memory { IsFor mapped.now.program.now memory.old }
     // How many edges there are, and what their numbers reduce to.
     ensures edges { IfOk result (λ out. let m = mapped.now in let p = m.program.now in let g = graph_of m.version.now in
-        out.edges ≡ length (all_numbers p (longest p) g m.argument.now request.now.frontier.now)) }
+        out.edges ≡ length (all_with p (longest p) g (inputs_of m) request.now.frontier.now)) }
     ensures total { IfOk result (λ out. let m = mapped.now in let p = m.program.now in let g = graph_of m.version.now in
         out.total ≡ reduction_of_numbers request.now.reduction
-        (all_numbers p (longest p) g m.argument.now request.now.frontier.now)) }
+        (all_with p (longest p) g (inputs_of m) request.now.frontier.now)) }
     ensures rows { IfOk result (λ out. let m = mapped.now in let p = m.program.now in let g = graph_of m.version.now in
         out.rows.items ≡ reported_rows rows g
-        (rows_of p (longest p) g request.now.reduction m.argument.now request.now.frontier.now)) }
+        (rows_with p (longest p) g request.now.reduction (inputs_of m) request.now.frontier.now)) }
     ensures most { IfOk result (λ out. out.edges ≤ length request.now.frontier.now * MOST_VERTICES) }
     // The memory still has the program's table, also where there was no memory for rows.
     ensures memory { IsFor mapped.now.program.now memory.new }
@@ -90,11 +91,11 @@ pub fn map_whole(
     requires long { length values.old ≡ length request.now.frontier.now }
     requires memory { IsFor mapped.now.program.now memory.old }
     ensures values { let m = mapped.now in let p = m.program.now in let g = graph_of m.version.now in let r = request.now in
-        values.new ≡ values_for p (longest p) g r.reduction m.argument.now r.frontier.now }
+        values.new ≡ values_for p (longest p) g r.reduction (inputs_of m) r.frontier.now }
     ensures edges { let m = mapped.now in let p = m.program.now in let g = graph_of m.version.now in
-        result.edges ≡ length (all_numbers p (longest p) g m.argument.now request.now.frontier.now) }
+        result.edges ≡ length (all_with p (longest p) g (inputs_of m) request.now.frontier.now) }
     ensures total { let m = mapped.now in let p = m.program.now in let g = graph_of m.version.now in result.total
-        ≡ reduction_of_numbers request.now.reduction (all_numbers p (longest p) g m.argument.now request.now.frontier.now) }
+        ≡ reduction_of_numbers request.now.reduction (all_with p (longest p) g (inputs_of m) request.now.frontier.now) }
     ensures vertex { result.vertex ≡ length request.now.frontier.now }
     ensures place { result.place ≡ 0 }
     ensures memory { IsFor mapped.now.program.now memory.new }

@@ -19,12 +19,13 @@ impl Memory {
     ghost use Rattle.bpf_image.specs.Program.{Program};
     ghost use Rattle.graph_model.specs.Graph.{Graph};
     ghost use Rattle.edge_fold.specs.Kept.{AreKept, IsFor};
+ghost use Rattle.map_model.specs.EdgeMap.{Inputs};
 
     /// A memory for runs of a program: it has the program's table, and keeps no number. Edges are run in blocks only if that
     /// saves time.
     pub fn for_program(program: &Verified) -> Memory
         ensures table { IsFor program.now result }
-        ensures kept { (p : Program) (g : Graph) (argument : List ℕ) → AreKept p g argument result }
+        ensures kept { (p : Program) (g : Graph) (inputs : Inputs) → AreKept p g inputs result }
     {
         let mut memory = Memory {
             run: bpf_runs::Memory::new(),

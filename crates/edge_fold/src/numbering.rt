@@ -4,20 +4,21 @@ ghost use Rattle.past_model.specs.declared.limits.TheConstants.{MOST_VERTICES};
 ghost use Rattle.graph_model.specs.Graph.{degree as degree_of};
 ghost use Rattle.graph_model.specs.Graph.{edge_count, numbers_below};
 ghost use Rattle.past_model.specs.Past.{graph_of};
-ghost use Rattle.map_model.specs.EdgeMap.{exit_numbers, all_numbers};
+ghost use Rattle.map_model.specs.EdgeMap.{exits_with, all_with};
 ghost use Rattle.verifier.specs.Walks.{longest};
 ghost use Rattle.edge_fold.specs.Kept.{IsFor};
 ghost use Rattle.edge_fold.specs.Numbers.{first_numbers, span_numbers};
 ghost use Rattle.bpf_runs.specs.Held.{HoldsTable};
+ghost use Rattle.edge_fold.specs.Inputs.{inputs_of};
 
-use crate::blocks::{Blocks, fill, targets_from};
+use crate::blocks::{Blocks, fill, sweep, targets_from};
 use crate::edge::Edge;
 use crate::fold::LEAST_IN_BLOCK;
 use crate::mapped::Mapped;
 use crate::memory::Memory;
 use crate::running::run_edge;
 use crate::span::Span;
-use bpf_blocks::{LANES, sweep_edges};
+use bpf_blocks::LANES;
 
 /// Writes the numbers of a span's first edges to the first places, if there are edges enough for a block and it can be run at
 /// once. Returns how many; 0 if it cannot.
@@ -32,18 +33,16 @@ pub(crate) fn number_block(
     requires long { length numbers.old ≡ length span.targets.now }
     ensures count { result ≤ length span.entry.targets.now }
     ensures numbers { let m = mapped.now in numbers.new
-        ≡ first_numbers m.program.now (graph_of m.version.now) m.argument.now span.entry result ++ drop result numbers.old }
+        ≡ first_numbers m.program.now (graph_of m.version.now) (inputs_of m) span.entry result ++ drop result numbers.old }
 {
     let count = LANES.min(span.targets.len());
     if count < LEAST_IN_BLOCK || !blocks.is_useful {
         return 0;
     }
     fill(&mut blocks.edges, &span, 0, count);
-    if !sweep_edges(
-        mapped.program,
-        mapped.version,
-        &blocks.edges,
-        mapped.argument,
+    if !sweep(
+        mapped,
+        &mut blocks.edges,
         &mut blocks.columns,
         &mut blocks.numbers,
     ) {
@@ -68,7 +67,7 @@ pub(crate) fn number_singly(
     requires long { length numbers.old ≡ length span.targets.now }
     requires table { HoldsTable mapped.now.program.now.table memory.old.bytes }
     ensures numbers { let m = mapped.now in
-        numbers.new ≡ span_numbers m.program.now (graph_of m.version.now) m.argument.now span.entry }
+        numbers.new ≡ span_numbers m.program.now (graph_of m.version.now) (inputs_of m) span.entry }
     ensures table { HoldsTable mapped.now.program.now.table memory.new.bytes }
 {
     let mapped = *mapped;
@@ -93,7 +92,7 @@ fn number_span(mapped: &Mapped<'_>, memory: &mut Memory, span: Span<'_>, numbers
     requires long { length numbers.old ≡ length span.targets.now }
     requires memory { IsFor mapped.now.program.now memory.old }
     ensures numbers { let m = mapped.now in
-        numbers.new ≡ span_numbers m.program.now (graph_of m.version.now) m.argument.now span.entry }
+        numbers.new ≡ span_numbers m.program.now (graph_of m.version.now) (inputs_of m) span.entry }
     ensures memory { IsFor mapped.now.program.now memory.new }
 {
     let mut at = 0usize;
@@ -118,7 +117,7 @@ fn number_vertex(mapped: &Mapped<'_>, memory: &mut Memory, source: u32, numbers:
     requires long { length numbers.old ≡ degree_of (graph_of mapped.now.version.now) source }
     requires memory { IsFor mapped.now.program.now memory.old }
     ensures numbers { let m = mapped.now in let p = m.program.now in
-        numbers.new ≡ exit_numbers p (longest p) (graph_of m.version.now) m.argument.now source }
+        numbers.new ≡ exits_with p (longest p) (graph_of m.version.now) (inputs_of m) source }
     ensures memory { IsFor mapped.now.program.now memory.new }
 {
     let degree = mapped.version.degree(u64::from(source));
@@ -146,7 +145,7 @@ pub fn number_edges(mapped: &Mapped<'_>, memory: &mut Memory, numbers: &mut [u64
     requires long { length numbers.old ≡ edge_count (graph_of mapped.now.version.now) }
     requires memory { IsFor mapped.now.program.now memory.old }
     ensures numbers { let m = mapped.now in let p = m.program.now in let g = graph_of m.version.now in
-        numbers.new ≡ all_numbers p (longest p) g m.argument.now (numbers_below g.vertex_count) }
+        numbers.new ≡ all_with p (longest p) g (inputs_of m) (numbers_below g.vertex_count) }
     ensures memory { IsFor mapped.now.program.now memory.new }
 {
     let mut at = 0usize;

@@ -8,6 +8,7 @@ ghost use Rattle.verifier.specs.Walks.{longest};
 ghost use Rattle.edge_fold.specs.declared.budget.TheConstants.{EDGE_COST, VERTEX_COST};
 ghost use Rattle.edge_fold.specs.Kept.{IsFor};
 ghost use Rattle.edge_fold.specs.Numbers.{first_numbers, exits_from};
+ghost use Rattle.edge_fold.specs.Inputs.{inputs_of};
 
 use crate::blocks::{first_targets, targets_from};
 use crate::budget::{VERTEX_COST, cost_in_block, edges_within, pay};
@@ -32,7 +33,7 @@ fn number_next(
     requires some { 0 < length span.targets.now }
     requires memory { IsFor mapped.now.program.now memory.old }
     ensures numbers { let m = mapped.now in numbers.new
-        ≡ first_numbers m.program.now (graph_of m.version.now) m.argument.now span.entry result ++ drop result numbers.old }
+        ≡ first_numbers m.program.now (graph_of m.version.now) (inputs_of m) span.entry result ++ drop result numbers.old }
     ensures few { result ≤ length span.entry.targets.now }
     ensures some { 0 < result }
     ensures cost { memory.old.budget ≤ memory.new.budget + (longest mapped.now.program.now + EDGE_COST) * result }
@@ -65,7 +66,7 @@ fn number_round(
     requires some { 0 < length span.targets.now }
     requires memory { IsFor mapped.now.program.now memory.old }
     ensures numbers { let m = mapped.now in numbers.new
-        ≡ first_numbers m.program.now (graph_of m.version.now) m.argument.now span.entry result ++ drop result numbers.old }
+        ≡ first_numbers m.program.now (graph_of m.version.now) (inputs_of m) span.entry result ++ drop result numbers.old }
     ensures few { result ≤ length span.entry.targets.now }
     ensures some { 0 < result }
     ensures cost { memory.old.budget ≤ memory.new.budget + (longest mapped.now.program.now + EDGE_COST) * result }
@@ -93,9 +94,9 @@ fn number_span_some(
     requires long { length numbers.old ≡ length span.targets.now }
     requires memory { IsFor mapped.now.program.now memory.old }
     ensures numbers { let m = mapped.now in numbers.new
-        ≡ first_numbers m.program.now (graph_of m.version.now) m.argument.now span.entry result ++ drop result numbers.old }
+        ≡ first_numbers m.program.now (graph_of m.version.now) (inputs_of m) span.entry result ++ drop result numbers.old }
     ensures count { let m = mapped.now in
-        length (first_numbers m.program.now (graph_of m.version.now) m.argument.now span.entry result) ≡ result }
+        length (first_numbers m.program.now (graph_of m.version.now) (inputs_of m) span.entry result) ≡ result }
     ensures few { result ≤ length span.entry.targets.now }
     ensures some { 0 < length span.entry.targets.now → 0 < result }
     ensures cost { memory.old.budget ≤ memory.new.budget + (longest mapped.now.program.now + EDGE_COST) * result }
@@ -130,9 +131,9 @@ fn number_part(
     requires inside { place ≤ source.degree }
     requires memory { IsFor mapped.now.program.now memory.old }
     ensures numbers { let m = mapped.now in numbers.new
-        ≡ exits_from m.program.now (graph_of m.version.now) m.argument.now source.vertex place result ++ drop result numbers.old }
+        ≡ exits_from m.program.now (graph_of m.version.now) (inputs_of m) source.vertex place result ++ drop result numbers.old }
     ensures count { let m = mapped.now in
-        length (exits_from m.program.now (graph_of m.version.now) m.argument.now source.vertex place result) ≡ result }
+        length (exits_from m.program.now (graph_of m.version.now) (inputs_of m) source.vertex place result) ≡ result }
     ensures room { result ≤ length numbers.old }
     ensures few { place + result ≤ source.degree }
     ensures some { place < source.degree → 0 < length numbers.old → 0 < result }
@@ -178,8 +179,8 @@ pub fn number_some(
     requires memory { IsFor mapped.now.program.now memory.old }
     // What was written is that of the edges between the two places.
     ensures numbers { let m = mapped.now in let p = m.program.now in let g = graph_of m.version.now in
-        numbers_before p (longest p) g m.argument.now frontier.now progress.new
-        ≡ numbers_before p (longest p) g m.argument.now frontier.now progress.old ++ take result numbers.new }
+        numbers_before p (longest p) g (inputs_of m) frontier.now progress.new
+        ≡ numbers_before p (longest p) g (inputs_of m) frontier.now progress.old ++ take result numbers.new }
     ensures rest { drop result numbers.new ≡ drop result numbers.old }
     ensures room { result ≤ length numbers.old }
     ensures edges { progress.new.edges ≡ (progress.old.edges + result) % 2 ^ 64 }
@@ -191,10 +192,10 @@ pub fn number_some(
     ensures stops { (progress.new.vertex ≡ length frontier.now) ⊎ (progress.new.budget ≡ 0) ⊎ (result
         ≡ length numbers.old) }
     ensures cost { let m = mapped.now in let p = m.program.now in let g = graph_of m.version.now in
-        let most = cost_before (longest p + EDGE_COST) VERTEX_COST p (longest p) g m.argument.now frontier.now in
+        let most = cost_before (longest p + EDGE_COST) VERTEX_COST p (longest p) g (inputs_of m) frontier.now in
         progress.old.budget + most progress.old ≤ progress.new.budget + most progress.new }
     ensures falls { let m = mapped.now in let p = m.program.now in let g = graph_of m.version.now in
-        let least = cost_before EDGE_COST VERTEX_COST p (longest p) g m.argument.now frontier.now in
+        let least = cost_before EDGE_COST VERTEX_COST p (longest p) g (inputs_of m) frontier.now in
         progress.new.budget ≤ progress.old.budget + least progress.old - least progress.new }
     ensures memory { IsFor mapped.now.program.now memory.new }
 {

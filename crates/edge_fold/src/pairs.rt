@@ -4,11 +4,12 @@ ghost use Rattle.graph_model.specs.Graph.{neighbours};
 ghost use Rattle.graph_model.specs.Graph.{degree as degree_of};
 ghost use Rattle.past_model.specs.Past.{graph_of};
 ghost use Rattle.bpf_model.specs.Run.{number_for};
-ghost use Rattle.map_model.specs.EdgeMap.{edge_record};
+ghost use Rattle.map_model.specs.EdgeMap.{input_record};
 ghost use Rattle.map_model.specs.Parts.{place_of as place_in, pair_numbers};
 ghost use Rattle.verifier.specs.Walks.{longest};
 ghost use Rattle.edge_fold.specs.declared.budget.TheConstants.{EDGE_COST};
 ghost use Rattle.edge_fold.specs.Kept.{IsFor};
+ghost use Rattle.edge_fold.specs.Inputs.{inputs_of};
 
 use crate::budget::pay;
 use crate::counted::number_and_cost;
@@ -62,7 +63,7 @@ fn place_of(version: &Version, source: u32, target: u32) -> u32
 fn number_pair(mapped: &Mapped<'_>, memory: &mut Memory, source: u32, target: u32) -> u64
     requires memory { IsFor mapped.now.program.now memory.old }
     ensures number { let m = mapped.now in let p = m.program.now in let g = graph_of m.version.now in
-        number_for p (longest p) g (edge_record g source target (place_in g source target) m.argument.now) ≡ Some result }
+        number_for p (longest p) g (input_record g source target (place_in g source target) (inputs_of m)) ≡ Some result }
     ensures cost { memory.old.budget ≤ memory.new.budget + (longest mapped.now.program.now + EDGE_COST) }
     ensures falls { memory.new.budget ≤ memory.old.budget - EDGE_COST }
     ensures memory { IsFor mapped.now.program.now memory.new }
@@ -96,7 +97,7 @@ pub fn number_pairs(
     // Each pair from the place on that was done has its number, and the others stay.
     ensures numbers { let m = mapped.now in let p = m.program.now in let a = progress.old.vertex in
         let b = progress.new.vertex in
-        take b numbers.new ≡ take a numbers.old ++ pair_numbers p (longest p) (graph_of m.version.now) m.argument.now
+        take b numbers.new ≡ take a numbers.old ++ pair_numbers p (longest p) (graph_of m.version.now) (inputs_of m)
         (slice_range pairs.now.sources.now a b) (slice_range pairs.now.targets.now a b) }
     ensures rest { drop progress.new.vertex numbers.new ≡ drop progress.new.vertex numbers.old }
     ensures edges { progress.new.edges ≡ (progress.old.edges + (progress.new.vertex - progress.old.vertex)) % 2 ^ 64 }

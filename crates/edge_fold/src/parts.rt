@@ -9,6 +9,7 @@ ghost use Rattle.verifier.specs.Walks.{longest};
 ghost use Rattle.edge_fold.specs.declared.budget.TheConstants.{EDGE_COST, VERTEX_COST};
 ghost use Rattle.edge_fold.specs.Numbers.{combination, exits_from};
 ghost use Rattle.edge_fold.specs.Kept.{AreNumbered, IsFor};
+ghost use Rattle.edge_fold.specs.Inputs.{inputs_of};
 
 use crate::budget::{VERTEX_COST, pay};
 use crate::few::{are_few, keep_next, least_alone};
@@ -80,8 +81,8 @@ pub fn map_some(
     // What was written is that of the edges before the place, however the map was cut.
     ensures so_far { let m = mapped.now in let p = m.program.now in let g = graph_of m.version.now in
         let r = request.now in
-        HasBegun p (longest p) g r.reduction m.argument.now r.frontier.now progress.old values.old
-        → IsSoFar p (longest p) g r.reduction m.argument.now r.frontier.now progress.new values.new }
+        HasBegun p (longest p) g r.reduction (inputs_of m) r.frontier.now progress.old values.old
+        → IsSoFar p (longest p) g r.reduction (inputs_of m) r.frontier.now progress.new values.new }
     ensures place { IsPlace (graph_of mapped.now.version.now) request.now.frontier.now progress.new }
     ensures on { progress.old.vertex < length request.now.frontier.now → IsBefore progress.old progress.new }
     // The values of vertices that were not begun stay.
@@ -91,10 +92,10 @@ pub fn map_some(
     // The budget falls by no more than the bound and a constant for each edge, and a constant for each vertex; and by these
     // constants at least, as far as it goes.
     ensures cost { let m = mapped.now in let p = m.program.now in let g = graph_of m.version.now in
-        let f = request.now.frontier.now in let most = cost_before (longest p + EDGE_COST) VERTEX_COST p (longest p) g m.argument.now f in
+        let f = request.now.frontier.now in let most = cost_before (longest p + EDGE_COST) VERTEX_COST p (longest p) g (inputs_of m) f in
         progress.old.budget + most progress.old ≤ progress.new.budget + most progress.new }
     ensures falls { let m = mapped.now in let p = m.program.now in let g = graph_of m.version.now in
-        let least = cost_before EDGE_COST VERTEX_COST p (longest p) g m.argument.now request.now.frontier.now in
+        let least = cost_before EDGE_COST VERTEX_COST p (longest p) g (inputs_of m) request.now.frontier.now in
         progress.new.budget ≤ progress.old.budget + least progress.old - least progress.new }
     ensures memory { IsFor mapped.now.program.now memory.new }
 {

@@ -8,8 +8,9 @@ ghost use Rattle.verifier.specs.Walks.{longest};
 ghost use Rattle.edge_fold.specs.declared.budget.TheConstants.{EDGE_COST};
 ghost use Rattle.edge_fold.specs.Numbers.{first_numbers, exits_from};
 ghost use Rattle.edge_fold.specs.Kept.{AreNumbered, IsFor};
+ghost use Rattle.edge_fold.specs.Inputs.{inputs_of};
 
-use crate::blocks::{fill, number_of_lane, some_targets};
+use crate::blocks::{fill, number_of_lane, some_targets, sweep};
 use crate::budget::{cost_in_block, edges_within, pay};
 use crate::counted::fold_part;
 use crate::few::fold_kept;
@@ -18,7 +19,7 @@ use crate::mapped::Mapped;
 use crate::memory::Memory;
 use crate::reducing::{combine, nothing};
 use crate::span::{Source, Span};
-use bpf_blocks::{LANES, sweep_edges};
+use bpf_blocks::LANES;
 use map_model::Reduction;
 
 /// What the numbers of some edges reduce to, and how many edges these are.
@@ -41,11 +42,11 @@ fn fold_slice_some(
     requires some { 0 < length span.targets.now }
     requires memory { IsFor mapped.now.program.now memory.old }
     requires kept { let m = mapped.now in
-        AreNumbered m.program.now (graph_of m.version.now) m.argument.now memory.old.kept }
+        AreNumbered m.program.now (graph_of m.version.now) (inputs_of m) memory.old.kept }
     ensures value { let m = mapped.now in result.value ≡ reduction_of_numbers reduction
-        (first_numbers m.program.now (graph_of m.version.now) m.argument.now span.entry result.count) }
+        (first_numbers m.program.now (graph_of m.version.now) (inputs_of m) span.entry result.count) }
     ensures count { let m = mapped.now in
-        length (first_numbers m.program.now (graph_of m.version.now) m.argument.now span.entry result.count)
+        length (first_numbers m.program.now (graph_of m.version.now) (inputs_of m) span.entry result.count)
         ≡ result.count }
     ensures some { 0 < result.count }
     ensures few { result.count ≤ length span.entry.targets.now }
@@ -54,7 +55,7 @@ fn fold_slice_some(
     ensures stops { result.count < length span.entry.targets.now → memory.new.budget ≡ 0 }
     ensures memory { IsFor mapped.now.program.now memory.new }
     ensures kept { let m = mapped.now in
-        AreNumbered m.program.now (graph_of m.version.now) m.argument.now memory.new.kept }
+        AreNumbered m.program.now (graph_of m.version.now) (inputs_of m) memory.new.kept }
 {
     let all = span.targets.len();
     if let Some(value) = fold_kept(mapped, &mut memory.kept, reduction, span) {
@@ -70,11 +71,9 @@ fn fold_slice_some(
         let blocks = &mut memory.blocks;
         let count = LANES.min(all - at);
         fill(&mut blocks.edges, &span, at, count);
-        if !sweep_edges(
-            mapped.program,
-            mapped.version,
-            &blocks.edges,
-            mapped.argument,
+        if !sweep(
+            mapped,
+            &mut blocks.edges,
             &mut blocks.columns,
             &mut blocks.numbers,
         ) {
@@ -121,11 +120,11 @@ pub(crate) fn fold_some(
     requires inside { place ≤ source.degree }
     requires memory { IsFor mapped.now.program.now memory.old }
     requires kept { let m = mapped.now in
-        AreNumbered m.program.now (graph_of m.version.now) m.argument.now memory.old.kept }
+        AreNumbered m.program.now (graph_of m.version.now) (inputs_of m) memory.old.kept }
     ensures value { let m = mapped.now in result.value ≡ reduction_of_numbers reduction
-        (exits_from m.program.now (graph_of m.version.now) m.argument.now source.vertex place result.count) }
+        (exits_from m.program.now (graph_of m.version.now) (inputs_of m) source.vertex place result.count) }
     ensures count { let m = mapped.now in
-        length (exits_from m.program.now (graph_of m.version.now) m.argument.now source.vertex place result.count)
+        length (exits_from m.program.now (graph_of m.version.now) (inputs_of m) source.vertex place result.count)
         ≡ result.count }
     ensures some { place < source.degree → 0 < result.count }
     ensures few { place + result.count ≤ source.degree }
@@ -134,7 +133,7 @@ pub(crate) fn fold_some(
     ensures stops { place + result.count < source.degree → memory.new.budget ≡ 0 }
     ensures memory { IsFor mapped.now.program.now memory.new }
     ensures kept { let m = mapped.now in
-        AreNumbered m.program.now (graph_of m.version.now) m.argument.now memory.new.kept }
+        AreNumbered m.program.now (graph_of m.version.now) (inputs_of m) memory.new.kept }
 {
     let mut so_far = nothing(reduction);
     let mut cursor = mapped.version.cursor_from(source.vertex, place);

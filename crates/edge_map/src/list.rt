@@ -70,6 +70,7 @@ fn fill(
             version,
             program,
             argument,
+            columns: &[],
         };
         let number = number_ahead(&mapped, workspace, edge, walk.later());
         let listed = ListedEdge {

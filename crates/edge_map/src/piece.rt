@@ -45,6 +45,7 @@ pub(crate) fn map_piece(
         version: plan.version,
         program: plan.program,
         argument: plan.argument,
+        columns: &[],
     };
     let request = Request {
         frontier: part,

@@ -3,10 +3,11 @@ use Rattle.past_model.specs.Past.{graph_of}
 use Rattle.bpf_runs.specs.Held.{HoldsTable}
 use Rattle.edge_fold.proofs.Numbers.{IsFolded, IsBegun}
 use Rattle.edge_fold.proofs.counted.fold_counted.Given as goal
+use Rattle.edge_fold.specs.Inputs.{inputs_of}
 
 abbrev pub invariant-targets : goal.invariant-targets
 invariant-targets l = record {
-  folded : IsFolded l.reduction l.mapped.program.now (graph_of l.mapped.version.now) l.mapped.argument.now l.span.source l.span.place l.span.targets.now l.at l.value;
+  folded : IsFolded l.reduction l.mapped.program.now (graph_of l.mapped.version.now) (inputs_of l.mapped) l.span.source l.span.place l.span.targets.now l.at l.value;
   table : HoldsTable l.mapped.program.now.table l.memory.bytes;
   begun : l.is_begun ≡ true → IsBegun l.span.source l.span.degree l.mapped.argument.now l.memory.bytes;
 }

@@ -1,10 +1,13 @@
-use Rattle.std.proofs.Common.{◌≡◌, List, ℕ, Some, take, subst, ap, sym, ◌∙◌, rules}
+use Rattle.std.proofs.Common.{◌≡◌, ◌+◌, ◌≤◌, List, ℕ, Some, length, take, subst, ap, sym, ◌∙◌, arith}
+use Rattle.std.proofs.lemmas.List.{take-take}
 use Rattle.past_model.specs.Past.{graph_of}
 use Rattle.bpf_model.specs.Run.{number_for}
-use Rattle.map_model.specs.EdgeMap.{edge_record}
+use Rattle.map_model.specs.EdgeMap.{record_of, with_ends, input_record}
+use Rattle.map_model.specs.declared.limits.TheConstants.{EDGE_BYTES}
 use Rattle.verifier.specs.Walks.{longest}
-use Rattle.edge_fold.specs.Numbers.{record_bytes}
 use Rattle.bpf_runs.proofs.Ending.{table_beside}
+use Rattle.edge_fold.specs.Inputs.{inputs_of, edge_bytes}
+use Rattle.edge_fold.proofs.EndBytes.{front_of_record}
 use Rattle.edge_fold.proofs.counted.run_edge_counted.Goals as goal
 
 pub run_counted-requires : goal.run_counted-requires
@@ -15,15 +18,15 @@ returns-clause-number c =
     let p = c.args.mapped.now.program.now in
     let g = graph_of c.args.mapped.now.version.now in
     let e = c.args.edge in
-    let same : record_bytes e c.args.mapped.now.argument.now ≡ edge_record g e.source e.target e.place c.args.mapped.now.argument.now = search rules in
-    let record_is : take p.record_length c.prepare.new.memory.bytes ≡ edge_record g e.source e.target e.place c.args.mapped.now.argument.now =
-    ap (λ n. take n c.prepare.new.memory.bytes) (sym c.args.mapped.now.fits) ∙ c.prepare.ensures.record ∙ same in
+    let inputs = inputs_of c.args.mapped.now in
+    let record_is : take p.record_length c.prepare.new.memory.bytes ≡ input_record g e.source e.target e.place inputs =
+    c.prepare.ensures.record ∙ ap (λ (n : ℕ). record_of e.source e.target e.place n (with_ends inputs.columns inputs.argument e.source e.target)) c.requires.degree in
     subst (λ (xs : List ℕ). number_for p (longest p) g xs ≡ Some c.run_counted.result.number) record_is c.run_counted.ensures.exit
 
 pub returns-clause-kept : goal.returns-clause-kept
 returns-clause-kept c = λ keeps.
-    let same = c.args.mapped.now.fits in
-    ap (λ n. take n c.run_counted.new.memory.bytes) same
-    ∙ c.run_counted.ensures.kept keeps
-    ∙ sym (ap (λ n. take n c.prepare.new.memory.bytes) same)
-    ∙ c.prepare.ensures.record
+    let m = c.args.mapped.now in
+    let front = length m.argument.now + EDGE_BYTES in
+    let whole : take m.program.now.record_length c.run_counted.new.memory.bytes ≡ edge_bytes c.args.edge (inputs_of m) =
+    c.run_counted.ensures.kept keeps ∙ c.prepare.ensures.record in
+    sym (take-take front m.program.now.record_length c.run_counted.new.memory.bytes (omega (arith, m.fits))) ∙ ap (take front) whole ∙ front_of_record c.args.edge (inputs_of m)

@@ -3,17 +3,19 @@ use Rattle.graph_model.specs.Graph.{Graph, neighbours, degree}
 use Rattle.past_model.specs.Past.{graph_of}
 use Rattle.bpf_image.specs.Program.{Program}
 use Rattle.map_model.specs.declared.reduction.Reduction.{Reduction}
-use Rattle.map_model.specs.EdgeMap.{reduction_of_numbers, exit_numbers}
+use Rattle.map_model.specs.EdgeMap.{reduction_of_numbers, exits_with}
 use Rattle.verifier.specs.Walks.{longest}
 use Rattle.edge_fold.proofs.Numbers.{none_folded, all_folded, none_left, row_behind, few_in_row, row_folded}
 use Rattle.edge_fold.proofs.fold.fold_vertex.Goals as goal
+use Rattle.edge_fold.specs.Inputs.{inputs_of}
+use Rattle.map_model.specs.EdgeMap.{Inputs}
 
 pub slices-init : goal.slices-init
 slices-init c = record {
   rest = sym c.cursor-cursor.ensures;
   memory = c.requires.memory;
   kept = c.requires.kept;
-  folded = none_folded c.args.reduction c.args.mapped.now.program.now (graph_of c.args.mapped.now.version.now) c.args.mapped.now.argument.now c.args.source.vertex 0 (neighbours (graph_of c.args.mapped.now.version.now) c.args.source.vertex) c.nothing-so_far.result c.nothing-so_far.ensures;
+  folded = none_folded c.args.reduction c.args.mapped.now.program.now (graph_of c.args.mapped.now.version.now) (inputs_of c.args.mapped.now) c.args.source.vertex 0 (neighbours (graph_of c.args.mapped.now.version.now) c.args.source.vertex) c.nothing-so_far.result c.nothing-so_far.ensures;
 }
 
 pub slices-preserved : goal.slices-preserved
@@ -24,21 +26,21 @@ slices-preserved c =
       rest = (row_behind all c.in-Some.targets.now c.next_slice.new.self c.slices.place ahead c.slices.invariant.folded.within).1;
       memory = c.fold_slice-value.ensures.memory;
       kept = c.fold_slice-value.ensures.kept;
-      folded = row_folded c.args.reduction c.args.mapped.now.program.now (graph_of c.args.mapped.now.version.now) c.args.mapped.now.argument.now c.args.source.vertex all c.in-Some.targets.now c.next_slice.new.self c.slices.place c.slices.so_far c.fold_slice-value.result c.combine-so_far.result c.slices.invariant.folded ahead c.fold_slice-value.ensures.value c.fold_slice-value.ensures.count c.combine-so_far.ensures;
+      folded = row_folded c.args.reduction c.args.mapped.now.program.now (graph_of c.args.mapped.now.version.now) (inputs_of c.args.mapped.now) c.args.source.vertex all c.in-Some.targets.now c.next_slice.new.self c.slices.place c.slices.so_far c.fold_slice-value.result c.combine-so_far.result c.slices.invariant.folded ahead c.fold_slice-value.ensures.value c.fold_slice-value.ensures.count c.combine-so_far.ensures;
     }
 
 -- no neighbour, so no edge
-no_edge : (r : Reduction) (p : Program) (g : Graph) (argument : List ℕ) (source value : ℕ) → value ≡ reduction_of_numbers r [] → degree g source ≡ 0
-    → (value ≡ reduction_of_numbers r (exit_numbers p (longest p) g argument source)) × (length (exit_numbers p (longest p) g argument source) ≡ degree g source)
-no_edge r p g argument source value is none = all_folded r p g argument source 0 (neighbours g source) 0 value (none_folded r p g argument source 0 (neighbours g source) value is) (omega (arith, none))
+no_edge : (r : Reduction) (p : Program) (g : Graph) (inputs : Inputs) (source value : ℕ) → value ≡ reduction_of_numbers r [] → degree g source ≡ 0
+    → (value ≡ reduction_of_numbers r (exits_with p (longest p) g inputs source)) × (length (exits_with p (longest p) g inputs source) ≡ degree g source)
+no_edge r p g inputs source value is none = all_folded r p g inputs source 0 (neighbours g source) 0 value (none_folded r p g inputs source 0 (neighbours g source) value is) (omega (arith, none))
 
 pub returns-then-source-eq0-clause-value : goal.returns-then-source-eq0-clause-value
 returns-then-source-eq0-clause-value c =
-    (no_edge c.args.reduction c.args.mapped.now.program.now (graph_of c.args.mapped.now.version.now) c.args.mapped.now.argument.now c.args.source.vertex c.nothing-so_far.result c.nothing-so_far.ensures (omega (arith, c.requires.degree, c.if-source-eq0.true))).0
+    (no_edge c.args.reduction c.args.mapped.now.program.now (graph_of c.args.mapped.now.version.now) (inputs_of c.args.mapped.now) c.args.source.vertex c.nothing-so_far.result c.nothing-so_far.ensures (omega (arith, c.requires.degree, c.if-source-eq0.true))).0
 
 pub returns-then-source-eq0-clause-count : goal.returns-then-source-eq0-clause-count
 returns-then-source-eq0-clause-count c =
-    (no_edge c.args.reduction c.args.mapped.now.program.now (graph_of c.args.mapped.now.version.now) c.args.mapped.now.argument.now c.args.source.vertex c.nothing-so_far.result c.nothing-so_far.ensures (omega (arith, c.requires.degree, c.if-source-eq0.true))).1
+    (no_edge c.args.reduction c.args.mapped.now.program.now (graph_of c.args.mapped.now.version.now) (inputs_of c.args.mapped.now) c.args.source.vertex c.nothing-so_far.result c.nothing-so_far.ensures (omega (arith, c.requires.degree, c.if-source-eq0.true))).1
 
 nothing_left : {X : Type 0} (o : Option X) (P : Type 0) (Q : X → Type 0) → MatchOption o P Q → ((x : X) → o ≡ Some x → ⊥) → P
 nothing_left None P Q h none = h
@@ -47,12 +49,12 @@ nothing_left (Some x) P Q h none = absurd (none x refl)
 pub returns-clause-value : goal.returns-clause-value
 returns-clause-value c =
     let past : length (neighbours (graph_of c.args.mapped.now.version.now) c.args.source.vertex) ≤ c.slices.place = (let test = c.slices-test.false in omega (arith, test, c.requires.degree)) in
-    (all_folded c.args.reduction c.args.mapped.now.program.now (graph_of c.args.mapped.now.version.now) c.args.mapped.now.argument.now c.args.source.vertex 0 (neighbours (graph_of c.args.mapped.now.version.now) c.args.source.vertex) c.slices.place c.slices.so_far c.slices.invariant.folded past).0
+    (all_folded c.args.reduction c.args.mapped.now.program.now (graph_of c.args.mapped.now.version.now) (inputs_of c.args.mapped.now) c.args.source.vertex 0 (neighbours (graph_of c.args.mapped.now.version.now) c.args.source.vertex) c.slices.place c.slices.so_far c.slices.invariant.folded past).0
 
 pub returns-clause-count : goal.returns-clause-count
 returns-clause-count c =
     let past : length (neighbours (graph_of c.args.mapped.now.version.now) c.args.source.vertex) ≤ c.slices.place = (let test = c.slices-test.false in omega (arith, test, c.requires.degree)) in
-    (all_folded c.args.reduction c.args.mapped.now.program.now (graph_of c.args.mapped.now.version.now) c.args.mapped.now.argument.now c.args.source.vertex 0 (neighbours (graph_of c.args.mapped.now.version.now) c.args.source.vertex) c.slices.place c.slices.so_far c.slices.invariant.folded past).1
+    (all_folded c.args.reduction c.args.mapped.now.program.now (graph_of c.args.mapped.now.version.now) (inputs_of c.args.mapped.now) c.args.source.vertex 0 (neighbours (graph_of c.args.mapped.now.version.now) c.args.source.vertex) c.slices.place c.slices.so_far c.slices.invariant.folded past).1
 
 pub unreachable-requires : goal.unreachable-requires
 unreachable-requires c =

@@ -1,21 +1,22 @@
 use Rattle.std.proofs.Common.{◌≡◌, ◌≤◌, ◌*◌, length, take}
 use Rattle.past_model.specs.declared.limits.TheConstants.{MOST_VERTICES}
 use Rattle.past_model.specs.Past.{graph_of}
-use Rattle.map_model.specs.EdgeMap.{reduction_of_numbers, all_numbers}
+use Rattle.map_model.specs.EdgeMap.{reduction_of_numbers, all_with}
 use Rattle.map_model.specs.Parts.{values_for}
 use Rattle.verifier.specs.Walks.{longest}
 use Rattle.edge_fold.specs.Kept.{AreNumbered, IsFor}
 use Rattle.edge_fold.proofs.map.map_whole.Given as goal
+use Rattle.edge_fold.specs.Inputs.{inputs_of}
 
 abbrev pub invariant-vertices : goal.invariant-vertices
 invariant-vertices l =
     let p = l.mapped.program.now in
     let g = graph_of l.mapped.version.now in
-    let a = l.mapped.argument.now in
+    let a = (inputs_of l.mapped) in
     let early = take l.at l.frontier in
     record {
-      edges : l.edges ≡ length (all_numbers p (longest p) g a early);
-      total : l.total ≡ reduction_of_numbers l.reduction (all_numbers p (longest p) g a early);
+      edges : l.edges ≡ length (all_with p (longest p) g a early);
+      total : l.total ≡ reduction_of_numbers l.reduction (all_with p (longest p) g a early);
       values : take l.at l.values ≡ values_for p (longest p) g l.reduction a early;
       long : length l.values ≡ length l.frontier;
       memory : IsFor p l.memory;

@@ -6,6 +6,7 @@ use Rattle.std.proofs.Math.Seq.{take-append_seam}
 use Rattle.edge_fold.proofs.Numbers.{found, none_left, row_behind, few_in_row}
 use Rattle.edge_fold.proofs.Written.{more_written, all_written}
 use Rattle.edge_fold.proofs.numbering.number_vertex.Goals as goal
+use Rattle.edge_fold.specs.Inputs.{inputs_of}
 
 pub slices-init : goal.slices-init
 slices-init c = record {
@@ -56,18 +57,18 @@ slices-preserved c =
     (let whole = length-drop place c.slices.numbers in
     omega (arith, kept, length-take-le (place + length slice - place) (drop place c.slices.numbers) (omega (arith, whole, row.2, done.long, size)))) in
     let same : take (length slice) (drop place all) ≡ slice = ap (take (length slice)) ahead ∙ take-append_seam slice c.next_slice.new.self in
-    let part : c.number_span.new.numbers ≡ found p g c.args.mapped.now.argument.now c.args.source (0 + place) (take (length slice) (drop place all)) ++ [] =
+    let part : c.number_span.new.numbers ≡ found p g (inputs_of c.args.mapped.now) c.args.source (0 + place) (take (length slice) (drop place all)) ++ [] =
     c.number_span.ensures.numbers
-    ∙ ap (λ xs. found p g c.args.mapped.now.argument.now c.args.source place xs) (sym same)
-    ∙ ap (λ n. found p g c.args.mapped.now.argument.now c.args.source n (take (length slice) (drop place all))) (sym (zero-add place))
-    ∙ sym (append-nil (found p g c.args.mapped.now.argument.now c.args.source (0 + place) (take (length slice) (drop place all)))) in
+    ∙ ap (λ xs. found p g (inputs_of c.args.mapped.now) c.args.source place xs) (sym same)
+    ∙ ap (λ n. found p g (inputs_of c.args.mapped.now) c.args.source n (take (length slice) (drop place all))) (sym (zero-add place))
+    ∙ sym (append-nil (found p g (inputs_of c.args.mapped.now) c.args.source (0 + place) (take (length slice) (drop place all)))) in
     record {
       rest = row.1;
       memory = c.number_span.ensures.memory;
-      written = more_written p g c.args.mapped.now.argument.now c.args.source 0 all c.slices.numbers place (place + length slice - place) (length slice) c.number_span.new.numbers [] done
+      written = more_written p g (inputs_of c.args.mapped.now) c.args.source 0 all c.slices.numbers place (place + length slice - place) (length slice) c.number_span.new.numbers [] done
           (omega (arith, row.2, done.long)) long (omega arith) (omega arith) part;
     }
 
 pub returns-clause-numbers : goal.returns-clause-numbers
 returns-clause-numbers c =
-    all_written c.args.mapped.now.program.now (graph_of c.args.mapped.now.version.now) c.args.mapped.now.argument.now c.args.source 0 (neighbours (graph_of c.args.mapped.now.version.now) c.args.source) c.slices.numbers c.slices.place c.slices.invariant.written (omega (arith, c.slices-test.false, c.degree-degree.ensures.value, ap (degree (graph_of c.args.mapped.now.version.now)) c.from.ensures))
+    all_written c.args.mapped.now.program.now (graph_of c.args.mapped.now.version.now) (inputs_of c.args.mapped.now) c.args.source 0 (neighbours (graph_of c.args.mapped.now.version.now) c.args.source) c.slices.numbers c.slices.place c.slices.invariant.written (omega (arith, c.slices-test.false, c.degree-degree.ensures.value, ap (degree (graph_of c.args.mapped.now.version.now)) c.from.ensures))

@@ -9,6 +9,7 @@ use Rattle.edge_fold.proofs.Numbers.{found, none_left, row_behind}
 use Rattle.edge_fold.proofs.Pieces.{more_paid, more_spent, first_of_some, all_of}
 use Rattle.edge_fold.proofs.Filled.{none_filled, more_filled, filled_long}
 use Rattle.edge_fold.proofs.numbers_some.number_part.Goals as goal
+use Rattle.edge_fold.specs.Inputs.{inputs_of}
 
 nothing_left : {X : Type 0} (o : Option X) (P : Type 0) (Q : X → Type 0) → MatchOption o P Q → ((x : X) → o ≡ Some x → ⊥) → P
 nothing_left None P Q h none = h
@@ -19,7 +20,7 @@ slices-init c = record {
   few = omega arith;
   rest = λ _ _. sym c.cursor_from-cursor.ensures.left;
   used = λ is. absurd cc;
-  filled = none_filled c.args.mapped.now.program.now (graph_of c.args.mapped.now.version.now) c.args.mapped.now.argument.now c.args.source.vertex c.args.place (drop c.args.place (neighbours (graph_of c.args.mapped.now.version.now) c.args.source.vertex)) c.args.numbers.now;
+  filled = none_filled c.args.mapped.now.program.now (graph_of c.args.mapped.now.version.now) (inputs_of c.args.mapped.now) c.args.source.vertex c.args.place (drop c.args.place (neighbours (graph_of c.args.mapped.now.version.now) c.args.source.vertex)) c.args.numbers.now;
   paid = omega arith;
   spent = omega arith;
   memory = c.requires.memory;
@@ -44,7 +45,7 @@ pub slices-preserved : goal.slices-preserved
 slices-preserved c =
     let p = c.args.mapped.now.program.now in
     let g = graph_of c.args.mapped.now.version.now in
-    let a = c.args.mapped.now.argument.now in
+    let a = (inputs_of c.args.mapped.now) in
     let u = c.args.source.vertex in
     let place = c.args.place in
     let left = drop place (neighbours g u) in

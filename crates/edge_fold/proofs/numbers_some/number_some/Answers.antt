@@ -11,6 +11,7 @@ use Rattle.edge_fold.specs.Numbers.{exits_from}
 use Rattle.edge_fold.proofs.Sofar.{before_more, before_next, cost_on, cost_past, falls_on, falls_past, past_further}
 use Rattle.edge_fold.proofs.Listed.{none_listed, more_listed, same_listed, listed_numbers, listed_rest}
 use Rattle.edge_fold.proofs.numbers_some.number_some.Goals as goal
+use Rattle.edge_fold.specs.Inputs.{inputs_of}
 
 used_up : (b : ℕ) → nat_lt 0 b ≡ false → b ≡ 0
 used_up zero is = refl
@@ -34,7 +35,7 @@ pub returns-then-progress-degree-clause-numbers : goal.returns-then-progress-deg
 returns-then-progress-degree-clause-numbers c =
     let p = c.args.mapped.now.program.now in
     let g = graph_of c.args.mapped.now.version.now in
-    let a = c.args.mapped.now.argument.now in
+    let a = (inputs_of c.args.mapped.now) in
     let f = c.args.frontier.now in
     let at = c.vertices.progress in
     let part = c.number_part-count in
@@ -47,7 +48,7 @@ pub returns-then-progress-degree-clause-rest : goal.returns-then-progress-degree
 returns-then-progress-degree-clause-rest c =
     let p = c.args.mapped.now.program.now in
     let g = graph_of c.args.mapped.now.version.now in
-    let a = c.args.mapped.now.argument.now in
+    let a = (inputs_of c.args.mapped.now) in
     let f = c.args.frontier.now in
     let at = c.vertices.progress in
     let part = c.number_part-count in
@@ -62,7 +63,7 @@ returns-then-progress-degree-clause-cost c =
     let at = c.vertices.progress in
     let part = c.number_part-count in
     let middle : Progress = record { budget = part.new.memory.budget; edges = (at.edges + part.result) % 2 ^ 64; total = at.total; vertex = at.vertex; place = at.place + part.result } in
-    cost_on p (graph_of c.args.mapped.now.version.now) c.args.mapped.now.argument.now c.args.frontier.now (longest p + EDGE_COST) VERTEX_COST _ part.result at middle refl refl c.vertices.invariant.place.within part.ensures.count part.ensures.cost c.vertices.invariant.cost
+    cost_on p (graph_of c.args.mapped.now.version.now) (inputs_of c.args.mapped.now) c.args.frontier.now (longest p + EDGE_COST) VERTEX_COST _ part.result at middle refl refl c.vertices.invariant.place.within part.ensures.count part.ensures.cost c.vertices.invariant.cost
 
 pub returns-then-progress-degree-clause-falls : goal.returns-then-progress-degree-clause-falls
 returns-then-progress-degree-clause-falls c =
@@ -70,13 +71,13 @@ returns-then-progress-degree-clause-falls c =
     let at = c.vertices.progress in
     let part = c.number_part-count in
     let middle : Progress = record { budget = part.new.memory.budget; edges = (at.edges + part.result) % 2 ^ 64; total = at.total; vertex = at.vertex; place = at.place + part.result } in
-    falls_on p (graph_of c.args.mapped.now.version.now) c.args.mapped.now.argument.now c.args.frontier.now EDGE_COST VERTEX_COST _ part.result at middle refl refl c.vertices.invariant.place.within part.ensures.count part.ensures.falls c.vertices.invariant.falls
+    falls_on p (graph_of c.args.mapped.now.version.now) (inputs_of c.args.mapped.now) c.args.frontier.now EDGE_COST VERTEX_COST _ part.result at middle refl refl c.vertices.invariant.place.within part.ensures.count part.ensures.falls c.vertices.invariant.falls
 
 pub vertices-preserved : goal.vertices-preserved
 vertices-preserved c =
     let p = c.args.mapped.now.program.now in
     let g = graph_of c.args.mapped.now.version.now in
-    let a = c.args.mapped.now.argument.now in
+    let a = (inputs_of c.args.mapped.now) in
     let f = c.args.frontier.now in
     let at = c.vertices.progress in
     let part = c.number_part-count in

@@ -7,12 +7,13 @@ use Rattle.edge_fold.specs.declared.budget.TheConstants.{EDGE_COST, VERTEX_COST}
 use Rattle.edge_fold.specs.Kept.{IsFor}
 use Rattle.edge_fold.proofs.Listed.{AreListed}
 use Rattle.edge_fold.proofs.numbers_some.number_some.Given as goal
+use Rattle.edge_fold.specs.Inputs.{inputs_of}
 
 abbrev pub invariant-vertices : goal.invariant-vertices
 invariant-vertices l =
     let p = l.mapped.program.now in
     let g = graph_of l.mapped.version.now in
-    let a = l.mapped.argument.now in
+    let a = (inputs_of l.mapped) in
     let f = l.frontier in
     let most = cost_before (longest p + EDGE_COST) VERTEX_COST p (longest p) g a f in
     let least = cost_before EDGE_COST VERTEX_COST p (longest p) g a f in

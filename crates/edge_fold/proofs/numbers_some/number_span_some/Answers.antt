@@ -6,10 +6,11 @@ use Rattle.edge_fold.proofs.Numbers.{found}
 use Rattle.edge_fold.proofs.Pieces.{more_paid, more_spent}
 use Rattle.edge_fold.proofs.Filled.{none_filled, rest_filled}
 use Rattle.edge_fold.proofs.numbers_some.number_span_some.Goals as goal
+use Rattle.edge_fold.specs.Inputs.{inputs_of}
 
 pub rounds-init : goal.rounds-init
 rounds-init c = record {
-  filled = none_filled c.args.mapped.now.program.now (graph_of c.args.mapped.now.version.now) c.args.mapped.now.argument.now c.args.span.source c.args.span.place c.args.span.targets.now c.args.numbers.now;
+  filled = none_filled c.args.mapped.now.program.now (graph_of c.args.mapped.now.version.now) (inputs_of c.args.mapped.now) c.args.span.source c.args.span.place c.args.span.targets.now c.args.numbers.now;
   paid = omega arith;
   spent = omega arith;
   memory = c.requires.memory;
@@ -19,7 +20,7 @@ pub rounds-preserved : goal.rounds-preserved
 rounds-preserved c =
     let p = c.args.mapped.now.program.now in
     let g = graph_of c.args.mapped.now.version.now in
-    let a = c.args.mapped.now.argument.now in
+    let a = (inputs_of c.args.mapped.now) in
     let s = c.args.span in
     let at = c.rounds.at in
     let n = c.number_round-at.result in

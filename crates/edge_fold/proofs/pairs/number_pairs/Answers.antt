@@ -6,6 +6,7 @@ use Rattle.verifier.specs.Walks.{longest}
 use Rattle.edge_fold.specs.declared.budget.TheConstants.{EDGE_COST}
 use Rattle.edge_fold.proofs.PairNumbers.{none_paired, one_paired}
 use Rattle.edge_fold.proofs.pairs.number_pairs.Goals as goal
+use Rattle.edge_fold.specs.Inputs.{inputs_of}
 
 used_up : (b : ℕ) → nat_lt 0 b ≡ false → b ≡ 0
 used_up zero is = refl
@@ -16,7 +17,7 @@ pairs-init c = record {
   back = omega arith;
   inside = c.requires.place;
   used = λ is. absurd cc;
-  paired = none_paired c.args.mapped.now.program.now (graph_of c.args.mapped.now.version.now) c.args.mapped.now.argument.now c.args.pairs.now.sources.now c.args.pairs.now.targets.now c.args.numbers.now c.args.progress.now.vertex;
+  paired = none_paired c.args.mapped.now.program.now (graph_of c.args.mapped.now.version.now) (inputs_of c.args.mapped.now) c.args.pairs.now.sources.now c.args.pairs.now.targets.now c.args.numbers.now c.args.progress.now.vertex;
   edges = (let small : c.args.progress.now.edges < 2 ^ 64 = search rules in sym (mod-eq_of_lt small) ∙ ap (λ m. m % 2 ^ 64) (let none : c.args.progress.now.edges ≡ c.args.progress.now.edges + (c.args.progress.now.vertex - c.args.progress.now.vertex) = omega arith in none));
   total = refl;
   place = refl;
@@ -38,7 +39,7 @@ pairs-preserved c =
       back = omega (arith, inv.back);
       inside = omega (arith, inside);
       used = λ is. (omega (arith, inv.back), used_up c.number_pair.new.memory.budget is);
-      paired = one_paired p g c.args.mapped.now.argument.now c.args.pairs.now.sources.now c.args.pairs.now.targets.now c.args.numbers.now c.pairs.numbers old.vertex at.vertex c.number_pair.result inv.paired c.args.pairs.now.alike inv.back inside c.requires.long c.number_pair.ensures.number;
+      paired = one_paired p g (inputs_of c.args.mapped.now) c.args.pairs.now.sources.now c.args.pairs.now.targets.now c.args.numbers.now c.pairs.numbers old.vertex at.vertex c.number_pair.result inv.paired c.args.pairs.now.alike inv.back inside c.requires.long c.number_pair.ensures.number;
       edges = ap (λ m. (m + 1) % 2 ^ 64) inv.edges ∙ mod-add-mod (old.edges + (at.vertex - old.vertex)) (2 ^ 64) 1 ∙ ap (λ m. m % 2 ^ 64) (let next : old.edges + (at.vertex - old.vertex) + 1 ≡ old.edges + (at.vertex + 1 - old.vertex) = omega (arith, inv.back) in next);
       total = inv.total;
       place = inv.place;

@@ -5,6 +5,7 @@ use Rattle.edge_fold.specs.declared.budget.TheConstants.{EDGE_COST}
 use Rattle.edge_fold.specs.Kept.{IsFor}
 use Rattle.edge_fold.proofs.PairNumbers.{ArePaired}
 use Rattle.edge_fold.proofs.pairs.number_pairs.Given as goal
+use Rattle.edge_fold.specs.Inputs.{inputs_of}
 
 abbrev pub invariant-pairs : goal.invariant-pairs
 invariant-pairs l =
@@ -13,7 +14,7 @@ invariant-pairs l =
       back : l.fn.progress.vertex ≤ l.progress.vertex;
       inside : l.progress.vertex ≤ length l.pairs.sources.now;
       used : l.goes_on ≡ false → (l.fn.progress.vertex < l.progress.vertex) × (l.progress.budget ≡ 0);
-      paired : ArePaired p (graph_of l.mapped.version.now) l.mapped.argument.now l.pairs.sources.now l.pairs.targets.now l.fn.numbers l.numbers l.fn.progress.vertex l.progress.vertex;
+      paired : ArePaired p (graph_of l.mapped.version.now) (inputs_of l.mapped) l.pairs.sources.now l.pairs.targets.now l.fn.numbers l.numbers l.fn.progress.vertex l.progress.vertex;
       edges : l.progress.edges ≡ (l.fn.progress.edges + (l.progress.vertex - l.fn.progress.vertex)) % 2 ^ 64;
       total : l.progress.total ≡ l.fn.progress.total;
       place : l.progress.place ≡ l.fn.progress.place;

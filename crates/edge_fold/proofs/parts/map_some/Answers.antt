@@ -13,6 +13,7 @@ use Rattle.edge_fold.specs.declared.budget.TheConstants.{EDGE_COST, VERTEX_COST}
 use Rattle.edge_fold.specs.Numbers.{combination}
 use Rattle.edge_fold.proofs.Sofar.{begun, same_place, same_cost, next_value, gone_on, gone_past, few_before, cost_on, cost_past, same_falls, falls_on, falls_past, past_further, rest_on, rest_later}
 use Rattle.edge_fold.proofs.parts.map_some.Goals as goal
+use Rattle.edge_fold.specs.Inputs.{inputs_of}
 
 used_up : (b : ℕ) → nat_lt 0 b ≡ false → b ≡ 0
 used_up zero is = refl
@@ -22,7 +23,7 @@ pub vertices-init : goal.vertices-init
 vertices-init c =
     let p = c.args.mapped.now.program.now in
     let g = graph_of c.args.mapped.now.version.now in
-    let a = c.args.mapped.now.argument.now in
+    let a = (inputs_of c.args.mapped.now) in
     let f = c.args.request.now.frontier.now in
     let b = c.begin in
     record {
@@ -42,7 +43,7 @@ pub returns-then-progress-degree-clause-so_far : goal.returns-then-progress-degr
 returns-then-progress-degree-clause-so_far c = λ has.
     let p = c.args.mapped.now.program.now in
     let g = graph_of c.args.mapped.now.version.now in
-    let a = c.args.mapped.now.argument.now in
+    let a = (inputs_of c.args.mapped.now) in
     let r = c.args.request.now.reduction in
     let f = c.args.request.now.frontier.now in
     let at = c.vertices.progress in
@@ -59,7 +60,7 @@ pub returns-then-progress-degree-clause-cost : goal.returns-then-progress-degree
 returns-then-progress-degree-clause-cost c =
     let p = c.args.mapped.now.program.now in
     let g = graph_of c.args.mapped.now.version.now in
-    let a = c.args.mapped.now.argument.now in
+    let a = (inputs_of c.args.mapped.now) in
     let f = c.args.request.now.frontier.now in
     let at = c.vertices.progress in
     let part = c.fold_some-part in
@@ -70,7 +71,7 @@ pub returns-then-progress-degree-clause-falls : goal.returns-then-progress-degre
 returns-then-progress-degree-clause-falls c =
     let p = c.args.mapped.now.program.now in
     let g = graph_of c.args.mapped.now.version.now in
-    let a = c.args.mapped.now.argument.now in
+    let a = (inputs_of c.args.mapped.now) in
     let f = c.args.request.now.frontier.now in
     let at = c.vertices.progress in
     let part = c.fold_some-part in
@@ -81,7 +82,7 @@ pub vertices-preserved : goal.vertices-preserved
 vertices-preserved c =
     let p = c.args.mapped.now.program.now in
     let g = graph_of c.args.mapped.now.version.now in
-    let a = c.args.mapped.now.argument.now in
+    let a = (inputs_of c.args.mapped.now) in
     let r = c.args.request.now.reduction in
     let f = c.args.request.now.frontier.now in
     let at = c.vertices.progress in

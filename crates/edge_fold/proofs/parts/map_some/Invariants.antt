@@ -6,12 +6,13 @@ use Rattle.verifier.specs.Walks.{longest}
 use Rattle.edge_fold.specs.declared.budget.TheConstants.{EDGE_COST, VERTEX_COST}
 use Rattle.edge_fold.specs.Kept.{AreNumbered, IsFor}
 use Rattle.edge_fold.proofs.parts.map_some.Given as goal
+use Rattle.edge_fold.specs.Inputs.{inputs_of}
 
 abbrev pub invariant-vertices : goal.invariant-vertices
 invariant-vertices l =
     let p = l.mapped.program.now in
     let g = graph_of l.mapped.version.now in
-    let a = l.mapped.argument.now in
+    let a = (inputs_of l.mapped) in
     let r = l.request.reduction in
     let f = l.request.frontier.now in
     let most = cost_before (longest p + EDGE_COST) VERTEX_COST p (longest p) g a f in

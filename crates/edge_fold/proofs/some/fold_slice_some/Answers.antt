@@ -1,17 +1,18 @@
 use Rattle.std.proofs.Common.{◌≡◌, ◌+◌, ◌*◌, ◌<◌, ◌≤◌, ◌-◌, ℕ, List, Some, length, get_or, refl, ap, sym, ◌∙◌, subst, arith}
 use Rattle.past_model.specs.Past.{graph_of}
 use Rattle.bpf_model.specs.Run.{number_for}
-use Rattle.map_model.specs.EdgeMap.{edge_record, reduction_of_numbers}
+use Rattle.map_model.specs.EdgeMap.{input_record, reduction_of_numbers}
 use Rattle.verifier.specs.Walks.{longest}
-use Rattle.bpf_blocks.specs.Edges.{lane_record}
+use Rattle.edge_fold.specs.Inputs.{lane_bytes}
 use Rattle.edge_fold.specs.declared.budget.TheConstants.{EDGE_COST}
 use Rattle.edge_fold.proofs.Numbers.{IsFolded, none_folded, one_folded, found}
 use Rattle.edge_fold.proofs.Pieces.{some_folded, more_paid, more_spent}
 use Rattle.edge_fold.proofs.some.fold_slice_some.Goals as goal
+use Rattle.edge_fold.specs.Inputs.{inputs_of}
 
 pub rounds-init : goal.rounds-init
 rounds-init c = record {
-  folded = none_folded c.args.reduction c.args.mapped.now.program.now (graph_of c.args.mapped.now.version.now) c.args.mapped.now.argument.now c.args.span.source c.args.span.place c.args.span.targets.now c.nothing-so_far.result c.nothing-so_far.ensures;
+  folded = none_folded c.args.reduction c.args.mapped.now.program.now (graph_of c.args.mapped.now.version.now) (inputs_of c.args.mapped.now) c.args.span.source c.args.span.place c.args.span.targets.now c.nothing-so_far.result c.nothing-so_far.ensures;
   paid = omega arith;
   spent = omega arith;
   memory = c.requires.memory;
@@ -22,17 +23,17 @@ pub lanes-preserved : goal.lanes-preserved
 lanes-preserved c =
     let p = c.args.mapped.now.program.now in
     let g = graph_of c.args.mapped.now.version.now in
-    let a = c.args.mapped.now.argument.now in
+    let a = (inputs_of c.args.mapped.now) in
     let s = c.args.span in
     let lane = c.lanes.lane in
     let e = c.fill.new.edges in
     let below = c.lanes-test.true in
     let left : c.min-count.result ≤ length s.targets.now - c.rounds.at = omega (arith, c.min-count.ensures) in
     let there : c.rounds.at + lane < length s.targets.now = omega (arith, below, left) in
-    let same : lane_record e a lane ≡ edge_record g s.source (get_or s.targets.now (c.rounds.at + lane) 0) (s.place + (c.rounds.at + lane)) a =
+    let same : lane_bytes a e lane ≡ input_record g s.source (get_or s.targets.now (c.rounds.at + lane) 0) (s.place + (c.rounds.at + lane)) a =
     rw (c.fill.ensures.sources lane below, c.fill.ensures.targets lane below, c.fill.ensures.places lane below, c.fill.ensures.degrees lane below, c.requires.degree) refl in
-    let number : number_for p (longest p) g (edge_record g s.source (get_or s.targets.now (c.rounds.at + lane) 0) (s.place + (c.rounds.at + lane)) a) ≡ Some c.number_of_lane-number.result =
-    subst (λ (bytes : List ℕ). number_for p (longest p) g bytes ≡ Some (get_or c.sweep_edges.new.numbers lane 0)) same (c.sweep_edges.ensures c.if-not-sweep_edges.false lane (omega (arith, below, c.fill.ensures.count)))
+    let number : number_for p (longest p) g (input_record g s.source (get_or s.targets.now (c.rounds.at + lane) 0) (s.place + (c.rounds.at + lane)) a) ≡ Some c.number_of_lane-number.result =
+    subst (λ (bytes : List ℕ). number_for p (longest p) g bytes ≡ Some (get_or c.sweep.new.numbers lane 0)) same (c.sweep.ensures.numbers c.if-not-sweep.false lane (omega (arith, below, c.fill.ensures.count)))
     ∙ ap (λ n. Some n) (sym c.number_of_lane-number.ensures) in
     let more = one_folded c.args.reduction p g a s.source s.place s.targets.now (c.rounds.at + lane) c.lanes.so_far (get_or s.targets.now (c.rounds.at + lane) 0) c.number_of_lane-number.result c.combine-so_far.result
     c.lanes.invariant there refl number c.number_of_lane-number.type_inv c.combine-so_far.ensures in
@@ -42,7 +43,7 @@ pub rounds-preserved : goal.rounds-preserved
 rounds-preserved c =
     let p = c.args.mapped.now.program.now in
     record {
-      folded = subst (λ (n : ℕ). IsFolded c.args.reduction p (graph_of c.args.mapped.now.version.now) c.args.mapped.now.argument.now c.args.span.source c.args.span.place c.args.span.targets.now (c.rounds.at + n) c.lanes.so_far) (omega (arith, c.lanes-test.false, c.lanes.auto)) c.lanes.invariant;
+      folded = subst (λ (n : ℕ). IsFolded c.args.reduction p (graph_of c.args.mapped.now.version.now) (inputs_of c.args.mapped.now) c.args.span.source c.args.span.place c.args.span.targets.now (c.rounds.at + n) c.lanes.so_far) (omega (arith, c.lanes-test.false, c.lanes.auto)) c.lanes.invariant;
       paid = more_paid (longest p + EDGE_COST) c.rounds.at c.min-count.result c.args.memory.now.budget c.rounds.memory.budget c.cost_in_block-in-rounds.result c.pay-in-rounds.new.budget c.rounds.invariant.paid c.cost_in_block-in-rounds.ensures.most (omega (arith, c.pay-in-rounds.ensures));
       spent = more_spent c.rounds.at c.min-count.result c.args.memory.now.budget c.rounds.memory.budget c.cost_in_block-in-rounds.result c.pay-in-rounds.new.budget c.rounds.invariant.spent c.cost_in_block-in-rounds.ensures.least (omega (arith, c.pay-in-rounds.ensures));
       memory = c.rounds.invariant.memory;
@@ -53,7 +54,7 @@ pub parts-preserved : goal.parts-preserved
 parts-preserved c =
     let p = c.args.mapped.now.program.now in
     let g = graph_of c.args.mapped.now.version.now in
-    let a = c.args.mapped.now.argument.now in
+    let a = (inputs_of c.args.mapped.now) in
     let s = c.args.span in
     let n = c.edges_within-count.result in
     let fits : c.parts.at + n ≤ length s.targets.now = omega (arith, c.edges_within-count.ensures.few, c.parts.invariant.folded.within) in

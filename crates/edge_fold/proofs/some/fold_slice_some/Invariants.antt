@@ -5,29 +5,30 @@ use Rattle.edge_fold.specs.declared.budget.TheConstants.{EDGE_COST}
 use Rattle.edge_fold.specs.Kept.{AreNumbered, IsFor}
 use Rattle.edge_fold.proofs.Numbers.{IsFolded}
 use Rattle.edge_fold.proofs.some.fold_slice_some.Given as goal
+use Rattle.edge_fold.specs.Inputs.{inputs_of}
 
 abbrev pub invariant-rounds : goal.invariant-rounds
 invariant-rounds l = record {
-  folded : IsFolded l.reduction l.mapped.program.now (graph_of l.mapped.version.now) l.mapped.argument.now l.span.source l.span.place l.span.targets.now l.at l.so_far;
+  folded : IsFolded l.reduction l.mapped.program.now (graph_of l.mapped.version.now) (inputs_of l.mapped) l.span.source l.span.place l.span.targets.now l.at l.so_far;
   paid : l.fn.memory.budget ≤ l.memory.budget + (longest l.mapped.program.now + EDGE_COST) * l.at;
   spent : l.memory.budget ≤ l.fn.memory.budget - EDGE_COST * l.at;
   memory : IsFor l.mapped.program.now l.memory;
-  kept : AreNumbered l.mapped.program.now (graph_of l.mapped.version.now) l.mapped.argument.now l.memory.kept;
+  kept : AreNumbered l.mapped.program.now (graph_of l.mapped.version.now) (inputs_of l.mapped) l.memory.kept;
 }
 
 abbrev pub decreases-rounds : goal.decreases-rounds
 decreases-rounds l = length l.span.targets.now - l.at
 
 abbrev pub invariant-lanes : goal.invariant-lanes
-invariant-lanes l = IsFolded l.reduction l.mapped.program.now (graph_of l.mapped.version.now) l.mapped.argument.now l.span.source l.span.place l.span.targets.now (l.at + l.lane) l.so_far
+invariant-lanes l = IsFolded l.reduction l.mapped.program.now (graph_of l.mapped.version.now) (inputs_of l.mapped) l.span.source l.span.place l.span.targets.now (l.at + l.lane) l.so_far
 
 abbrev pub invariant-parts : goal.invariant-parts
 invariant-parts l = record {
-  folded : IsFolded l.reduction l.mapped.program.now (graph_of l.mapped.version.now) l.mapped.argument.now l.span.source l.span.place l.span.targets.now l.at l.so_far;
+  folded : IsFolded l.reduction l.mapped.program.now (graph_of l.mapped.version.now) (inputs_of l.mapped) l.span.source l.span.place l.span.targets.now l.at l.so_far;
   paid : l.fn.memory.budget ≤ l.memory.budget + (longest l.mapped.program.now + EDGE_COST) * l.at;
   spent : l.memory.budget ≤ l.fn.memory.budget - EDGE_COST * l.at;
   memory : IsFor l.mapped.program.now l.memory;
-  kept : AreNumbered l.mapped.program.now (graph_of l.mapped.version.now) l.mapped.argument.now l.memory.kept;
+  kept : AreNumbered l.mapped.program.now (graph_of l.mapped.version.now) (inputs_of l.mapped) l.memory.kept;
 }
 
 abbrev pub decreases-parts : goal.decreases-parts

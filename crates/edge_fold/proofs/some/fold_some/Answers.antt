@@ -9,12 +9,13 @@ use Rattle.edge_fold.specs.declared.budget.TheConstants.{EDGE_COST}
 use Rattle.edge_fold.proofs.Numbers.{IsFolded, none_folded, found, none_left, row_behind}
 use Rattle.edge_fold.proofs.Pieces.{some_folded, more_paid, more_spent, first_of_row, all_of}
 use Rattle.edge_fold.proofs.some.fold_some.Goals as goal
+use Rattle.edge_fold.specs.Inputs.{inputs_of}
 
 pub slices-init : goal.slices-init
 slices-init c =
     let p = c.args.mapped.now.program.now in
     let g = graph_of c.args.mapped.now.version.now in
-    let a = c.args.mapped.now.argument.now in
+    let a = (inputs_of c.args.mapped.now) in
     let zero : c.args.place - c.args.place ≡ 0 = omega arith in
     let left = drop c.args.place (neighbours g c.args.source.vertex) in
     record {
@@ -84,7 +85,7 @@ pub slices-preserved : goal.slices-preserved
 slices-preserved c =
     let p = c.args.mapped.now.program.now in
     let g = graph_of c.args.mapped.now.version.now in
-    let a = c.args.mapped.now.argument.now in
+    let a = (inputs_of c.args.mapped.now) in
     let u = c.args.source.vertex in
     let place = c.args.place in
     let left = drop place (neighbours g u) in

@@ -6,6 +6,7 @@ use Rattle.edge_fold.specs.Kept.{AreNumbered, IsFor}
 use Rattle.edge_fold.specs.declared.budget.TheConstants.{EDGE_COST}
 use Rattle.edge_fold.proofs.Numbers.{IsFolded}
 use Rattle.edge_fold.proofs.some.fold_some.Given as goal
+use Rattle.edge_fold.specs.Inputs.{inputs_of}
 
 abbrev pub invariant-slices : goal.invariant-slices
 invariant-slices l = record {
@@ -13,8 +14,8 @@ invariant-slices l = record {
   rest : l.goes_on ≡ true → drop (l.at - l.place) (drop l.place (neighbours (graph_of l.mapped.version.now) l.source.vertex)) ≡ l.cursor;
   used : l.goes_on ≡ false → (l.place < l.at) × (l.memory.budget ≡ 0);
   memory : IsFor l.mapped.program.now l.memory;
-  kept : AreNumbered l.mapped.program.now (graph_of l.mapped.version.now) l.mapped.argument.now l.memory.kept;
-  folded : IsFolded l.reduction l.mapped.program.now (graph_of l.mapped.version.now) l.mapped.argument.now l.source.vertex l.place (drop l.place (neighbours (graph_of l.mapped.version.now) l.source.vertex)) (l.at - l.place) l.so_far;
+  kept : AreNumbered l.mapped.program.now (graph_of l.mapped.version.now) (inputs_of l.mapped) l.memory.kept;
+  folded : IsFolded l.reduction l.mapped.program.now (graph_of l.mapped.version.now) (inputs_of l.mapped) l.source.vertex l.place (drop l.place (neighbours (graph_of l.mapped.version.now) l.source.vertex)) (l.at - l.place) l.so_far;
   paid : l.fn.memory.budget ≤ l.memory.budget + (longest l.mapped.program.now + EDGE_COST) * (l.at - l.place);
   spent : l.memory.budget ≤ l.fn.memory.budget - EDGE_COST * (l.at - l.place);
 }
