@@ -6,10 +6,8 @@ ghost use Rattle.embedding.specs.Holding.{OnBoth};
 ghost use Rattle.embedding.specs.Parts.{IsRunSome, AreNumbersSome, ArePairs};
 ghost use Rattle.embedding.specs.Runs.{IsRun};
 
-use embedding::{
-    EMPTY, Handle, NumbersAsked, PairsAsked, Progress, RunAsked, Totals, number_held,
-    numbers_some_held, pairs_held, run_held, run_some_held,
-};
+use crate::columns::{edgebpf_numbers_of, edgebpf_pairs_of, edgebpf_pull, edgebpf_pull_some};
+use embedding::{EMPTY, Handle, Progress, Totals, number_held};
 use std::alloc::Global;
 
 /// Runs a program on each edge of the vertices of a frontier, and reduces its numbers: 0 is the sum, 1 the least and 2 the
@@ -30,22 +28,17 @@ pub extern "C" fn edgebpf_run(
     ensures answered { OnBoth version.old.held program.old.held result ((values.new ≡ values.old) × (totals.new ≡ totals.old))
         (λ past p. IsRun (graph_of past) p argument.now frontier.now reduction result values.old totals.old values.new totals.new) }
 {
-    let Some(graph) = version.take(alloc) else {
-        return EMPTY;
-    };
-    let Some(mut code) = program.take(alloc) else {
-        version.put(graph);
-        return EMPTY;
-    };
-    let asked = RunAsked {
+    edgebpf_pull(
+        alloc,
+        version,
+        program,
         argument,
+        &[],
         frontier,
         reduction,
-    };
-    let answer = run_held(&graph, &mut code, &asked, values, totals);
-    version.put(graph);
-    program.put(code);
-    answer
+        values,
+        totals,
+    )
 }
 
 /// Goes on with a run over a frontier, as far as the budget goes: one edge or one vertex at least.
@@ -65,22 +58,17 @@ pub extern "C" fn edgebpf_run_some(
     ensures answered { OnBoth version.old.held program.old.held result ((values.new ≡ values.old) × (at.new ≡ at.old))
         (λ past p. IsRunSome (graph_of past) p argument.now frontier.now reduction result at.old at.new values.old values.new) }
 {
-    let Some(graph) = version.take(alloc) else {
-        return EMPTY;
-    };
-    let Some(mut code) = program.take(alloc) else {
-        version.put(graph);
-        return EMPTY;
-    };
-    let asked = RunAsked {
+    edgebpf_pull_some(
+        alloc,
+        version,
+        program,
         argument,
+        &[],
         frontier,
         reduction,
-    };
-    let answer = run_some_held(&graph, &mut code, &asked, at, values);
-    version.put(graph);
-    program.put(code);
-    answer
+        at,
+        values,
+    )
 }
 
 /// The number of each edge, sources ascending, and targets ascending for each.
@@ -128,18 +116,17 @@ pub extern "C" fn edgebpf_numbers_some(
         ((numbers.new ≡ numbers.old) × (written.new ≡ written.old) × (at.new ≡ at.old))
         (λ past p. AreNumbersSome (graph_of past) p argument.now frontier.now result at.old at.new numbers.old numbers.new written.old written.new) }
 {
-    let Some(graph) = version.take(alloc) else {
-        return EMPTY;
-    };
-    let Some(mut code) = program.take(alloc) else {
-        version.put(graph);
-        return EMPTY;
-    };
-    let asked = NumbersAsked { argument, frontier };
-    let answer = numbers_some_held(&graph, &mut code, &asked, at, numbers, written);
-    version.put(graph);
-    program.put(code);
-    answer
+    edgebpf_numbers_of(
+        alloc,
+        version,
+        program,
+        argument,
+        &[],
+        frontier,
+        at,
+        numbers,
+        written,
+    )
 }
 
 /// The numbers of the next pairs of vertices, which need not be edges, as far as the budget goes: one at least.
@@ -159,20 +146,15 @@ pub extern "C" fn edgebpf_pairs(
     ensures answered { OnBoth version.old.held program.old.held result ((numbers.new ≡ numbers.old) × (at.new ≡ at.old))
         (λ past p. ArePairs (graph_of past) p argument.now sources.now targets.now result at.old at.new numbers.old numbers.new) }
 {
-    let Some(graph) = version.take(alloc) else {
-        return EMPTY;
-    };
-    let Some(mut code) = program.take(alloc) else {
-        version.put(graph);
-        return EMPTY;
-    };
-    let asked = PairsAsked {
+    edgebpf_pairs_of(
+        alloc,
+        version,
+        program,
         argument,
+        &[],
         sources,
         targets,
-    };
-    let answer = pairs_held(&graph, &mut code, &asked, at, numbers);
-    version.put(graph);
-    program.put(code);
-    answer
+        at,
+        numbers,
+    )
 }

@@ -7,6 +7,7 @@ mod copies;
 mod edits;
 mod handle;
 mod held;
+mod lent;
 mod numbers;
 mod pairs;
 mod places;
@@ -32,7 +33,7 @@ pub use programs::{ProgramBytes, Verdict, new_program, share_program_held};
 pub use questions::{
     Info, degree_held, has_edge_held, info_held, neighbour_held, share_version_held,
 };
-pub use runnable::{Edges, Runnable};
+pub use runnable::{Edges, Lent, Runnable};
 pub use runs::{RunAsked, Totals, run_held, run_some_held};
 pub use slices::{Slice, lend_from_held, lend_held};
 pub use statuses::{

@@ -3,11 +3,13 @@ ghost use Rattle.std.specs.Prelude.{◌≡◌, Some};
 ghost use Rattle.past_model.specs.Past.{graph_of};
 ghost use Rattle.embedding.specs.Arrays.{AreNumbers};
 ghost use Rattle.embedding.specs.Holding.{OnBoth};
-ghost use Rattle.embedding.specs.Parts.{AreNumbersSome};
+ghost use Rattle.embedding.specs.Lent.{lent_of};
+ghost use Rattle.embedding.specs.Parts.{AreNumbersWith};
 
 use crate::held::Held;
 use crate::places::is_at_place;
-use crate::runnable::{Edges, Runnable};
+use crate::lent::test_lent;
+use crate::runnable::{Edges, Lent, Runnable};
 use crate::statuses::{ARGUMENT_LENGTH, DONE, LENGTHS, OTHER_KIND, PROGRESS};
 use edge_fold::{EDGE_BYTES, Progress};
 use past_model::MOST_VERTICES;
@@ -16,8 +18,8 @@ use version::Version;
 /// Whose numbers a host asks for.
 #[derive(Clone, Copy)]
 pub struct NumbersAsked<'a> {
-    /// What each record has after the edge.
-    pub argument: &'a [u8],
+    /// What each run is lent besides its edge.
+    pub lent: Lent<'a>,
     /// The vertices whose edges they are, at most 268,435,456 of them in any order.
     pub frontier: &'a [u32],
 }
@@ -38,7 +40,11 @@ fn number_all(
     if argument.len() + EDGE_BYTES != usize::from(program.record_length()) {
         return ARGUMENT_LENGTH;
     }
-    program.number(&Edges { version, argument }, numbers);
+    let lent = Lent {
+        argument,
+        columns: &[],
+    };
+    program.number(&Edges { version, lent }, numbers);
     DONE
 }
 
@@ -72,7 +78,7 @@ fn number_some(
     written: &mut usize,
 ) -> u32
     ensures program { program.new ≡ program.old }
-    ensures answered { AreNumbersSome (graph_of version.now) program.old asked.now.argument.now
+    ensures answered { AreNumbersWith (graph_of version.now) program.old (lent_of asked.now.lent)
         asked.now.frontier.now result
         progress.old progress.new numbers.old numbers.new written.old written.new }
 {
@@ -80,14 +86,17 @@ fn number_some(
     if frontier.len() > MOST_VERTICES as usize {
         return LENGTHS;
     }
-    let argument = asked.argument;
-    if argument.len() + EDGE_BYTES != usize::from(program.record_length()) {
-        return ARGUMENT_LENGTH;
+    let fault = test_lent(version, program, &asked.lent);
+    if fault != DONE {
+        return fault;
     }
     if !is_at_place(version, frontier, progress) {
         return PROGRESS;
     }
-    let on = Edges { version, argument };
+    let on = Edges {
+        version,
+        lent: asked.lent,
+    };
     *written = program.number_some(&on, frontier, progress, numbers);
     DONE
 }
@@ -95,7 +104,7 @@ fn number_some(
 /// Writes the numbers of the next edges of a frontier's vertices, one vertex after another and targets ascending for each, as far as
 /// the progress's budget and the room go, and how many these are: one edge or one vertex at least, if any is left and there is room
 /// for a number. The progress is as for `run_some_held`; its total stays. It takes no memory. Else nothing is written: `LENGTHS`
-/// where the frontier has more than 268,435,456 vertices, then `ARGUMENT_LENGTH`, then `PROGRESS`.
+/// where the frontier has more than 268,435,456 vertices, then `COLUMNS`, `ARGUMENT_LENGTH` and `PROGRESS`.
 pub fn numbers_some_held(
     graph: &Held,
     code: &mut Held,
@@ -107,7 +116,7 @@ pub fn numbers_some_held(
     ensures program { code.new ≡ code.old }
     ensures answered { OnBoth (Some graph.now) (Some code.old) result
         ((numbers.new ≡ numbers.old) × (written.new ≡ written.old) × (progress.new ≡ progress.old))
-        (λ past p. AreNumbersSome (graph_of past) p asked.now.argument.now asked.now.frontier.now result
+        (λ past p. AreNumbersWith (graph_of past) p (lent_of asked.now.lent) asked.now.frontier.now result
         progress.old progress.new numbers.old numbers.new written.old written.new) }
 {
     let version = match graph {

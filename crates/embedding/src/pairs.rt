@@ -2,19 +2,21 @@
 ghost use Rattle.std.specs.Prelude.{◌≡◌, Some};
 ghost use Rattle.past_model.specs.Past.{graph_of};
 ghost use Rattle.embedding.specs.Holding.{OnBoth};
-ghost use Rattle.embedding.specs.Parts.{ArePairs};
+ghost use Rattle.embedding.specs.Lent.{lent_of};
+ghost use Rattle.embedding.specs.Parts.{ArePairsWith};
 
 use crate::held::Held;
-use crate::runnable::{Edges, Runnable};
-use crate::statuses::{ARGUMENT_LENGTH, DONE, LENGTHS, OTHER_KIND, PROGRESS};
-use edge_fold::{EDGE_BYTES, Pairs, Progress};
+use crate::lent::test_lent;
+use crate::runnable::{Edges, Lent, Runnable};
+use crate::statuses::{DONE, LENGTHS, OTHER_KIND, PROGRESS};
+use edge_fold::{Pairs, Progress};
 use version::Version;
 
 /// Whose numbers a host asks for: a source and a target at each place.
 #[derive(Clone, Copy)]
 pub struct PairsAsked<'a> {
-    /// What each record has after the pair.
-    pub argument: &'a [u8],
+    /// What each run is lent besides its pair. A column's numbers are those of the two vertices of the pair; 0 for one outside the graph.
+    pub lent: Lent<'a>,
     /// The first vertex of each pair.
     pub sources: &'a [u32],
     /// The second vertex of each pair.
@@ -30,22 +32,25 @@ fn number_pairs(
     numbers: &mut [u64],
 ) -> u32
     ensures program { program.new ≡ program.old }
-    ensures answered { let a = asked.now in ArePairs
-        (graph_of version.now) program.old a.argument.now a.sources.now a.targets.now result
+    ensures answered { let a = asked.now in ArePairsWith
+        (graph_of version.now) program.old (lent_of a.lent) a.sources.now a.targets.now result
         progress.old progress.new numbers.old numbers.new }
 {
     let count = asked.sources.len();
     if asked.targets.len() != count || numbers.len() != count || count > u32::MAX as usize {
         return LENGTHS;
     }
-    let argument = asked.argument;
-    if argument.len() + EDGE_BYTES != usize::from(program.record_length()) {
-        return ARGUMENT_LENGTH;
+    let fault = test_lent(version, program, &asked.lent);
+    if fault != DONE {
+        return fault;
     }
     if progress.vertex as usize > count || progress.place != 0 {
         return PROGRESS;
     }
-    let on = Edges { version, argument };
+    let on = Edges {
+        version,
+        lent: asked.lent,
+    };
     let pairs = Pairs {
         sources: asked.sources,
         targets: asked.targets,
@@ -58,7 +63,7 @@ fn number_pairs(
 /// not be an edge: its record has the source and the target as they are given, the source's degree, and the target's place among the
 /// source's neighbours, or that degree where it is none of them. The progress's vertex is how many pairs are done, and its total
 /// stays. It takes no memory. Else nothing is written: `LENGTHS` where there are not as many targets and numbers as sources, or 2^32
-/// pairs and more, then `ARGUMENT_LENGTH`, then `PROGRESS` where the progress is past the pairs or has a place.
+/// pairs and more, then `COLUMNS` and `ARGUMENT_LENGTH` as for a run, then `PROGRESS` where the progress is past the pairs or has a place.
 pub fn pairs_held(
     graph: &Held,
     code: &mut Held,
@@ -69,7 +74,7 @@ pub fn pairs_held(
     ensures program { code.new ≡ code.old }
     ensures answered { OnBoth (Some graph.now) (Some code.old) result ((numbers.new ≡ numbers.old) × (progress.new
         ≡ progress.old))
-        (λ past p. ArePairs (graph_of past) p asked.now.argument.now asked.now.sources.now asked.now.targets.now result
+        (λ past p. ArePairsWith (graph_of past) p (lent_of asked.now.lent) asked.now.sources.now asked.now.targets.now result
         progress.old progress.new numbers.old numbers.new) }
 {
     let version = match graph {

@@ -3,11 +3,11 @@ ghost use Rattle.std.specs.Prelude.{◌≡◌, ◌+◌, ◌-◌, ◌*◌, ◌^�
 ghost use Rattle.past_model.specs.Past.{graph_of};
 ghost use Rattle.past_model.specs.declared.limits.TheConstants.{MOST_VERTICES};
 ghost use Rattle.graph_model.specs.Graph.{edge_count, numbers_below};
-ghost use Rattle.map_model.specs.EdgeMap.{all_numbers, reduction_of_numbers};
+ghost use Rattle.map_model.specs.EdgeMap.{all_with, reduction_of_numbers};
 ghost use Rattle.map_model.specs.Parts.{IsPlace, IsBefore, IsSoFar, HasBegun, numbers_before, pair_numbers, values_for};
-ghost use Rattle.map_model.specs.declared.limits.TheConstants.{EDGE_BYTES};
 ghost use Rattle.verifier.specs.Walks.{longest};
 ghost use Rattle.edge_fold.specs.declared.budget.TheConstants.{EDGE_COST};
+ghost use Rattle.embedding.specs.Lent.{FitRecords, lent_of};
 ghost use Rattle.embedding.specs.Parts.{least_of, most_of};
 
 use edge_fold::{
@@ -20,18 +20,28 @@ use std::sync::Arc;
 use verifier::Verified;
 use version::Version;
 
-/// What a program runs on: the edges of a version, each with the same argument.
+/// What a host lends the runs of a program besides their edges.
+#[derive(Clone, Copy)]
+pub struct Lent<'a> {
+    /// What each record has after the edge.
+    pub argument: &'a [u8],
+    /// At most 8 columns, each with a number for each vertex. After the argument each record has of each column in turn the number
+    /// of the edge's source and that of its target.
+    pub columns: &'a [&'a [u64]],
+}
+
+/// What a program runs on: the edges of a version, each with the same argument and columns.
 #[derive(Clone, Copy)]
 pub struct Edges<'a> {
     /// The version whose edges they are.
     pub version: &'a Version,
-    /// What each record has after the edge.
-    pub argument: &'a [u8],
+    /// What each run is lent besides its edge.
+    pub lent: Lent<'a>,
 }
 
 /// A verified program, and the memory in which the runs by one handle work. The memory is made once: a run over few edges costs less
 /// than making it. Contracts see the program alone: the memory has its table, and no run depends on what else it held before. No run
-/// takes memory besides. A run over some edges asks that the argument has the record's length less 16 bytes.
+/// takes memory besides. A run over some edges asks that what it is lent fits the record.
 pub struct Runnable {
     program: Arc<Verified>,
     memory: Box<Memory>,
@@ -94,21 +104,22 @@ impl Runnable {
     /// Runs it on each edge of the vertices of a frontier, and reduces the numbers: it writes a value for each vertex, and answers the
     /// progress at the end, which has what all have together.
     pub fn map(&mut self, on: &Edges<'_>, request: &Request<'_>, values: &mut [u64]) -> Progress
-        requires argument { length on.now.argument.now + EDGE_BYTES ≡ self.old.record_length }
+        requires lent { FitRecords self.old (lent_of on.now.lent) }
         requires few { length request.now.frontier.now ≤ MOST_VERTICES }
         requires long { length values.old ≡ length request.now.frontier.now }
         ensures program { self.new ≡ self.old }
         ensures values { let p = self.old in let g = graph_of on.now.version.now in
-            values.new ≡ values_for p (longest p) g request.now.reduction on.now.argument.now request.now.frontier.now }
+            values.new ≡ values_for p (longest p) g request.now.reduction (lent_of on.now.lent) request.now.frontier.now }
         ensures edges { let p = self.old in let g = graph_of on.now.version.now in
-            result.edges ≡ length (all_numbers p (longest p) g on.now.argument.now request.now.frontier.now) }
+            result.edges ≡ length (all_with p (longest p) g (lent_of on.now.lent) request.now.frontier.now) }
         ensures total { let p = self.old in let g = graph_of on.now.version.now in result.total
-            ≡ reduction_of_numbers request.now.reduction (all_numbers p (longest p) g on.now.argument.now request.now.frontier.now) }
+            ≡ reduction_of_numbers request.now.reduction (all_with p (longest p) g (lent_of on.now.lent) request.now.frontier.now) }
     {
         let mapped = Mapped {
             version: on.version,
             program: &self.program,
-            argument: on.argument,
+            argument: on.lent.argument,
+            columns: on.lent.columns,
         };
         map_whole(&mut self.memory, &mapped, request, values)
     }
@@ -121,45 +132,47 @@ impl Runnable {
         progress: &mut Progress,
         values: &mut [u64],
     )
-        requires argument { length on.now.argument.now + EDGE_BYTES ≡ self.old.record_length }
+        requires lent { FitRecords self.old (lent_of on.now.lent) }
         requires few { length request.now.frontier.now ≤ MOST_VERTICES }
         requires long { length values.old ≡ length request.now.frontier.now }
         requires place { IsPlace (graph_of on.now.version.now) request.now.frontier.now progress.old }
         ensures program { self.new ≡ self.old }
         ensures so_far { let p = self.old in let g = graph_of on.now.version.now in let f = request.now.frontier.now in
-            HasBegun p (longest p) g request.now.reduction on.now.argument.now f progress.old values.old
-            → IsSoFar p (longest p) g request.now.reduction on.now.argument.now f progress.new values.new }
+            HasBegun p (longest p) g request.now.reduction (lent_of on.now.lent) f progress.old values.old
+            → IsSoFar p (longest p) g request.now.reduction (lent_of on.now.lent) f progress.new values.new }
         ensures place { IsPlace (graph_of on.now.version.now) request.now.frontier.now progress.new }
         ensures on { progress.old.vertex < length request.now.frontier.now → IsBefore progress.old progress.new }
         ensures rest { drop (progress.new.vertex + 1) values.new ≡ drop (progress.new.vertex + 1) values.old }
         ensures stops { (progress.new.vertex ≡ length request.now.frontier.now) ⊎ (progress.new.budget ≡ 0) }
-        ensures cost { let most = most_of (graph_of on.now.version.now) self.old on.now.argument.now
+        ensures cost { let most = most_of (graph_of on.now.version.now) self.old (lent_of on.now.lent)
             request.now.frontier.now in
             progress.old.budget + most progress.old ≤ progress.new.budget + most progress.new }
-        ensures falls { let least = least_of (graph_of on.now.version.now) self.old on.now.argument.now
+        ensures falls { let least = least_of (graph_of on.now.version.now) self.old (lent_of on.now.lent)
             request.now.frontier.now in
             progress.new.budget ≤ progress.old.budget + least progress.old - least progress.new }
     {
         let mapped = Mapped {
             version: on.version,
             program: &self.program,
-            argument: on.argument,
+            argument: on.lent.argument,
+            columns: on.lent.columns,
         };
         map_some(&mut self.memory, &mapped, request, progress, values);
     }
 
     /// Writes the number of each edge of a version.
     pub fn number(&mut self, on: &Edges<'_>, numbers: &mut [u64])
-        requires argument { length on.now.argument.now + EDGE_BYTES ≡ self.old.record_length }
+        requires lent { FitRecords self.old (lent_of on.now.lent) }
         requires long { length numbers.old ≡ edge_count (graph_of on.now.version.now) }
         ensures program { self.new ≡ self.old }
         ensures numbers { let p = self.old in let g = graph_of on.now.version.now in
-            numbers.new ≡ all_numbers p (longest p) g on.now.argument.now (numbers_below g.vertex_count) }
+            numbers.new ≡ all_with p (longest p) g (lent_of on.now.lent) (numbers_below g.vertex_count) }
     {
         let mapped = Mapped {
             version: on.version,
             program: &self.program,
-            argument: on.argument,
+            argument: on.lent.argument,
+            columns: on.lent.columns,
         };
         number_edges(&mapped, &mut self.memory, numbers);
     }
@@ -173,13 +186,13 @@ impl Runnable {
         progress: &mut Progress,
         numbers: &mut [u64],
     ) -> usize
-        requires argument { length on.now.argument.now + EDGE_BYTES ≡ self.old.record_length }
+        requires lent { FitRecords self.old (lent_of on.now.lent) }
         requires few { length frontier.now ≤ MOST_VERTICES }
         requires place { IsPlace (graph_of on.now.version.now) frontier.now progress.old }
         ensures program { self.new ≡ self.old }
         ensures numbers { let p = self.old in let g = graph_of on.now.version.now in
-            numbers_before p (longest p) g on.now.argument.now frontier.now progress.new
-            ≡ numbers_before p (longest p) g on.now.argument.now frontier.now progress.old ++ take result numbers.new }
+            numbers_before p (longest p) g (lent_of on.now.lent) frontier.now progress.new
+            ≡ numbers_before p (longest p) g (lent_of on.now.lent) frontier.now progress.old ++ take result numbers.new }
         ensures rest { drop result numbers.new ≡ drop result numbers.old }
         ensures room { result ≤ length numbers.old }
         ensures edges { progress.new.edges ≡ (progress.old.edges + result) % 2 ^ 64 }
@@ -189,15 +202,16 @@ impl Runnable {
             → IsBefore progress.old progress.new }
         ensures stops { (progress.new.vertex ≡ length frontier.now) ⊎ (progress.new.budget ≡ 0) ⊎ (result
             ≡ length numbers.old) }
-        ensures cost { let most = most_of (graph_of on.now.version.now) self.old on.now.argument.now frontier.now in
+        ensures cost { let most = most_of (graph_of on.now.version.now) self.old (lent_of on.now.lent) frontier.now in
             progress.old.budget + most progress.old ≤ progress.new.budget + most progress.new }
-        ensures falls { let least = least_of (graph_of on.now.version.now) self.old on.now.argument.now frontier.now in
+        ensures falls { let least = least_of (graph_of on.now.version.now) self.old (lent_of on.now.lent) frontier.now in
             progress.new.budget ≤ progress.old.budget + least progress.old - least progress.new }
     {
         let mapped = Mapped {
             version: on.version,
             program: &self.program,
-            argument: on.argument,
+            argument: on.lent.argument,
+            columns: on.lent.columns,
         };
         number_some(&mut self.memory, &mapped, frontier, progress, numbers)
     }
@@ -210,14 +224,14 @@ impl Runnable {
         progress: &mut Progress,
         numbers: &mut [u64],
     )
-        requires argument { length on.now.argument.now + EDGE_BYTES ≡ self.old.record_length }
+        requires lent { FitRecords self.old (lent_of on.now.lent) }
         requires few { length pairs.now.sources.now < 2 ^ 32 }
         requires long { length numbers.old ≡ length pairs.now.sources.now }
         requires place { progress.old.vertex ≤ length pairs.now.sources.now }
         ensures program { self.new ≡ self.old }
         ensures numbers { let p = self.old in let g = graph_of on.now.version.now in
             let a = progress.old.vertex in let b = progress.new.vertex in
-            take b numbers.new ≡ take a numbers.old ++ pair_numbers p (longest p) g on.now.argument.now
+            take b numbers.new ≡ take a numbers.old ++ pair_numbers p (longest p) g (lent_of on.now.lent)
             (slice_range pairs.now.sources.now a b) (slice_range pairs.now.targets.now a b) }
         ensures rest { drop progress.new.vertex numbers.new ≡ drop progress.new.vertex numbers.old }
         ensures edges { progress.new.edges ≡ (progress.old.edges +
@@ -236,7 +250,8 @@ impl Runnable {
         let mapped = Mapped {
             version: on.version,
             program: &self.program,
-            argument: on.argument,
+            argument: on.lent.argument,
+            columns: on.lent.columns,
         };
         number_pairs(&mut self.memory, &mapped, pairs, progress, numbers);
     }

@@ -2,14 +2,16 @@
 ghost use Rattle.std.specs.Prelude.{◌≡◌, Some, None};
 ghost use Rattle.past_model.specs.Past.{graph_of};
 ghost use Rattle.embedding.specs.Holding.{OnBoth};
-ghost use Rattle.embedding.specs.Parts.{IsRunSome};
-ghost use Rattle.embedding.specs.Runs.{reduction_at, IsRun};
+ghost use Rattle.embedding.specs.Lent.{lent_of};
+ghost use Rattle.embedding.specs.Parts.{IsPullSome};
+ghost use Rattle.embedding.specs.Runs.{reduction_at, IsPull};
 
 use crate::held::Held;
 use crate::places::is_at_place;
-use crate::runnable::{Edges, Runnable};
-use crate::statuses::{ARGUMENT_LENGTH, DONE, LENGTHS, OTHER_KIND, PROGRESS, REDUCTION};
-use edge_fold::{EDGE_BYTES, Progress, Reduction, Request};
+use crate::lent::test_lent;
+use crate::runnable::{Edges, Lent, Runnable};
+use crate::statuses::{DONE, LENGTHS, OTHER_KIND, PROGRESS, REDUCTION};
+use edge_fold::{Progress, Reduction, Request};
 use past_model::MOST_VERTICES;
 use version::Version;
 
@@ -26,8 +28,8 @@ pub struct Totals {
 /// What a host asks of a run.
 #[derive(Clone, Copy)]
 pub struct RunAsked<'a> {
-    /// What each record has after the edge.
-    pub argument: &'a [u8],
+    /// What each run is lent besides its edge.
+    pub lent: Lent<'a>,
     /// The vertices whose edges the program runs on, at most 268,435,456 of them in any order.
     pub frontier: &'a [u32],
     /// What the numbers are reduced to: 0 is the sum, 1 the least and 2 the greatest.
@@ -56,8 +58,8 @@ fn run(
     totals: &mut Totals,
 ) -> u32
     ensures program { program.new ≡ program.old }
-    ensures answered { let a = asked.now in IsRun
-        (graph_of version.now) program.old a.argument.now a.frontier.now a.reduction result values.old totals.old
+    ensures answered { let a = asked.now in IsPull
+        (graph_of version.now) program.old (lent_of a.lent) a.frontier.now a.reduction result values.old totals.old
         values.new totals.new }
 {
     let Some(reduction) = reduction_from(asked.reduction) else {
@@ -67,11 +69,14 @@ fn run(
     if values.len() != frontier.len() || frontier.len() > MOST_VERTICES as usize {
         return LENGTHS;
     }
-    let argument = asked.argument;
-    if argument.len() + EDGE_BYTES != usize::from(program.record_length()) {
-        return ARGUMENT_LENGTH;
+    let fault = test_lent(version, program, &asked.lent);
+    if fault != DONE {
+        return fault;
     }
-    let on = Edges { version, argument };
+    let on = Edges {
+        version,
+        lent: asked.lent,
+    };
     let request = Request {
         frontier,
         reduction,
@@ -86,7 +91,7 @@ fn run(
 /// and writes for each vertex what its numbers reduce to, and for all together how many edges there were and what their
 /// numbers reduce to. The frontier may have at most 268,435,456 vertices, in any order. It takes no memory. Else nothing is written:
 /// `REDUCTION` where there is none of this number, then `LENGTHS` where there is not one value for each vertex or they are too
-/// many, then `ARGUMENT_LENGTH`.
+/// many, then `COLUMNS` where there are more than 8 or one has not a number for each vertex, then `ARGUMENT_LENGTH`.
 pub fn run_held(
     graph: &Held,
     code: &mut Held,
@@ -97,7 +102,7 @@ pub fn run_held(
     ensures program { code.new ≡ code.old }
     ensures answered { OnBoth (Some graph.now) (Some code.old) result ((values.new ≡ values.old) × (totals.new
         ≡ totals.old))
-        (λ past p. IsRun (graph_of past) p asked.now.argument.now asked.now.frontier.now asked.now.reduction result values.old totals.old values.new totals.new) }
+        (λ past p. IsPull (graph_of past) p (lent_of asked.now.lent) asked.now.frontier.now asked.now.reduction result values.old totals.old values.new totals.new) }
 {
     let version = match graph {
         Held::Version(version) => version,
@@ -120,8 +125,8 @@ fn run_some(
     values: &mut [u64],
 ) -> u32
     ensures program { program.new ≡ program.old }
-    ensures answered { let a = asked.now in IsRunSome
-        (graph_of version.now) program.old a.argument.now a.frontier.now a.reduction result progress.old progress.new
+    ensures answered { let a = asked.now in IsPullSome
+        (graph_of version.now) program.old (lent_of a.lent) a.frontier.now a.reduction result progress.old progress.new
         values.old values.new }
 {
     let Some(reduction) = reduction_from(asked.reduction) else {
@@ -131,14 +136,17 @@ fn run_some(
     if values.len() != frontier.len() || frontier.len() > MOST_VERTICES as usize {
         return LENGTHS;
     }
-    let argument = asked.argument;
-    if argument.len() + EDGE_BYTES != usize::from(program.record_length()) {
-        return ARGUMENT_LENGTH;
+    let fault = test_lent(version, program, &asked.lent);
+    if fault != DONE {
+        return fault;
     }
     if !is_at_place(version, frontier, progress) {
         return PROGRESS;
     }
-    let on = Edges { version, argument };
+    let on = Edges {
+        version,
+        lent: asked.lent,
+    };
     let request = Request {
         frontier,
         reduction,
@@ -151,7 +159,7 @@ fn run_some(
 /// least, if any is left. `values` has one place for each vertex, and keeps its content from call to call. The run begins at vertex 0
 /// and place 0, and is done where the progress is at the frontier's end: then it has written what `run_held` writes. Hand in the same
 /// version, program, argument, frontier and reduction each time. It takes no memory. Else nothing is written: `REDUCTION`,
-/// `LENGTHS` and `ARGUMENT_LENGTH` as for a run, then `PROGRESS` where the progress is past the frontier, past a vertex's edges, or at
+/// `LENGTHS`, `COLUMNS` and `ARGUMENT_LENGTH` as for a run, then `PROGRESS` where the progress is past the frontier, past a vertex's edges, or at
 /// the frontier's end with a place.
 pub fn run_some_held(
     graph: &Held,
@@ -163,7 +171,7 @@ pub fn run_some_held(
     ensures program { code.new ≡ code.old }
     ensures answered { OnBoth (Some graph.now) (Some code.old) result ((values.new ≡ values.old) × (progress.new
         ≡ progress.old))
-        (λ past p. IsRunSome (graph_of past) p asked.now.argument.now asked.now.frontier.now asked.now.reduction result progress.old progress.new values.old values.new) }
+        (λ past p. IsPullSome (graph_of past) p (lent_of asked.now.lent) asked.now.frontier.now asked.now.reduction result progress.old progress.new values.old values.new) }
 {
     let version = match graph {
         Held::Version(version) => version,

@@ -26,7 +26,7 @@ pub const REFUSED: u32 = 10;
 pub const RECORD_LENGTH: u32 = 11;
 /// The code is not 1 to 4,096 whole units of 8 bytes.
 pub const CODE_LENGTH: u32 = 12;
-/// The argument is not as long as the record less 16 bytes.
+/// The argument is not as long as the record less 16 bytes, and less 16 for each column.
 pub const ARGUMENT_LENGTH: u32 = 13;
 /// There is no such reduction.
 pub const REDUCTION: u32 = 14;
@@ -38,5 +38,7 @@ pub const NO_NEIGHBOUR: u32 = 16;
 pub const EPOCHS_FULL: u32 = 17;
 /// The table has more than 4,096 bytes.
 pub const TABLE_LENGTH: u32 = 18;
+/// There are more than 8 columns, or one has not a number for each vertex.
+pub const COLUMNS: u32 = 19;
 /// The progress names no place of this frontier.
 pub const PROGRESS: u32 = 20;
