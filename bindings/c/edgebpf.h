@@ -31,6 +31,7 @@ enum {
     EDGEBPF_NO_NEIGHBOUR = 16,
     EDGEBPF_EPOCHS_FULL = 17,
     EDGEBPF_TABLE_LENGTH = 18,
+    EDGEBPF_COLUMNS = 19,
     EDGEBPF_PROGRESS = 20
 };
 
@@ -50,16 +51,16 @@ static inline const char *edgebpf_words(uint32_t status) {
         "the verifier refuses the program",
         "the record length is not from 16 to 256",
         "the code is not 1 to 4096 units of 8 bytes",
-        "the argument is not as long as the record less 16 bytes",
+        "the argument is not as long as the record less 16 bytes, and less 16 for each column",
         "there is no such reduction",
         "the text means no code",
         "the vertex has no neighbour at this place",
         "1024 rebases were made, and there is room for no more",
         "the table has more than 4096 bytes",
-        NULL, /* no call returns 19 */
+        "there are more than 8 columns, or one has not a number for each vertex",
         "the progress names no place of this frontier",
     };
-    return status < sizeof words / sizeof *words && words[status] ? words[status] : "there is no such status";
+    return status < sizeof words / sizeof *words ? words[status] : "there is no such status";
 }
 
 /* An array is a pointer that is not NULL, and a count. This is one without a byte. */
@@ -70,6 +71,7 @@ static inline const char *edgebpf_words(uint32_t status) {
 #define EDGEBPF_MOST_EDITS 65536u
 #define EDGEBPF_MOST_BATCHES 4096u /* between two rebases */
 #define EDGEBPF_MOST_EPOCHS 1024u
+#define EDGEBPF_MOST_COLUMNS 8u
 
 /* Handles. {0} is the empty one. A handle is closed once and never copied; whoever has it owns it. */
 typedef struct edgebpf_handle { void *at; } edgebpf_handle;
@@ -96,6 +98,9 @@ typedef struct edgebpf_assembled { size_t length, line; uint32_t cause; } edgebp
 
 /* What all edges of a run have together. */
 typedef struct edgebpf_totals { uint64_t edges, total; } edgebpf_totals;
+
+/* A column: a number for each vertex. */
+typedef struct edgebpf_column { const uint64_t *at; size_t count; } edgebpf_column;
 
 /* Work under way, which goes on from call to call: {0} is its beginning. `budget` is how much the next call may do, and falls by what
    is done. Of a frontier `vertex` vertices are done, and `place` edges of the next one; of pairs `vertex` are done, and `place` is
@@ -201,6 +206,24 @@ uint32_t edgebpf_numbers_some(edgebpf_version *version, edgebpf_program *program
 uint32_t edgebpf_pairs(edgebpf_version *version, edgebpf_program *program, const uint8_t *argument, size_t argument_length,
                        const uint32_t *sources, size_t source_count, const uint32_t *targets, size_t target_count,
                        edgebpf_progress *at, uint64_t *numbers, size_t number_count);
+
+/* The calls before with columns, of which each has a number for each vertex. A record has, after the argument, of each column in turn
+   the number of the edge's source and that of its target, eight bytes each, little-endian; of a pair's vertex outside the graph 0. So
+   an argument has the record's length less 16 bytes, and less 16 for each column. COLUMNS is tested before ARGUMENT_LENGTH, and the
+   other statuses are those of the call without columns. The columns are read during the call alone: nobody writes to them
+   meanwhile, and `values` or `numbers` is none of them. */
+uint32_t edgebpf_pull(edgebpf_version *version, edgebpf_program *program, const uint8_t *argument, size_t argument_length,
+                      const edgebpf_column *columns, size_t column_count, const uint32_t *frontier, size_t frontier_count,
+                      uint32_t reduction, uint64_t *values, size_t value_count, edgebpf_totals *totals);
+uint32_t edgebpf_pull_some(edgebpf_version *version, edgebpf_program *program, const uint8_t *argument, size_t argument_length,
+                           const edgebpf_column *columns, size_t column_count, const uint32_t *frontier, size_t frontier_count,
+                           uint32_t reduction, edgebpf_progress *at, uint64_t *values, size_t value_count);
+uint32_t edgebpf_numbers_of(edgebpf_version *version, edgebpf_program *program, const uint8_t *argument, size_t argument_length,
+                            const edgebpf_column *columns, size_t column_count, const uint32_t *frontier, size_t frontier_count,
+                            edgebpf_progress *at, uint64_t *numbers, size_t number_count, size_t *written);
+uint32_t edgebpf_pairs_of(edgebpf_version *version, edgebpf_program *program, const uint8_t *argument, size_t argument_length,
+                          const edgebpf_column *columns, size_t column_count, const uint32_t *sources, size_t source_count,
+                          const uint32_t *targets, size_t target_count, edgebpf_progress *at, uint64_t *numbers, size_t number_count);
 
 /* Drops what a handle holds, and leaves it empty. An empty one may be closed. */
 void edgebpf_close(edgebpf_handle *handle);

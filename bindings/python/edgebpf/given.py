@@ -2,6 +2,7 @@
 from __future__ import annotations
 
 import operator
+from collections.abc import Sequence
 from typing import Any
 
 import numpy as np
@@ -17,6 +18,8 @@ REDUCTIONS = {"sum": 0, "min": 1, "max": 2}
 # Numbers and budgets are below this.
 WORD = 1 << 64
 MOST_THREADS = 64
+# A record has numbers of at most so many columns.
+MOST_COLUMNS = 8
 MOST_SECONDS = 1_000_000_000
 # Of arrays up to this length Python finds the greatest number sooner than numpy does.
 SHORT = 100
@@ -26,6 +29,9 @@ Edges = tuple[npt.ArrayLike, npt.ArrayLike]
 # Some edges, each a pair: an (n, 2) array or a list.
 Pairs = npt.ArrayLike
 Numbers = npt.NDArray[np.uint64]
+# Arrays with a number for each vertex, or what numpy takes for such arrays without a copy.
+Columns = Sequence[Any]
+NO_COLUMNS: Columns = ()
 Vertices = npt.NDArray[np.uint32]
 Ends = tuple[Vertices, Vertices]
 
@@ -180,6 +186,35 @@ def ends_of_pairs(sources: npt.ArrayLike, targets: npt.ArrayLike) -> Ends:
     if len(ends[0]) != len(ends[1]):
         raise ValueError(f"there are {len(ends[0])} sources and {len(ends[1])} targets, which are one of each for a pair")
     return ends
+
+
+def column_of(column: Any, place: int) -> Numbers:
+    """The array of a column, which is not copied. `place` is which of the columns it is."""
+    try:
+        array = np.asarray(column if isinstance(column, np.ndarray) else memoryview(column))
+    except (TypeError, ValueError):
+        raise TypeError(f"column {place} is an array of uint64, not {type(column).__name__}: it is not copied") from None
+    if array.dtype != np.dtype(np.uint64) or array.ndim != 1 or not (array.flags.c_contiguous and array.flags.aligned):
+        raise TypeError(f"column {place} is an array of uint64 with one dimension and no gaps, which is not copied")
+    return array
+
+
+def columns_of(columns: Columns, count: int) -> list[Numbers]:
+    """The columns that a run is lent, each with a number for each of `count` vertices. None is copied."""
+    if columns is NO_COLUMNS:
+        return []
+    if isinstance(columns, (str, bytes)) or (isinstance(columns, np.ndarray) and columns.ndim == 1):
+        raise TypeError("columns are a list of arrays")
+    try:
+        arrays = [column_of(column, place) for place, column in enumerate(columns)]
+    except TypeError as error:
+        raise TypeError(f"columns are a list of arrays: {error}") from None
+    if len(arrays) > MOST_COLUMNS:
+        raise ValueError(f"there are {len(arrays)} columns; a record has numbers of {MOST_COLUMNS} at most")
+    for place, array in enumerate(arrays):
+        if len(array) != count:
+            raise ValueError(f"column {place} has {len(array)} numbers, and the graph {count} vertices")
+    return arrays
 
 
 def budget_of(budget: int) -> int:

@@ -26,9 +26,9 @@ NAME = "libedgebpf.so"
 INTERFACE = 1
 DONE, NO_MEMORY, EMPTY = 0, 1, 2
 VERTEX_RANGE, TOO_MANY_EDITS, LOG_FULL, REFUSED, RECORD_LENGTH, CODE_LENGTH, ARGUMENT_LENGTH, WRONG_TEXT = 5, 6, 7, 10, 11, 12, 13, 15
-NO_NEIGHBOUR, EPOCHS_FULL, TABLE_LENGTH, PROGRESS = 16, 17, 18, 20
+NO_NEIGHBOUR, EPOCHS_FULL, TABLE_LENGTH, COLUMNS, PROGRESS = 16, 17, 18, 19, 20
 # The last call that was added to the interface: a library without it is of an older release.
-NEWEST = "edgebpf_pairs"
+NEWEST = "edgebpf_pairs_of"
 ERRORS: dict[int, tuple[type[Exception], str]] = {
     NO_MEMORY: (NoMemory, "there is no memory; nothing was changed"),
     EMPTY: (Closed, "it is closed"),
@@ -40,7 +40,8 @@ ERRORS: dict[int, tuple[type[Exception], str]] = {
     RECORD_LENGTH: (ValueError, "a record has 16 to 256 bytes"),
     CODE_LENGTH: (ValueError, "code has 1 to 4,096 whole units of 8 bytes"),
     TABLE_LENGTH: (ValueError, "a table has at most 4,096 bytes"),
-    ARGUMENT_LENGTH: (ArgumentLength, "the argument does not have the record's length less 16 bytes"),
+    ARGUMENT_LENGTH: (ArgumentLength, "the argument does not have the record's length less 16 bytes, and less 16 for each column"),
+    COLUMNS: (ValueError, "there are at most 8 columns, each with a number for each vertex"),
     PROGRESS: (Error, "the progress names no place of this frontier"),
 }
 # What bindings/c/edgebpf.h declares, as far as this package calls it. A slice is two numbers here, its address and its length.
@@ -52,6 +53,7 @@ typedef struct {{ uint64_t number, edges, epoch; uint32_t vertices; }} info;
 typedef struct {{ uint32_t bound, frames, cause, pc; }} verdict;
 typedef struct {{ size_t length, line; uint32_t cause; }} assembled;
 typedef struct {{ uint64_t budget, edges, total; uint32_t vertex, place; }} progress;
+typedef struct {{ const uint64_t *at; size_t count; }} column;
 uint32_t edgebpf_store_new(uint32_t, handle *);
 uint32_t edgebpf_store_apply(handle *, uint8_t, const uint32_t *, size_t, const uint32_t *, size_t, const uint8_t *, size_t, change *);
 uint32_t edgebpf_store_rebase(handle *, uint64_t *);
@@ -66,10 +68,13 @@ uint32_t edgebpf_version_copy(handle *, uint64_t *, size_t, uint32_t *, size_t);
 uint32_t edgebpf_program_new(uint16_t, const uint8_t *, size_t, const uint8_t *, size_t, verdict *, handle *);
 uint32_t edgebpf_program_share(handle *, handle *);
 uint32_t edgebpf_assemble(const uint8_t *, size_t, uint8_t *, size_t, assembled *);
-uint32_t edgebpf_run_some(handle *, handle *, const uint8_t *, size_t, const uint32_t *, size_t, uint32_t, progress *, uint64_t *, size_t);
-uint32_t edgebpf_numbers_some(handle *, handle *, const uint8_t *, size_t, const uint32_t *, size_t, progress *, uint64_t *, size_t, size_t *);
-uint32_t edgebpf_pairs(
-    handle *, handle *, const uint8_t *, size_t, const uint32_t *, size_t, const uint32_t *, size_t, progress *, uint64_t *, size_t);
+uint32_t edgebpf_pull_some(
+    handle *, handle *, const uint8_t *, size_t, const column *, size_t, const uint32_t *, size_t, uint32_t, progress *, uint64_t *, size_t);
+uint32_t edgebpf_numbers_of(
+    handle *, handle *, const uint8_t *, size_t, const column *, size_t, const uint32_t *, size_t, progress *, uint64_t *, size_t, size_t *);
+uint32_t edgebpf_pairs_of(
+    handle *, handle *, const uint8_t *, size_t, const column *, size_t, const uint32_t *, size_t, const uint32_t *, size_t, progress *,
+    uint64_t *, size_t);
 void edgebpf_close(handle *);
 """
 
@@ -200,9 +205,21 @@ class Calls:
         self.bytes, self.words, self.numbers = kind("uint8_t[]"), kind("uint32_t[]"), kind("uint64_t[]")
         self.progress, self.size, self.sizes = kind("progress *"), kind("size_t *"), kind("size_t[]")
         self.handle, self.info = kind("handle *"), kind("info *")
-        self.run_some, self.numbers_some, self.pairs = library.edgebpf_run_some, library.edgebpf_numbers_some, library.edgebpf_pairs
+        self.pull_some, self.numbers_of, self.pairs_of = library.edgebpf_pull_some, library.edgebpf_numbers_of, library.edgebpf_pairs_of
+        self.column = kind("column[]")
+        self.no_columns = self.new(self.column, 1), 0
         self.lend, self.pin = library.edgebpf_version_lend, library.edgebpf_store_pin
         self.share_version, self.describe = library.edgebpf_version_share, library.edgebpf_version_info
+
+
+    def columns(self, arrays: list[npt.NDArray[Any]]) -> tuple[Any, int]:
+        """What a call takes for columns, an array and how many they are. The arrays have to stay until it has returned."""
+        if not arrays:
+            return self.no_columns
+        lent = self.new(self.column, len(arrays))
+        for place, array in enumerate(arrays):
+            lent[place].at, lent[place].count = self.buffer(self.numbers, array), len(array)
+        return lent, len(arrays)
 
 
 @functools.cache

@@ -11,12 +11,12 @@ import numpy.typing as npt
 from edgebpf import library
 from edgebpf.errors import Closed, TooManyEdits, VertexRange
 from edgebpf.given import (
-    MOST_VERTICES, REDUCTIONS, Edges, Numbers, Pairs, Vertices, edits_of, edits_of_batch, ends_of_pairs, feed_of, frozen, reduction_of,
-    threads_of, vertex_count, vertex_of, vertices_of, whole,
+    MOST_VERTICES, NO_COLUMNS, REDUCTIONS, Columns, Edges, Numbers, Pairs, Vertices, columns_of, edits_of, edits_of_batch, ends_of_pairs,
+    feed_of, frozen, reduction_of, threads_of, vertex_count, vertex_of, vertices_of, whole,
 )
 from edgebpf.parts import Parts
 from edgebpf.programs import Program, argument_of, handle_of
-from edgebpf.steps import FIRST_BUDGET, LEAST_NUMBERS, End, NumbersRun, PairsRun, Run, end_after
+from edgebpf.steps import FIRST_BUDGET, LEAST_NUMBERS, End, Inputs, NumbersRun, PairsRun, Run, end_after
 from edgebpf.store import MOST_EDITS, Counts, Result, described
 
 # Most lists lie in one slice. `lend` fills the room if there may be more.
@@ -162,81 +162,95 @@ class Version:
 
     def run(
         self, program: Program, reduction: str = "sum", frontier: npt.ArrayLike | None = None, argument: bytes = b"", *,
-        seconds: float | None = None, threads: int = 1,
+        columns: Columns = NO_COLUMNS, seconds: float | None = None, threads: int = 1,
     ) -> Result:
         """Runs a program for each edge of some vertices, and reduces the numbers.
 
         reduction: "sum" (modulo 2^64), "min" or "max". frontier: an array of vertices in any order, each of which counts as often
-        as it stands there, or None for all. argument: as many bytes as the program's record has beyond 16. seconds: after so long it
+        as it stands there, or None for all. argument: as many bytes as the program's record has beyond 16, and beyond 16 for each column.
+        columns: up to 8 arrays of uint64 with a number for each vertex; after the argument the record has of each the number of the
+        edge's source and that of its target. They are not copied: do not write to them meanwhile. seconds: after so long it
         raises `TimedOut`, whose `run` may be stepped on. threads: 1 to 64 of this process, which share the frontier; the answer is the
         same for each number. A Ctrl-C ends it within some 20 ms.
         """
         number, chosen = REDUCTIONS[reduction_of(reduction)], self._frontier(frontier)
+        inputs = self._inputs(argument, columns)
         end = None if seconds is None else end_after(seconds)
         if threads != 1 or type(threads) is not int:
-            return self._run_in_parts(program, reduction, chosen, argument, end, threads_of(threads))
+            return self._run_in_parts(program, reduction, chosen, inputs, end, threads_of(threads))
         # Most runs are short, and done by this one call.
         calls, count = self._calls, len(chosen)
         values, at = np.empty(count, U64), calls.new(calls.progress)
         at.budget = FIRST_BUDGET
         arrays = calls.buffer(calls.words, chosen), count, number, at, calls.buffer(calls.numbers, values), count
         shared = self._shared or self._open()
-        code, given = handle_of(program), argument_of(program, argument)
-        status = calls.run_some(shared.own().at, code.at, given, len(given), *arrays)
+        code, given = handle_of(program), argument_of(program, argument, len(inputs.columns))
+        status = calls.pull_some(shared.own().at, code.at, given, len(given), *calls.columns(inputs.columns), *arrays)
         if status:
             library.check(status)
         if at.vertex != count:
-            run = Run(self, program, reduction, chosen, argument, values)
+            run = Run(self, program, reduction, chosen, inputs, values)
             run._go_on_from(at, FIRST_BUDGET)
             run._finish(end, shared)
             return Result(values, run.edges, run.total)
         return Result(values, at.edges, at.total)
 
     def _run_in_parts(
-        self, program: Program, reduction: str, chosen: Vertices, argument: bytes, end: End | None, threads: int,
+        self, program: Program, reduction: str, chosen: Vertices, inputs: Inputs, end: End | None, threads: int,
     ) -> Result:
         shared = self._open()
-        parts = Parts._over(self, program, reduction, chosen, argument, threads)
+        parts = Parts._over(self, program, reduction, chosen, inputs, threads)
         parts._finish_by(threads, end, shared)
         return Result(parts._values, parts.edges, parts.total)
 
     def begin(
-        self, program: Program, reduction: str = "sum", frontier: npt.ArrayLike | None = None, argument: bytes = b"",
+        self, program: Program, reduction: str = "sum", frontier: npt.ArrayLike | None = None, argument: bytes = b"", *,
+        columns: Columns = NO_COLUMNS,
     ) -> Run:
         """A run as `run` makes it, of which nothing is done yet: each `step` of it goes on with it."""
         self._open()
-        return Run(self, program, reduction_of(reduction), self._frontier(frontier), argument)
+        return Run(self, program, reduction_of(reduction), self._frontier(frontier), self._inputs(argument, columns))
 
     def numbers(
-        self, program: Program, argument: bytes = b"", frontier: npt.ArrayLike | None = None, *, seconds: float | None = None,
+        self, program: Program, argument: bytes = b"", frontier: npt.ArrayLike | None = None, *, columns: Columns = NO_COLUMNS,
+        seconds: float | None = None,
     ) -> Numbers:
         """The number of each edge, a uint64 array in the order of `csr`; or those of a frontier's edges, one vertex after another, each of
-        which counts as often as it stands there. seconds: after so long it raises `TimedOut`."""
-        end, shared, run = end_after(seconds), self._open(), self.begin_numbers(program, frontier, argument)
+        which counts as often as it stands there. columns: as for `run`. seconds: after so long it raises `TimedOut`."""
+        end, shared, run = end_after(seconds), self._open(), self.begin_numbers(program, frontier, argument, columns=columns)
         run._finish(end, shared)
         return run._numbers[:run.edges]
 
-    def begin_numbers(self, program: Program, frontier: npt.ArrayLike | None = None, argument: bytes = b"") -> NumbersRun:
+    def begin_numbers(
+        self, program: Program, frontier: npt.ArrayLike | None = None, argument: bytes = b"", *, columns: Columns = NO_COLUMNS,
+    ) -> NumbersRun:
         """The numbers as `numbers` has them, none of which is there yet: each `step` goes on with them."""
         self._open()
         chosen = self._frontier(frontier)
         room = self.edges if frontier is None else len(chosen) * (1 + self.edges // self.vertices) + LEAST_NUMBERS
-        return NumbersRun(self, program, chosen, argument, room)
+        return NumbersRun(self, program, chosen, self._inputs(argument, columns), room)
 
     def pairs(
-        self, program: Program, sources: npt.ArrayLike, targets: npt.ArrayLike, argument: bytes = b"", *, seconds: float | None = None,
+        self, program: Program, sources: npt.ArrayLike, targets: npt.ArrayLike, argument: bytes = b"", *,
+        columns: Columns = NO_COLUMNS, seconds: float | None = None,
     ) -> Numbers:
         """A number for each pair of a source and a target, a uint64 array. A pair need not be an edge, nor its ends in the graph: its record
-        has the target's place among the source's targets, or the source's degree where it is none of them. seconds: after so long it
-        raises `TimedOut`."""
-        end, shared, run = end_after(seconds), self._open(), self.begin_pairs(program, sources, targets, argument)
+        has the target's place among the source's targets, or the source's degree where it is none of them. columns: as for `run`; a
+        vertex outside the graph has 0. seconds: after so long it raises `TimedOut`."""
+        end, shared, run = end_after(seconds), self._open(), self.begin_pairs(program, sources, targets, argument, columns=columns)
         run._finish(end, shared)
         return run._numbers
 
-    def begin_pairs(self, program: Program, sources: npt.ArrayLike, targets: npt.ArrayLike, argument: bytes = b"") -> PairsRun:
+    def begin_pairs(
+        self, program: Program, sources: npt.ArrayLike, targets: npt.ArrayLike, argument: bytes = b"", *, columns: Columns = NO_COLUMNS,
+    ) -> PairsRun:
         """The numbers as `pairs` has them, none of which is there yet: each `step` goes on with them."""
         self._open()
-        return PairsRun(self, program, ends_of_pairs(sources, targets), argument)
+        return PairsRun(self, program, ends_of_pairs(sources, targets), self._inputs(argument, columns))
+
+    def _inputs(self, argument: bytes, columns: Columns) -> Inputs:
+        """What runs are lent besides their edges."""
+        return Inputs(argument, columns_of(columns, self.vertices))
 
     def _frontier(self, frontier: npt.ArrayLike | None) -> Vertices:
         """The vertices of a frontier, or all."""

@@ -10,7 +10,7 @@ import numpy as np
 from edgebpf import library
 from edgebpf.given import Numbers, Vertices
 from edgebpf.programs import Program
-from edgebpf.steps import STEP_SECONDS, U64, End, Run, Steps, readable
+from edgebpf.steps import STEP_SECONDS, U64, End, Inputs, Run, Steps, readable
 
 if TYPE_CHECKING:
     from edgebpf.native import Version
@@ -29,12 +29,12 @@ class Parts(Steps):
         self._stop = threading.Event()
 
     @classmethod
-    def _over(cls, version: Version, program: Program, reduction: str, frontier: Vertices, argument: bytes, threads: int) -> Parts:
+    def _over(cls, version: Version, program: Program, reduction: str, frontier: Vertices, inputs: Inputs, threads: int) -> Parts:
         count = len(frontier)
         size = max(LEAST_PART, -(-count // (threads * PARTS_OF_A_THREAD)))
         values = np.empty(count, U64)
         cuts = [slice(begin, begin + size) for begin in range(0, max(count, 1), size)]
-        return cls([Run(version, program, reduction, frontier[cut], argument, values[cut]) for cut in cuts], reduction, values)
+        return cls([Run(version, program, reduction, frontier[cut], inputs, values[cut]) for cut in cuts], reduction, values)
 
     def _next(self) -> Run:
         return next((run for run in self._runs if not run.done), self._runs[-1])

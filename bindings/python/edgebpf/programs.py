@@ -17,6 +17,8 @@ from edgebpf.errors import STATEMENT_IN_COMMENT, ArgumentLength, Error, Refused,
 from edgebpf.given import bytes_of, whole
 
 EDGE_BYTES = 16
+# What a record has of each column: the number of the edge's source, and that of its target.
+COLUMN_BYTES = 16
 MOST_RECORD = 256
 UNIT = 8
 MOST_UNITS = 4_096
@@ -202,11 +204,14 @@ def handle_of(program: Program) -> library.Handle:
     return (program._shared or program._handles()).own()
 
 
-def argument_of(program: Program, argument: bytes) -> bytes:
-    """The bytes of an argument, if they are as many as the program's record has beyond 16."""
-    given, wanted = bytes_of(argument, "argument"), program.record - EDGE_BYTES
+def argument_of(program: Program, argument: bytes, columns: int = 0) -> bytes:
+    """The bytes of an argument, if they are as many as the program's record has beyond 16, and beyond 16 for each of so many columns."""
+    given, wanted = bytes_of(argument, "argument"), program.record - EDGE_BYTES - COLUMN_BYTES * columns
+    if wanted < 0:
+        raise ArgumentLength(f"a record of {program.record} bytes has no room for {columns} columns, each of {COLUMN_BYTES} bytes")
     if len(given) != wanted:
-        raise ArgumentLength(f"the argument has {wanted} bytes, not {len(given)}")
+        beside = f" beside {columns} columns" if columns else ""
+        raise ArgumentLength(f"the argument has {wanted} bytes{beside}, not {len(given)}")
     return given
 
 

@@ -52,13 +52,21 @@ def end_after(seconds: float | None) -> End | None:
     return End(time.perf_counter() + given, given)
 
 
+class Inputs(NamedTuple):
+    """What runs are lent besides their edges: an argument, and columns, which are not copied."""
+
+    argument: bytes
+    columns: list[Numbers]
+
+
 class Steps:
     """Work under way over a version. Threads may use it in turns, also `step` of one while another calls it: the second waits. Closing the
     version ends it where it is, and a `share` has handles of its own."""
 
-    def __init__(self, version: Version, program: Program, argument: bytes, count: int) -> None:
+    def __init__(self, version: Version, program: Program, inputs: Inputs, count: int) -> None:
         handle_of(program)
-        self._version, self._program, self._given = version, program, argument_of(program, argument)
+        self._version, self._program, self._inputs = version, program, inputs
+        self._given, self._columns = argument_of(program, inputs.argument, len(inputs.columns)), version._calls.columns(inputs.columns)
         self._calls, self._count, self._lock = version._calls, count, threading.Lock()
         self._at = version._calls.new(version._calls.progress)
         # What all steps had as budgets, of which `_at` has what is left.
@@ -106,7 +114,7 @@ class Steps:
         # An interrupt comes after a call and not between these lines, so `used` is right after one, too.
         self._granted += budget - at.budget
         at.budget = budget
-        status = self._call(version, program, self._given, len(self._given))
+        status = self._call(version, program, self._given, len(self._given), *self._columns)
         if status:
             library.check(status)
 
@@ -146,9 +154,9 @@ class Run(Steps):
     the next one is that of its edges so far, and the others that of a vertex without edges."""
 
     def __init__(
-        self, version: Version, program: Program, reduction: str, frontier: Vertices, argument: bytes, values: Numbers | None = None,
+        self, version: Version, program: Program, reduction: str, frontier: Vertices, inputs: Inputs, values: Numbers | None = None,
     ) -> None:
-        super().__init__(version, program, argument, len(frontier))
+        super().__init__(version, program, inputs, len(frontier))
         self._frontier, self._reduction = frontier, REDUCTIONS[reduction]
         # What no edge gives.
         self._at.total = none = WORD - 1 if reduction == "min" else 0
@@ -162,7 +170,7 @@ class Run(Steps):
         self._arrays = calls.buffer(calls.words, self._frontier), count, self._reduction, self._at, calls.buffer(calls.numbers, values), count
 
     def _call(self, *handles: Any) -> int:
-        return int(self._calls.run_some(*handles, *self._arrays))
+        return int(self._calls.pull_some(*handles, *self._arrays))
 
     @property
     def total(self) -> int:
@@ -185,8 +193,8 @@ class Run(Steps):
 class NumbersRun(Steps):
     """The numbers of a frontier's edges under way, made by `Version.begin_numbers`."""
 
-    def __init__(self, version: Version, program: Program, frontier: Vertices, argument: bytes, room: int) -> None:
-        super().__init__(version, program, argument, len(frontier))
+    def __init__(self, version: Version, program: Program, frontier: Vertices, inputs: Inputs, room: int) -> None:
+        super().__init__(version, program, inputs, len(frontier))
         self._frontier, self._numbers = frontier, np.empty(room, U64)
         self._written = self._calls.new(self._calls.size)
 
@@ -196,7 +204,7 @@ class NumbersRun(Steps):
             self._grow()
         room = len(self._numbers) - written
         arrays = calls.buffer(calls.words, self._frontier), self._count, at, calls.buffer(calls.numbers, self._numbers) + written, room
-        return int(calls.numbers_some(*handles, *arrays, self._written))
+        return int(calls.numbers_of(*handles, *arrays, self._written))
 
     def _grow(self) -> None:
         """Room for twice as many numbers. An array that somebody has stays as it is."""
@@ -220,8 +228,8 @@ class NumbersRun(Steps):
 class PairsRun(Steps):
     """The numbers of pairs under way, made by `Version.begin_pairs`. `vertex` and `edges` are how many pairs are done."""
 
-    def __init__(self, version: Version, program: Program, ends: tuple[Vertices, Vertices], argument: bytes) -> None:
-        super().__init__(version, program, argument, len(ends[0]))
+    def __init__(self, version: Version, program: Program, ends: tuple[Vertices, Vertices], inputs: Inputs) -> None:
+        super().__init__(version, program, inputs, len(ends[0]))
         self._ends, self._most = ends, MOST_WITH_HELPERS
         self._keep(np.empty(self._count, U64))
 
@@ -232,7 +240,7 @@ class PairsRun(Steps):
         self._arrays = *ends, self._at, calls.buffer(calls.numbers, numbers), count
 
     def _call(self, *handles: Any) -> int:
-        return int(self._calls.pairs(*handles, *self._arrays))
+        return int(self._calls.pairs_of(*handles, *self._arrays))
 
     @property
     def numbers(self) -> Numbers:

@@ -17,7 +17,7 @@ import numpy.typing as npt
 
 from edgebpf.errors import Closed, EpochsFull, Error, LogFull, NoMemory, NotHere, TooManyEdits, TooManyNames
 from edgebpf.given import (
-    FEEDS, SERVED_VERTICES, Edges, Numbers, Pairs, Vertices, edits_of, edits_of_batch, feed_of, frozen, reduction_of, threads_of,
+    FEEDS, NO_COLUMNS, SERVED_VERTICES, Columns, Edges, Numbers, Pairs, Vertices, edits_of, edits_of_batch, feed_of, frozen, reduction_of, threads_of,
     vertex_count, vertex_of, vertices_of, whole,
 )
 from edgebpf.programs import Program, argument_of, command, said_lines
@@ -249,13 +249,16 @@ class Version:
 
     def run(
         self, program: Program, reduction: str = "sum", frontier: npt.ArrayLike | None = None, argument: bytes = b"", *,
-        seconds: float | None = None, threads: int = 1,
+        columns: Columns = NO_COLUMNS, seconds: float | None = None, threads: int = 1,
     ) -> Result:
         """Runs a program for each edge of some vertices, and reduces the numbers.
 
         reduction: "sum" (modulo 2^64), "min" or "max". frontier: an ascending array of vertices, or None for all.
-        argument: as many bytes as the program's record has beyond 16. A limit by `seconds` and `threads` of this process are `NotHere`.
+        argument: as many bytes as the program's record has beyond 16. `columns`, a limit by `seconds` and `threads` of this process are
+        `NotHere`.
         """
+        if columns is not NO_COLUMNS:
+            raise NotHere("an edgebpf process is lent no columns: use edgebpf.Store")
         if seconds is not None or threads_of(threads) > 1:
             raise NotHere("an edgebpf process has no limit of time, and workers of its own: pass them to connect, or use edgebpf.Store")
         start, combine = REDUCTIONS[reduction_of(reduction)]
@@ -274,11 +277,12 @@ class Version:
         return Result(self._filled(chosen, np.concatenate(found), start), edges, total)
 
     def numbers(
-        self, program: Program, argument: bytes = b"", frontier: npt.ArrayLike | None = None, *, seconds: float | None = None,
+        self, program: Program, argument: bytes = b"", frontier: npt.ArrayLike | None = None, *, columns: Columns = NO_COLUMNS,
+        seconds: float | None = None,
     ) -> Numbers:
-        """The number of each edge, a uint64 array in the order of `csr`. A `frontier` and a limit by `seconds` are `NotHere`."""
-        if frontier is not None or seconds is not None:
-            raise NotHere("an edgebpf process gives the numbers of all edges, without a limit of time: use edgebpf.Store")
+        """The number of each edge, a uint64 array in the order of `csr`. A `frontier`, `columns` and a limit by `seconds` are `NotHere`."""
+        if frontier is not None or columns is not NO_COLUMNS or seconds is not None:
+            raise NotHere("an edgebpf process gives the numbers of all edges, without columns or a limit of time: use edgebpf.Store")
         return self._list(program, argument)[:, 2]
 
     def begin(self, *_: Any, **__: Any) -> NoReturn:

@@ -53,6 +53,14 @@ pub(crate) struct RawTotals {
     pub(crate) total: u64,
 }
 
+/// A number for each vertex.
+#[repr(C)]
+#[derive(Clone, Copy)]
+pub(crate) struct RawColumn {
+    pub(crate) at: *const u64,
+    pub(crate) count: usize,
+}
+
 #[repr(C)]
 pub(crate) struct RawProgress {
     pub(crate) budget: u64,
@@ -129,11 +137,13 @@ extern "C" {
         room: usize,
         count: *mut usize,
     ) -> u32;
-    pub(crate) fn edgebpf_run(
+    pub(crate) fn edgebpf_pull(
         version: *mut RawHandle,
         program: *mut RawHandle,
         argument: *const u8,
         argument_length: usize,
+        columns: *const RawColumn,
+        column_count: usize,
         frontier: *const u32,
         frontier_count: usize,
         reduction: u32,
@@ -149,11 +159,13 @@ extern "C" {
         numbers: *mut u64,
         number_count: usize,
     ) -> u32;
-    pub(crate) fn edgebpf_run_some(
+    pub(crate) fn edgebpf_pull_some(
         version: *mut RawHandle,
         program: *mut RawHandle,
         argument: *const u8,
         argument_length: usize,
+        columns: *const RawColumn,
+        column_count: usize,
         frontier: *const u32,
         frontier_count: usize,
         reduction: u32,
@@ -161,11 +173,13 @@ extern "C" {
         values: *mut u64,
         value_count: usize,
     ) -> u32;
-    pub(crate) fn edgebpf_numbers_some(
+    pub(crate) fn edgebpf_numbers_of(
         version: *mut RawHandle,
         program: *mut RawHandle,
         argument: *const u8,
         argument_length: usize,
+        columns: *const RawColumn,
+        column_count: usize,
         frontier: *const u32,
         frontier_count: usize,
         at: *mut RawProgress,
@@ -173,11 +187,13 @@ extern "C" {
         number_count: usize,
         written: *mut usize,
     ) -> u32;
-    pub(crate) fn edgebpf_pairs(
+    pub(crate) fn edgebpf_pairs_of(
         version: *mut RawHandle,
         program: *mut RawHandle,
         argument: *const u8,
         argument_length: usize,
+        columns: *const RawColumn,
+        column_count: usize,
         sources: *const u32,
         source_count: usize,
         targets: *const u32,

@@ -26,8 +26,10 @@ pub enum Error {
     CodeLength,
     /// A table has at most 4,096 bytes.
     TableLength,
-    /// The argument of a run is as long as the record less 16 bytes.
+    /// The argument of a run is as long as the record less 16 bytes, and less 16 for each column.
     ArgumentLength,
+    /// A record has numbers of at most 8 columns, each with a number for each vertex.
+    Columns,
     /// A progress names no place of the frontier.
     Progress,
     /// A batch of a `Live` was applied, and there was no memory to show its version before the next one.
@@ -56,6 +58,7 @@ impl Error {
             12 => Error::CodeLength,
             18 => Error::TableLength,
             13 => Error::ArgumentLength,
+            19 => Error::Columns,
             20 => Error::Progress,
             other => Error::Unknown(other),
         }
@@ -92,7 +95,10 @@ impl fmt::Display for Error {
             Error::RecordLength => to.write_str("the record length is not from 16 to 256"),
             Error::CodeLength => to.write_str("the code is not 1 to 4096 units of 8 bytes"),
             Error::TableLength => to.write_str("the table has more than 4096 bytes"),
-            Error::ArgumentLength => to.write_str("the argument is not as long as the record less 16 bytes"),
+            Error::ArgumentLength => {
+                to.write_str("the argument is not as long as the record less 16 bytes, and less 16 for each column")
+            }
+            Error::Columns => to.write_str("there are more than 8 columns, or one has not a number for each vertex"),
             Error::Progress => to.write_str("the progress names no place of this frontier"),
             Error::NotShown => {
                 to.write_str("the batch was applied, and there is no memory to show its version before the next one")

@@ -3,6 +3,7 @@
 
 mod batch;
 mod calls;
+mod columns;
 mod error;
 mod handle;
 mod live;
@@ -12,6 +13,7 @@ mod store;
 mod version;
 
 pub use batch::{Batch, Feed};
+pub use columns::WithColumns;
 pub use error::{Error, NotAssembled, Refusal, Refused};
 pub use live::Live;
 pub use program::{assemble, explain, Program, Verdict};
@@ -27,6 +29,10 @@ pub const MOST_EDITS: usize = 65_536;
 pub const MOST_BATCHES: u64 = 4_096;
 /// The bytes of a record that every edge has. A record's other bytes are the argument of a run.
 pub const EDGE_BYTES: usize = 16;
+/// The bytes that a record has of each column: the number of the edge's source, and that of its target.
+pub const COLUMN_BYTES: usize = 16;
+/// The greatest number of columns of a record.
+pub const MOST_COLUMNS: usize = 8;
 
 #[cfg(doctest)]
 #[doc = include_str!("../../../docs/EMBEDDING.md")]

@@ -1,9 +1,10 @@
 //! Work that pauses: each step does some of it, and the next one goes on where that ended.
-use crate::calls::{edgebpf_numbers_some, edgebpf_pairs, edgebpf_run_some, RawProgress};
+use crate::calls::{edgebpf_numbers_of, edgebpf_pairs_of, edgebpf_pull_some, RawProgress};
+use crate::columns::{Raw, WithColumns};
 use crate::error::{done, Error};
 use crate::program::Program;
 use crate::version::{Reduction, Totals, Version};
-use crate::{EDGE_BYTES, MOST_VERTICES};
+use crate::{COLUMN_BYTES, EDGE_BYTES, MOST_VERTICES};
 use std::thread::{scope, Builder};
 
 /// So many threads finish a run at most.
@@ -41,7 +42,7 @@ impl Progress {
 /// What a step is over: as long as this is there, nothing of it changes.
 #[derive(Clone, Copy, Debug)]
 struct Asked<'a> {
-    version: &'a Version,
+    on: WithColumns<'a>,
     program: &'a Program,
     argument: &'a [u8],
     frontier: &'a [u32],
@@ -53,17 +54,18 @@ impl Asked<'_> {
         if self.frontier.len() > MOST_VERTICES as usize {
             return Err(Error::Lengths);
         }
-        test_argument(self.program, self.argument)?;
+        test_argument(self.on, self.program, self.argument)?;
         let is_place = match self.frontier.get(progress.vertex as usize) {
-            Some(vertex) => progress.place <= self.version.degree(*vertex),
+            Some(vertex) => progress.place <= self.on.version.degree(*vertex),
             None => progress.vertex as usize == self.frontier.len() && progress.place == 0,
         };
         is_place.then_some(()).ok_or(Error::Progress)
     }
 }
 
-fn test_argument(program: &Program, argument: &[u8]) -> Result<(), Error> {
-    let is_long = argument.len() + EDGE_BYTES == usize::from(program.record_length);
+fn test_argument(on: WithColumns<'_>, program: &Program, argument: &[u8]) -> Result<(), Error> {
+    let length = argument.len() + EDGE_BYTES + COLUMN_BYTES * on.columns.len();
+    let is_long = length == usize::from(program.record_length);
     is_long.then_some(()).ok_or(Error::ArgumentLength)
 }
 
@@ -81,15 +83,18 @@ impl Run<'_> {
     /// Goes on as far as a budget goes, and by one edge or one vertex at least. It may do more than the budget by an edge, or by a block of
     /// 64. Once all is done it does nothing.
     pub fn step(&mut self, budget: u64) {
-        let Asked { version, program, argument, frontier } = self.asked;
+        let Asked { on, program, argument, frontier } = self.asked;
+        let columns = Raw::of(on.columns);
         let values = &mut *self.values;
         // SAFETY: the handles hold a version and a program, and the slices are as long as said.
         self.progress.step(budget, |at| unsafe {
-            edgebpf_run_some(
-                version.0.at(),
+            edgebpf_pull_some(
+                on.version.0.at(),
                 program.handle.at(),
                 argument.as_ptr(),
                 argument.len(),
+                columns.at(),
+                on.columns.len(),
                 frontier.as_ptr(),
                 frontier.len(),
                 self.reduction.number(),
@@ -135,12 +140,12 @@ impl Run<'_> {
 
     /// The same by a thread for each part of so many vertices.
     fn finish_in_parts(self, size: usize) -> Result<Totals, Error> {
-        let Asked { version, program, argument, frontier } = self.asked;
+        let Asked { on, program, argument, frontier } = self.asked;
         let left = &frontier[self.progress.vertex as usize..];
         let values = &mut self.values[self.progress.vertex as usize..];
         let mut shares = Vec::new();
         for _ in left.chunks(size) {
-            shares.push((version.share()?, program.share()?));
+            shares.push((on.version.share()?, program.share()?));
         }
         // The first part goes on within its first vertex.
         let mut place = self.progress.place;
@@ -150,7 +155,10 @@ impl Run<'_> {
             for ((frontier, values), (version, program)) in left.chunks(size).zip(values.chunks_mut(size)).zip(shares) {
                 let from = Progress { place, total: reduction.none(), ..Progress::default() };
                 place = 0;
-                let work = move || version.resume(&program, argument, frontier, reduction, from, values)?.finish(1);
+                let work = move || {
+                    let on = WithColumns { version: &version, columns: on.columns };
+                    on.resume(&program, argument, frontier, reduction, from, values)?.finish(1)
+                };
                 parts.push(Builder::new().spawn_scoped(all, work).map_err(|_| Error::NoMemory)?);
             }
             let mut totals = Totals { edges: begun.edges, total: begun.total };
@@ -176,15 +184,18 @@ impl Numbers<'_> {
     /// Writes the numbers of the next edges, as far as a budget and the room go, and returns how many these are: one vertex after another,
     /// targets ascending. It does one edge or one vertex at least if there is room for a number.
     pub fn step(&mut self, budget: u64, numbers: &mut [u64]) -> usize {
-        let Asked { version, program, argument, frontier } = self.asked;
+        let Asked { on, program, argument, frontier } = self.asked;
+        let columns = Raw::of(on.columns);
         let mut written = 0;
         // SAFETY: the handles hold a version and a program, and the slices are as long as said.
         self.progress.step(budget, |at| unsafe {
-            edgebpf_numbers_some(
-                version.0.at(),
+            edgebpf_numbers_of(
+                on.version.0.at(),
                 program.handle.at(),
                 argument.as_ptr(),
                 argument.len(),
+                columns.at(),
+                on.columns.len(),
                 frontier.as_ptr(),
                 frontier.len(),
                 at,
@@ -220,15 +231,18 @@ pub struct Pairs<'a> {
 impl Pairs<'_> {
     /// Goes on as far as a budget goes, and by one pair at least. Once all is done it does nothing.
     pub fn step(&mut self, budget: u64) {
-        let Asked { version, program, argument, frontier: sources } = self.asked;
+        let Asked { on, program, argument, frontier: sources } = self.asked;
+        let columns = Raw::of(on.columns);
         let (targets, numbers) = (self.targets, &mut *self.numbers);
         // SAFETY: the handles hold a version and a program, and the slices are as long as said.
         self.progress.step(budget, |at| unsafe {
-            edgebpf_pairs(
-                version.0.at(),
+            edgebpf_pairs_of(
+                on.version.0.at(),
                 program.handle.at(),
                 argument.as_ptr(),
                 argument.len(),
+                columns.at(),
+                on.columns.len(),
                 sources.as_ptr(),
                 sources.len(),
                 targets.as_ptr(),
@@ -256,17 +270,20 @@ impl Pairs<'_> {
     }
 }
 
-impl Version {
+impl<'c> WithColumns<'c> {
     /// A run as `run` makes it, of which nothing is done yet: each `step` of it goes on with it. `Lengths` where there are not as many values
     /// as vertices or more than 1,048,576 of these, and `ArgumentLength`.
     pub fn begin<'a>(
-        &'a self,
+        self,
         program: &'a Program,
         argument: &'a [u8],
         frontier: &'a [u32],
         reduction: Reduction,
         values: &'a mut [u64],
-    ) -> Result<Run<'a>, Error> {
+    ) -> Result<Run<'a>, Error>
+    where
+        'c: 'a,
+    {
         let begun = Progress { total: reduction.none(), ..Progress::default() };
         let run = self.resume(program, argument, frontier, reduction, begun, values)?;
         run.values.fill(reduction.none());
@@ -276,15 +293,18 @@ impl Version {
     /// A run that goes on from a progress, with the values as they were there. Hand in the same program, argument, frontier and reduction, and
     /// this version or another handle of it. As `begin`, and `Progress` where it names no place of the frontier.
     pub fn resume<'a>(
-        &'a self,
+        self,
         program: &'a Program,
         argument: &'a [u8],
         frontier: &'a [u32],
         reduction: Reduction,
         progress: Progress,
         values: &'a mut [u64],
-    ) -> Result<Run<'a>, Error> {
-        let asked = Asked { version: self, program, argument, frontier };
+    ) -> Result<Run<'a>, Error>
+    where
+        'c: 'a,
+    {
+        let asked = Asked { on: self, program, argument, frontier };
         if values.len() != frontier.len() {
             return Err(Error::Lengths);
         }
@@ -295,21 +315,24 @@ impl Version {
     /// The numbers of a frontier's edges, which each `step` writes as far as there is room. A progress goes on where another stopped; the
     /// default one is the beginning. `Lengths`, `ArgumentLength` and `Progress`.
     pub fn begin_numbers<'a>(
-        &'a self,
+        self,
         program: &'a Program,
         argument: &'a [u8],
         frontier: &'a [u32],
         progress: Progress,
-    ) -> Result<Numbers<'a>, Error> {
-        let asked = Asked { version: self, program, argument, frontier };
+    ) -> Result<Numbers<'a>, Error>
+    where
+        'c: 'a,
+    {
+        let asked = Asked { on: self, program, argument, frontier };
         asked.test(&progress)?;
         Ok(Numbers { asked, progress })
     }
 
     /// The numbers of a frontier's edges, one vertex after another, targets ascending. `Lengths`, `ArgumentLength` and `NoMemory`.
-    pub fn numbers_of(&self, program: &Program, argument: &[u8], frontier: &[u32]) -> Result<Vec<u64>, Error> {
+    pub fn numbers_of(self, program: &Program, argument: &[u8], frontier: &[u32]) -> Result<Vec<u64>, Error> {
         let mut run = self.begin_numbers(program, argument, frontier, Progress::default())?;
-        let count: u64 = frontier.iter().map(|vertex| u64::from(self.degree(*vertex))).sum();
+        let count: u64 = frontier.iter().map(|vertex| u64::from(self.version.degree(*vertex))).sum();
         let mut numbers = crate::error::zeros(usize::try_from(count).map_err(|_| Error::NoMemory)?)?;
         let mut written = 0;
         while !run.is_done() {
@@ -321,26 +344,29 @@ impl Version {
     /// The numbers of pairs of a source and a target, of which none is there yet: each `step` goes on with them. `Lengths` where there are not
     /// as many targets and numbers as sources, and `ArgumentLength`.
     pub fn begin_pairs<'a>(
-        &'a self,
+        self,
         program: &'a Program,
         argument: &'a [u8],
         sources: &'a [u32],
         targets: &'a [u32],
         numbers: &'a mut [u64],
-    ) -> Result<Pairs<'a>, Error> {
+    ) -> Result<Pairs<'a>, Error>
+    where
+        'c: 'a,
+    {
         let count = sources.len();
         if targets.len() != count || numbers.len() != count || u32::try_from(count).is_err() {
             return Err(Error::Lengths);
         }
-        test_argument(program, argument)?;
-        let asked = Asked { version: self, program, argument, frontier: sources };
+        test_argument(self, program, argument)?;
+        let asked = Asked { on: self, program, argument, frontier: sources };
         Ok(Pairs { asked, targets, progress: Progress::default(), numbers })
     }
 
     /// A number for each pair of a source and a target. A pair need not be an edge, nor its ends in the graph: its record has the target's
     /// place among the source's neighbours, or the source's degree where it is none of them. `Lengths`, `ArgumentLength` and `NoMemory`.
     pub fn pairs(
-        &self,
+        self,
         program: &Program,
         argument: &[u8],
         sources: &[u32],
@@ -352,5 +378,71 @@ impl Version {
             run.step(u64::MAX);
         }
         Ok(numbers)
+    }
+}
+
+impl Version {
+    /// As `WithColumns::begin`, without columns.
+    pub fn begin<'a>(
+        &'a self,
+        program: &'a Program,
+        argument: &'a [u8],
+        frontier: &'a [u32],
+        reduction: Reduction,
+        values: &'a mut [u64],
+    ) -> Result<Run<'a>, Error> {
+        self.without_columns().begin(program, argument, frontier, reduction, values)
+    }
+
+    /// As `WithColumns::resume`, without columns.
+    pub fn resume<'a>(
+        &'a self,
+        program: &'a Program,
+        argument: &'a [u8],
+        frontier: &'a [u32],
+        reduction: Reduction,
+        progress: Progress,
+        values: &'a mut [u64],
+    ) -> Result<Run<'a>, Error> {
+        self.without_columns().resume(program, argument, frontier, reduction, progress, values)
+    }
+
+    /// As `WithColumns::begin_numbers`, without columns.
+    pub fn begin_numbers<'a>(
+        &'a self,
+        program: &'a Program,
+        argument: &'a [u8],
+        frontier: &'a [u32],
+        progress: Progress,
+    ) -> Result<Numbers<'a>, Error> {
+        self.without_columns().begin_numbers(program, argument, frontier, progress)
+    }
+
+    /// As `WithColumns::numbers_of`, without columns.
+    pub fn numbers_of(&self, program: &Program, argument: &[u8], frontier: &[u32]) -> Result<Vec<u64>, Error> {
+        self.without_columns().numbers_of(program, argument, frontier)
+    }
+
+    /// As `WithColumns::begin_pairs`, without columns.
+    pub fn begin_pairs<'a>(
+        &'a self,
+        program: &'a Program,
+        argument: &'a [u8],
+        sources: &'a [u32],
+        targets: &'a [u32],
+        numbers: &'a mut [u64],
+    ) -> Result<Pairs<'a>, Error> {
+        self.without_columns().begin_pairs(program, argument, sources, targets, numbers)
+    }
+
+    /// As `WithColumns::pairs`, without columns.
+    pub fn pairs(
+        &self,
+        program: &Program,
+        argument: &[u8],
+        sources: &[u32],
+        targets: &[u32],
+    ) -> Result<Vec<u64>, Error> {
+        self.without_columns().pairs(program, argument, sources, targets)
     }
 }

@@ -1,8 +1,8 @@
 //! A version of a store's graph.
 use crate::calls::{
-    edgebpf_numbers, edgebpf_run, edgebpf_version_copy, edgebpf_version_degree, edgebpf_version_has_edge,
+    edgebpf_numbers, edgebpf_version_copy, edgebpf_version_degree, edgebpf_version_has_edge,
     edgebpf_version_info, edgebpf_version_lend_from, edgebpf_version_neighbour, edgebpf_version_share, RawInfo,
-    RawSlice, RawTotals,
+    RawSlice,
 };
 use crate::error::{done, zeros, Error, NO_NEIGHBOUR};
 use crate::handle::Handle;
@@ -190,23 +190,7 @@ impl Version {
         reduction: Reduction,
         values: &mut [u64],
     ) -> Result<Totals, Error> {
-        let mut totals = RawTotals::default();
-        // SAFETY: the handles hold a version and a program, and the slices are as long as said.
-        done(unsafe {
-            edgebpf_run(
-                self.0.at(),
-                program.handle.at(),
-                argument.as_ptr(),
-                argument.len(),
-                frontier.as_ptr(),
-                frontier.len(),
-                reduction.number(),
-                values.as_mut_ptr(),
-                values.len(),
-                &mut totals,
-            )
-        })?;
-        Ok(Totals { edges: totals.edges, total: totals.total })
+        self.without_columns().run(program, argument, frontier, reduction, values)
     }
 
     /// The number of each edge, in the order of `csr`. `ArgumentLength` and `NoMemory`.
