@@ -26,6 +26,19 @@ struct edge {
     u8 argument[];
 };
 
+/* A program whose runs are lent columns has a record of its own: the edge's four numbers, then the argument, if there is one, and then of
+   each column the number of the edge's source and that of its target:
+
+       struct scored { struct edge_start edge; u64 least; struct ends risk, land; };
+       u64 score(struct scored *it, u64 length) { return it->risk.target < it->least ? 0 : it->risk.target; } */
+struct edge_start {
+    u32 source, target, place, degree;
+};
+
+struct ends {
+    u64 source, target;
+};
+
 /* A const object marked TABLE, of 1 to 4,096 bytes, is the table of a program: all its runs read it, and none writes it. The
    function gets its address as its third parameter, and reads it by that alone:
 

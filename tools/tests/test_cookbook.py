@@ -210,6 +210,16 @@ class FunctionsInPython(unittest.TestCase):
         self.assertEqual(load("triangles").triangles(version), 1)
         self.assertEqual(load("bloom").listed(version, [1, 3]), 3)
 
+    def test_columns(self):
+        ends = [(0, 1), (0, 2), (1, 2), (2, 3), (3, 4), (5, 6)]
+        version = self.version(ends + [(target, source) for source, target in ends], 8)[1]
+        np = load("rounds").np
+        risk, land = (np.array(column, np.uint64) for column in ([3, 9, 4, 7, 1, 8, 2, 6], [1, 1, 2, 2, 1, 1, 3, 3]))
+        self.assertEqual(load("scores").scores(version, risk, land, 4, range(8)).tolist(), [9, 8, 18, 4, 14, 0, 16, 0])
+        ranks = [119882822, 119882822, 177149872, 132846313, 75238138, 125000000, 125000000, 18750000]
+        self.assertEqual(load("rounds").ranks(version).tolist(), ranks)
+        self.assertEqual(load("rounds").components(version).tolist(), [0, 0, 0, 0, 0, 5, 5, 7])
+
     @unittest.mock.patch.dict(os.environ, {"EDGEBPF": STORE})
     def test_over_several_processes(self):
         upward = self.edgebpf.assemble("ldxw r2, [r1+0]\nldxw r1, [r1+4]\nmov r0, 1\njgt r1, r2, up\nmov r0, 0\nup:\nexit")
