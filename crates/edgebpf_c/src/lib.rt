@@ -2,6 +2,7 @@
 //! handle holds, calls `embedding`, and puts it back. None asks anything of its caller.
 #![tactic(auto)]
 
+mod lists;
 mod programs;
 mod runs;
 mod stores;
