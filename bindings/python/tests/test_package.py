@@ -180,13 +180,44 @@ class Package(unittest.TestCase):
         with self.assertRaisesRegex(TypeError, "^place is a whole number, not float$"):
             version.neighbour(0, 0.0)
         for wrong, error in (([900], edgebpf.VertexRange), ([-1], edgebpf.VertexRange), ([0.5], TypeError), ([[0]], TypeError), (["0"], TypeError), ([[0], [1, 2]], TypeError), (0, TypeError), ([True], TypeError)):
-            for ask in (version.degrees, lambda one: version.run(edgebpf.assemble(TARGET), "sum", one)):
+            for ask in (version.degrees, version.lists, lambda one: version.run(edgebpf.assemble(TARGET), "sum", one)):
                 with self.assertRaisesRegex(error, "frontier"):
                     ask(wrong)
         version.close()
-        for ask in (lambda: version.degree(0), lambda: version.degrees([0]), version.degrees, lambda: version.has_edge(0, 1), lambda: version.neighbour(0, 0), version.share):
+        for ask in (lambda: version.degree(0), lambda: version.degrees([0]), version.degrees, lambda: version.lists([0]), lambda: version.has_edge(0, 1), lambda: version.neighbour(0, 0), version.share):
             with self.assertRaises(edgebpf.Closed):
                 ask()
+
+    def test_lists(self):
+        """The lists of a frontier are those of its vertices, in any order, as often as they stand there, and without any."""
+        store, edges = self.store(2_000), {(source, source * 7 * place % 2_000) for source in range(0, 2_000, 3) for place in range(source % 40)}
+        edges |= {(1, target) for target in range(0, 2_000, 2)}
+        store.batch("A", edges=sorted(edges))
+        store.batch("B", edges=[(5, 5)])
+        store.batch("C", removes=([5], [5]))
+        version, rows = store.pin(), {}
+        for source, target in sorted(edges):
+            rows.setdefault(source, []).append(target)
+        for frontier in ([], [2], [1], [1_999, 0, 1, 1, 39, 4, 1_998], np.arange(2_000)[::-1], np.arange(2_000, dtype=">i8"), range(0, 2_000, 5)):
+            starts, targets = version.lists(frontier)
+            lists = [rows.get(vertex, []) for vertex in np.asarray(frontier, int).tolist()]
+            self.assertEqual((starts.dtype, targets.dtype), (np.int64, np.uint32))
+            self.assertEqual(starts.tolist(), [sum(map(len, lists[:place])) for place in range(len(lists) + 1)])
+            self.assertEqual(targets.tolist(), [target for one in lists for target in one])
+            self.assertEqual(version.degrees(frontier).tolist(), list(map(len, lists)))
+        starts, targets = version.lists(range(2_000))
+        self.assertTrue((starts == version.csr()[0]).all() and (targets == version.csr()[1]).all())
+        # What is given and what comes are apart: a frontier may be read-only, and a view of what came before.
+        frozen = np.array([3, 1, 3], np.uint32)
+        frozen.flags.writeable = False
+        self.assertEqual(version.lists(frozen)[0].tolist(), version.lists(frozen.tolist())[0].tolist())
+        targets[:] = 9
+        starts[:] = 9
+        again = version.lists(targets[:4])
+        self.assertEqual((version.degrees(starts[:4]).tolist(), again[1].tolist()), ([len(rows[9])] * 4, rows[9] * 4))
+        self.assertEqual(version.csr()[1][:3].tolist(), rows[min(rows)][:3] if 0 in rows else rows[1][:3])
+        with self.assertRaisesRegex(TypeError, "^frontier is an array of vertices; the lists of all are csr\\(\\)$"):
+            version.lists(None)
 
     def test_shares(self):
         """A share of a version stays when the other one is closed, and one of a program when the other one is gone."""
