@@ -784,21 +784,42 @@ except KeyboardInterrupt:
                 edgebpf.compile_c(**given)
 
     def test_installed(self):
-        """`pip install` needs no network, and gives the same package, with the library if there is a C compiler."""
+        """`pip install` needs no network. In an environment of its own the package is the same, with the library, the programs and the compiler
+        driver if there is a C compiler, and runs the block of README.md, a process, and a program in C."""
         with tempfile.TemporaryDirectory() as folder:
-            words = [sys.executable, "-m", "pip", "install", "-q", "--root-user-action=ignore", "--disable-pip-version-check", "--no-index", "--no-deps", "--target", folder, str(FOLDER)]
+            python = pathlib.Path(folder, "own", "bin", "python")
+            made = subprocess.run([sys.executable, "-m", "venv", "--system-site-packages", "--without-pip", f"{folder}/own"], capture_output=True, text=True)
+            if made.returncode:
+                self.skipTest("not there: venv")
+            words = [python, "-m", "pip", "install", "-q", "--root-user-action=ignore", "--disable-pip-version-check", "--no-index", str(FOLDER)]
             run = subprocess.run(words, capture_output=True, text=True, cwd=folder)
             if "No module named pip" in run.stderr:
                 self.skipTest("not there: pip")
             self.assertEqual((run.returncode, run.stderr), (0, ""))
-            names = {path.name for path in (pathlib.Path(folder) / "edgebpf").iterdir()} - {"__pycache__"}
+            (package,) = pathlib.Path(folder, "own").glob("lib/python3*/site-packages/edgebpf")
+            names = {path.name for path in package.iterdir()} - {"__pycache__"}
             wanted = {path.name for path in (FOLDER / "edgebpf").iterdir()} - {"__pycache__"}
-            self.assertEqual(names - {"libedgebpf.so"}, wanted)
-            if shutil.which("cc"):
-                self.assertIn("libedgebpf.so", names)
-                words = [sys.executable, "-c", "import edgebpf; print(edgebpf.library.path()); print(edgebpf.Store(4).batch('D', ([0], [1])).added)"]
-                run = subprocess.run(words, capture_output=True, text=True, cwd=folder, env={"PYTHONPATH": folder})
-                self.assertEqual((run.stdout, run.stderr), (f"{folder}/edgebpf/libedgebpf.so\n1\n", ""))
+            self.assertEqual(names - {"libedgebpf.so", "installed"}, wanted)
+            if not shutil.which("cc") or not shutil.which("make"):
+                return
+            self.assertLess({"libedgebpf.so", "installed"}, names)
+
+            def says(*lines):
+                """What lines in Python write there, where nothing else of edgebpf is to be found."""
+                run = subprocess.run([python, "-W", "error", "-c", "\n".join(lines)], capture_output=True, text=True, cwd=folder, env={"PATH": "/usr/bin:/bin"})
+                self.assertEqual(run.stderr, "")
+                return run.stdout.splitlines()
+
+            readme = (TOP / "README.md").read_text()
+            block = readme[readme.index("```python\n") + 10:].partition("```")[0]
+            if edgebpf.library.cffi is not None:
+                self.assertEqual(says(block, "print(edgebpf.library.path())"), [f"{package}/libedgebpf.so"])
+            connected = block.replace("edgebpf.Store(", "edgebpf.connect(")
+            refused = "try: edgebpf.assemble('ldxw r0, [r1+13]\\nexit')", "except edgebpf.Refused as refused: print('ldxw r0' in refused.explain())"
+            self.assertEqual(says(connected, *refused), ["True"])
+            text = "#include <edgebpf.h>\nu64 twice(struct edge *edge, u64 length) { return 2 * edge->target; }\n"
+            if shutil.which("clang") or shutil.which("clang-19"):
+                self.assertEqual(says("import edgebpf", f"print(edgebpf.compile_c(text={text!r}, function='twice').frames)"), ["1"])
 
 
 def told(work, wrong):
