@@ -29,6 +29,14 @@ Requires-Dist: cffi
 Provides-Extra: c
 Requires-Dist: pyelftools; extra == 'c'
 """
+# Of a command that the wheel puts on PATH: pip writes the interpreter's path into the first line.
+COMMAND = """\
+#!python
+import importlib.util, os, sys
+folder = os.path.join(os.path.dirname(importlib.util.find_spec("edgebpf").origin), "installed")
+words = {words}
+os.execv(words[0], [*words, *sys.argv[1:]])
+"""
 WHEEL = "Wheel-Version: 1.0\nGenerator: edgebpf\nRoot-Is-Purelib: {}\nTag: {}\n"
 # The same bytes each time: no file has the time of its build.
 MOMENT = (2020, 1, 1, 0, 0, 0)
@@ -55,11 +63,22 @@ def installation():
         return {name: (path.read_bytes(), os.access(path, os.X_OK) and name != f"{NAME}/{LIBRARY}") for name, path in named.items()}
 
 
+def commands(names):
+    """The commands of an installation's files, each with the text of a file for PATH: `edgebpf`, and the companions, which are in Python."""
+    for name in names:
+        folder, _, command = name.removeprefix(f"{NAME}/{INSTALLED}/").rpartition("/")
+        if command == NAME and not folder:
+            yield command, COMMAND.format(words=f"[os.path.join(folder, '{command}')]")
+        elif command.startswith(f"{NAME}-") and folder == "tools":
+            yield command, COMMAND.format(words=f"[sys.executable, os.path.join(folder, 'tools', '{command}')]")
+
+
 def build_wheel(wheel_directory, config_settings=None, metadata_directory=None):
     """Writes the wheel, and returns its name."""
     built = installation()
     files = {f"{NAME}/{path.name}": path.read_bytes() for path in sorted(PACKAGE.iterdir()) if path.suffix in (".py", ".typed")}
     files |= {name: content for name, (content, _) in built.items()}
+    files |= {f"{NAME}-{VERSION}.data/scripts/{command}": text.encode() for command, text in commands(built)}
     tag = "py3-none-linux_x86_64" if built else "py3-none-any"
     files[f"{INFO}/METADATA"] = METADATA.encode()
     files[f"{INFO}/WHEEL"] = WHEEL.format(str(not built).lower(), tag).encode()
@@ -71,6 +90,7 @@ def build_wheel(wheel_directory, config_settings=None, metadata_directory=None):
             entry = zipfile.ZipInfo(name, MOMENT)
             entry.compress_type = zipfile.ZIP_DEFLATED
             # The upper half is the mode of the file: what is run has to say so.
-            entry.external_attr = (0o100755 if name in built and built[name][1] else 0o100644) << 16
+            is_run = built[name][1] if name in built else ".data/scripts/" in name
+            entry.external_attr = (0o100755 if is_run else 0o100644) << 16
             out.writestr(entry, content)
     return wheel

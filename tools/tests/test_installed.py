@@ -309,7 +309,9 @@ class Package(unittest.TestCase):
             make(f"BUILD={rooms[0]}", "install", f"PREFIX={folder}/place")
             programs = pathlib.Path(folder, "place", "lib", "edgebpf")
             wanted = {f"edgebpf/installed/{path.relative_to(programs)}" for path in programs.rglob("*") if path.is_file()} | {"edgebpf/libedgebpf.so"}
-            self.assertEqual({name for name in entries if not name.endswith((".py", ".typed")) or "/installed/" in name if ".dist-info/" not in name}, wanted)
+            self.assertEqual({name for name in entries if not name.endswith((".py", ".typed")) or "/installed/" in name if ".dist-info/" not in name and ".data/" not in name}, wanted)
+            companions = {path.name for path in (programs / "tools").iterdir() if path.name.startswith("edgebpf-")}
+            self.assertEqual({name.rpartition("/")[2] for name in entries if ".data/scripts/" in name}, companions | {"edgebpf"})
             run = {name for name, mode in entries.items() if mode & 0o111}
             self.assertEqual(run & {"edgebpf/installed/edgebpf", "edgebpf/installed/programs/edgebpf", "edgebpf/installed/tools/edgebpf-c", "edgebpf/native.py", "edgebpf/libedgebpf.so"},
                              {"edgebpf/installed/edgebpf", "edgebpf/installed/programs/edgebpf", "edgebpf/installed/tools/edgebpf-c"})
