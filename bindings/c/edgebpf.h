@@ -153,6 +153,18 @@ uint32_t edgebpf_version_lend_from(edgebpf_version *version, uint32_t vertex, ui
 uint32_t edgebpf_version_copy(edgebpf_version *version, uint64_t *starts, size_t start_count, uint32_t *targets,
                               size_t target_count);
 
+/* How many neighbours each vertex of a frontier has, which may name vertices in any order and more than once; one outside the graph
+   has none. `counts` has one place for each. LENGTHS. */
+uint32_t edgebpf_version_degrees(edgebpf_version *version, const uint32_t *frontier, size_t frontier_count, uint32_t *counts,
+                                 size_t count_count);
+
+/* The neighbours of the vertices of such a frontier, at most 268,435,456 of them, one vertex after another: those of the vertex at
+   place i are targets[starts[i]] to targets[starts[i + 1] - 1]. `starts` has one place for each vertex and one more, and `targets`
+   has room for `count`; its places after these stay as they are. LENGTHS, and then no list is written. `count` is written also then,
+   but not for a frontier that is too long: ask with a room of 0, and then with one of `count`. */
+uint32_t edgebpf_version_lists(edgebpf_version *version, const uint32_t *frontier, size_t frontier_count, uint64_t *starts,
+                               size_t start_count, uint32_t *targets, size_t room, size_t *count);
+
 /* Verifies a program for records of 16 to 256 bytes. Its runs read the table of 1 to 4,096 bytes from the address that R3 holds when
    they begin; with EDGEBPF_NO_BYTES and 0 there is none. RECORD_LENGTH, CODE_LENGTH, TABLE_LENGTH, REFUSED (then `verdict` says
    why), tested in this order. This call and the next one take 192 KB of the thread's stack. */

@@ -1,7 +1,8 @@
-"""Builds the wheel of this package, so that `pip install` needs no network. Where there is a C compiler, the wheel has the library, built of
-dist/; where there is none, the package looks for an installed one."""
+"""Builds the wheel of this package, so that `pip install` needs no network. Where there are make and a C compiler, the wheel has what dist/
+installs: the library, the programs, and the compiler of programs; where there are none, the package looks for what is installed."""
 import base64
 import hashlib
+import os
 import re
 import subprocess
 import sys
@@ -13,7 +14,9 @@ NAME = "edgebpf"
 PACKAGE = Path(__file__).resolve().parent / NAME
 VERSION = re.search(r'^__version__ = "(.*)"', (PACKAGE / "__init__.py").read_text(), re.M)[1]
 LIBRARY = "libedgebpf.so"
-LINK = PACKAGE.parents[2] / "dist" / "link"
+DIST = PACKAGE.parents[2] / "dist"
+# The folder of the package that has the programs, as `make install` lays them out.
+INSTALLED = "installed"
 INFO = f"{NAME}-{VERSION}.dist-info"
 METADATA = f"""\
 Metadata-Version: 2.1
@@ -23,6 +26,16 @@ Summary: A versioned in-memory graph that runs BPF programs on its edges
 Requires-Python: >=3.9
 Requires-Dist: numpy
 Requires-Dist: cffi
+Provides-Extra: c
+Requires-Dist: pyelftools; extra == 'c'
+"""
+# Of a command that the wheel puts on PATH: pip writes the interpreter's path into the first line.
+COMMAND = """\
+#!python
+import importlib.util, os, sys
+folder = os.path.join(os.path.dirname(importlib.util.find_spec("edgebpf").origin), "installed")
+words = {words}
+os.execv(words[0], [*words, *sys.argv[1:]])
 """
 WHEEL = "Wheel-Version: 1.0\nGenerator: edgebpf\nRoot-Is-Purelib: {}\nTag: {}\n"
 # The same bytes each time: no file has the time of its build.
@@ -34,31 +47,50 @@ def record_line(name, content):
     return f"{name},sha256={digest},{len(content)}\n"
 
 
-def built_library():
-    """The library's bytes; None where it cannot be built."""
+def installation():
+    """What dist/ installs of the library and the programs: for each name the bytes, and whether it is run. Empty where it cannot be built."""
     with tempfile.TemporaryDirectory() as folder:
-        made = Path(folder) / LIBRARY
+        words = ["make", "-s", "-C", DIST, "install", f"BUILD={folder}/build", f"DESTDIR={folder}/root", "PREFIX=/usr"]
         try:
-            subprocess.run([LINK, "libedgebpf", made], check=True, capture_output=True, text=True)
-            return made.read_bytes()
+            subprocess.run(words, check=True, capture_output=True, text=True)
         except (OSError, subprocess.CalledProcessError) as error:
             print(f"edgebpf: without {LIBRARY}: {getattr(error, 'stderr', '') or error}", file=sys.stderr)
-            return None
+            return {}
+        libraries = Path(folder, "root", "usr", "lib")
+        named = {f"{NAME}/{LIBRARY}": libraries / LIBRARY}
+        programs = libraries / NAME
+        named |= {f"{NAME}/{INSTALLED}/{path.relative_to(programs)}": path for path in sorted(programs.rglob("*")) if path.is_file()}
+        return {name: (path.read_bytes(), os.access(path, os.X_OK) and name != f"{NAME}/{LIBRARY}") for name, path in named.items()}
+
+
+def commands(names):
+    """The commands of an installation's files, each with the text of a file for PATH: `edgebpf`, and the companions, which are in Python."""
+    for name in names:
+        folder, _, command = name.removeprefix(f"{NAME}/{INSTALLED}/").rpartition("/")
+        if command == NAME and not folder:
+            yield command, COMMAND.format(words=f"[os.path.join(folder, '{command}')]")
+        elif command.startswith(f"{NAME}-") and folder == "tools":
+            yield command, COMMAND.format(words=f"[sys.executable, os.path.join(folder, 'tools', '{command}')]")
 
 
 def build_wheel(wheel_directory, config_settings=None, metadata_directory=None):
     """Writes the wheel, and returns its name."""
+    built = installation()
     files = {f"{NAME}/{path.name}": path.read_bytes() for path in sorted(PACKAGE.iterdir()) if path.suffix in (".py", ".typed")}
-    library = built_library()
-    if library is not None:
-        files[f"{NAME}/{LIBRARY}"] = library
-    tag = "py3-none-any" if library is None else "py3-none-linux_x86_64"
+    files |= {name: content for name, (content, _) in built.items()}
+    files |= {f"{NAME}-{VERSION}.data/scripts/{command}": text.encode() for command, text in commands(built)}
+    tag = "py3-none-linux_x86_64" if built else "py3-none-any"
     files[f"{INFO}/METADATA"] = METADATA.encode()
-    files[f"{INFO}/WHEEL"] = WHEEL.format(str(library is None).lower(), tag).encode()
+    files[f"{INFO}/WHEEL"] = WHEEL.format(str(not built).lower(), tag).encode()
     record = "".join(record_line(name, content) for name, content in files.items()) + f"{INFO}/RECORD,,\n"
     files[f"{INFO}/RECORD"] = record.encode()
     wheel = f"{NAME}-{VERSION}-{tag}.whl"
     with zipfile.ZipFile(Path(wheel_directory) / wheel, "w", zipfile.ZIP_DEFLATED) as out:
         for name, content in files.items():
-            out.writestr(zipfile.ZipInfo(name, MOMENT), content)
+            entry = zipfile.ZipInfo(name, MOMENT)
+            entry.compress_type = zipfile.ZIP_DEFLATED
+            # The upper half is the mode of the file: what is run has to say so.
+            is_run = built[name][1] if name in built else ".data/scripts/" in name
+            entry.external_attr = (0o100755 if is_run else 0o100644) << 16
+            out.writestr(entry, content)
     return wheel

@@ -27,6 +27,10 @@ ROWS = {
     "numbers": "the number of each edge, as an array",
     "csr": "all edges as two arrays",
     "vertex": "a run over one vertex",
+    "frontier": "a run over 16 vertices",
+    "each": "the lists of 3,000 vertices, as 3,000 views",
+    "lists": "the lists of 3,000 vertices, in one call",
+    "degrees": "the degrees of 3,000 vertices",
 }
 
 
@@ -65,7 +69,14 @@ def of_edgebpf(edges, asked):
     times["csr"], _ = best(lambda: store.pin().csr(), 3)
     frontier = np.array([int(asked[0])])
     times["vertex"], _ = best(lambda: version.run(target, "sum", frontier=frontier), 200)
+    some = asked[:16].astype(np.uint32)
+    times["frontier"], _ = best(lambda: version.run(target, "sum", frontier=some), 200)
+    many = np.random.default_rng(11).integers(0, VERTICES, 3_000)
+    times["each"], views = best(lambda: [version.neighbours(at) for at in many], 5)
+    times["lists"], (_, targets) = best(lambda: version.lists(many), 20)
+    times["degrees"], degrees = best(lambda: version.degrees(many), 20)
     assert int(numbers.sum()) == result.total
+    assert len(targets) == degrees.sum() and (targets == np.concatenate(views)).all()
     return times, (version.edges, int(result.total), int(mutual.total))
 
 
@@ -87,6 +98,9 @@ def of_scipy(edges, asked):
     times["keep"], _ = best(graph.copy, 3)
     whole, _ = best(lambda: [graph.indices[graph.indptr[at]:graph.indptr[at + 1]] for at in asked], 3)
     times["neighbours"] = whole / len(asked)
+    many = np.random.default_rng(11).integers(0, VERTICES, 3_000)
+    times["lists"], _ = best(lambda: graph[many], 20)
+    times["degrees"], _ = best(lambda: np.diff(graph.indptr)[many], 20)
     rows = np.repeat(np.arange(VERTICES), np.diff(graph.indptr))
     times["sum"], _ = best(lambda: np.bincount(rows, graph.indices.astype(np.float64), VERTICES), 3)
     times["back"], _ = best(lambda: graph.multiply(graph.T.tocsr()).nnz, 2)

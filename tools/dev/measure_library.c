@@ -99,6 +99,11 @@ int main(void) {
     if (!numbers || !starts || !all) return 1;
     printf("the number of each edge: %.2f ns an edge\n",
            1e9 / edges * BEST(1, done(edgebpf_numbers(&version, &program, EDGEBPF_NO_BYTES, 0, numbers, info.edges))));
+    enum { CHOSEN = 3000 };
+    for (uint32_t at = 0; at < CHOSEN; at++) frontier[at] = chance();
+    printf("the lists of 3,000 vertices at random: %.3f ms\n",
+           1e3 * BEST(1, done(edgebpf_version_lists(&version, frontier, CHOSEN, starts, CHOSEN + 1, all, info.edges, &lent))));
+    printf("their degrees: %.1f ns a vertex\n", 1e9 / CHOSEN * BEST(1, done(edgebpf_version_degrees(&version, frontier, CHOSEN, targets, CHOSEN))));
     printf("all edges as two arrays: %.1f ms\n", 1e3 * BEST(1, done(edgebpf_version_copy(&version, starts, VERTICES + 1, all, info.edges))));
     return 0;
 }

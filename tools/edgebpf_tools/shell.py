@@ -16,6 +16,7 @@ from edgebpf_tools.journal import Journal
 from edgebpf_tools.language import FORMS, MOST_BYTES, Complaint, Language
 from edgebpf_tools.live_store import LiveStore
 from edgebpf_tools.refusal import Refusal
+from edgebpf_tools.run_in_parts import RunInParts
 from edgebpf_tools.words import in_words
 
 TOOLS = pathlib.Path(__file__).resolve().parent.parent
@@ -39,6 +40,8 @@ DOTS = {
 PLAIN = {"help": ".help", "?": ".help", "quit": ".quit", "exit": ".quit"}
 # How many bytes of lines are read at a time, where there are so many.
 BLOCK = 1 << 20
+# The seconds after a Ctrl-C in which the rest of an answer may come.
+MOST_WAIT = 2
 # So many files may be read one from within another.
 MOST_FILES = 32
 NOTE = b"\n(edgebpf is at work: its answer will be dropped, and its graph stays. Ctrl-\\ ends the session.)\n"
@@ -120,14 +123,19 @@ class Shell:
         self.keep(lines)
 
     def asked(self, lines):
-        """The answer to what changes nothing. After a Ctrl-C edgebpf is started again, with all that changed something."""
+        """The answer to what changes nothing, of which a run goes in parts. After a Ctrl-C the rest of the answer is awaited for a moment; if it
+        does not come, edgebpf is started again, with all that changed something."""
+        parts = RunInParts.of(self.store, lines, self.language.vertices, self.out)
         try:
-            return self.store.ask(lines)
+            return parts.answer() if parts else self.store.ask(lines)
         except ends.Interrupted as interrupt:
             if interrupt.number == signal.SIGINT:
-                self.say("\n(edgebpf is started again, with what was sent)")
                 with ends.Signals.held({signal.SIGINT}):
-                    self.store.restart(changes(self.sent))
+                    if self.store.settles(MOST_WAIT):
+                        self.say("\n(the run has ended, and is not whole)" if parts else "\n(its answer is dropped)")
+                    else:
+                        self.say("\n(edgebpf is started again, with what was sent)")
+                        self.store.restart(changes(self.sent))
             raise
 
     def keep(self, lines):

@@ -7,6 +7,7 @@ import shutil
 import subprocess
 import tempfile
 import unittest
+import zipfile
 
 from tools_here import MISSING, PYTHON, TOOLS
 
@@ -207,7 +208,7 @@ class Installed(unittest.TestCase):
 
     @unittest.skipIf(shutil.which("man") is None, "there is no man")
     def test_man_page(self):
-        for name, said in (("man1/edgebpf-c.1", "--workers"), ("man5/edgebpf-script.5", "edgebpf: memory"), ("man7/edgebpf-bpf.7", "calllocal")):
+        for name, said in (("man1/edgebpf-c.1", "--workers"), ("man3/edgebpf.3", "edgebpf_version_lists("), ("man3/edgebpf_run_some.3", "EDGEBPF_PROGRESS"), ("man5/edgebpf-script.5", "edgebpf: memory"), ("man7/edgebpf-bpf.7", "calllocal")):
             page = self.place / "share/man" / name
             words = ["man", "--warnings", "-l", page]
             run = subprocess.run(words, env={**os.environ, "MANWIDTH": "100", "LC_ALL": "C"}, capture_output=True, text=True)
@@ -284,11 +285,36 @@ class Package(unittest.TestCase):
             with open(first.with_suffix(".script")) as script:
                 run = subprocess.run([unpacked / "usr/bin/edgebpf"], stdin=script, capture_output=True, text=True)
             self.assertEqual((run.stdout, run.stderr), (first.with_suffix(".output").read_text(), ""))
+            subprocess.run(["dpkg-deb", "-x", made[1], unpacked], check=True)
+            for name in ("edgebpf", "python3-edgebpf"):
+                self.assertIn("no licence", (unpacked / "usr/share/doc" / name / "copyright").read_text())
             for package in made:
                 listed = subprocess.run(["dpkg-deb", "-c", package], stdout=subprocess.PIPE, text=True, check=True).stdout
                 self.assertNotIn("__pycache__", listed)
                 self.assertTrue(all(line.split()[1] == "root/root" for line in listed.splitlines()))
             self.python_in(unpacked, made[1])
+
+    def test_the_same_wheel_twice(self):
+        """It has the library and all that `make install` puts into lib/edgebpf, and says which of it is run."""
+        with tempfile.TemporaryDirectory() as folder:
+            rooms = [pathlib.Path(folder) / name for name in ("one", "another_place")]
+            both = [room / make(f"BUILD={room}", "wheel").split()[-1] for room in rooms]
+            self.assertEqual(both[0].name.split("-", 2)[2], "py3-none-linux_x86_64.whl")
+            self.assertEqual(both[0].read_bytes(), both[1].read_bytes())
+            with zipfile.ZipFile(both[0]) as wheel:
+                entries = {entry.filename: entry.external_attr >> 16 for entry in wheel.infolist()}
+                record = [name for name in entries if name.endswith("/RECORD")]
+                listed = {line.split(",")[0] for line in wheel.read(*record).decode().splitlines()}
+            self.assertEqual(listed, set(entries))
+            make(f"BUILD={rooms[0]}", "install", f"PREFIX={folder}/place")
+            programs = pathlib.Path(folder, "place", "lib", "edgebpf")
+            wanted = {f"edgebpf/installed/{path.relative_to(programs)}" for path in programs.rglob("*") if path.is_file()} | {"edgebpf/libedgebpf.so"}
+            self.assertEqual({name for name in entries if not name.endswith((".py", ".typed")) or "/installed/" in name if ".dist-info/" not in name and ".data/" not in name}, wanted)
+            companions = {path.name for path in (programs / "tools").iterdir() if path.name.startswith("edgebpf-")}
+            self.assertEqual({name.rpartition("/")[2] for name in entries if ".data/scripts/" in name}, companions | {"edgebpf"})
+            run = {name for name, mode in entries.items() if mode & 0o111}
+            self.assertEqual(run & {"edgebpf/installed/edgebpf", "edgebpf/installed/programs/edgebpf", "edgebpf/installed/tools/edgebpf-c", "edgebpf/native.py", "edgebpf/libedgebpf.so"},
+                             {"edgebpf/installed/edgebpf", "edgebpf/installed/programs/edgebpf", "edgebpf/installed/tools/edgebpf-c"})
 
     def python_in(self, unpacked, package):
         """The package for Python has its library and the compiler of C from the other one."""

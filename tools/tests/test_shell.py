@@ -494,6 +494,73 @@ done
         asked = (self.folder / "asked").read_text().split("started\n")[1:]
         self.assertEqual([part.splitlines() for part in asked], [[*changes, "home 0", "run t a sum -"], [*changes, "run t a sum -"], [*changes, "home 1"]])
 
+    def counting_store(self, seconds):
+        """A store whose runs take so many seconds, and whose numbers are the vertices: each vertex has one edge."""
+        store = self.folder / "store"
+        store.write_text(f"""#!{PYTHON}
+import sys, time
+with open("{self.folder}/asked", "a") as asked:
+    for line in sys.stdin:
+        words = line.split()
+        assert len(line) <= 80_001
+        print(*words[:1], len(words) - 5, file=asked, flush=True)
+        if words[0] == "run":
+            time.sleep({seconds})
+            chosen = list(map(int, words[5:]))
+            total = dict(sum=sum, min=min, max=max)[words[3]](chosen)
+            print("run t a edges", len(chosen), "total", total)
+            print("".join("row %d %d\\n" % (vertex, vertex) for vertex in chosen), end="", flush=True)
+        elif words[0] == "code":
+            print("program t bound 2 frames 1", flush=True)
+        elif words[0] == "batch":
+            sys.stdin.readline(), sys.stdin.readline()
+            print("batch A version 1 added 1 removed 0", flush=True)
+        else:
+            print(words[0], "said", flush=True)
+""")
+        store.chmod(0o755)
+        self.start(store)
+        self.until("edgebpf> ")
+        self.types("graph 20000\nbatch A\n+ 0 1\nend\npin a\ncode t 16 61100400000000009500000000000000\n.top 3\nhome 0\n")
+        self.until("home said\nedgebpf> ")
+
+    def asked(self):
+        return [tuple(line.split()) for line in (self.folder / "asked").read_text().splitlines()]
+
+    def test_long_run_goes_in_parts(self):
+        """The parts are all vertices, in lines that edgebpf takes, and the answer is that of the whole run."""
+        self.counting_store(0)
+        for reduction, total in (("sum", sum(range(20_000))), ("min", 0), ("max", 19_999)):
+            self.types(f"run t a {reduction} -\n")
+            shown = self.until("edgebpf> ")
+            self.assertIn(f"run t a edges 20000 total {total}\nrow 19999 19999\nrow 19998 19998\nrow 19997 19997\n.. the greatest 3 of 20000 rows", shown)
+        self.types(f"run t a sum - {' '.join(map(str, range(0, 900)))}\n")
+        self.until("run t a edges 900 total 404550\n")
+        self.until("edgebpf> ")
+        self.types("\x04")
+        self.assertEqual(self.status(), 0)
+        runs = [int(count) for word, count in self.asked() if word == "run"]
+        self.assertEqual((sum(runs), runs[-1]), (60_900, 900))
+
+    def test_interrupt_between_parts(self):
+        """A Ctrl-C ends a run between two parts, edgebpf goes on, and what follows is asked of the same one; until then it says how far it is."""
+        self.counting_store(0.3)
+        for _ in range(2):
+            self.types("run t a sum -\n")
+            self.until(" % of 20000 vertices; Ctrl-C ends the run)")
+            self.types("\x03")
+            self.until("(the run has ended, and is not whole)", again="\x03")
+            self.until("(dropped)\nedgebpf> ")
+        self.types("home 1\n")
+        self.until("home said\nedgebpf> ")
+        self.types(".script\n")
+        self.assertNotIn("run t a", self.until("edgebpf> "))
+        self.types("\x04")
+        self.assertEqual(self.status(), 0)
+        runs = [int(count) for word, count in self.asked() if word == "run"]
+        self.assertLess(sum(runs), 20_000)
+        self.assertEqual([word for word, _ in self.asked()].count("graph"), 1)
+
     # Without numpy the import ends before it opens the file, and nobody would read what the test writes.
     @unittest.skipIf(importlib.util.find_spec("numpy") is None, "missing: numpy")
     def test_interrupt_of_an_import(self):

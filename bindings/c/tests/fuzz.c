@@ -169,6 +169,31 @@ static void copy(input *in) {
     }
 }
 
+/* The degrees and the lists of a frontier, with too little room, enough or more. */
+static void list(input *in) {
+    version *one = &versions[byte(in) % HANDLES];
+    static uint32_t frontier[EDITS], counts[EDITS], targets[EDITS * MOST];
+    static uint64_t starts[EDITS + 2];
+    size_t chosen = byte(in) % (EDITS + 1), places = chosen + (byte(in) < 245 ? 1 : byte(in) % 3), wanted = 0, count = 77;
+    for (size_t at = 0; at < chosen; at++) {
+        frontier[at] = vertex(in, one->graph.vertices);
+        wanted += (size_t)__builtin_popcountll(row(&one->graph, frontier[at]));
+    }
+    size_t room = byte(in) < 200 ? wanted : byte(in) < 128 ? byte(in) % (wanted + 1) : wanted + byte(in) % (EDITS * MOST + 1 - wanted);
+    uint32_t status = CALL(edgebpf_version_lists(&one->handle, frontier, chosen, starts, places, targets, room, &count));
+    MUST(status == (!one->graph.vertices ? EDGEBPF_EMPTY : places != chosen + 1 || room < wanted ? EDGEBPF_LENGTHS : EDGEBPF_DONE));
+    MUST(count == (one->graph.vertices ? wanted : 77));
+    if (status) return;
+    MUST(!CALL(edgebpf_version_degrees(&one->handle, frontier, chosen, counts, chosen)));
+    MUST(edgebpf_version_degrees(&one->handle, frontier, chosen, counts, chosen + 1) == EDGEBPF_LENGTHS);
+    size_t place = 0;
+    for (size_t at = 0; at < chosen; at++) {
+        MUST(starts[at] == place && counts[at] == starts[at + 1] - starts[at]);
+        for (uint64_t left = row(&one->graph, frontier[at]); left; left &= left - 1) MUST(targets[place++] == (uint32_t)__builtin_ctzll(left));
+    }
+    MUST(place == wanted && starts[chosen] == wanted);
+}
+
 static void new_program(input *in) {
     static const uint8_t target[] = {0x61, 0x10, 4, 0, 0, 0, 0, 0, 0x95, 0, 0, 0, 0, 0, 0, 0};
     program *one = &programs[byte(in) % HANDLES];
@@ -333,7 +358,7 @@ static void close_some(input *in) {
 static void print_calls(void) { fprintf(stderr, "fuzz: %llu calls\n", calls); }
 
 int LLVMFuzzerTestOneInput(const uint8_t *bytes, size_t count) {
-    static void (*const actions[])(input *) = {new_store, apply, apply, apply, apply, rebase, pin, pin, share, ask, ask, copy, new_program, assemble, run, run, numbers, run_parts, run_parts, number_pairs, close_some};
+    static void (*const actions[])(input *) = {new_store, apply, apply, apply, apply, rebase, pin, pin, share, ask, ask, copy, list, new_program, assemble, run, run, numbers, run_parts, run_parts, number_pairs, close_some};
     static int begun;
     if (!begun++) atexit(print_calls);
     input in = {bytes, bytes + count};

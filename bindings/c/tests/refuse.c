@@ -97,13 +97,17 @@ static void run_all(edgebpf_store *store) {
     while (again(edgebpf_program_new(16, code, made.length, table, sizeof table, &verdict, &program))) CHECK(!program.handle.at);
     while (again(edgebpf_program_share(&program, &other))) continue;
     while (again(edgebpf_explain(16, code, made.length, table, sizeof table, told, sizeof told, &count))) continue;
-    /* Runs and numbers take no memory. */
+    /* Runs, numbers and lists take no memory. */
     const long before = asked;
     edgebpf_progress at = {0}, numbered = {0}, paired = {0};
     CHECK(edgebpf_run(&pin, &program, EDGEBPF_NO_BYTES, 0, frontier, VERTICES, EDGEBPF_SUM, values, VERTICES, &totals) == EDGEBPF_DONE);
     CHECK(edgebpf_run_some(&pin, &program, EDGEBPF_NO_BYTES, 0, frontier, VERTICES, EDGEBPF_SUM, &at, values, VERTICES) == EDGEBPF_DONE);
     CHECK(edgebpf_numbers_some(&pin, &program, EDGEBPF_NO_BYTES, 0, frontier, VERTICES, &numbered, values, VERTICES, &count) == EDGEBPF_DONE);
     CHECK(edgebpf_pairs(&pin, &program, EDGEBPF_NO_BYTES, 0, frontier, VERTICES, frontier, VERTICES, &paired, values, VERTICES) == EDGEBPF_DONE);
+    static uint64_t starts[VERTICES + 1];
+    static uint32_t lists[VERTICES];
+    CHECK(edgebpf_version_degrees(&pin, frontier, VERTICES, lists, VERTICES) == EDGEBPF_DONE);
+    CHECK(edgebpf_version_lists(&pin, frontier, VERTICES, starts, VERTICES + 1, lists, VERTICES, &count) == EDGEBPF_DONE);
     CHECK(asked == before);
     edgebpf_close_version(&pin);
     edgebpf_close_version(&shared);

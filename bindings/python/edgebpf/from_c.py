@@ -11,7 +11,7 @@ import time
 from collections.abc import Sequence
 
 from edgebpf.errors import Error
-from edgebpf.programs import EDGE_BYTES, Program, command, record_of
+from edgebpf.programs import EDGE_BYTES, Program, python_command, record_of
 
 SECONDS = 10.0
 # The address space of each process, and the bytes of a file that one may write.
@@ -54,7 +54,7 @@ def has_ended(process: int, deadline: float) -> bool:
 
 def made_line(words: Sequence[str], folder: str, cwd: str | None, seconds: float) -> list[str]:
     """The words of the line that `edgebpf-c` prints, or the error with what it said."""
-    limited = ["sh", "-c", LIMITED, "sh", str(MEMORY >> 10), command("edgebpf-c"), "--name", "p", "--", *words]
+    limited = ["sh", "-c", LIMITED, "sh", str(MEMORY >> 10), *python_command("edgebpf-c"), "--name", "p", "--", *words]
     status = ended(limited, folder, cwd, seconds)
     if status is None:
         raise Error(f"the compiler took more than {seconds:g} seconds")

@@ -25,7 +25,7 @@ NAME = "libedgebpf.so"
 # The number of the library's interface that this package calls, as dist/link has it.
 INTERFACE = 1
 DONE, NO_MEMORY, EMPTY = 0, 1, 2
-VERTEX_RANGE, TOO_MANY_EDITS, LOG_FULL, REFUSED, RECORD_LENGTH, CODE_LENGTH, ARGUMENT_LENGTH, WRONG_TEXT = 5, 6, 7, 10, 11, 12, 13, 15
+VERTEX_RANGE, TOO_MANY_EDITS, LOG_FULL, LENGTHS, REFUSED, RECORD_LENGTH, CODE_LENGTH, ARGUMENT_LENGTH, WRONG_TEXT = 5, 6, 7, 9, 10, 11, 12, 13, 15
 NO_NEIGHBOUR, EPOCHS_FULL, TABLE_LENGTH, COLUMNS, PROGRESS = 16, 17, 18, 19, 20
 # The last call that was added to the interface: a library without it is of an older release.
 NEWEST = "edgebpf_pairs_of"
@@ -65,6 +65,8 @@ uint32_t edgebpf_version_has_edge(handle *, uint32_t, uint32_t, uint32_t *);
 uint32_t edgebpf_version_neighbour(handle *, uint32_t, uint32_t, uint32_t *);
 uint32_t edgebpf_version_lend(handle *, uint32_t, size_t *, size_t, size_t *);
 uint32_t edgebpf_version_copy(handle *, uint64_t *, size_t, uint32_t *, size_t);
+uint32_t edgebpf_version_degrees(handle *, const uint32_t *, size_t, uint32_t *, size_t);
+uint32_t edgebpf_version_lists(handle *, const uint32_t *, size_t, uint64_t *, size_t, uint32_t *, size_t, size_t *);
 uint32_t edgebpf_program_new(uint16_t, const uint8_t *, size_t, const uint8_t *, size_t, verdict *, handle *);
 uint32_t edgebpf_program_share(handle *, handle *);
 uint32_t edgebpf_assemble(const uint8_t *, size_t, uint8_t *, size_t, assembled *);
@@ -156,13 +158,15 @@ def check(status: int) -> None:
 
 
 class Handle:
-    """What the library hands out. It is let go with the last object that refers to it."""
+    """What the library hands out. It is let go with the last object that refers to it. Of a version it keeps the memory in which the slices
+    of one list after another are told."""
 
-    __slots__ = ("at",)
+    __slots__ = ("at", "room")
 
     def __init__(self) -> None:
         here = calls()
         self.at = here.keep(here.new(here.handle), here.close)
+        self.room: tuple[Any, Any] | None = None
 
 
 class Shared:
@@ -211,6 +215,10 @@ class Calls:
         self.lend, self.pin = library.edgebpf_version_lend, library.edgebpf_store_pin
         self.share_version, self.describe = library.edgebpf_version_share, library.edgebpf_version_info
 
+    def room(self, slices: int) -> tuple[Any, Any]:
+        """Memory for so many slices, each of which is an address and a length, and for how many there are."""
+        lent = self.new(self.sizes, 2 * slices + 1)
+        return lent, lent + 2 * slices
 
     def columns(self, arrays: list[npt.NDArray[Any]]) -> tuple[Any, int]:
         """What a call takes for columns, an array and how many they are. The arrays have to stay until it has returned."""

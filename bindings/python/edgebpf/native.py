@@ -279,16 +279,31 @@ class Version:
         return int(count[0])
 
     def degrees(self, frontier: npt.ArrayLike | None = None) -> Vertices:
-        """How many targets each vertex of a frontier has, or of the graph, as a uint32 array."""
+        """How many targets each vertex of a frontier has, or of the graph, as a uint32 array. A frontier has any order, and may have a vertex
+        more than once."""
+        calls, chosen = self._calls, self._frontier(frontier)
+        counts, count = np.empty(len(chosen), U32), len(chosen)
+        arrays = calls.buffer(calls.words, chosen), count, calls.buffer(calls.words, counts), count
+        library.check(library.load().edgebpf_version_degrees(self._at(), *arrays))
+        return counts
+
+    def lists(self, frontier: npt.ArrayLike) -> tuple[npt.NDArray[np.int64], Vertices]:
+        """The targets of the vertices of a frontier, in one call: those of the vertex at place `i` of it are `targets[starts[i]:starts[i + 1]]`,
+        ascending. `starts` is an int64 array of one place more than the frontier, and `targets` a uint32 array; both are copies. A
+        frontier has any order, and may have a vertex more than once."""
         if frontier is None:
-            return np.diff(self.csr()[0]).astype(U32)
-        chosen = vertices_of(frontier, self.vertices, "frontier").tolist()
-        ask, at, count = library.load().edgebpf_version_degree, self._at(), library.new("uint32_t *")
-        degrees = []
-        for vertex in chosen:
-            library.check(ask(at, vertex, count))
-            degrees.append(count[0])
-        return np.array(degrees, U32)
+            raise TypeError("frontier is an array of vertices; the lists of all are csr()")
+        calls, chosen, found = self._calls, self._frontier(frontier), library.new("size_t *")
+        starts, targets = np.empty(len(chosen) + 1, U64), np.empty(0, U32)
+        ask, at = library.load().edgebpf_version_lists, self._at()
+        asked = calls.buffer(calls.words, chosen), len(chosen), calls.buffer(calls.numbers, starts), len(starts)
+        status = ask(at, *asked, calls.buffer(calls.words, targets), 0, found)
+        if status == library.LENGTHS:
+            # Without room it said how many there are.
+            targets = np.empty(found[0], U32)
+            status = ask(at, *asked, calls.buffer(calls.words, targets), len(targets), found)
+        library.check(status)
+        return starts.view(np.int64), targets
 
     def has_edge(self, source: int, target: int) -> bool:
         """Whether there is an edge from `source` to `target`."""
@@ -312,20 +327,15 @@ class Version:
 
     def slices(self, vertex: int) -> list[Vertices]:
         """The read-only arrays in which the targets of a vertex lie, ascending. They are not copied, and keep the version."""
-        room, lent, count = MORE_ROOM, *self._lent(vertex, MORE_ROOM)
-        while count == room:
+        room = MORE_ROOM
+        while True:
+            lent, count = self._calls.room(room)
+            status = self._calls.lend(self._at(), vertex_of(vertex, self.vertices), lent, room, count)
+            if status:
+                library.check(status)
+            if count[0] < room:
+                return [self._view(lent[2 * place], lent[2 * place + 1]) for place in range(count[0])]
             room *= 4
-            lent, count = self._lent(vertex, room)
-        return [self._view(lent[2 * place], lent[2 * place + 1]) for place in range(count)]
-
-    def _lent(self, vertex: int, room: int) -> tuple[Any, int]:
-        """The address and the length of each slice, one after another, and how many slices these are."""
-        calls = self._calls
-        lent = calls.new(calls.sizes, 2 * room + 1)
-        status = calls.lend(self._at(), vertex_of(vertex, self.vertices), lent, room, lent + 2 * room)
-        if status:
-            library.check(status)
-        return lent, lent[2 * room]
 
     def _view(self, at: int, count: int) -> Vertices:
         """The array of a slice."""
@@ -335,10 +345,19 @@ class Version:
 
     def neighbours(self, vertex: int) -> Vertices:
         """The targets of a vertex, ascending, as a read-only uint32 array: a view where they lie in one slice, else a copy."""
-        lent, count = self._lent(vertex, LEAST_ROOM)
-        if count == 1:
-            return self._view(lent[0], lent[1])
-        slices = self.slices(vertex) if count else []
+        shared, calls = self._shared or self._open(), self._calls
+        handle, number = shared.own(), vertex_of(vertex, self.vertices)
+        # The handle keeps the room but for this time: what handles a signal may ask for a list meanwhile.
+        room, handle.room = handle.room or calls.room(LEAST_ROOM), None
+        lent, count = room
+        status = calls.lend(handle.at, number, lent, LEAST_ROOM, count)
+        found, at, length = count[0], lent[0], lent[1]
+        handle.room = room
+        if status:
+            library.check(status)
+        if found == 1:
+            return self._view(at, length)
+        slices = self.slices(vertex) if found else []
         copied: Vertices = np.concatenate(slices) if slices else np.empty(0, U32)
         copied.flags.writeable = False
         return copied

@@ -8,6 +8,7 @@ import re
 import shutil
 import struct
 import subprocess
+import sys
 import threading
 from collections.abc import Sequence
 from typing import Any
@@ -31,6 +32,8 @@ IMAGE = struct.Struct("<4sHHH")
 IMAGE_BEGINS = b"BPE2"
 BUILT_NOW = "edgebpf: built from dist/"
 CHECKOUT = pathlib.Path(__file__).resolve().parent.parent.parent.parent
+# Where a wheel has the programs.
+INSTALLED = pathlib.Path(__file__).resolve().parent / "installed"
 # The words of statements whose first argument is a register or a place in memory; those of arithmetic and branches may have 32 after them.
 WORDS_OF_REGISTERS = (
     r"(?:(?:mov|add|sub|mul|s?div|s?mod|or|and|xor|a?rsh|lsh|neg|j(?:eq|ne|s?gt|s?ge|s?lt|s?le|set))(?:32)?"
@@ -45,16 +48,26 @@ STATEMENT = re.compile(
 
 
 def command(name: str) -> str:
-    """The path of a program of edgebpf: for `edgebpf` what EDGEBPF names, else what stands in a checkout, or what is installed."""
+    """The path of a program of edgebpf: for `edgebpf` what EDGEBPF names, else what stands in a checkout, in this package if it came as a
+    wheel, or what is installed."""
     if name == "edgebpf" and os.environ.get("EDGEBPF"):
         return os.environ["EDGEBPF"]
     for path in (CHECKOUT / name, CHECKOUT / "tools" / name):
         if path.is_file() and (CHECKOUT / "crates.txt").is_file():
             return str(path)
+    for path in (INSTALLED / name, INSTALLED / "tools" / name):
+        if path.is_file():
+            return str(path)
     found = shutil.which(name)
     if not found:
         raise Error(f"{name} is not on PATH: install edgebpf")
     return found
+
+
+def python_command(name: str) -> list[str]:
+    """How a program in Python is run: one of a wheel by this Python, whose packages it may need, and any other by its own."""
+    path = command(name)
+    return [sys.executable, path] if sys.executable and INSTALLED in pathlib.Path(path).parents else [path]
 
 
 def record_of(record: int) -> int:
@@ -184,7 +197,7 @@ class Program:
         return f"program {name} {self.record}\n{self.text}\nend\n".encode()
 
     def _explain(self) -> str:
-        words = [command("edgebpf-explain"), str(self.record)] + ([self.code.hex()] if self.code is not None else [])
+        words = [*python_command("edgebpf-explain"), str(self.record)] + ([self.code.hex()] if self.code is not None else [])
         words += ["--table", self.table.hex()] if self.table else []
         given = None if self.text is None else self.text + "\n"
         run = subprocess.run(words, input=given, capture_output=True, text=True)

@@ -321,6 +321,16 @@ class Version:
         degrees = np.diff(self.csr()[0]).astype(np.uint32)
         return degrees if frontier is None else degrees[vertices_of(frontier, self.vertices, "frontier")]
 
+    def lists(self, frontier: npt.ArrayLike) -> tuple[npt.NDArray[np.int64], Vertices]:
+        """The targets of the vertices of a frontier: those of the vertex at place `i` of it are `targets[starts[i]:starts[i + 1]]`, ascending.
+        `starts` is an int64 array of one place more than the frontier, and `targets` a uint32 array."""
+        if frontier is None:
+            raise TypeError("frontier is an array of vertices; the lists of all are csr()")
+        chosen, (starts, targets) = vertices_of(frontier, self.vertices, "frontier"), self.csr()
+        ends = np.concatenate((np.zeros(1, np.int64), np.cumsum(np.diff(starts)[chosen])))
+        parts = [targets[starts[vertex]:starts[vertex + 1]] for vertex in chosen.tolist()]
+        return ends, np.concatenate(parts) if parts else np.empty(0, np.uint32)
+
     def has_edge(self, source: int, target: int) -> bool:
         """Whether there is an edge from `source` to `target`."""
         own, wanted = self.neighbours(vertex_of(source, self.vertices, "source")), vertex_of(target, self.vertices, "target")

@@ -62,15 +62,29 @@ class Trial:
             same("epoch", self.store.rebase(), self.epoch)
         inserts, removes = self.some_edges(), self.some_edges()
         ends = lambda edges: ([one for one, _ in edges], [other for _, other in edges])
-        counts = self.store.batch(self.chance.choice("ABCD"), ends(inserts), ends(removes))
-        later = (self.edges | set(inserts)) - set(removes)
+        feed = self.chance.choice("ABCD")
+        if self.chance.random() < 0.5:
+            counts, later = self.store.batch(feed, ends(inserts), ends(removes)), (self.edges | set(inserts)) - set(removes)
+        else:
+            counts, later = self.applied(feed, inserts + removes)
         self.number += 1
         same("counts", counts, edgebpf.Counts(self.number, len(later - self.edges), len(self.edges - later)))
         self.edges = later
         version = self.store.pin()
         same("version", (version.epoch, version.number), (self.epoch, self.number))
+        if self.chance.random() < 0.3:
+            version = version.share()
         self.compare_arrays(version)
         self.compare_program(version)
+
+    def applied(self, feed, edits):
+        """The counts of edits in their order, each of which puts its edge in or takes it out, and the edges after them."""
+        marks, later = [self.chance.random() < 0.4 for _ in edits], set(self.edges)
+        for edit, mark in zip(edits, marks):
+            (later.discard if mark else later.add)(edit)
+        if self.chance.random() < 0.5:
+            return self.store.apply(edges=edits, removes=marks, feed=feed), later
+        return self.store.apply([one for one, _ in edits], [other for _, other in edits], marks, feed), later
 
     def compare_arrays(self, version):
         rows = [one for one, _ in self.edges], [other for _, other in self.edges]
@@ -81,6 +95,17 @@ class Trial:
         same("targets", targets.tolist(), matrix.indices.tolist())
         vertex = self.chance.randrange(self.vertices)
         same("neighbours", version.neighbours(vertex).tolist(), matrix.indices[matrix.indptr[vertex]:matrix.indptr[vertex + 1]].tolist())
+        frontier = [self.chance.randrange(self.vertices) for _ in range(self.chance.choice([0, 1, 5, 2 * self.vertices]))]
+        chosen = matrix[frontier] if frontier else sparse.csr_array((0, self.vertices), dtype=np.int8)
+        starts, targets = version.lists(frontier)
+        same("starts of a frontier", starts.tolist(), chosen.indptr.tolist())
+        same("lists of a frontier", targets.tolist(), chosen.indices.tolist())
+        same("degrees", version.degrees(frontier).tolist(), np.diff(chosen.indptr).tolist())
+        same("all degrees", version.degrees().tolist(), np.diff(matrix.indptr).tolist())
+
+        others = [(self.chance.randrange(self.vertices), self.chance.randrange(self.vertices)) for _ in range(5)]
+        same("has_edge", [version.has_edge(*edge) for edge in others], [edge in self.edges for edge in others])
+        same("neighbour", [version.neighbour(vertex, place) for place in range(version.degree(vertex))], version.neighbours(vertex).tolist())
 
     def compare_program(self, version):
         record = self.chance.choice([EDGE, EDGE, EDGE + 8])

@@ -4,6 +4,7 @@ import os
 import pathlib
 import re
 import shutil
+import signal
 import subprocess
 import sys
 import tempfile
@@ -76,6 +77,22 @@ class Native(test_package.Package):
         for other in others:
             other.batch("A", (np.zeros(700, int), np.arange(700) + 1))
         self.assertEqual(view.tolist(), list(range(700)))
+
+    def test_lists_while_a_signal_is_handled(self):
+        """What handles a signal may ask for lists, at any moment of another question."""
+        store, seen = self.store(10), []
+        store.batch("A", edges=[(0, 1), (0, 2), (3, 4), (3, 5), (3, 6)])
+        version = store.pin()
+        before = signal.signal(signal.SIGALRM, lambda *_: seen.append(version.neighbours(3).tolist()))
+        self.addCleanup(signal.signal, signal.SIGALRM, before)
+        signal.setitimer(signal.ITIMER_REAL, 0.0003, 0.0003)
+        try:
+            for _ in range(50_000):
+                self.assertEqual(version.neighbours(0).tolist(), [1, 2])
+        finally:
+            signal.setitimer(signal.ITIMER_REAL, 0)
+        self.assertGreater(len(seen), 10)
+        self.assertTrue(all(one == [4, 5, 6] for one in seen))
 
     def watched(self, watch):
         """Until the test ends each call of the library goes through `watch`, with its name, the call itself and what it is given."""

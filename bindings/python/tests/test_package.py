@@ -180,13 +180,44 @@ class Package(unittest.TestCase):
         with self.assertRaisesRegex(TypeError, "^place is a whole number, not float$"):
             version.neighbour(0, 0.0)
         for wrong, error in (([900], edgebpf.VertexRange), ([-1], edgebpf.VertexRange), ([0.5], TypeError), ([[0]], TypeError), (["0"], TypeError), ([[0], [1, 2]], TypeError), (0, TypeError), ([True], TypeError)):
-            for ask in (version.degrees, lambda one: version.run(edgebpf.assemble(TARGET), "sum", one)):
+            for ask in (version.degrees, version.lists, lambda one: version.run(edgebpf.assemble(TARGET), "sum", one)):
                 with self.assertRaisesRegex(error, "frontier"):
                     ask(wrong)
         version.close()
-        for ask in (lambda: version.degree(0), lambda: version.degrees([0]), version.degrees, lambda: version.has_edge(0, 1), lambda: version.neighbour(0, 0), version.share):
+        for ask in (lambda: version.degree(0), lambda: version.degrees([0]), version.degrees, lambda: version.lists([0]), lambda: version.has_edge(0, 1), lambda: version.neighbour(0, 0), version.share):
             with self.assertRaises(edgebpf.Closed):
                 ask()
+
+    def test_lists(self):
+        """The lists of a frontier are those of its vertices, in any order, as often as they stand there, and without any."""
+        store, edges = self.store(2_000), {(source, source * 7 * place % 2_000) for source in range(0, 2_000, 3) for place in range(source % 40)}
+        edges |= {(1, target) for target in range(0, 2_000, 2)}
+        store.batch("A", edges=sorted(edges))
+        store.batch("B", edges=[(5, 5)])
+        store.batch("C", removes=([5], [5]))
+        version, rows = store.pin(), {}
+        for source, target in sorted(edges):
+            rows.setdefault(source, []).append(target)
+        for frontier in ([], [2], [1], [1_999, 0, 1, 1, 39, 4, 1_998], np.arange(2_000)[::-1], np.arange(2_000, dtype=">i8"), range(0, 2_000, 5)):
+            starts, targets = version.lists(frontier)
+            lists = [rows.get(vertex, []) for vertex in np.asarray(frontier, int).tolist()]
+            self.assertEqual((starts.dtype, targets.dtype), (np.int64, np.uint32))
+            self.assertEqual(starts.tolist(), [sum(map(len, lists[:place])) for place in range(len(lists) + 1)])
+            self.assertEqual(targets.tolist(), [target for one in lists for target in one])
+            self.assertEqual(version.degrees(frontier).tolist(), list(map(len, lists)))
+        starts, targets = version.lists(range(2_000))
+        self.assertTrue((starts == version.csr()[0]).all() and (targets == version.csr()[1]).all())
+        # What is given and what comes are apart: a frontier may be read-only, and a view of what came before.
+        frozen = np.array([3, 1, 3], np.uint32)
+        frozen.flags.writeable = False
+        self.assertEqual(version.lists(frozen)[0].tolist(), version.lists(frozen.tolist())[0].tolist())
+        targets[:] = 9
+        starts[:] = 9
+        again = version.lists(targets[:4])
+        self.assertEqual((version.degrees(starts[:4]).tolist(), again[1].tolist()), ([len(rows[9])] * 4, rows[9] * 4))
+        self.assertEqual(version.csr()[1][:3].tolist(), rows[min(rows)][:3] if 0 in rows else rows[1][:3])
+        with self.assertRaisesRegex(TypeError, "^frontier is an array of vertices; the lists of all are csr\\(\\)$"):
+            version.lists(None)
 
     def test_shares(self):
         """A share of a version stays when the other one is closed, and one of a program when the other one is gone."""
@@ -753,21 +784,42 @@ except KeyboardInterrupt:
                 edgebpf.compile_c(**given)
 
     def test_installed(self):
-        """`pip install` needs no network, and gives the same package, with the library if there is a C compiler."""
+        """`pip install` needs no network. In an environment of its own the package is the same, with the library, the programs and the compiler
+        driver if there is a C compiler, and runs the block of README.md, a process, and a program in C."""
         with tempfile.TemporaryDirectory() as folder:
-            words = [sys.executable, "-m", "pip", "install", "-q", "--root-user-action=ignore", "--disable-pip-version-check", "--no-index", "--no-deps", "--target", folder, str(FOLDER)]
+            python = pathlib.Path(folder, "own", "bin", "python")
+            made = subprocess.run([sys.executable, "-m", "venv", "--system-site-packages", "--without-pip", f"{folder}/own"], capture_output=True, text=True)
+            if made.returncode:
+                self.skipTest("not there: venv")
+            words = [python, "-m", "pip", "install", "-q", "--root-user-action=ignore", "--disable-pip-version-check", "--no-index", str(FOLDER)]
             run = subprocess.run(words, capture_output=True, text=True, cwd=folder)
             if "No module named pip" in run.stderr:
                 self.skipTest("not there: pip")
             self.assertEqual((run.returncode, run.stderr), (0, ""))
-            names = {path.name for path in (pathlib.Path(folder) / "edgebpf").iterdir()} - {"__pycache__"}
+            (package,) = pathlib.Path(folder, "own").glob("lib/python3*/site-packages/edgebpf")
+            names = {path.name for path in package.iterdir()} - {"__pycache__"}
             wanted = {path.name for path in (FOLDER / "edgebpf").iterdir()} - {"__pycache__"}
-            self.assertEqual(names - {"libedgebpf.so"}, wanted)
-            if shutil.which("cc"):
-                self.assertIn("libedgebpf.so", names)
-                words = [sys.executable, "-c", "import edgebpf; print(edgebpf.library.path()); print(edgebpf.Store(4).batch('D', ([0], [1])).added)"]
-                run = subprocess.run(words, capture_output=True, text=True, cwd=folder, env={"PYTHONPATH": folder})
-                self.assertEqual((run.stdout, run.stderr), (f"{folder}/edgebpf/libedgebpf.so\n1\n", ""))
+            self.assertEqual(names - {"libedgebpf.so", "installed"}, wanted)
+            if not shutil.which("cc") or not shutil.which("make"):
+                return
+            self.assertLess({"libedgebpf.so", "installed"}, names)
+
+            def says(*lines):
+                """What lines in Python write there, where nothing else of edgebpf is to be found."""
+                run = subprocess.run([python, "-W", "error", "-c", "\n".join(lines)], capture_output=True, text=True, cwd=folder, env={"PATH": "/usr/bin:/bin"})
+                self.assertEqual(run.stderr, "")
+                return run.stdout.splitlines()
+
+            readme = (TOP / "README.md").read_text()
+            block = readme[readme.index("```python\n") + 10:].partition("```")[0]
+            if edgebpf.library.cffi is not None:
+                self.assertEqual(says(block, "print(edgebpf.library.path())"), [f"{package}/libedgebpf.so"])
+            connected = block.replace("edgebpf.Store(", "edgebpf.connect(")
+            refused = "try: edgebpf.assemble('ldxw r0, [r1+13]\\nexit')", "except edgebpf.Refused as refused: print('ldxw r0' in refused.explain())"
+            self.assertEqual(says(connected, *refused), ["True"])
+            text = "#include <edgebpf.h>\nu64 twice(struct edge *edge, u64 length) { return 2 * edge->target; }\n"
+            if shutil.which("clang") or shutil.which("clang-19"):
+                self.assertEqual(says("import edgebpf", f"print(edgebpf.compile_c(text={text!r}, function='twice').frames)"), ["1"])
 
 
 def told(work, wrong):

@@ -110,6 +110,23 @@ extern "C" {
         targets: *mut u32,
         target_count: usize,
     ) -> u32;
+    pub(crate) fn edgebpf_version_degrees(
+        version: *mut RawHandle,
+        frontier: *const u32,
+        frontier_count: usize,
+        counts: *mut u32,
+        count_count: usize,
+    ) -> u32;
+    pub(crate) fn edgebpf_version_lists(
+        version: *mut RawHandle,
+        frontier: *const u32,
+        frontier_count: usize,
+        starts: *mut u64,
+        start_count: usize,
+        targets: *mut u32,
+        room: usize,
+        count: *mut usize,
+    ) -> u32;
     pub(crate) fn edgebpf_program_new(
         record_length: u16,
         code: *const u8,

@@ -1,12 +1,13 @@
 //! A version of a store's graph.
 use crate::calls::{
-    edgebpf_numbers, edgebpf_version_copy, edgebpf_version_degree, edgebpf_version_has_edge,
-    edgebpf_version_info, edgebpf_version_lend_from, edgebpf_version_neighbour, edgebpf_version_share, RawInfo,
-    RawSlice,
+    edgebpf_numbers, edgebpf_version_copy, edgebpf_version_degree, edgebpf_version_degrees,
+    edgebpf_version_has_edge, edgebpf_version_info, edgebpf_version_lend_from, edgebpf_version_lists,
+    edgebpf_version_neighbour, edgebpf_version_share, RawInfo, RawSlice,
 };
-use crate::error::{done, zeros, Error, NO_NEIGHBOUR};
+use crate::error::{done, zeros, Error, LENGTHS, NO_NEIGHBOUR};
 use crate::handle::Handle;
 use crate::program::Program;
+use crate::MOST_VERTICES;
 use std::ptr::null;
 use std::slice::from_raw_parts;
 
@@ -67,7 +68,8 @@ pub struct Totals {
     pub total: u64,
 }
 
-/// All edges: those of vertex `v` lead to `targets[starts[v]..starts[v + 1]]`, ascending.
+/// The edges of some vertices, one vertex after another: those of the vertex at place `i` lead to `targets[starts[i]..starts[i + 1]]`,
+/// ascending. Of `Version::csr` the vertex at place `i` is `i`.
 #[derive(Clone, Debug, PartialEq, Eq)]
 pub struct Csr {
     /// One place for each vertex, and one more.
@@ -118,6 +120,52 @@ impl Version {
         // SAFETY: the handle holds a version.
         unsafe { edgebpf_version_degree(self.0.at(), vertex, &mut count) };
         count
+    }
+
+    /// How many neighbours each vertex of a frontier has, which may name vertices in any order and more than once. `NoMemory`.
+    pub fn degrees(&self, frontier: &[u32]) -> Result<Vec<u32>, Error> {
+        let mut counts = zeros(frontier.len())?;
+        // SAFETY: the handle holds a version, and the arrays are as long as said.
+        done(unsafe {
+            edgebpf_version_degrees(self.0.at(), frontier.as_ptr(), frontier.len(), counts.as_mut_ptr(), counts.len())
+        })?;
+        Ok(counts)
+    }
+
+    /// The neighbours of the vertices of a frontier, copied. It may name vertices in any order and more than once, at most 268,435,456
+    /// (`Lengths`). `NoMemory`.
+    pub fn lists(&self, frontier: &[u32]) -> Result<Csr, Error> {
+        if frontier.len() > MOST_VERTICES as usize {
+            return Err(Error::Lengths);
+        }
+        let mut lists = Csr { starts: zeros(frontier.len() + 1)?, targets: Vec::new() };
+        let mut count = 0;
+        // Without room it says how many there are.
+        let status = self.lists_into(frontier, &mut lists, &mut count);
+        if status == LENGTHS && count > 0 {
+            lists.targets = zeros(count)?;
+            done(self.lists_into(frontier, &mut lists, &mut count))?;
+        } else {
+            done(status)?;
+        }
+        Ok(lists)
+    }
+
+    fn lists_into(&self, frontier: &[u32], lists: &mut Csr, count: &mut usize) -> u32 {
+        let (starts, targets) = (&mut lists.starts, &mut lists.targets);
+        // SAFETY: the handle holds a version, and the arrays are as long as said.
+        unsafe {
+            edgebpf_version_lists(
+                self.0.at(),
+                frontier.as_ptr(),
+                frontier.len(),
+                starts.as_mut_ptr(),
+                starts.len(),
+                targets.as_mut_ptr(),
+                targets.len(),
+                count,
+            )
+        }
     }
 
     /// Whether there is an edge.

@@ -104,6 +104,30 @@ fn a_rebase_begins_numbers_again() {
     assert_eq!(store.apply(Feed::C, Batch::new().insert(3, 3)).unwrap().number, 1);
 }
 
+/// In any order, a vertex twice, and two that the graph does not have.
+#[test]
+fn lists_of_many_vertices_come_in_one_call() {
+    let mut store = Store::new(8).unwrap();
+    store.apply(Feed::A, &Batch::from_iter([(0, 3), (0, 1), (0, 2), (2, 0), (3, 3), (7, 6), (7, 0)])).unwrap();
+    let version = store.pin().unwrap();
+    let frontier = [7, 0, 1, 7, 8, 2, u32::MAX];
+    let lists = version.lists(&frontier).unwrap();
+    assert_eq!(lists.starts, [0, 2, 5, 5, 7, 7, 8, 8]);
+    assert_eq!(lists.targets, [0, 6, 1, 2, 3, 0, 6, 0]);
+    assert_eq!(version.degrees(&frontier).unwrap(), [2, 3, 0, 2, 0, 1, 0]);
+    let all: Vec<u32> = (0..8).collect();
+    assert_eq!(version.lists(&all).unwrap(), version.csr().unwrap());
+    let none = version.lists(&[]).unwrap();
+    assert_eq!((none.starts, none.targets), (vec![0], vec![]));
+    let without = version.lists(&[1, 99]).unwrap();
+    assert_eq!((without.starts, without.targets), (vec![0, 0, 0], vec![]));
+    assert_eq!(version.degrees(&[]).unwrap(), []);
+    let many = vec![0; MOST_VERTICES as usize + 1];
+    assert_eq!(version.lists(&many), Err(Error::Lengths));
+    drop(store);
+    assert_eq!(version.lists(&[2]).unwrap().targets, [0]);
+}
+
 #[test]
 fn errors_are_told_and_change_nothing() {
     // `unwrap_err` needs a store that can be shown.

@@ -3,6 +3,7 @@
 #![tactic(auto)]
 
 mod columns;
+mod lists;
 mod programs;
 mod runs;
 mod stores;

@@ -3,3 +3,4 @@ pub mod Boxes
 pub mod EditLists
 pub mod SliceCounts
 pub mod RunValues
+pub mod ListLemmas

@@ -10,4 +10,5 @@ pub mod Programs
 pub mod Texts
 pub mod Runs
 pub mod Parts
+pub mod Lists
 pub mod Lent

@@ -10,7 +10,7 @@ use crate::statuses::{DONE, LENGTHS, OTHER_KIND};
 use version::Version;
 
 // Copies a vertex's neighbours.
-fn copy_vertex(version: &Version, vertex: u32, targets: &mut [u32])
+pub(crate) fn copy_vertex(version: &Version, vertex: u32, targets: &mut [u32])
     requires { length targets.old ≡ degree (graph_of version.now) vertex }
     ensures { targets.new ≡ neighbours (graph_of version.now) vertex }
 {
