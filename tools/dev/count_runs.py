@@ -12,7 +12,7 @@ import sys
 import tempfile
 
 TOP = pathlib.Path(__file__).resolve().parent.parent.parent
-PROGRAMS, KINDS, BATCHES = ("two", "filter", "calls"), ("run", "steps", "numbers", "some"), (1, 3)
+PROGRAMS, KINDS, BATCHES = ("two", "column", "columns", "filter", "calls"), ("run", "steps", "numbers", "some"), (1, 3)
 
 
 def output(*command):
