@@ -4,6 +4,7 @@
 A block of the header is a comment and what it describes, up to an empty line.
 """
 import re
+import textwrap
 from pathlib import Path
 
 from write_manual import code, escaped
@@ -11,6 +12,10 @@ from write_manual import code, escaped
 TOP = Path(__file__).resolve().parent.parent.parent
 HEADER = TOP / "bindings" / "c" / "edgebpf.h"
 FIRST, LAST = 'extern "C" {\n#endif\n', "#ifdef __cplusplus\n}"
+# Of a terminal of 80 columns, less what code is indented.
+CODE_COLUMNS = 68
+# Stands for a blank at which no line ends.
+KEPT = "\x02"
 ABOUT = "a graph store with verified programs over its edges, in process"
 SYNOPSIS = ["#include <edgebpf.h>", "", "cc host.c $(pkg-config --cflags --libs edgebpf)"]
 SEE_ALSO = "\\fBedgebpf\\fR(1), \\fBedgebpf\\-bpf\\fR(7), and \\fBEMBEDDING.md\\fR in the documentation: who owns what, threads, memory, and what is proved"
@@ -46,8 +51,17 @@ def status_table(header):
 
 
 def declared(lines):
-    """Declarations alone: of an inline function its head."""
-    return [re.sub(r" \{ .* \}$", ";", line) if line.startswith("static inline") else line for line in lines]
+    """Declarations alone, of an inline function its head, each on as many lines as it needs."""
+    heads = [re.sub(r" \{ .* \}$", ";", line) if line.startswith("static inline") else line for line in lines]
+    whole = re.split(r"(?<=;)\n", "\n".join(heads))
+    return [line for each in whole for line in ([each] if each.startswith("#") else wrapped(each))]
+
+
+def wrapped(declaration):
+    """A declaration on lines that end behind a parameter or a field."""
+    whole = re.sub(r"(?<![,;{]) ", KEPT, " ".join(declaration.split()))
+    lines = textwrap.wrap(whole, CODE_COLUMNS, subsequent_indent="    ", break_long_words=False, break_on_hyphens=False)
+    return [line.replace(KEPT, " ") for line in lines]
 
 
 def manual(header):
@@ -67,7 +81,7 @@ def manual(header):
         elif lines[0].startswith("static inline const char"):
             made += [*text(comment), *code(["const char *edgebpf_words(uint32_t status);"])]
         else:
-            made += [*(text(comment) if comment else []), *code(lines)]
+            made += [*(text(comment) if comment else []), *code(lines if lines[0].startswith("#") else declared(lines))]
     return "\n".join([*made, ".SH SEE ALSO", SEE_ALSO]) + "\n"
 
 
