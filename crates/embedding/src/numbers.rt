@@ -25,10 +25,10 @@ pub struct NumbersAsked<'a> {
 }
 
 // Writes the numbers of all edges.
-fn number_all(
-    version: &Version,
+fn number_all<'a>(
+    version: &'a Version,
     program: &mut Runnable,
-    argument: &[u8],
+    argument: &'a [u8],
     numbers: &mut [u64],
 ) -> u32
     ensures program { program.new ≡ program.old }
