@@ -1,7 +1,7 @@
 use Rattle.std.proofs.Common.{◌≡◌, ◌≤◌, sym, ap, subst, ◌∙◌, rules}
 use Rattle.std.specs.Arc.{arc_value}
 use Rattle.past_model.specs.declared.limits.TheConstants.{SERVED_EPOCHS}
-use Rattle.past_model.specs.Past.{Past, epoch_of}
+use Rattle.past_model.specs.Past.{epoch_of}
 use Rattle.store.proofs.recorded.Recorded.epoch.Goals as goal
 
 pub returns-clause-small : goal.returns-clause-small
