@@ -16,7 +16,7 @@ pub enum Error {
     TooManyEdits,
     /// 4,096 batches were applied, and there is room for no more before a rebase.
     LogFull,
-    /// 1,024 rebases were made, and there is room for no more.
+    /// As many rebases were made as 64 bits count.
     EpochsFull,
     /// The lengths of the arrays do not fit together.
     Lengths,
@@ -30,6 +30,8 @@ pub enum Error {
     ArgumentLength,
     /// A progress names no place of the frontier.
     Progress,
+    /// The arrays of a graph's edges are not sorted.
+    NotSorted,
     /// A batch of a `Live` was applied, and there was no memory to show its version before the next one.
     NotShown,
     /// The library answered a status of which this crate knows nothing.
@@ -57,6 +59,7 @@ impl Error {
             18 => Error::TableLength,
             13 => Error::ArgumentLength,
             20 => Error::Progress,
+            21 => Error::NotSorted,
             other => Error::Unknown(other),
         }
     }
@@ -87,13 +90,14 @@ impl fmt::Display for Error {
             Error::VertexRange => to.write_str("a vertex is not in the graph"),
             Error::TooManyEdits => to.write_str("there are more than 65536 edits"),
             Error::LogFull => to.write_str("4096 batches were applied, and there is room for no more before a rebase"),
-            Error::EpochsFull => to.write_str("1024 rebases were made, and there is room for no more"),
+            Error::EpochsFull => to.write_str("as many rebases were made as 64 bits count"),
             Error::Lengths => to.write_str("the lengths of the arrays do not fit together"),
             Error::RecordLength => to.write_str("the record length is not from 16 to 256"),
             Error::CodeLength => to.write_str("the code is not 1 to 4096 units of 8 bytes"),
             Error::TableLength => to.write_str("the table has more than 4096 bytes"),
             Error::ArgumentLength => to.write_str("the argument is not as long as the record less 16 bytes"),
             Error::Progress => to.write_str("the progress names no place of this frontier"),
+            Error::NotSorted => to.write_str("the arrays are not sorted"),
             Error::NotShown => {
                 to.write_str("the batch was applied, and there is no memory to show its version before the next one")
             }
@@ -201,6 +205,7 @@ mod tests {
             (17, Error::EpochsFull),
             (18, Error::TableLength),
             (20, Error::Progress),
+            (21, Error::NotSorted),
         ] {
             assert_eq!((Error::of(status), error.to_string().as_str()), (error, words[status as usize]));
         }

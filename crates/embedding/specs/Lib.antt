@@ -10,3 +10,4 @@ pub mod Programs
 pub mod Texts
 pub mod Runs
 pub mod Parts
+pub mod Sorted
