@@ -32,7 +32,8 @@ enum {
     EDGEBPF_EPOCHS_FULL = 17,
     EDGEBPF_TABLE_LENGTH = 18,
     EDGEBPF_COLUMNS = 19,
-    EDGEBPF_PROGRESS = 20
+    EDGEBPF_PROGRESS = 20,
+    EDGEBPF_NOT_SORTED = 21
 };
 
 /* The same in words. */
@@ -55,10 +56,11 @@ static inline const char *edgebpf_words(uint32_t status) {
         "there is no such reduction",
         "the text means no code",
         "the vertex has no neighbour at this place",
-        "1024 rebases were made, and there is room for no more",
+        "as many rebases were made as 64 bits count",
         "the table has more than 4096 bytes",
         "there are more than 8 columns, or one has not a number for each vertex",
         "the progress names no place of this frontier",
+        "the arrays are not sorted",
     };
     return status < sizeof words / sizeof *words ? words[status] : "there is no such status";
 }
@@ -70,7 +72,7 @@ static inline const char *edgebpf_words(uint32_t status) {
 #define EDGEBPF_MOST_VERTICES 268435456u
 #define EDGEBPF_MOST_EDITS 65536u
 #define EDGEBPF_MOST_BATCHES 4096u /* between two rebases */
-#define EDGEBPF_MOST_EPOCHS 1024u
+#define EDGEBPF_MOST_EPOCHS UINT64_MAX
 #define EDGEBPF_MOST_COLUMNS 8u
 
 /* Handles. {0} is the empty one. A handle is closed once and never copied; whoever has it owns it. */
@@ -113,6 +115,19 @@ enum { EDGEBPF_SUM = 0, EDGEBPF_MIN = 1, EDGEBPF_MAX = 2 };
 /* A store of a graph of 1 to 268,435,456 vertices, without an edge. VERTEX_COUNT. */
 uint32_t edgebpf_store_new(uint32_t vertices, edgebpf_store *out);
 
+/* A store of a graph whose edges are sorted, as edgebpf_version_copy writes them: `starts` has the place in `targets` at which each vertex's
+   list begins, and after the last one their number, and each list ascends. The arrays are read once, and no log is kept of them: they are
+   version 0 of epoch 0. VERTEX_COUNT; LENGTHS if there is not one start for each vertex and one more; NOT_SORTED if the first start is not
+   0, the last one not `target_count`, a start less than the one before it, or a target not greater than the one before it in its list;
+   VERTEX_RANGE if a target is no vertex; tested in this order. */
+uint32_t edgebpf_store_from(uint32_t vertices, const uint64_t *starts, size_t start_count, const uint32_t *targets, size_t target_count,
+                            edgebpf_store *out);
+
+/* A branch: a store of its own whose graph is that of a version. No list is copied, so it takes some microseconds whatever the graph's
+   size. It begins anew, with version 0 of epoch 0 and room for 4,096 batches, and nothing that is done to it changes the version, or the
+   store that the version is of; either may be closed. */
+uint32_t edgebpf_store_of(edgebpf_version *version, edgebpf_store *out);
+
 /* Applies a batch of edits in their order, of feed 0 to 3: an edge from each source to the target at its place, which is taken
    out if `removes` is not 0. LENGTHS, TOO_MANY_EDITS, VERTEX_RANGE, LOG_FULL, FEED, tested in this order. If the result is
    not 0, the store is as it was; after NO_MEMORY the same call may be made again. */
@@ -122,8 +137,8 @@ uint32_t edgebpf_store_apply(edgebpf_store *store, uint8_t feed, const uint32_t 
 
 /* Forgets the batches that made the last version, whose memory is free once no older version is open: the graph stays as it
    is, and is version 0 of the next epoch, which has room for 4,096 batches. `epoch` is how many rebases there were with this
-   one. EPOCHS_FULL after 1,024 of them. If the result is not 0, the store is as it was; after NO_MEMORY the same call may be
-   made again. */
+   one; each takes 32 bytes. EPOCHS_FULL after 2^64 - 1 of them, which is never. If the result is not 0, the store is as it was; after
+   NO_MEMORY the same call may be made again. */
 uint32_t edgebpf_store_rebase(edgebpf_store *store, uint64_t *epoch);
 
 /* The last version, which stays as it is. */

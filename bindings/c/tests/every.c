@@ -1,5 +1,9 @@
 /* Calls each function on a graph of four vertices, whose answers were found by hand, and meets each status. */
 #include "check.h"
+#include <stdbool.h>
+
+/* So many rebases are made, one after another. */
+#define REBASES 10000u
 
 static edgebpf_store store;
 static edgebpf_version first, last;
@@ -179,14 +183,104 @@ static void rebases(void) {
     CHECK(edgebpf_version_info(&last, &info) == EDGEBPF_DONE && info.epoch == 0 && info.number == 2);
     CHECK(edgebpf_store_apply(&store, 3, &one, 1, &two, 1, &insert, 1, &change) == EDGEBPF_DONE);
     CHECK(change.added == 1 && change.removed == 0 && change.number == 1);
-    for (uint64_t number = 2; number <= EDGEBPF_MOST_EPOCHS; number++)
+    for (uint64_t number = 2; number <= REBASES; number++)
         CHECK(edgebpf_store_rebase(&store, &epoch) == EDGEBPF_DONE && epoch == number);
-    CHECK(edgebpf_store_rebase(&store, &epoch) == EDGEBPF_EPOCHS_FULL && epoch == EDGEBPF_MOST_EPOCHS);
     CHECK(edgebpf_store_apply(&store, 3, &one, 1, &two, 1, &insert, 1, &change) == EDGEBPF_DONE);
     CHECK(change.added == 0 && change.removed == 0 && change.number == 1);
     CHECK(edgebpf_store_pin(&store, &based) == EDGEBPF_DONE && edgebpf_version_info(&based, &info) == EDGEBPF_DONE);
-    CHECK(info.epoch == EDGEBPF_MOST_EPOCHS && info.number == 1 && info.edges == 6);
+    CHECK(info.epoch == REBASES && info.number == 1 && info.edges == 6);
     edgebpf_close_version(&based);
+}
+
+/* Whether a version has just the edges of such rows, of which each bit is a target. */
+static bool has_rows(edgebpf_version *version, const uint32_t *rows, uint32_t vertices) {
+    uint32_t answer = 2;
+    for (uint32_t source = 0; source < vertices; source++)
+        for (uint32_t target = 0; target < vertices; target++)
+            if (edgebpf_version_has_edge(version, source, target, &answer) || answer != (rows[source] >> target & 1)) return false;
+    return true;
+}
+
+/* An edit of a store, and of its rows. */
+static void edit(edgebpf_store *edited, uint32_t *rows, uint32_t source, uint32_t target, uint8_t is_out, uint64_t number) {
+    edgebpf_change change;
+    CHECK(edgebpf_store_apply(edited, 1, &source, 1, &target, 1, &is_out, 1, &change) == EDGEBPF_DONE && change.number == number);
+    rows[source] = is_out ? rows[source] & ~(1u << target) : rows[source] | 1u << target;
+}
+
+/* Sorted arrays: those of a copy, and each test of them in its order. */
+static void sorted_arrays(void) {
+    const uint64_t starts[] = {0, 2, 2, 5}, low[] = {1, 2, 2, 5}, high[] = {0, 2, 2, 4}, back[] = {0, 3, 2, 5}, past[] = {0, 2, 9, 5};
+    const uint32_t targets[] = {1, 2, 0, 1, 2}, twice[] = {1, 1, 0, 1, 2}, fall[] = {1, 2, 0, 2, 1}, outside[] = {1, 3, 0, 1, 2};
+    const uint32_t both[] = {3, 1, 0, 1, 2};
+    const uint32_t rows[] = {6, 0, 7};
+    uint64_t copied[4] = {9, 9, 9, 9};
+    uint32_t found[5] = {9, 9, 9, 9, 9}, after[] = {6, 0, 7};
+    edgebpf_store made = {{0}};
+    edgebpf_version now = {{0}};
+    edgebpf_info info;
+    struct { uint32_t vertices; const uint64_t *starts; size_t start_count; const uint32_t *targets; size_t count; uint32_t status; } each[] = {
+        {0, starts, 1, targets, 0, EDGEBPF_VERTEX_COUNT}, {EDGEBPF_MOST_VERTICES + 1, starts, 4, targets, 5, EDGEBPF_VERTEX_COUNT},
+        {3, starts, 3, targets, 2, EDGEBPF_LENGTHS}, {2, low, 4, twice, 5, EDGEBPF_LENGTHS}, {1, starts, 0, targets, 0, EDGEBPF_LENGTHS},
+        {3, low, 4, targets, 5, EDGEBPF_NOT_SORTED}, {3, high, 4, targets, 5, EDGEBPF_NOT_SORTED}, {3, starts, 4, targets, 4, EDGEBPF_NOT_SORTED},
+        {3, back, 4, targets, 5, EDGEBPF_NOT_SORTED}, {3, past, 4, targets, 5, EDGEBPF_NOT_SORTED}, {3, starts, 4, twice, 5, EDGEBPF_NOT_SORTED},
+        {3, starts, 4, fall, 5, EDGEBPF_NOT_SORTED}, {3, starts, 4, both, 5, EDGEBPF_NOT_SORTED}, {3, starts, 4, outside, 5, EDGEBPF_VERTEX_RANGE},
+    };
+    for (size_t at = 0; at < COUNT(each); at++)
+        CHECK(edgebpf_store_from(each[at].vertices, each[at].starts, each[at].start_count, each[at].targets, each[at].count, &made)
+              == each[at].status && !made.handle.at);
+    CHECK(edgebpf_store_from(3, starts, 4, targets, 5, &made) == EDGEBPF_DONE && edgebpf_store_pin(&made, &now) == EDGEBPF_DONE);
+    CHECK(edgebpf_version_info(&now, &info) == EDGEBPF_DONE && info.epoch == 0 && info.number == 0 && info.edges == 5 && info.vertices == 3);
+    CHECK(has_rows(&now, rows, 3) && edgebpf_version_copy(&now, copied, 4, found, 5) == EDGEBPF_DONE);
+    CHECK(!memcmp(copied, starts, sizeof starts) && !memcmp(found, targets, sizeof targets));
+    edit(&made, after, 1, 1, 0, 1), edit(&made, after, 2, 0, 1, 2);
+    CHECK(has_rows(&now, rows, 3));
+    edgebpf_close_version(&now);
+    CHECK(edgebpf_store_pin(&made, &now) == EDGEBPF_DONE && has_rows(&now, after, 3));
+    /* A store is left where it is if another cannot be made in its place. */
+    CHECK(edgebpf_store_from(3, back, 4, targets, 5, &made) == EDGEBPF_NOT_SORTED);
+    edgebpf_close_version(&now);
+    CHECK(edgebpf_store_pin(&made, &now) == EDGEBPF_DONE && has_rows(&now, after, 3));
+    CHECK(edgebpf_store_from(1, low + 1, 0, targets, 0, &made) == EDGEBPF_LENGTHS && edgebpf_store_from(1, starts + 1, 2, targets, 0, &made) == EDGEBPF_NOT_SORTED);
+    edgebpf_close_version(&now), edgebpf_close_store(&made);
+}
+
+/* A branch, and a branch of it, each edited by itself; what they were made of stays, also when they go first. */
+static void branches(void) {
+    edgebpf_store first = {{0}}, second = {{0}}, third = {{0}}, none = {{0}};
+    edgebpf_version pinned = {{0}}, of_second = {{0}}, now = {{0}}, empty = {{0}};
+    uint32_t rows[6] = {0}, second_rows[6], third_rows[6];
+    uint64_t epoch = 0;
+    edgebpf_info info;
+    CHECK(edgebpf_store_new(6, &first) == EDGEBPF_DONE);
+    edit(&first, rows, 0, 1, 0, 1), edit(&first, rows, 0, 5, 0, 2), edit(&first, rows, 4, 2, 0, 3);
+    CHECK(edgebpf_store_rebase(&first, &epoch) == EDGEBPF_DONE);
+    edit(&first, rows, 0, 5, 1, 1);
+    CHECK(edgebpf_store_pin(&first, &pinned) == EDGEBPF_DONE && edgebpf_store_of(&pinned, &second) == EDGEBPF_DONE);
+    memcpy(second_rows, rows, sizeof rows);
+    CHECK(edgebpf_store_pin(&second, &of_second) == EDGEBPF_DONE && edgebpf_version_info(&of_second, &info) == EDGEBPF_DONE);
+    CHECK(info.epoch == 0 && info.number == 0 && info.edges == 2 && info.vertices == 6 && has_rows(&of_second, rows, 6));
+    edit(&second, second_rows, 5, 5, 0, 1), edit(&second, second_rows, 0, 1, 1, 2);
+    edgebpf_close_version(&of_second);
+    CHECK(edgebpf_store_pin(&second, &of_second) == EDGEBPF_DONE && edgebpf_store_of(&of_second, &third) == EDGEBPF_DONE);
+    memcpy(third_rows, second_rows, sizeof rows);
+    edit(&third, third_rows, 5, 5, 1, 1), edit(&third, third_rows, 3, 3, 0, 2), edit(&second, second_rows, 4, 2, 1, 3);
+    CHECK(edgebpf_store_rebase(&third, &epoch) == EDGEBPF_DONE && epoch == 1);
+    CHECK(has_rows(&pinned, rows, 6));
+    edit(&first, rows, 2, 0, 0, 2);
+    CHECK(edgebpf_store_pin(&first, &now) == EDGEBPF_DONE && has_rows(&now, rows, 6));
+    edgebpf_close_version(&now), edgebpf_close_store(&first), edgebpf_close_version(&pinned);
+    CHECK(edgebpf_store_pin(&second, &now) == EDGEBPF_DONE && has_rows(&now, second_rows, 6));
+    edgebpf_close_version(&now), edgebpf_close_store(&second);
+    CHECK(edgebpf_store_pin(&third, &now) == EDGEBPF_DONE && has_rows(&now, third_rows, 6));
+    CHECK(edgebpf_version_info(&now, &info) == EDGEBPF_DONE && info.epoch == 1 && info.number == 0);
+    /* What is no version, and an empty handle: nothing is handed out, and the handle stays. */
+    edgebpf_version no_version = {third.handle};
+    CHECK(edgebpf_store_of(&no_version, &none) == EDGEBPF_OTHER_KIND && !none.handle.at && no_version.handle.at == third.handle.at);
+    CHECK(edgebpf_store_of(&empty, &third) == EDGEBPF_EMPTY && edgebpf_store_rebase(&third, &epoch) == EDGEBPF_DONE && epoch == 2);
+    /* A handle that holds something is written over, and what it held is dropped. */
+    CHECK(edgebpf_store_of(&of_second, &third) == EDGEBPF_DONE && edgebpf_store_rebase(&third, &epoch) == EDGEBPF_DONE && epoch == 1);
+    edgebpf_close_version(&of_second), edgebpf_close_version(&now), edgebpf_close_store(&third);
 }
 
 /* A table of four words, of which each edge has the one that its target names. */
@@ -440,11 +534,11 @@ static void tells_what_handles_hold(void) {
     edgebpf_close_store(&none);
     static const char *const words[] = {
         "done", "memory", "empty", "another kind", "number of vertices", "an edit names", "65536 edits", "4096 batches",
-        "feed", "lengths", "refuses", "record length", "code is not", "argument", "reduction", "means no code", "neighbour", "1024 rebases",
-        "the table has more than 4096", "there is no such status", "the progress names no place",
+        "feed", "lengths", "refuses", "record length", "code is not", "argument", "reduction", "means no code", "neighbour", "64 bits count",
+        "the table has more than 4096", "there is no such status", "the progress names no place", "are not sorted",
     };
     for (uint32_t status = 0; status < COUNT(words); status++) CHECK(strstr(edgebpf_words(status), words[status]));
-    CHECK(!strcmp(edgebpf_words(EDGEBPF_PROGRESS + 1), "there is no such status"));
+    CHECK(!strcmp(edgebpf_words(EDGEBPF_NOT_SORTED + 1), "there is no such status"));
 }
 
 int main(void) {
@@ -463,6 +557,8 @@ int main(void) {
     runs_with_the_longest_argument();
     refuses_batches();
     rebases();
+    branches();
+    sorted_arrays();
     tells_what_handles_hold();
     edgebpf_close_store(&store);
     lends_and_copies(); /* a version outlives its store */

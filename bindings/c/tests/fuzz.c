@@ -87,8 +87,7 @@ static void rebase(input *in) {
     store *one = &stores[byte(in) % HANDLES];
     uint64_t epoch;
     uint32_t status = CALL(edgebpf_store_rebase(&one->handle, &epoch));
-    uint32_t wanted = !one->graph.vertices ? EDGEBPF_EMPTY : one->graph.epoch == EDGEBPF_MOST_EPOCHS ? EDGEBPF_EPOCHS_FULL : EDGEBPF_DONE;
-    MUST(status == wanted);
+    MUST(status == (one->graph.vertices ? EDGEBPF_DONE : EDGEBPF_EMPTY));
     if (status) return;
     one->graph.epoch++, one->graph.number = 0;
     MUST(epoch == one->graph.epoch);
@@ -102,6 +101,16 @@ static void pin(input *in) {
     uint32_t status = CALL(edgebpf_store_pin(&from->handle, &one->handle));
     MUST(status == (from->graph.vertices ? EDGEBPF_DONE : EDGEBPF_EMPTY));
     if (!status) one->graph = from->graph;
+}
+
+static void branch(input *in) {
+    version *from = &versions[byte(in) % HANDLES];
+    store *one = &stores[byte(in) % HANDLES];
+    edgebpf_close_store(&one->handle);
+    one->graph.vertices = 0;
+    uint32_t status = CALL(edgebpf_store_of(&from->handle, &one->handle));
+    MUST(status == (from->graph.vertices ? EDGEBPF_DONE : EDGEBPF_EMPTY));
+    if (!status) one->graph = from->graph, one->graph.epoch = one->graph.number = 0;
 }
 
 static void share(input *in) {
@@ -358,7 +367,7 @@ static void close_some(input *in) {
 static void print_calls(void) { fprintf(stderr, "fuzz: %llu calls\n", calls); }
 
 int LLVMFuzzerTestOneInput(const uint8_t *bytes, size_t count) {
-    static void (*const actions[])(input *) = {new_store, apply, apply, apply, apply, rebase, pin, pin, share, ask, ask, copy, list, new_program, assemble, run, run, numbers, run_parts, run_parts, number_pairs, close_some};
+    static void (*const actions[])(input *) = {new_store, apply, apply, apply, apply, rebase, pin, pin, branch, share, ask, ask, copy, list, new_program, assemble, run, run, numbers, run_parts, run_parts, number_pairs, close_some};
     static int begun;
     if (!begun++) atexit(print_calls);
     input in = {bytes, bytes + count};

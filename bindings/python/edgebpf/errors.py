@@ -78,7 +78,7 @@ class LogFull(Error):
 
 
 class EpochsFull(Error):
-    """1,024 rebases were made, and the store takes no more."""
+    """1,024 rebases of a store of `connect` were made, and it takes no more. One in this process has no such end."""
 
 
 class ArgumentLength(Error):

@@ -5,13 +5,12 @@ import dataclasses
 import threading
 from typing import Any
 
-import numpy as np
 import numpy.typing as npt
 
-from edgebpf.errors import Closed, EpochsFull, NoMemory
+from edgebpf.errors import Closed, NoMemory
 from edgebpf.given import FEEDS, Edges, Pairs, edits_of, edits_of_batch, feed_of, whole
 from edgebpf.native import Store, Version
-from edgebpf.store import MOST_BATCHES, MOST_EDITS, Counts
+from edgebpf.store import MOST_BATCHES, Counts
 
 REBASE_BATCHES, REBASE_EDITS = 1_000, 1 << 22
 
@@ -23,24 +22,11 @@ class Last(Version):
         """Does nothing: the version is dropped with the last that refers to it."""
 
 
-def copied(version: Version) -> Store:
-    """A store of its own with the edges of a version, and with all its batches and rebases before it."""
-    store, (starts, targets) = Store(version.vertices), version.csr()
-    sources = np.repeat(np.arange(version.vertices, dtype=np.uint32), np.diff(starts))
-    for number, place in enumerate(range(0, len(targets), MOST_EDITS), 1):
-        store.apply(sources[place:place + MOST_EDITS], targets[place:place + MOST_EDITS])
-        if number % (MOST_BATCHES - 1) == 0:
-            store.rebase()
-    store.rebase()
-    return store
-
-
 class Live:
     """A graph in this process of which threads read the last version, without waiting, while one at a time edits it. It is a context manager.
 
     vertices: 1 to 268,435,456. A rebase comes by itself after `batches` batches, 1 to 4,096, or after `edits` edits, so that the memory of what
-    was edited stays small. A store takes 1,024 rebases: then its edges are copied into a new store, also by itself, and that batch takes
-    longer.
+    was edited stays small. It has no end: there is none to rebases.
     """
 
     def __init__(self, vertices: int, batches: int = REBASE_BATCHES, edits: int = REBASE_EDITS) -> None:
@@ -107,10 +93,7 @@ class Live:
     def _forget(self) -> None:
         """Makes room for batches. Without memory for that the next batch tries it again, as long as there is room for batches."""
         try:
-            try:
-                self._store.rebase()
-            except EpochsFull:
-                self._store = copied(self._store.pin())
+            self._store.rebase()
         except NoMemory:
             if self._since >= MOST_BATCHES:
                 raise

@@ -12,7 +12,7 @@ from edgebpf import library
 from edgebpf.errors import Closed, TooManyEdits, VertexRange
 from edgebpf.given import (
     MOST_VERTICES, NO_COLUMNS, REDUCTIONS, Columns, Edges, Numbers, Pairs, Vertices, columns_of, edits_of, edits_of_batch, ends_of_pairs,
-    feed_of, frozen, reduction_of, threads_of, vertex_count, vertex_of, vertices_of, whole,
+    feed_of, frozen, reduction_of, starts_of, threads_of, vertex_count, vertex_of, vertices_of, whole,
 )
 from edgebpf.parts import Parts
 from edgebpf.programs import Program, argument_of, handle_of
@@ -45,9 +45,37 @@ class Store:
         vertices = vertex_count(vertices, MOST_VERTICES)
         handle = library.Handle()
         library.check(library.load().edgebpf_store_new(vertices, handle.at))
+        self._hold(handle, vertices)
+
+    def _hold(self, handle: library.Handle, vertices: int) -> None:
         self.vertices = vertices
         self._handle: library.Handle | None = handle
         self._lock = threading.Lock()
+
+    @classmethod
+    def from_csr(cls, starts: npt.ArrayLike, targets: npt.ArrayLike) -> Store:
+        """A store of edges that are sorted, as `Version.csr` and a `scipy.sparse.csr_array` have them, in one call and without a log.
+
+        starts: for each vertex the place in `targets` at which its list begins, and after the last one the number of targets. targets: the
+        lists, each ascending without one twice. Raises `ValueError` if they are not so, `VertexRange` if a target is no vertex, and
+        `NoMemory`.
+        """
+        places = starts_of(starts)
+        vertices = vertex_count(len(places) - 1, MOST_VERTICES)
+        lists = vertices_of(targets, vertices, "targets")
+        store, handle, calls = cls.__new__(cls), library.Handle(), library.calls()
+        arrays = calls.buffer(calls.numbers, places), len(places), calls.buffer(calls.words, lists), len(lists)
+        library.check(library.load().edgebpf_store_from(vertices, *arrays, handle.at))
+        store._hold(handle, vertices)
+        return store
+
+    @classmethod
+    def _of(cls, version: Version) -> Store:
+        """A store whose first version is this one."""
+        store, handle = cls.__new__(cls), library.Handle()
+        library.check(library.load().edgebpf_store_of(version._at(), handle.at))
+        store._hold(handle, version.vertices)
+        return store
 
     def _open(self) -> library.Handle:
         if self._handle is None:
@@ -90,7 +118,7 @@ class Store:
     def rebase(self) -> int:
         """Forgets the batches that made the last version, and returns how many rebases there were. The graph stays as it is, and version
         numbers begin again: there is room for 4,096 batches more. The memory of the forgotten batches is free once no older version is
-        open. Raises `EpochsFull` after 1,024 rebases, and `NoMemory`; then the store is as it was."""
+        open. There is no end to rebases; each takes 32 bytes. Raises `NoMemory`; then the store is as it was."""
         handle, epoch = self._open(), library.new("uint64_t *")
         with self._lock:
             library.check(library.load().edgebpf_store_rebase(handle.at, epoch))
@@ -153,6 +181,11 @@ class Version:
         other.__dict__.update(self.__dict__)
         other._shared = library.Shared(self._open().another(), self._calls.share_version)
         return other
+
+    def branch(self) -> Store:
+        """A store of its own whose graph is this version's, without its history: it begins with version 0 of epoch 0. No list is copied, so it
+        takes some microseconds. Nothing that is done to it changes this version, or the store that the version is of. Raises `NoMemory`."""
+        return Store._of(self)
 
     def __len__(self) -> int:
         return self.vertices

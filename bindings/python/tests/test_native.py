@@ -2,6 +2,7 @@
 import gc
 import os
 import pathlib
+import random
 import re
 import shutil
 import signal
@@ -43,6 +44,71 @@ class Native(test_package.Package):
                 edgebpf.Store(vertices)
         with self.assertRaises(TypeError):
             edgebpf.Store(4.0)
+
+    def test_sorted_edges(self):
+        """Sorted arrays are the edges, with no batch before; they are those that `csr` gives, and what is wrong is said."""
+        chance = random.Random(2)
+        for vertices in (1, 63, 64, 65, 256, 257, 1_000):
+            # The last vertex's list may be in a tree, that of the first in an array, and others in blocks.
+            wanted = {(chance.randrange(vertices), chance.randrange(vertices)) for _ in range(chance.randrange(5 * vertices))}
+            wanted |= {(0, target) for target in range(min(vertices, 40))} | {(vertices - 1, target) for target in range(vertices)}
+            edges = sorted(wanted)
+            starts = np.searchsorted([source for source, _ in edges], np.arange(vertices + 1))
+            with edgebpf.Store.from_csr(starts, np.array([target for _, target in edges])) as store:
+                version = store.pin()
+                self.assertEqual((store.vertices, version.epoch, version.number, version.edges), (vertices, 0, 0, len(edges)))
+                found = version.csr()
+                self.assertEqual((found[0].tolist(), found[1].tolist()), (starts.tolist(), [target for _, target in edges]))
+                # It is edited as any other.
+                store.apply(edges=edges[::3], removes=[True] * len(edges[::3]))
+                wanted -= set(edges[::3])
+                starts, targets = store.pin().csr()
+                self.assertEqual(set(zip(np.repeat(np.arange(vertices), np.diff(starts)).tolist(), targets.tolist())), wanted)
+                copied = edgebpf.Store.from_csr(starts.astype(np.int32), targets).pin().csr()
+                self.assertEqual((copied[0].tolist(), copied[1].tolist()), (starts.tolist(), targets.tolist()))
+        for starts, targets, error, words in (
+            ([], [], ValueError, "a graph has 1 to"), ([0], [], ValueError, "a graph has 1 to"), ([[0, 0]], [], TypeError, "starts are"),
+            ([0.0, 1.0], [0], TypeError, "starts are"), ([0, 1], [0.5], TypeError, "targets are"), ([0, 1, 1], [2], edgebpf.VertexRange, "targets"),
+            ([1, 1], [0], ValueError, "not sorted"), ([0, 2], [0], ValueError, "not sorted"), ([0, 0], [0], ValueError, "not sorted"),
+            ([0, 2, 1, 2], [0, 1], ValueError, "not sorted"), ([0, -1, 1], [0], ValueError, "not sorted"),
+            ([0, 2, 2], [1, 1], ValueError, "not sorted"), ([0, 2, 2], [1, 0], ValueError, "not sorted"),
+        ):
+            with self.assertRaisesRegex(error, words):
+                edgebpf.Store.from_csr(starts, targets)
+
+    def test_branches(self):
+        """A branch and a branch of it are edited by themselves: each has the edges of its own set, and versions stay as they are."""
+        def edges_of(version):
+            starts, targets = version.csr()
+            return set(zip(np.repeat(np.arange(version.vertices), np.diff(starts)).tolist(), targets.tolist()))
+
+        chance, store, edges = random.Random(8), self.store(300), set()
+        stores, sets, versions = [store], [edges], []
+        for number in range(400):
+            which = chance.randrange(len(stores))
+            edits = [(chance.randrange(300), chance.randrange(7) * 43, chance.random() < 0.4) for _ in range(chance.randrange(40))]
+            for source, target, is_out in edits:
+                (sets[which].discard if is_out else sets[which].add)((source, target))
+            stores[which].apply(edges=[edit[:2] for edit in edits], removes=[edit[2] for edit in edits])
+            if number % 50 == 49:
+                stores[which].rebase()
+            if number % 80 == 79:
+                pinned = stores[which].pin()
+                versions.append((pinned, set(sets[which])))
+                branch = pinned.branch()
+                self.addCleanup(branch.close)
+                first = branch.pin()
+                self.assertEqual((first.epoch, first.number, first.vertices, edges_of(first)), (0, 0, 300, sets[which]))
+                stores.append(branch), sets.append(set(sets[which]))
+        stores[0].close()
+        for branch, wanted in list(zip(stores, sets))[1:]:
+            self.assertEqual(edges_of(branch.pin()), wanted)
+            self.assertEqual(branch.batch("D").added, 0)
+        for version, wanted in versions:
+            self.assertEqual(edges_of(version), wanted)
+        version.close()
+        with self.assertRaises(edgebpf.Closed):
+            version.branch()
 
     def test_closed(self):
         store = self.store(2)

@@ -555,10 +555,13 @@ class Package(unittest.TestCase):
         last = store.pin()
         shapes = [(version.epoch, version.number, version.edges, version.run(target).total) for version in (first, based, last)]
         self.assertEqual(shapes, [(0, 1, 3, 5), (1, 0, 3, 5), (1, 1, 2, 4)])
-        for number in range(2, 1_025):
+        # A store of a process takes 1,024 rebases, and one in this process any number.
+        is_served = isinstance(store, edgebpf.store.Store)
+        for number in range(2, 1_025 if is_served else 10_001):
             self.assertEqual(store.rebase(), number)
-        with self.assertRaises(edgebpf.EpochsFull):
-            store.rebase()
+        if is_served:
+            with self.assertRaises(edgebpf.EpochsFull):
+                store.rebase()
         self.assertEqual(store.batch("C", ([3], [3])), edgebpf.Counts(1, 1, 0))
 
     def test_limits(self):

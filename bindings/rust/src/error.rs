@@ -16,7 +16,7 @@ pub enum Error {
     TooManyEdits,
     /// 4,096 batches were applied, and there is room for no more before a rebase.
     LogFull,
-    /// 1,024 rebases were made, and there is room for no more.
+    /// As many rebases were made as 64 bits count.
     EpochsFull,
     /// The lengths of the arrays do not fit together.
     Lengths,
@@ -32,6 +32,8 @@ pub enum Error {
     Columns,
     /// A progress names no place of the frontier.
     Progress,
+    /// The arrays of a graph's edges are not sorted.
+    NotSorted,
     /// A batch of a `Live` was applied, and there was no memory to show its version before the next one.
     NotShown,
     /// The library answered a status of which this crate knows nothing.
@@ -60,6 +62,7 @@ impl Error {
             13 => Error::ArgumentLength,
             19 => Error::Columns,
             20 => Error::Progress,
+            21 => Error::NotSorted,
             other => Error::Unknown(other),
         }
     }
@@ -90,7 +93,7 @@ impl fmt::Display for Error {
             Error::VertexRange => to.write_str("a vertex is not in the graph"),
             Error::TooManyEdits => to.write_str("there are more than 65536 edits"),
             Error::LogFull => to.write_str("4096 batches were applied, and there is room for no more before a rebase"),
-            Error::EpochsFull => to.write_str("1024 rebases were made, and there is room for no more"),
+            Error::EpochsFull => to.write_str("as many rebases were made as 64 bits count"),
             Error::Lengths => to.write_str("the lengths of the arrays do not fit together"),
             Error::RecordLength => to.write_str("the record length is not from 16 to 256"),
             Error::CodeLength => to.write_str("the code is not 1 to 4096 units of 8 bytes"),
@@ -100,6 +103,7 @@ impl fmt::Display for Error {
             }
             Error::Columns => to.write_str("there are more than 8 columns, or one has not a number for each vertex"),
             Error::Progress => to.write_str("the progress names no place of this frontier"),
+            Error::NotSorted => to.write_str("the arrays are not sorted"),
             Error::NotShown => {
                 to.write_str("the batch was applied, and there is no memory to show its version before the next one")
             }
@@ -207,6 +211,7 @@ mod tests {
             (17, Error::EpochsFull),
             (18, Error::TableLength),
             (20, Error::Progress),
+            (21, Error::NotSorted),
         ] {
             assert_eq!((Error::of(status), error.to_string().as_str()), (error, words[status as usize]));
         }

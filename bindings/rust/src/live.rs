@@ -3,7 +3,7 @@ use crate::batch::{Batch, Feed};
 use crate::error::Error;
 use crate::store::{Change, Store};
 use crate::version::Version;
-use crate::{MOST_BATCHES, MOST_EDITS};
+use crate::MOST_BATCHES;
 use std::sync::{Mutex, MutexGuard, PoisonError};
 
 /// So many batches, or edits, come between two rebases, if a host names no others.
@@ -11,8 +11,7 @@ const REBASE_BATCHES: u64 = 1_000;
 const REBASE_EDITS: u64 = 1 << 22;
 
 /// A graph of which threads read the last version while one at a time edits it. It rebases by itself.
-///
-/// A store takes 1,024 rebases. After them its edges are copied into a new store, also by itself, and that batch takes longer.
+/// It has no end, as there is none to rebases.
 #[derive(Debug)]
 pub struct Live {
     writer: Mutex<Writer>,
@@ -34,31 +33,6 @@ struct Writer {
 /// A lock, also after a thread that held it panicked: nothing that it guards is ever half changed.
 fn locked<T>(mutex: &Mutex<T>) -> MutexGuard<'_, T> {
     mutex.lock().unwrap_or_else(PoisonError::into_inner)
-}
-
-/// A store of its own with the edges of a version, and with all its batches before a rebase.
-fn copied(version: &Version) -> Result<Store, Error> {
-    let csr = version.csr()?;
-    let mut store = Store::new(version.vertices())?;
-    let mut batch = Batch::new();
-    let mut applied = 0;
-    for vertex in 0..version.vertices() {
-        let (from, to) = (csr.starts[vertex as usize] as usize, csr.starts[vertex as usize + 1] as usize);
-        for target in &csr.targets[from..to] {
-            batch.insert(vertex, *target);
-            if batch.len() == MOST_EDITS {
-                store.apply(Feed::A, &batch)?;
-                batch.clear();
-                applied += 1;
-                if applied % (MOST_BATCHES - 1) == 0 {
-                    store.rebase()?;
-                }
-            }
-        }
-    }
-    store.apply(Feed::A, &batch)?;
-    store.rebase()?;
-    Ok(store)
 }
 
 impl Live {
@@ -103,14 +77,8 @@ impl Live {
 
     /// Makes room for batches. Without memory for that the next batch tries it again, as long as there is room for batches.
     fn forget(&self, writer: &mut Writer) -> Result<(), Error> {
-        let made = match writer.store.rebase() {
-            Err(Error::EpochsFull) => writer.store.pin().and_then(|version| copied(&version)).map(|store| {
-                writer.store = store;
-            }),
-            other => other.map(|_| ()),
-        };
-        match made {
-            Ok(()) => {
+        match writer.store.rebase() {
+            Ok(_) => {
                 writer.before += writer.since;
                 writer.since = 0;
                 writer.edited = 0;

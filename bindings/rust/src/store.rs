@@ -1,6 +1,9 @@
 //! A graph that changes.
 use crate::batch::{Batch, Feed};
-use crate::calls::{edgebpf_store_apply, edgebpf_store_new, edgebpf_store_pin, edgebpf_store_rebase, RawChange};
+use crate::calls::{
+    edgebpf_store_apply, edgebpf_store_from, edgebpf_store_new, edgebpf_store_of, edgebpf_store_pin, edgebpf_store_rebase,
+    RawChange,
+};
 use crate::error::{done, Error};
 use crate::handle::Handle;
 use crate::version::Version;
@@ -26,6 +29,29 @@ impl Store {
         let handle = Handle::empty();
         // SAFETY: `at` is an empty handle.
         done(unsafe { edgebpf_store_new(vertices, handle.at()) })?;
+        Ok(Store(handle))
+    }
+
+    /// A store of edges that are sorted, as `Version::csr` writes them, in one call and without a log: `starts` has for each vertex the
+    /// place in `targets` at which its list begins, and after the last one their number, and each list ascends without a target twice.
+    /// `VertexCount`; `NotSorted` if they are not so; `VertexRange` if a target is no vertex; tested in this order. `NoMemory`.
+    pub fn from_csr(starts: &[u64], targets: &[u32]) -> Result<Store, Error> {
+        let vertices = starts.len().checked_sub(1).and_then(|count| u32::try_from(count).ok());
+        let (vertices, handle) = (vertices.ok_or(Error::VertexCount)?, Handle::empty());
+        // SAFETY: the slices are as long as said, and `handle` is empty.
+        done(unsafe {
+            edgebpf_store_from(vertices, starts.as_ptr(), starts.len(), targets.as_ptr(), targets.len(), handle.at())
+        })?;
+        Ok(Store(handle))
+    }
+
+    /// A branch: a store of its own whose graph is that of a version, without its history: it begins with version 0 of epoch 0. No list
+    /// is copied, so it takes some microseconds. Nothing that is done to it changes the version, or the store that the version is of.
+    /// `NoMemory`.
+    pub fn of(version: &Version) -> Result<Store, Error> {
+        let handle = Handle::empty();
+        // SAFETY: the version's handle was written by the library, and `handle` is empty.
+        done(unsafe { edgebpf_store_of(version.0.at(), handle.at()) })?;
         Ok(Store(handle))
     }
 
@@ -63,7 +89,7 @@ impl Store {
 
     /// Forgets the batches that made the last version, and says how many rebases there were. The graph stays as it is, numbers begin
     /// again, and there is room for 4,096 batches more. The memory of the forgotten batches is free once no older version is held.
-    /// `EpochsFull` after 1,024 rebases, and `NoMemory`; then the store is as it was.
+    /// There is no end to rebases; each takes 32 bytes. `NoMemory`; then the store is as it was.
     pub fn rebase(&mut self) -> Result<u64, Error> {
         let mut epoch = 0;
         // SAFETY: the store's handle was written by the library.

@@ -97,11 +97,79 @@ fn a_rebase_begins_numbers_again() {
     assert_eq!((first.epoch(), first.number(), edges_of(&first)), (0, 1, BTreeSet::from([(0, 1), (0, 2)])));
     assert_eq!((based.epoch(), based.number(), edges_of(&based)), (1, 0, BTreeSet::from([(0, 1), (0, 2)])));
     assert_eq!((last.epoch(), last.number(), edges_of(&last)), (1, 1, BTreeSet::from([(0, 2)])));
-    for number in 2..=1024 {
+    for number in 2..=10_000 {
         assert_eq!(store.rebase(), Ok(number));
     }
-    assert_eq!(store.rebase(), Err(Error::EpochsFull));
     assert_eq!(store.apply(Feed::C, Batch::new().insert(3, 3)).unwrap().number, 1);
+    let version = store.pin().unwrap();
+    assert_eq!((version.epoch(), edges_of(&version)), (10_000, BTreeSet::from([(0, 2), (3, 3)])));
+}
+
+#[test]
+fn sorted_edges_are_a_store() {
+    // Lists in blocks, in arrays and in trees, over a range's end.
+    let is_edge = |vertex: u32, target: u32| vertex == 256 || (vertex * 7 + target) % (vertex % 90 + 2) == 0;
+    let lists: Vec<Vec<u32>> =
+        (0..1_300).map(|vertex| (0..1_300).filter(|target| is_edge(vertex, *target)).collect()).collect();
+    let mut starts = vec![0];
+    for list in &lists {
+        starts.push(starts[starts.len() - 1] + list.len() as u64);
+    }
+    let targets = lists.concat();
+    let mut store = Store::from_csr(&starts, &targets).unwrap();
+    let version = store.pin().unwrap();
+    assert_eq!((version.epoch(), version.number(), version.edges()), (0, 0, targets.len() as u64));
+    let csr = version.csr().unwrap();
+    assert_eq!((&csr.starts, &csr.targets), (&starts, &targets));
+    let made = store.apply(Feed::A, Batch::new().remove(256, 0).insert(256, 0).remove(1_299, 1_298)).unwrap();
+    assert_eq!((made.added, made.removed), (0, u64::from(is_edge(1_299, 1_298))));
+    let wrong: [(&[u64], &[u32], Error); 10] = [
+        (&[], &[], Error::VertexCount),
+        (&[0], &[], Error::VertexCount),
+        (&[1, 1], &[0], Error::NotSorted),
+        (&[0, 2], &[0], Error::NotSorted),
+        (&[0, 0], &[0], Error::NotSorted),
+        (&[0, 2, 1, 2], &[0, 1], Error::NotSorted),
+        (&[0, u64::MAX, 1], &[0], Error::NotSorted),
+        (&[0, 2, 2], &[1, 1], Error::NotSorted),
+        (&[0, 2, 2], &[9, 1], Error::NotSorted),
+        (&[0, 1, 1], &[2], Error::VertexRange),
+    ];
+    for (starts, targets, error) in wrong {
+        assert_eq!(Store::from_csr(starts, targets).err(), Some(error));
+    }
+}
+
+#[test]
+fn a_branch_has_a_history_of_its_own() {
+    let mut store = Store::new(300).unwrap();
+    store.apply(Feed::A, &Batch::from_iter((0..299).map(|vertex| (vertex, vertex + 1)))).unwrap();
+    store.rebase().unwrap();
+    store.apply(Feed::B, Batch::new().remove(0, 1).insert(0, 299)).unwrap();
+    let pinned = store.pin().unwrap();
+    let mut all = (1..299).map(|vertex| (vertex, vertex + 1)).collect::<BTreeSet<_>>();
+    all.insert((0, 299));
+    // A branch, and a branch of it, each edited by itself; the one goes on when the other is dropped.
+    let mut branch = Store::of(&pinned).unwrap();
+    let first = branch.pin().unwrap();
+    assert_eq!((first.epoch(), first.number(), first.vertices(), edges_of(&first)), (0, 0, 300, all.clone()));
+    let made = branch.apply(Feed::C, Batch::new().insert(7, 7).remove(5, 6)).unwrap();
+    assert_eq!((made.added, made.removed, made.number), (1, 1, 1));
+    let mut second = Store::of(&branch.pin().unwrap()).unwrap();
+    second.apply(Feed::D, Batch::new().insert(5, 6).remove(7, 7).remove(8, 9)).unwrap();
+    assert_eq!((second.rebase(), second.pin().unwrap().epoch()), (Ok(1), 1));
+    store.apply(Feed::A, Batch::new().insert(1, 1)).unwrap();
+    let mut of_branch = all.clone();
+    of_branch.insert((7, 7));
+    of_branch.remove(&(5, 6));
+    let mut of_second = all.clone();
+    of_second.remove(&(8, 9));
+    assert_eq!(edges_of(&branch.pin().unwrap()), of_branch);
+    drop(branch);
+    assert_eq!(edges_of(&second.pin().unwrap()), of_second);
+    assert_eq!((pinned.epoch(), pinned.number(), edges_of(&pinned)), (1, 1, all.clone()));
+    all.insert((1, 1));
+    assert_eq!(edges_of(&store.pin().unwrap()), all);
 }
 
 /// In any order, a vertex twice, and two that the graph does not have.

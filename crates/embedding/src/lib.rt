@@ -2,6 +2,7 @@
 //! calls on what handles hold. Each call that `edgebpf_c` makes on them answers a status and has no precondition.
 #![tactic(auto)]
 
+mod branches;
 mod changes;
 mod copies;
 mod edits;
@@ -18,10 +19,12 @@ mod raw_box;
 mod runnable;
 mod runs;
 mod slices;
+mod sorted;
 mod statuses;
 mod store;
 mod texts;
 
+pub use branches::store_of_held;
 pub use changes::{apply_held, new_store, pin_held, rebase_held};
 pub use copies::copy_held;
 pub use edge_fold::Progress;
@@ -38,10 +41,11 @@ pub use questions::{
 pub use runnable::{Edges, Lent, Runnable};
 pub use runs::{RunAsked, Totals, run_held, run_some_held};
 pub use slices::{Slice, lend_from_held, lend_held};
+pub use sorted::store_from;
 pub use statuses::{
     ARGUMENT_LENGTH, CODE_LENGTH, DONE, EMPTY, EPOCHS_FULL, FEED, LENGTHS, LOG_FULL, NO_MEMORY,
-    NO_NEIGHBOUR, OTHER_KIND, PROGRESS, RECORD_LENGTH, REDUCTION, REFUSED, TABLE_LENGTH,
-    TOO_MANY_EDITS, VERTEX_COUNT, VERTEX_RANGE, WRONG_TEXT,
+    NO_NEIGHBOUR, NOT_SORTED, OTHER_KIND, PROGRESS, RECORD_LENGTH, REDUCTION, REFUSED,
+    TABLE_LENGTH, TOO_MANY_EDITS, VERTEX_COUNT, VERTEX_RANGE, WRONG_TEXT,
 };
 pub use store::{Change, Store};
 pub use texts::{Assembled, assemble_into, explain_into};

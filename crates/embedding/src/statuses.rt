@@ -34,7 +34,7 @@ pub const REDUCTION: u32 = 14;
 pub const WRONG_TEXT: u32 = 15;
 /// The vertex has no neighbour at this place.
 pub const NO_NEIGHBOUR: u32 = 16;
-/// 1,024 rebases were made, and there is room for no more.
+/// As many rebases were made as 64 bits count: 2^64 - 1.
 pub const EPOCHS_FULL: u32 = 17;
 /// The table has more than 4,096 bytes.
 pub const TABLE_LENGTH: u32 = 18;
@@ -42,3 +42,5 @@ pub const TABLE_LENGTH: u32 = 18;
 pub const COLUMNS: u32 = 19;
 /// The progress names no place of this frontier.
 pub const PROGRESS: u32 = 20;
+/// The arrays are not sorted: the starts of the lists ascend from 0 to the number of targets, and the targets of each list ascend.
+pub const NOT_SORTED: u32 = 21;

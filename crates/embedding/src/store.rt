@@ -4,8 +4,9 @@ ghost use Rattle.std.specs.Arc.{arc_value};
 ghost use Rattle.past_model.specs.declared.limits.TheConstants.{MOST_BATCHES, MOST_EPOCHS};
 ghost use Rattle.past_model.specs.Edits.{AreEditsBelow};
 ghost use Rattle.past_model.specs.Past.{number_of, epoch_of, opening, longer};
-ghost use Rattle.past_model.specs.Epochs.{rebased};
+ghost use Rattle.past_model.specs.Epochs.{branched, rebased};
 ghost use Rattle.version.specs.Version.{IsVertexCount};
+ghost use Rattle.version.specs.Sorted.{AreSorted, past_of};
 ghost use Rattle.embedding.specs.declared.statuses.TheConstants.{DONE, NO_MEMORY};
 ghost use Rattle.embedding.specs.Applying.{fault_in, change_of, IsApplied, IsRebased};
 
@@ -61,6 +62,36 @@ impl Store {
         ensures { IfOk result (λ store. store ≡ opening vertex_count) }
     {
         let version = Version::opening(alloc, vertex_count)?;
+        Ok(Store {
+            alloc,
+            current: Arc::new(alloc, version)?,
+        })
+    }
+
+    /// A graph whose first version is this one, as the base of a first epoch without a batch. No list is copied, and the version
+    /// stays.
+    pub fn of(alloc: Global, version: &Version) -> Result<Store, AllocError>
+        ensures { IfOk result (λ store. store ≡ branched version.now) }
+    {
+        let version = version.branched(alloc)?;
+        Ok(Store {
+            alloc,
+            current: Arc::new(alloc, version)?,
+        })
+    }
+
+    /// A graph whose edges are given in sorted arrays, as the base of a first epoch without a batch.
+    pub fn of_lists(
+        alloc: Global,
+        vertex_count: u32,
+        starts: &[u64],
+        targets: &[u32],
+    ) -> Result<Store, AllocError>
+        requires count { IsVertexCount vertex_count }
+        requires sorted { AreSorted vertex_count starts.now targets.now }
+        ensures { IfOk result (λ store. store ≡ past_of vertex_count starts.now targets.now) }
+    {
+        let version = Version::of_lists(alloc, vertex_count, starts, targets)?;
         Ok(Store {
             alloc,
             current: Arc::new(alloc, version)?,
@@ -146,7 +177,7 @@ impl Store {
 
     /// Makes the graph of the last version the base of a new epoch, whose log is empty, and reports how many epochs ended. Homes
     /// stay as they are, numbers begin again at 0, and there is room for 4,096 batches more. Else the store is as it was, and
-    /// nothing is written: `EPOCHS_FULL` exactly after 1,024 rebases, and else `NO_MEMORY`.
+    /// nothing is written: `EPOCHS_FULL` exactly after as many rebases as 64 bits count, and else `NO_MEMORY`.
     pub fn rebase(&mut self, epoch: &mut u64) -> u32
         ensures { IsRebased self.old result self.new epoch.old epoch.new }
     {

@@ -20,5 +20,6 @@ pub mod PutLemmas
 pub mod HousedLemmas
 pub mod FilledLemmas
 pub mod MadeLemmas
+pub mod ArrayLemmas
 mod SeenLemmas
 mod NearbyLemmas

@@ -11,3 +11,4 @@ pub mod Pages
 pub mod Begun
 pub mod Made
 pub mod Edited
+pub mod Arrays

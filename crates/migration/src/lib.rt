@@ -2,6 +2,7 @@
 //! makes the next one of it, which shares the lists that it does not change.
 #![tactic(auto)]
 
+mod arrays;
 mod block;
 mod buffer;
 mod copied_page;

@@ -1,15 +1,16 @@
 //! A range's vertices with their lists, in one version.
-ghost use Rattle.std.specs.Prelude.{◌≡◌, ◌↔◌, ◌<◌, ◌≤◌, [], length, replicate, Contains, IsTrue, IfOk};
+ghost use Rattle.std.specs.Prelude.{◌≡◌, ◌↔◌, ◌+◌, ◌*◌, ◌<◌, ◌≤◌, [], length, replicate, Contains, IsTrue, IfOk};
 ghost use Rattle.past_model.specs.declared.home.Home.TheVariants.{Block};
 ghost use Rattle.past_model.specs.declared.limits.TheConstants.{MOST_VERTICES, MOST_RANGES, RANGE_VERTICES};
 
+use crate::arrays::pages_of_lists;
 use crate::counts::Counts;
 use crate::edited_page::edited_page;
 use crate::groups::{Grouping, Groups};
 use crate::lists::Lists;
 use crate::pages::{PAGE_VERTICES, empty_pages, page_of};
 use crate::scratch::Scratch;
-use past_model::{Edit, Home, MOST_VERTICES};
+use past_model::{Edit, Home, MOST_VERTICES, RANGE_VERTICES};
 use std::alloc::{AllocError, Global};
 use std::marker::Model;
 use std::sync::Arc;
@@ -51,6 +52,7 @@ impl Model for Shard {
 impl Shard {
     ghost use Rattle.migration.specs.Part.{row_at, home_at, IsShard, AreEditsOf, IsPartAfter, AreCounts, AreHomesAfter};
     ghost use Rattle.migration.specs.Lent.{IsLentAt};
+    ghost use Rattle.migration.specs.Arrays.{AreLists, part_from};
 
     /// A range of so many vertices, without an edge.
     pub fn new(alloc: Global, range: u32, vertices: u16) -> Result<Shard, AllocError>
@@ -64,6 +66,31 @@ impl Shard {
         }) }
     {
         let pages = empty_pages(alloc, vertices)?;
+        Ok(Shard {
+            range,
+            vertices,
+            pages,
+        })
+    }
+
+    /// A range of so many vertices with the lists that sorted arrays have of them. `page` is lent for that.
+    pub(crate) fn of_lists(
+        alloc: Global,
+        range: u32,
+        vertices: u16,
+        starts: &[u64],
+        targets: &[u32],
+        page: &mut Lists,
+    ) -> Result<Shard, AllocError>
+        requires range { range < MOST_RANGES }
+        requires some { 1 ≤ vertices }
+        requires few { vertices ≤ RANGE_VERTICES }
+        requires lists { AreLists starts.now targets.now }
+        requires inside { RANGE_VERTICES * range + vertices < length starts.now }
+        ensures { IfOk result (λ shard. shard ≡ part_from starts.now targets.now range vertices) }
+    {
+        let first = (RANGE_VERTICES * range) as usize;
+        let pages = pages_of_lists(alloc, starts, targets, first, usize::from(vertices), page)?;
         Ok(Shard {
             range,
             vertices,

@@ -1,13 +1,15 @@
 //! The shards of a graph, in blocks that tables share.
-ghost use Rattle.std.specs.Prelude.{◌≡◌, ◌<◌, ◌≤◌, ℕ, length, IsTrue, IfOk, MatchOption};
+ghost use Rattle.std.specs.Prelude.{◌≡◌, ◌+◌, ◌<◌, ◌≤◌, ℕ, length, IsTrue, IfOk, MatchOption};
 ghost use Rattle.past_model.specs.declared.home.Home.TheVariants.{Block as InBlock};
 ghost use Rattle.past_model.specs.declared.limits.TheConstants.{MOST_VERTICES, MOST_RANGES};
 ghost use Rattle.graph_model.specs.Graph.{Graph, empty_graph};
+ghost use Rattle.migration.specs.Arrays.{AreLists, AreListsOf, first_home, list_of};
 ghost use Rattle.migration.specs.Blocks.{parts_in, sizes_of, AreFull};
 ghost use Rattle.migration.specs.Part.{AreEditsOf};
 ghost use Rattle.migration.specs.Made.{IsBatch, IsMade, AreMade, IsNoneBelow};
 ghost use Rattle.migration.specs.Table.{IsTable, IsOfGraph, IsShardOf, AreAfter, AreMoved, part_at, parts_of, home_in};
 
+use crate::arrays::shards_of_lists;
 use crate::block::Block;
 use crate::counts::Counts;
 use crate::edited_shard::EditedShard;
@@ -95,6 +97,34 @@ impl Table {
         ensures homes { IfOk result (λ table. (v : ℕ) → home_in table v ≡ InBlock) }
     {
         let shards = empty_shards(alloc, vertex_count)?;
+        let count = shards.len();
+        let width = Width::of(count);
+        let blocks = blocks_of(alloc, &shards, width.shards)?;
+        Ok(Table {
+            blocks,
+            count,
+            width,
+        })
+    }
+
+    /// The table of a graph of so many vertices whose lists are in sorted arrays. Each list is in the home to which its degree
+    /// leads from a block.
+    pub fn of_lists(
+        alloc: Global,
+        vertex_count: u32,
+        starts: &[u64],
+        targets: &[u32],
+    ) -> Result<Table, AllocError>
+        requires some { 1 ≤ vertex_count }
+        requires most { vertex_count ≤ MOST_VERTICES }
+        requires count { length starts.now ≡ vertex_count + 1 }
+        requires lists { AreLists starts.now targets.now }
+        ensures table { IfOk result (λ table. (g : Graph) → AreListsOf g starts.now targets.now → IsTable g table) }
+        ensures homes { IfOk result (λ table. (v : ℕ) → v < vertex_count
+            → home_in table v ≡ first_home (list_of starts.now targets.now v)) }
+        ensures outside { IfOk result (λ table. (v : ℕ) → vertex_count ≤ v → home_in table v ≡ InBlock) }
+    {
+        let shards = shards_of_lists(alloc, vertex_count, starts, targets)?;
         let count = shards.len();
         let width = Width::of(count);
         let blocks = blocks_of(alloc, &shards, width.shards)?;

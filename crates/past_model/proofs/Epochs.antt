@@ -9,8 +9,8 @@ use Rattle.past_model.specs.declared.entry.Entry.{Entry}
 use Rattle.graph_model.specs.Graph.{Graph, IsGraph}
 use Rattle.past_model.specs.Past.{Past, IsPast, graph_of, longer, of_feed}
 use Rattle.past_model.specs.Homes.{home_of}
-use Rattle.past_model.specs.Epochs.{mark_of, marked, ended_batches, rebased, IsBefore, IsBeforeInEpoch, IsOfEndedEpoch, AreSince}
-use Rattle.past_model.specs.EpochLaws.{RebaseChangesNothing, PastsAreInOrder, PublicationsGoOn}
+use Rattle.past_model.specs.Epochs.{mark_of, marked, ended_batches, branched, rebased, IsBefore, IsBeforeInEpoch, IsOfEndedEpoch, AreSince}
+use Rattle.past_model.specs.EpochLaws.{RebaseChangesNothing, BranchBeginsAnew, PastsAreInOrder, PublicationsGoOn}
 use Rattle.past_model.proofs.Beginnings.{prefix_self, prefix_more, prefix_trans, prefix_whole, prefix_length}
 use Rattle.past_model.proofs.Pasts.{vertex_count-graph_of, IsGraph-graph_of}
 use Rattle.past_model.proofs.HomeLemmas.{home_of-outside}
@@ -186,6 +186,26 @@ IsPast-rebased p is = record {
 
 pub rebase_changes_nothing : RebaseChangesNothing
 rebase_changes_nothing = record { graph = graph_of-rebased; homes = home_of-rebased; past = IsPast-rebased }
+
+-- ---- a branch: of the same base as a rebase, which has no batch either
+
+pub graph_of-branched : (p : Past) → IsPast p → graph_of (branched p) ≡ graph_of p
+graph_of-branched = graph_of-rebased
+
+pub home_of-branched : (p : Past) (v : ℕ) → IsPast p → home_of (branched p) v ≡ home_of p v
+home_of-branched = home_of-rebased
+
+pub IsPast-branched : (p : Past) → IsPast p → IsPast (branched p)
+IsPast-branched p is = let r = IsPast-rebased p is in record { base = r.base; homes = r.homes; log = tt }
+
+pub branch_begins_anew : BranchBeginsAnew
+branch_begins_anew = record {
+  graph = graph_of-branched;
+  homes = home_of-branched;
+  past = IsPast-branched;
+  epoch = λ p. refl;
+  number = λ p. refl;
+}
 
 -- ---- the batches since the marks
 

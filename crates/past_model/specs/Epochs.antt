@@ -33,6 +33,10 @@ rebased p = record p {
   log = [];
 }
 
+-- the past of a branch: the graph and the homes are the base of a first epoch, without a batch
+abbrev pub branched : Past → Past
+branched p = record p { base = base_of p; marks = []; log = [] }
+
 -- two pasts of one epoch, where the log of the second begins with that of the first
 pub record IsBeforeInEpoch (a b : Past) : Type 0 where
   pub base : b.base ≡ a.base

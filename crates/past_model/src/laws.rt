@@ -3,7 +3,7 @@
 ghost use Rattle.std.specs.Prelude.{◌≡◌, IfOk};
 ghost use Rattle.past_model.specs.Laws.{OneEdit, EditsInTurn, ChangeOfSize, ReplayIsGraph};
 ghost use Rattle.past_model.specs.HomeLaws.{HomesHold, HomesStay, HomeOfLonger, HomesAtLimits};
-ghost use Rattle.past_model.specs.EpochLaws.{RebaseChangesNothing, PastsAreInOrder, PublicationsGoOn};
+ghost use Rattle.past_model.specs.EpochLaws.{RebaseChangesNothing, BranchBeginsAnew, PastsAreInOrder, PublicationsGoOn};
 
 use crate::batch::Batch;
 use crate::edit::Edit;
@@ -54,6 +54,11 @@ pub fn homes_at_limits()
 /// A rebase keeps the graph and every home.
 pub fn rebase_changes_nothing()
     ensures { RebaseChangesNothing }
+{}
+
+/// A branch has the graph and every home, and begins anew.
+pub fn branch_begins_anew()
+    ensures { BranchBeginsAnew }
 {}
 
 /// `IsBefore` is an order.

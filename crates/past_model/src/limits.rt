@@ -23,5 +23,8 @@ pub const MOST_EDITS: usize = 65_536;
 /// How many batches a log may have.
 pub const MOST_BATCHES: u64 = 4_096;
 
-/// How many epochs may end before a version, each by a rebase.
-pub const MOST_EPOCHS: u64 = 1_024;
+/// How many epochs may end before a version, each by a rebase: as many as 64 bits count.
+pub const MOST_EPOCHS: u64 = 18_446_744_073_709_551_615;
+
+/// How many epochs may end in a store with feeds and readers, in a session and in a script. It is at most `MOST_EPOCHS`.
+pub const SERVED_EPOCHS: u64 = 1_024;

@@ -1,7 +1,7 @@
 //! All ends of one store, in one thread.
 
 ghost use Rattle.std.specs.Prelude.{◌≡◌, ◌<◌, ◌≤◌, ◌↔◌, ◌⊎◌, true, Some, IfOk, IfErr, IsErrOf};
-ghost use Rattle.past_model.specs.declared.limits.TheConstants.{MOST_BATCHES, MOST_EPOCHS, SERVED_VERTICES};
+ghost use Rattle.past_model.specs.declared.limits.TheConstants.{MOST_BATCHES, SERVED_EPOCHS, SERVED_VERTICES};
 ghost use Rattle.graph_model.specs.Graph.{edge_count};
 ghost use Rattle.past_model.specs.Past.{number_of, epoch_of, graph_of};
 ghost use Rattle.past_model.specs.Epochs.{rebased};
@@ -125,7 +125,7 @@ impl Handles {
     /// Publishes the last version's graph as the base of a new epoch. How many edges it has. `Store` comes where the reader
     /// gets no hold on the last version.
     pub(crate) fn rebase<R: Wait>(&mut self, rt: &R) -> Result<u64, CommandError>
-        requires room { epoch_of self.old.past < MOST_EPOCHS }
+        requires room { epoch_of self.old.past < SERVED_EPOCHS }
         ensures edges { IfOk result (λ edges. edges ≡ edge_count (graph_of self.old.past)) }
         ensures rebased { IfOk result (λ _. self.new ≡ record self.old { past = rebased self.old.past }) }
         ensures same { IfErr result (λ _. self.new ≡ self.old) }

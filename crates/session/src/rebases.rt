@@ -7,7 +7,7 @@ ghost use Rattle.session.specs.Performs.{Performs};
 use crate::answer::Answer;
 use crate::error::CommandError;
 use crate::session::Session;
-use past_model::MOST_EPOCHS;
+use past_model::SERVED_EPOCHS;
 use session_model::Fault;
 use std::sync::Wait;
 
@@ -20,7 +20,7 @@ impl Session {
         let Some(store) = &mut self.store else {
             return Err(CommandError::Fault(Fault::Order));
         };
-        if store.epoch() >= MOST_EPOCHS {
+        if store.epoch() >= SERVED_EPOCHS {
             return Err(CommandError::Fault(Fault::EpochsFull));
         }
         let epoch = store.epoch() + 1;

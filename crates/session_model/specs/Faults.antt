@@ -7,7 +7,7 @@ use Rattle.past_model.specs.Edits.{is_edit_below, are_edits_below}
 use Rattle.past_model.specs.Past.{Past, number_of, epoch_of}
 use Rattle.session_model.specs.declared.fault.Fault.{Fault}
 use Rattle.session_model.specs.declared.fault.Fault.TheVariants as faults
-use Rattle.past_model.specs.declared.limits.TheConstants.{SERVED_VERTICES, MOST_EDITS, MOST_BATCHES, MOST_EPOCHS, FEEDS}
+use Rattle.past_model.specs.declared.limits.TheConstants.{SERVED_VERTICES, MOST_EDITS, MOST_BATCHES, SERVED_EPOCHS, FEEDS}
 use Rattle.map_model.specs.declared.limits.TheConstants.{EDGE_BYTES}
 use Rattle.session_model.specs.declared.limits.TheConstants.{MOST_KEPT}
 use Rattle.session_model.specs.Session.{Session, program_named, pin_named}
@@ -79,7 +79,7 @@ home_fault v past = first_fault ((not (nat_lt v past.vertex_count), faults.Range
 
 -- a rebase of a version
 abbrev pub rebase_fault : Past → Option Fault
-rebase_fault past = first_fault ((nat_le MOST_EPOCHS (epoch_of past), faults.EpochsFull) ∷ [])
+rebase_fault past = first_fault ((nat_le SERVED_EPOCHS (epoch_of past), faults.EpochsFull) ∷ [])
 
 -- a frontier of a graph with so many vertices
 abbrev pub is_frontier : ℕ → List ℕ → Bool

@@ -1,6 +1,6 @@
 -- A version with the history's word that it was published.
 use Rattle.std.specs.Prelude.{ℕ, ◌+◌, ◌*◌, ◌≤◌}
-use Rattle.past_model.specs.declared.limits.TheConstants.{MOST_BATCHES, MOST_EPOCHS}
+use Rattle.past_model.specs.declared.limits.TheConstants.{MOST_BATCHES, SERVED_EPOCHS}
 use Rattle.past_model.specs.Past.{Past, number_of, epoch_of}
 use Rattle.history.specs.Moment.{Moment, Beginning}
 
@@ -12,4 +12,4 @@ moment_in past known = record { past = past; book = known.book }
 pub record AreFew (past : Past) (count : ℕ) : Type 0 where
   pub few : count ≤ (MOST_BATCHES + 1) * epoch_of past + number_of past
   pub short : number_of past ≤ MOST_BATCHES
-  pub epochs : epoch_of past ≤ MOST_EPOCHS
+  pub epochs : epoch_of past ≤ SERVED_EPOCHS

@@ -1,7 +1,7 @@
 //! How a taken batch becomes the version that readers are shown.
 ghost use Rattle.std.specs.Prelude.{◌≡◌, ◌<◌, ◌≤◌, IfOk, IfErr};
 ghost use Rattle.std.specs.Arc.{arc_value};
-ghost use Rattle.past_model.specs.declared.limits.TheConstants.{MOST_BATCHES, MOST_EPOCHS};
+ghost use Rattle.past_model.specs.declared.limits.TheConstants.{MOST_BATCHES, SERVED_EPOCHS};
 ghost use Rattle.past_model.specs.Edits.{added, removed};
 ghost use Rattle.past_model.specs.Past.{number_of, epoch_of, graph_of, longer};
 ghost use Rattle.history.specs.Moment.{after_entry, after_rebase};
@@ -56,7 +56,7 @@ impl Committer {
     /// How many epochs ended.
     pub(crate) fn epoch(&self) -> u64
         ensures value { result ≡ epoch_of self.now.moment.past }
-        ensures small { result ≤ MOST_EPOCHS }
+        ensures small { result ≤ SERVED_EPOCHS }
     {
         self.current.epoch()
     }
@@ -192,7 +192,7 @@ impl Committer {
     /// Makes the rebase of the last version with all its owners, and only then adds it to the history. After an error nothing is
     /// changed.
     pub(crate) fn begin_turn(&mut self) -> Result<Turn, AllocError>
-        requires room { epoch_of self.old.moment.past < MOST_EPOCHS }
+        requires room { epoch_of self.old.moment.past < SERVED_EPOCHS }
         requires rest { self.old ≡ at_rest self.old.moment }
         ensures turn { IfOk result (λ turn. IsTurn self.new turn) }
         ensures same { self.new ≡ self.old }

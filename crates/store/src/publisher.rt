@@ -1,7 +1,7 @@
 //! The end at which versions are made.
 ghost use Rattle.std.specs.Prelude.{◌≡◌, ◌<◌, ◌≤◌, ◌↔◌, ◌++◌, None, length, option_map, IfOk, IfErr, IfSome, IfNone, IsErrOf};
 ghost use Rattle.std.specs.Arc.{arc_value};
-ghost use Rattle.past_model.specs.declared.limits.TheConstants.{MOST_BATCHES, MOST_EPOCHS};
+ghost use Rattle.past_model.specs.declared.limits.TheConstants.{MOST_BATCHES, SERVED_EPOCHS};
 ghost use Rattle.past_model.specs.Past.{number_of, epoch_of};
 ghost use Rattle.store_model.specs.declared.limits.TheConstants.{QUEUE_PLACES};
 ghost use Rattle.history.specs.Moment.{OneStore};
@@ -17,7 +17,7 @@ use crate::finished::Finished;
 use crate::held::{Held, Stopped, Turn};
 use crate::queue::Receiver;
 use crate::receipt::Receipt;
-use past_model::{MOST_BATCHES, MOST_EPOCHS};
+use past_model::{MOST_BATCHES, SERVED_EPOCHS};
 use std::alloc::AllocError;
 use std::marker::Model;
 use std::sync::Wait;
@@ -129,7 +129,7 @@ impl Publisher {
         ensures rebased { IfOk result (λ receipt. IsRebased self.old receipt self.new) }
         ensures event { IfOk result (λ _. RebasesAsEvent self.old self.new) }
         ensures same { IfErr result (λ _. self.new ≡ self.old) }
-        ensures full { IsErrOf result RebaseError.EpochsFull ↔ (epoch_of self.old.moment.past ≡ MOST_EPOCHS) }
+        ensures full { IsErrOf result RebaseError.EpochsFull ↔ (epoch_of self.old.moment.past ≡ SERVED_EPOCHS) }
     {
         self.rebase_next(rt)
     }
@@ -140,9 +140,9 @@ impl Publisher {
         ensures same_store { OneStore self.old.moment self.new.moment }
         ensures rebased { IfOk result (λ receipt. IsRebased self.old receipt self.new) }
         ensures same { IfErr result (λ _. self.new ≡ self.old) }
-        ensures full { IsErrOf result RebaseError.EpochsFull ↔ (epoch_of self.old.moment.past ≡ MOST_EPOCHS) }
+        ensures full { IsErrOf result RebaseError.EpochsFull ↔ (epoch_of self.old.moment.past ≡ SERVED_EPOCHS) }
     {
-        if self.committer.epoch() >= MOST_EPOCHS {
+        if self.committer.epoch() >= SERVED_EPOCHS {
             return Err(RebaseError::EpochsFull);
         }
         let turn = begun(&mut self.committer, &self.held, self.turn.take())?;
@@ -196,7 +196,7 @@ fn begun(
     turn: Option<Turn>,
 ) -> Result<Turn, AllocError>
     requires holding { IsHolding committer.old held.now turn }
-    requires room { epoch_of committer.old.moment.past < MOST_EPOCHS }
+    requires room { epoch_of committer.old.moment.past < SERVED_EPOCHS }
     ensures turn { IfOk result (λ turn. IsTurn committer.new turn × IsAside committer.new.moment held.now) }
     ensures same { committer.new ≡ committer.old }
     ensures none { IfErr result (λ _. turn ≡ None) }

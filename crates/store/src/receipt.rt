@@ -1,6 +1,6 @@
 //! What a publication proves.
 ghost use Rattle.std.specs.Prelude.{◌≡◌, ◌≤◌, option_map, MatchOption, Some, None};
-ghost use Rattle.past_model.specs.declared.limits.TheConstants.{MOST_BATCHES, MOST_EPOCHS};
+ghost use Rattle.past_model.specs.declared.limits.TheConstants.{MOST_BATCHES, SERVED_EPOCHS};
 ghost use Rattle.past_model.specs.Past.{number_of, epoch_of};
 ghost use Rattle.store.specs.Receipts.{IsPublication, publication_by};
 
@@ -65,7 +65,7 @@ impl Receipt {
     /// The epoch of the version that was made: how many ended before it, at most 1,024.
     pub fn epoch(&self) -> u64
         ensures value { result ≡ epoch_of self.now.moment.past }
-        ensures small { result ≤ MOST_EPOCHS }
+        ensures small { result ≤ SERVED_EPOCHS }
     {
         self.version.epoch()
     }

@@ -1,7 +1,7 @@
 //! A version with the history's word that it was published.
 ghost use Rattle.std.specs.Prelude.{◌≡◌, ◌<◌, ◌≤◌, IfOk, IfSome};
 ghost use Rattle.std.specs.Arc.{arc_value};
-ghost use Rattle.past_model.specs.declared.limits.TheConstants.{MOST_BATCHES, MOST_EPOCHS};
+ghost use Rattle.past_model.specs.declared.limits.TheConstants.{MOST_BATCHES, SERVED_EPOCHS};
 ghost use Rattle.past_model.specs.Past.{number_of, epoch_of, longer};
 ghost use Rattle.past_model.specs.Epochs.{rebased};
 ghost use Rattle.history.specs.Moment.{moment_of, count_of, after_entry, after_rebase};
@@ -98,7 +98,7 @@ impl Recorded {
     /// How many epochs ended before it.
     pub(crate) fn epoch(&self) -> u64
         ensures value { result ≡ epoch_of self.now.past }
-        ensures small { result ≤ MOST_EPOCHS }
+        ensures small { result ≤ SERVED_EPOCHS }
     {
         self.version.epoch()
     }
@@ -154,7 +154,7 @@ impl Recorded {
         told: Arc<Version>,
     ) -> Option<Owners>
         requires book { head.now ≡ self.now.book }
-        requires room { epoch_of self.now.past < MOST_EPOCHS }
+        requires room { epoch_of self.now.past < SERVED_EPOCHS }
         requires shown { arc_value shown ≡ rebased self.now.past }
         requires kept { arc_value kept ≡ rebased self.now.past }
         requires told { arc_value told ≡ rebased self.now.past }

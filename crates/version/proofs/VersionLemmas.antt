@@ -2,7 +2,7 @@
 use Rattle.std.proofs.Common.{◌≡◌, ℕ, ◌+◌, ◌-◌, ◌*◌, ◌/◌, ◌%◌, ◌<◌, ◌≤◌, Bool, true, false, List, [], length, map, Contains, sym, ap, subst, refl, ◌∙◌, inl, inr, le_trans, mul-le-mul, arith}
 use Rattle.std.proofs.lemmas.Bool.{cases_lt}
 use Rattle.std.proofs.lemmas.List.{get_or_past, length_push}
-use Rattle.past_model.specs.declared.limits.TheConstants.{MOST_VERTICES}
+use Rattle.past_model.specs.declared.limits.TheConstants.{MOST_VERTICES, MOST_EPOCHS}
 use Rattle.past_model.specs.declared.home.Home.{Home}
 use Rattle.past_model.specs.declared.home.Home.TheVariants.{Block}
 use Rattle.past_model.specs.declared.edit.Edit.{Edit}
@@ -10,8 +10,8 @@ use Rattle.past_model.specs.declared.entry.Entry.{Entry}
 use Rattle.graph_model.specs.Graph.{Graph, neighbours, numbers_below, edge_count, empty_graph}
 use Rattle.past_model.specs.Edits.{after_batch, added, removed, AreEditsBelow}
 use Rattle.past_model.specs.Past.{Past, graph_of, number_of, epoch_of, opening, longer}
-use Rattle.past_model.specs.Epochs.{mark_of, base_of, rebased}
-use Rattle.past_model.proofs.Epochs.{graph_of-rebased, home_of-rebased, IsPast-rebased}
+use Rattle.past_model.specs.Epochs.{mark_of, base_of, branched, rebased}
+use Rattle.past_model.proofs.Epochs.{graph_of-branched, home_of-branched, IsPast-branched, graph_of-rebased, home_of-rebased, IsPast-rebased}
 use Rattle.past_model.specs.Homes.{home_after, home_of}
 use Rattle.graph_model.specs.Views.{is_edge}
 use Rattle.past_model.proofs.HomeLemmas.{home_of_longer}
@@ -82,7 +82,7 @@ did p parts next edges e counts v below after =
     }
 
 -- a vertex's list in a table is its list in the graph
-list_is : (g : Graph) (parts : List Part) → IsTable g parts → (v : ℕ) → row_in parts v ≡ neighbours g v
+pub list_is : (g : Graph) (parts : List Part) → IsTable g parts → (v : ℕ) → row_in parts v ≡ neighbours g v
 list_is g parts table v = elim (cases_lt v g.vertex_count) [
   | inl inside ↦ (
       let here : v / 256 < length parts = (table.ranges (v / 256)).1 (omega arith) in
@@ -143,7 +143,7 @@ made p parts next edges e counts v below short after moved =
     }
 
 -- a rebase has the same parts
-pub rebased_version : (p : Past) (parts : List Part) (edges : ℕ) → IsVersion p parts edges → epoch_of p < 1024 → IsVersion (rebased p) parts edges
+pub rebased_version : (p : Past) (parts : List Part) (edges : ℕ) → IsVersion p parts edges → epoch_of p < MOST_EPOCHS → IsVersion (rebased p) parts edges
 rebased_version p parts edges v room = record {
   table = subst (λ g. IsTable g parts) (sym (graph_of-rebased p v.past)) v.table;
   homes = λ w. v.homes w ∙ sym (home_of-rebased p w v.past);
@@ -155,7 +155,20 @@ rebased_version p parts edges v room = record {
   epochs = omega (arith, length_push p.marks (mark_of p.log));
 }
 
--- and these are its base
+-- and so has a branch
+pub branched_version : (p : Past) (parts : List Part) (edges : ℕ) → IsVersion p parts edges → IsVersion (branched p) parts edges
+branched_version p parts edges v = record {
+  table = subst (λ g. IsTable g parts) (sym (graph_of-branched p v.past)) v.table;
+  homes = λ w. v.homes w ∙ sym (home_of-branched p w v.past);
+  edges_are = v.edges_are ∙ ap edge_count (sym (graph_of-branched p v.past));
+  some = v.some;
+  most = v.most;
+  past = IsPast-branched p v.past;
+  short = omega arith;
+  epochs = omega arith;
+}
+
+-- these are the base of both
 pub base_is : (p : Past) (parts : List Part) (edges : ℕ) → IsVersion p parts edges → base_in p.vertex_count parts ≡ base_of p
 base_is p parts edges v = λ i. record {
   rows = map (λ w. list_is (graph_of p) parts v.table w i) (numbers_below p.vertex_count);

@@ -5,6 +5,7 @@ ghost use Rattle.past_model.specs.declared.limits.TheConstants.{MOST_EPOCHS};
 ghost use Rattle.version.specs.Ground.{ground};
 
 use crate::log::Mark;
+use crate::marks::Marks;
 use migration::Table;
 use std::alloc::{AllocError, Global};
 use std::marker::Model;
@@ -15,7 +16,7 @@ use std::sync::Arc;
 pub struct Epoch {
     // None is the base without an edge.
     base: Option<Arc<Table>>,
-    marks: Vec<Mark>,
+    marks: Marks,
 }
 
 impl Model for Epoch {
@@ -25,7 +26,7 @@ impl Model for Epoch {
 
     ghost Value = { Ground };
 
-    ghost view = { λ e. ground (option_map arc_value e.base) e.marks.items };
+    ghost view = { λ e. ground (option_map arc_value e.base) e.marks };
 }
 
 impl Epoch {
@@ -35,7 +36,17 @@ impl Epoch {
     {
         Epoch {
             base: None,
-            marks: Vec::new(alloc),
+            marks: Marks::empty(alloc),
+        }
+    }
+
+    /// A first one with these shards as its base. It takes no memory.
+    pub(crate) fn based(alloc: Global, base: Arc<Table>) -> Epoch
+        ensures { result ≡ ground (Some (arc_value base)) [] }
+    {
+        Epoch {
+            base: Some(base),
+            marks: Marks::empty(alloc),
         }
     }
 
@@ -43,7 +54,7 @@ impl Epoch {
     pub(crate) fn number(&self) -> u64
         ensures { result ≡ length self.now.marks }
     {
-        self.marks.len() as u64
+        self.marks.len()
     }
 
     /// The one after it: these shards are its base, and this is the mark of the log that ends.
@@ -56,11 +67,9 @@ impl Epoch {
         requires { length self.now.marks < MOST_EPOCHS }
         ensures { IfOk result (λ next. next ≡ ground (Some (arc_value base)) (self.now.marks ++ mark ∷ [])) }
     {
-        let mut marks = Vec::from_slice(alloc, &self.marks)?;
-        marks.push(mark)?;
         Ok(Epoch {
             base: Some(base),
-            marks,
+            marks: self.marks.with(alloc, mark)?,
         })
     }
 }

@@ -1,11 +1,10 @@
 //! The log of a version.
 ghost use Rattle.std.specs.Prelude.{◌≡◌, ◌+◌, ◌<◌, [], ◌∷◌, ◌++◌, length, slice_set, Some, IfOk};
-ghost use Rattle.std.specs.List.{flat_map};
 ghost use Rattle.past_model.specs.declared.limits.TheConstants.{MOST_BATCHES};
 ghost use Rattle.past_model.specs.Epochs.{mark_of, marked};
 ghost use Rattle.past_model.specs.Shared.{shared_items};
-ghost use Rattle.version.specs.Log.{entries_in};
 
+use crate::chunks::{Chunks, shared_list, with_chunk};
 use past_model::{Entry, FEEDS};
 use std::alloc::{AllocError, Global};
 use std::marker::Model;
@@ -21,8 +20,7 @@ pub type Mark = [u64; FEEDS as usize];
 /// them: a longer log copies less than one chunk, and the list where a chunk becomes full.
 #[derive(Drop)]
 pub struct Log {
-    // None is the empty list, which can be made without memory.
-    full: Option<Arc<Vec<Arc<Vec<Entry>>>>>,
+    full: Chunks<Entry>,
     // What comes after the full chunks.
     last: Vec<Entry>,
     len: u64,
@@ -35,14 +33,14 @@ impl Model for Log {
     ghost use Rattle.past_model.specs.declared.entry.Entry.{Entry};
     ghost use Rattle.past_model.specs.Shared.{shared_items};
     ghost use Rattle.past_model.specs.Epochs.{mark_of};
-    ghost use Rattle.version.specs.Log.{entries_of};
+    ghost use Rattle.version.specs.Chunks.{items_of};
 
     ghost Value = { List Entry };
 
-    ghost view = { λ l. entries_of (shared_items l.full) l.last.items };
+    ghost view = { λ l. items_of (shared_items l.full) l.last.items };
 
-    ghost invariant = { λ l. (l.len ≡ length (entries_of (shared_items l.full) l.last.items))
-        × (l.mark ≡ mark_of (entries_of (shared_items l.full) l.last.items)) };
+    ghost invariant = { λ l. (l.len ≡ length (items_of (shared_items l.full) l.last.items))
+        × (l.mark ≡ mark_of (items_of (shared_items l.full) l.last.items)) };
 }
 
 impl Log {
@@ -111,50 +109,6 @@ fn counted(mark: Mark, feed: u8) -> Mark
         mark[place] += 1;
     }
     mark
-}
-
-// Another owner of a list of chunks.
-fn shared_list(
-    list: &Option<Arc<Vec<Arc<Vec<Entry>>>>>,
-) -> Result<Option<Arc<Vec<Arc<Vec<Entry>>>>>, AllocError>
-    ensures { IfOk result (λ copy. shared_items copy ≡ shared_items list.now) }
-{
-    match list {
-        None => Ok(None),
-        Some(chunks) => Ok(Some(Arc::try_clone(chunks)?)),
-    }
-}
-
-// A list with one chunk more.
-fn with_chunk(
-    alloc: Global,
-    list: &Option<Arc<Vec<Arc<Vec<Entry>>>>>,
-    chunk: Arc<Vec<Entry>>,
-) -> Result<Arc<Vec<Arc<Vec<Entry>>>>, AllocError>
-    ensures { IfOk result (λ longer. flat_map entries_in (shared_items (Some longer))
-        ≡ flat_map entries_in (shared_items list.now) ++ entries_in chunk) }
-{
-    let before: &[Arc<Vec<Entry>>] = match list {
-        None => &[],
-        Some(chunks) => chunks.as_slice(),
-    };
-    let mut chunks = shared_chunks(alloc, before)?;
-    chunks.push(chunk)?;
-    Ok(Arc::new(alloc, chunks)?)
-}
-
-// Other owners of these chunks, in a list with room for one more.
-fn shared_chunks(
-    alloc: Global,
-    chunks: &[Arc<Vec<Entry>>],
-) -> Result<Vec<Arc<Vec<Entry>>>, AllocError>
-    ensures { IfOk result (λ copy. flat_map entries_in copy.items ≡ flat_map entries_in chunks.now) }
-{
-    let mut copy = Vec::with_capacity(alloc, chunks.len().saturating_add(1))?;
-    for chunk in chunks {
-        copy.push(Arc::try_clone(chunk)?)?;
-    }
-    Ok(copy)
 }
 
 // Entries of the same batches, in a list with room for one more.

@@ -7,7 +7,7 @@ ghost use Rattle.past_model.specs.Homes.{home_of};
 ghost use Rattle.graph_model.specs.Views.{is_edge, neighbour_words, neighbours_among, word_bytes};
 ghost use Rattle.workers.specs.declared.work_error.WorkError.TheVariants.{OutOfMemory};
 ghost use Rattle.past_model.specs.Past.{IsPast, graph_of, number_of, epoch_of, opening, longer};
-ghost use Rattle.past_model.specs.Epochs.{rebased};
+ghost use Rattle.past_model.specs.Epochs.{branched, rebased};
 
 use crate::epoch::Epoch;
 use crate::log::Log;
@@ -59,6 +59,7 @@ impl Model for Version {
 
 impl Version {
     ghost use Rattle.version.specs.Version.{IsVertexCount, IsMade};
+    ghost use Rattle.version.specs.Sorted.{AreSorted, past_of};
 
     /// The version with nothing published.
     pub fn opening(alloc: Global, vertex_count: u32) -> Result<Version, AllocError>
@@ -71,6 +72,31 @@ impl Version {
             log: Log::empty(alloc),
             shards: Arc::new(alloc, Table::empty(alloc, vertex_count)?)?,
             edge_count: 0,
+        })
+    }
+
+    /// The version of a graph whose edges are given in sorted arrays, as the base of a first epoch without a batch: where the list
+    /// of each vertex begins, the end of them all after the last, and the lists. Each list is in the home to which its degree leads.
+    pub fn of_lists(
+        alloc: Global,
+        vertex_count: u32,
+        starts: &[u64],
+        targets: &[u32],
+    ) -> Result<Version, AllocError>
+        requires count { IsVertexCount vertex_count }
+        requires sorted { AreSorted vertex_count starts.now targets.now }
+        ensures { IfOk result (λ version. version ≡ past_of vertex_count starts.now targets.now) }
+    {
+        let table = Table::of_lists(alloc, vertex_count, starts, targets)?;
+        let shards = Arc::new(alloc, table)?;
+        let base = Arc::try_clone(&shards)?;
+        let epoch = Arc::new(alloc, Epoch::based(alloc, base))?;
+        Ok(Version {
+            vertex_count,
+            epoch,
+            log: Log::empty(alloc),
+            shards,
+            edge_count: targets.len() as u64,
         })
     }
 
@@ -236,6 +262,23 @@ impl Version {
             epoch,
             log: Log::empty(alloc),
             shards,
+            edge_count: self.edge_count,
+        })
+    }
+
+    /// The same graph, with the same homes, as the base of a first epoch without a batch. No shard is copied, and this version
+    /// stays: what is made of the one is not seen by the other.
+    pub fn branched(&self, alloc: Global) -> Result<Version, AllocError>
+        ensures { IfOk result (λ version. version ≡ branched self.now) }
+    {
+        let own = Arc::try_clone(&self.shards)?;
+        let epoch = Arc::new(alloc, Epoch::based(alloc, own))?;
+        let log = Log::empty(alloc);
+        Ok(Version {
+            vertex_count: self.vertex_count,
+            epoch,
+            log,
+            shards: Arc::try_clone(&self.shards)?,
             edge_count: self.edge_count,
         })
     }

@@ -41,7 +41,7 @@ number_more n b =
           ])
     ]
 
-has-numbers_below : (n b : ℕ) → has_word b (numbers_below n) ≡ ltb b n
+pub has-numbers_below : (n b : ℕ) → has_word b (numbers_below n) ≡ ltb b n
 has-numbers_below zero b = sym (le-ltb b zero (omega arith))
 has-numbers_below (suc n) b =
     list_any-append (λ x. eqb x b) (numbers_below n) (n ∷ [])

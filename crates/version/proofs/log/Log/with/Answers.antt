@@ -3,21 +3,21 @@ use Rattle.past_model.specs.declared.entry.Entry.{Entry}
 use Rattle.past_model.specs.Epochs.{mark_of, marked}
 use Rattle.past_model.specs.Shared.{shared_items}
 use Rattle.std.proofs.lemmas.List.{length_push}
-use Rattle.version.proofs.Marks.{mark_of-longer, marked-few}
-use Rattle.version.specs.Log.{entries_in, entries_of}
+use Rattle.version.proofs.MarkLemmas.{mark_of-longer, marked-few}
+use Rattle.version.specs.Chunks.{items_in, items_of}
 use Rattle.version.proofs.log.Log.with.Goals as goal
 
 pub counted-mark-requires : goal.counted-mark-requires
 counted-mark-requires c =
-    let log : List Entry = entries_of (shared_items c.self.inside.full) c.self.inside.last.items in
+    let log : List Entry = items_of (shared_items c.self.inside.full) c.self.inside.last.items in
     omega (arith, ap (λ (m : List ℕ). marked m c.args.entry.feed) c.self.invariant.1, marked-few log c.args.entry.feed, ap (length {A = Entry}) c.self.view_is, c.requires)
 
 pub invariant_of-result-2 : goal.invariant_of-result-2
 invariant_of-result-2 c =
-    let log : List Entry = entries_of (shared_items c.self.inside.full) c.self.inside.last.items in
-    let chunk : entries_in c.in_ok-new.field-0 ≡ c.self.inside.last.items ++ c.args.entry ∷ [] = search rules in
-    let before : List Entry = flat_map entries_in (shared_items c.self.inside.full) in
-    let now : List Entry = flat_map entries_in c.in_ok-full-2.full.value.items in
+    let log : List Entry = items_of (shared_items c.self.inside.full) c.self.inside.last.items in
+    let chunk : items_in c.in_ok-new.field-0 ≡ c.self.inside.last.items ++ c.args.entry ∷ [] = search rules in
+    let before : List Entry = flat_map items_in (shared_items c.self.inside.full) in
+    let now : List Entry = flat_map items_in c.in_ok-full-2.full.value.items in
     let none : c.new-2.result.items ≡ [] = search rules in
     let all : now ++ c.new-2.result.items ≡ log ++ c.args.entry ∷ [] =
     ap (λ (l : List Entry). now ++ l) none ∙ append-nil now ∙ c.in_ok-full-2.ensures ∙ ap (λ (l : List Entry). before ++ l) chunk

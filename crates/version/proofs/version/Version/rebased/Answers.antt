@@ -1,5 +1,6 @@
 use Rattle.std.proofs.Common.{◌≡◌, ◌++◌, ◌∷◌, [], List, ℕ, ◌<◌, sym, ap, subst, ◌∙◌, rules, Some}
 use Rattle.std.specs.Arc.{arc_value}
+use Rattle.past_model.specs.declared.limits.TheConstants.{MOST_EPOCHS}
 use Rattle.past_model.specs.declared.entry.Entry.{Entry}
 use Rattle.past_model.specs.Past.{Past, Base, epoch_of}
 use Rattle.past_model.specs.Epochs.{mark_of, rebased}
@@ -32,7 +33,7 @@ pub invariant_of-result : goal.invariant_of-result
 invariant_of-result c =
     let parts : List Part = arc_value c.self.inside.shards in
     let shards : arc_value c.in_ok-shards.shards ≡ parts = search rules in
-    let room : epoch_of (here c) < 1024 = subst (λ (p : Past). epoch_of p < 1024) (sym c.self.view_is) c.requires in
+    let room : epoch_of (here c) < MOST_EPOCHS = subst (λ (p : Past). epoch_of p < MOST_EPOCHS) (sym c.self.view_is) c.requires in
     subst (λ (p : Past). IsVersion p (arc_value c.in_ok-shards.shards) c.self.inside.edge_count) (sym (same c))
     (subst (λ (l : List Part). IsVersion (rebased (here c)) l c.self.inside.edge_count) (sym shards) (rebased_version (here c) parts c.self.inside.edge_count c.self.invariant room))
 

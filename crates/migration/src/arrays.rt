@@ -1,0 +1,93 @@
+//! The shards of a graph whose edges are sorted already: each list is put into its home once.
+ghost use Rattle.std.specs.Prelude.{◌≡◌, ◌+◌, ◌*◌, ◌<◌, ◌≤◌, length, IfOk};
+ghost use Rattle.past_model.specs.declared.limits.TheConstants.{MOST_VERTICES, RANGE_VERTICES};
+ghost use Rattle.migration.specs.declared.pages.TheConstants.{PAGE_VERTICES};
+ghost use Rattle.migration.specs.Arrays.{AreLists, ArePartsOf, rows_from, homes_from};
+ghost use Rattle.migration.specs.Lists.{AreKept, rows_of, homes_of};
+ghost use Rattle.migration.specs.Pages.{ArePages, rows_in, homes_in};
+ghost use Rattle.migration.specs.Table.{parts_of};
+
+use crate::lists::Lists;
+use crate::pages::PAGE_VERTICES;
+use crate::shard::Shard;
+use past_model::{Home, RANGE_VERTICES};
+use std::alloc::{AllocError, Global};
+use std::sync::Arc;
+
+// A page of the lists of so many vertices from one on, made in `page`, which keeps its room.
+fn page_of_lists(
+    alloc: Global,
+    starts: &[u64],
+    targets: &[u32],
+    first: usize,
+    count: usize,
+    page: &mut Lists,
+) -> Result<Lists, AllocError>
+    requires lists { AreLists starts.now targets.now }
+    requires inside { first + count < length starts.now }
+    requires few { count ≤ PAGE_VERTICES }
+    ensures kept { IfOk result (λ made. AreKept made) }
+    ensures rows { IfOk result (λ made. rows_of made ≡ rows_from starts.now targets.now first count) }
+    ensures homes { IfOk result (λ made. homes_of made ≡ homes_from starts.now targets.now first count) }
+{
+    page.clear();
+    for place in 0..count {
+        let vertex = first + place;
+        let words = &targets[starts[vertex] as usize..starts[vertex + 1] as usize];
+        page.push(alloc, Home::Block.after(words.len() as u32), words)?;
+    }
+    page.taken(alloc)
+}
+
+/// The pages of the lists of a range's vertices, where these are so many from one on.
+pub(crate) fn pages_of_lists(
+    alloc: Global,
+    starts: &[u64],
+    targets: &[u32],
+    first: usize,
+    vertices: usize,
+    page: &mut Lists,
+) -> Result<Vec<Arc<Lists>>, AllocError>
+    requires lists { AreLists starts.now targets.now }
+    requires inside { first + vertices < length starts.now }
+    requires few { vertices ≤ RANGE_VERTICES }
+    ensures pages { IfOk result (λ pages. ArePages pages.items) }
+    ensures rows { IfOk result (λ pages. rows_in pages.items ≡ rows_from starts.now targets.now first vertices) }
+    ensures homes { IfOk result (λ pages. homes_in pages.items ≡ homes_from starts.now targets.now first vertices) }
+{
+    let count = vertices.div_ceil(PAGE_VERTICES);
+    let mut pages = Vec::with_capacity(alloc, count)?;
+    for number in 0..count {
+        let done = PAGE_VERTICES * number;
+        let size = (vertices - done).min(PAGE_VERTICES);
+        let made = page_of_lists(alloc, starts, targets, first + done, size, page)?;
+        pages.push(Arc::new(alloc, made)?)?;
+    }
+    Ok(pages)
+}
+
+/// The shards of a graph whose vertices have these lists, one for each range. Each list is in the home to which its degree
+/// leads from a block.
+pub(crate) fn shards_of_lists(
+    alloc: Global,
+    vertex_count: u32,
+    starts: &[u64],
+    targets: &[u32],
+) -> Result<Vec<Arc<Shard>>, AllocError>
+    requires some { 1 ≤ vertex_count }
+    requires most { vertex_count ≤ MOST_VERTICES }
+    requires count { length starts.now ≡ vertex_count + 1 }
+    requires lists { AreLists starts.now targets.now }
+    ensures { IfOk result (λ shards. ArePartsOf starts.now targets.now vertex_count (parts_of shards.items)) }
+{
+    let count = (vertex_count - 1) / RANGE_VERTICES + 1;
+    let mut page = Lists::new(alloc);
+    let mut shards = Vec::with_capacity(alloc, count as usize)?;
+    for range in 0..count {
+        let left = vertex_count - RANGE_VERTICES * range;
+        let vertices = left.min(RANGE_VERTICES) as u16;
+        let shard = Shard::of_lists(alloc, range, vertices, starts, targets, &mut page)?;
+        shards.push(Arc::new(alloc, shard)?)?;
+    }
+    Ok(shards)
+}
