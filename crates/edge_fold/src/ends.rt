@@ -45,7 +45,11 @@ fn number_at(column: &[u64], vertex: u32) -> u64
     ensures { result ≡ slice_index column.now vertex }
 {
     let place = vertex as usize;
-    if place < column.len() { column[place] } else { 0 }
+    if place < column.len() {
+        column[place]
+    } else {
+        0
+    }
 }
 
 /// Writes two numbers one after the other.
@@ -91,7 +95,13 @@ pub(crate) fn gather_ends(edges: &mut Edges, columns: &[&[u64]])
     'columns: for at in 0..columns.len() {
         let column = column_at(columns, at);
         gather_end(&mut edges.ends, 2 * at, column, &edges.sources, edges.count);
-        gather_end(&mut edges.ends, 2 * at + 1, column, &edges.targets, edges.count);
+        gather_end(
+            &mut edges.ends,
+            2 * at + 1,
+            column,
+            &edges.targets,
+            edges.count,
+        );
     }
     edges.end_count = 2 * columns.len();
 }

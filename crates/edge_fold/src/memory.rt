@@ -19,7 +19,7 @@ impl Memory {
     ghost use Rattle.bpf_image.specs.Program.{Program};
     ghost use Rattle.graph_model.specs.Graph.{Graph};
     ghost use Rattle.edge_fold.specs.Kept.{AreKept, IsFor};
-ghost use Rattle.map_model.specs.EdgeMap.{Inputs};
+    ghost use Rattle.map_model.specs.EdgeMap.{Inputs};
 
     /// A memory for runs of a program: it has the program's table, and keeps no number. Edges are run in blocks only if that
     /// saves time.

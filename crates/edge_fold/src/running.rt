@@ -75,7 +75,12 @@ fn write_front(memory: &mut bpf_runs::Memory, edge: Edge, argument: &[u8], is_be
 /// Writes the record of an edge, with all that its run is lent, at the beginning of a memory, which may begin with the one of an edge
 /// from the same source.
 #[inline(always)]
-pub(crate) fn prepare(mapped: &Mapped<'_>, memory: &mut bpf_runs::Memory, edge: Edge, is_begun: bool)
+pub(crate) fn prepare(
+    mapped: &Mapped<'_>,
+    memory: &mut bpf_runs::Memory,
+    edge: Edge,
+    is_begun: bool,
+)
     requires begun { is_begun ≡ true → BeginAlike edge mapped.now.argument.now memory.old.bytes }
     ensures record { take mapped.now.program.now.record_length memory.new.bytes ≡ edge_bytes edge (inputs_of mapped.now) }
     ensures rest { drop RECORD_ROOM memory.new.bytes ≡ drop RECORD_ROOM memory.old.bytes }

@@ -7,8 +7,8 @@ ghost use Rattle.embedding.specs.Lent.{lent_of};
 ghost use Rattle.embedding.specs.Parts.{AreNumbersWith};
 
 use crate::held::Held;
-use crate::places::is_at_place;
 use crate::lent::test_lent;
+use crate::places::is_at_place;
 use crate::runnable::{Edges, Lent, Runnable};
 use crate::statuses::{ARGUMENT_LENGTH, DONE, LENGTHS, OTHER_KIND, PROGRESS};
 use edge_fold::{EDGE_BYTES, Progress};

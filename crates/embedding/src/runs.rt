@@ -7,8 +7,8 @@ ghost use Rattle.embedding.specs.Parts.{IsPullSome};
 ghost use Rattle.embedding.specs.Runs.{reduction_at, IsPull};
 
 use crate::held::Held;
-use crate::places::is_at_place;
 use crate::lent::test_lent;
+use crate::places::is_at_place;
 use crate::runnable::{Edges, Lent, Runnable};
 use crate::statuses::{DONE, LENGTHS, OTHER_KIND, PROGRESS, REDUCTION};
 use edge_fold::{Progress, Reduction, Request};
