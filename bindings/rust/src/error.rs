@@ -30,8 +30,6 @@ pub enum Error {
     ArgumentLength,
     /// A progress names no place of the frontier.
     Progress,
-    /// The arrays of a graph's edges are not sorted.
-    NotSorted,
     /// A batch of a `Live` was applied, and there was no memory to show its version before the next one.
     NotShown,
     /// The library answered a status of which this crate knows nothing.
@@ -59,7 +57,6 @@ impl Error {
             18 => Error::TableLength,
             13 => Error::ArgumentLength,
             20 => Error::Progress,
-            21 => Error::NotSorted,
             other => Error::Unknown(other),
         }
     }
@@ -97,7 +94,6 @@ impl fmt::Display for Error {
             Error::TableLength => to.write_str("the table has more than 4096 bytes"),
             Error::ArgumentLength => to.write_str("the argument is not as long as the record less 16 bytes"),
             Error::Progress => to.write_str("the progress names no place of this frontier"),
-            Error::NotSorted => to.write_str("the arrays are not sorted"),
             Error::NotShown => {
                 to.write_str("the batch was applied, and there is no memory to show its version before the next one")
             }
@@ -205,7 +201,6 @@ mod tests {
             (17, Error::EpochsFull),
             (18, Error::TableLength),
             (20, Error::Progress),
-            (21, Error::NotSorted),
         ] {
             assert_eq!((Error::of(status), error.to_string().as_str()), (error, words[status as usize]));
         }

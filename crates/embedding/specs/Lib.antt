@@ -10,4 +10,3 @@ pub mod Programs
 pub mod Texts
 pub mod Runs
 pub mod Parts
-pub mod Sorted
