@@ -12,4 +12,3 @@ pub mod Runs
 pub mod Parts
 pub mod Lists
 pub mod Lent
-pub mod Sorted
