@@ -498,7 +498,7 @@ static void tells_what_handles_hold(void) {
     static const char *const words[] = {
         "done", "memory", "empty", "another kind", "number of vertices", "an edit names", "65536 edits", "4096 batches",
         "feed", "lengths", "refuses", "record length", "code is not", "argument", "reduction", "means no code", "neighbour", "64 bits count",
-        "the table has more than 4096", "there is no such status", "the progress names no place",
+        "the table has more than 4096", "more than 8 columns", "the progress names no place",
     };
     for (uint32_t status = 0; status < COUNT(words); status++) CHECK(strstr(edgebpf_words(status), words[status]));
     CHECK(!strcmp(edgebpf_words(EDGEBPF_PROGRESS + 1), "there is no such status"));

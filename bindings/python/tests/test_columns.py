@@ -106,7 +106,7 @@ class Columns(unittest.TestCase):
             self.assertEqual(self.version.run(self.target, columns=[column]).edges, 12)
         readonly = np.arange(8, dtype=np.uint64)
         readonly.flags.writeable = False
-        self.assertEqual(self.version.run(self.target, columns=(readonly,)).total, 26)
+        self.assertEqual(self.version.run(self.target, columns=(readonly,)).total, 29)
         self.assertEqual(self.version.run(edgebpf.assemble(TARGET, record=48), columns=np.stack([self.x, self.x])).edges, 12)
 
     def test_wrong_columns(self):
