@@ -191,7 +191,7 @@ class Native(test_package.Package):
         store.batch("A", ([0], [3]))
 
         def watch(name, call, given):
-            if name in ("run_some", "version_lend"):
+            if name in ("pull_some", "version_lend"):
                 together.wait(20)
             return call(*given)
 

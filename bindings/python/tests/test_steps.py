@@ -87,7 +87,7 @@ class Steps(unittest.TestCase):
 
     def test_without_edges(self):
         """A vertex without edges, one that is outside, which the package itself refuses, and no vertex."""
-        run = edgebpf.steps.Run(self.version, self.target, "sum", np.array([7, 9], np.uint32), b"")
+        run = edgebpf.steps.Run(self.version, self.target, "sum", np.array([7, 9], np.uint32), edgebpf.steps.Inputs(b"", []))
         for place in ((1, 0), (2, 0)):
             run.step(0)
             self.assertEqual(stands(run), (place, 0, 0))
@@ -107,7 +107,7 @@ class Steps(unittest.TestCase):
         self.assertEqual(self.version.numbers(self.target, frontier=[2, 0, 7, 5]).tolist(), wanted)
         self.assertEqual(self.version.numbers(self.target).tolist(), [target for _, target in EDGES])
         self.assertEqual(self.version.numbers(self.target, b"", []).tolist(), [])
-        run = edgebpf.NumbersRun(self.version, self.target, np.array([2, 0, 7, 5], np.uint32), b"", 4)
+        run = edgebpf.NumbersRun(self.version, self.target, np.array([2, 0, 7, 5], np.uint32), edgebpf.steps.Inputs(b"", []), 4)
         run.step(MOST)
         first = run.numbers
         self.assertEqual((first.tolist(), run.at, run.done), ([0, 1, 3, 1], (1, 1), False))
@@ -291,7 +291,7 @@ class Steps(unittest.TestCase):
     def test_short_runs_are_one_call(self):
         """A short run, a run of numbers and of pairs are one call of the library each."""
         asked, real = [], edgebpf.library.calls()
-        for name in ("run_some", "numbers_some", "pairs"):
+        for name in ("pull_some", "numbers_of", "pairs_of"):
             call = getattr(real, name)
             patch = unittest.mock.patch.object(real, name, lambda *given, name=name, call=call: asked.append(name) or call(*given))
             patch.start()
@@ -300,7 +300,7 @@ class Steps(unittest.TestCase):
         self.version.numbers(self.target, frontier=[2])
         self.version.numbers(self.target)
         self.version.pairs(self.target, [0], [1])
-        self.assertEqual(asked, ["run_some", "numbers_some", "numbers_some", "pairs"])
+        self.assertEqual(asked, ["pull_some", "numbers_of", "numbers_of", "pairs_of"])
 
     def test_steps_without_a_budget(self):
         """Each has a budget by the rate of the one before, and less where a unit may be a helper, or a pair's search."""
