@@ -29,13 +29,13 @@ struct edge {
 /* A program whose runs are lent columns has a record of its own: the edge's four numbers, then the argument, if there is one, and then of
    each column the number of the edge's source and that of its target:
 
-       struct scored { struct edge_start edge; u64 least; struct ends risk, land; };
+       struct scored { struct edge_start edge; u64 least; struct edge_ends risk, land; };
        u64 score(struct scored *it, u64 length) { return it->risk.target < it->least ? 0 : it->risk.target; } */
 struct edge_start {
     u32 source, target, place, degree;
 };
 
-struct ends {
+struct edge_ends {
     u64 source, target;
 };
 
