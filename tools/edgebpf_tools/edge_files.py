@@ -39,10 +39,10 @@ def text_of(name, stream):
 
 
 class EdgeFile:
-    """The edges of a file as columns of ids, and what its header said."""
+    """The edges of a file as columns of ids, which are handed to `take` block by block, and what its header said."""
 
-    def __init__(self, name, options, warn):
-        self.numpy = packages.numpy()
+    def __init__(self, name, options, warn, take, most):
+        self.numpy, self.take, self.most = packages.numpy(), take, most
         self.name, self.base, self.quiet = name, options.base, options.quiet
         self.rectangle = options.rectangular
         self.is_symmetric = options.undirected
@@ -52,7 +52,6 @@ class EdgeFile:
         self.has_begun, self.has_more, self.separator = False, False, None
         self.line, self.count, self.told = 0, 0, 0
         self.skip = options.skip
-        self.sources, self.targets = [], []
 
     def fault(self, line, text):
         return Refusal(f"{self.name}, line {line}: {text}")
@@ -71,16 +70,12 @@ class EdgeFile:
         if self.size is not None and self.size[2] != self.count:
             raise self.fault(self.line, f"the file says {self.size[2]} entries, and has {self.count}")
 
-    def columns(self):
-        """The sources and the targets, as they stand in the file. They are kept here no longer."""
-        columns = self.numpy.concatenate(self.sources), self.numpy.concatenate(self.targets)
-        self.sources, self.targets = [], []
-        return columns
-
     def vertices(self):
         """How many vertices the header says, at least."""
-        rows, columns, _ = self.size or (0, 0, 0)
-        return rows + columns if self.rectangle == "apart" and rows != columns else max(rows, columns)
+        if self.size is None:
+            return 0
+        rows, columns, _ = self.size
+        return rows + columns if self._is_apart() else max(rows, columns)
 
     def _take_block(self, block):
         while self.skip and block:
@@ -106,11 +101,19 @@ class EdgeFile:
             self._keep(*columns)
 
     def _keep(self, sources, targets):
-        """Keeps columns, in half as many bytes where their ids allow it."""
-        for kept, column in ((self.sources, sources), (self.targets, targets)):
-            is_short = len(column) and column.max() < 2**32
-            kept.append(column.astype(self.numpy.uint32 if is_short else self.numpy.int64))
+        """Hands columns on. The columns of a matrix may be vertices after those of its rows, in which its entries have to lie."""
+        if self.size and len(sources):
+            rows, columns, _ = self.size
+            if sources.max() >= rows + self.base or targets.max() >= columns + self.base:
+                raise Refusal(f"{self.name}: an entry lies outside the {rows} rows and {columns} columns of the matrix")
+            if self._is_apart():
+                targets = targets + rows
         self.count += len(sources)
+        self.take(sources, targets)
+
+    def _is_apart(self):
+        """Whether the columns of a matrix are vertices of their own."""
+        return self.rectangle == "apart" and self.size[0] != self.size[1]
 
     def _after_head(self, block):
         """What stands behind the comments and the header, from the first edge on."""
@@ -199,6 +202,8 @@ class EdgeFile:
             )
         if rows != columns and self.rectangle == "apart" and rows + columns > MOST_ID:
             raise self.fault(self.line, "the matrix has more than 2^63 - 1 rows and columns in all")
+        if rows != columns and self.is_symmetric and self.rectangle != "apart":
+            raise Refusal(f"{self.name}: a matrix of {rows} rows and {columns} columns is not symmetric")
         self.size = rows, columns, entries
 
     def _help(self):

@@ -54,8 +54,8 @@ class EdgebpfImport(unittest.TestCase):
         from edgebpf_tools import import_edges
 
         out = io.BytesIO()
-        with unittest.mock.patch.multiple(import_edges, MOST_EDITS=1, MOST_BATCHES=2):
-            self.assertEqual(import_edges.write_script(4, numpy.array([1, 2, 3]), out, False), 3)
+        with unittest.mock.patch.multiple(import_edges, MOST_BATCHES=2):
+            self.assertEqual(import_edges.write_script(4, numpy.array([[1], [2], [3]]), out, False), (3, 3))
         batches = [f"batch A\n+ 0 {target}\nend\n" for target in (1, 2, 3)]
         self.assertEqual(out.getvalue().decode(), "graph 4\n" + batches[0] + batches[1] + "rebase\n" + batches[2])
 
@@ -199,6 +199,53 @@ class EdgebpfImport(unittest.TestCase):
                 run = subprocess.run(words, stdout=stream, stderr=subprocess.PIPE, text=True)
             said = f"edgebpf-import: {script}: standard output or error is written there\n"
             self.assertEqual((run.stderr.splitlines(True)[-1], run.returncode), (said, 1))
+
+    def test_store(self):
+        """What a store in process would have, with more vertices than a script's graph may have; no script and no table is written."""
+        for text, words, wanted in (
+            ("0 1\n0 2\n1 2\n0 1\n", (), "3 vertices, 3 edges"), ("0 1\n1 1\n", ("--undirected",), "2 vertices, 3 edges"),
+            ("268435455 0\n", (), "268435456 vertices, 1 edges"), ("268435456 0\n", (), "2 vertices, 1 edges, and ids are renumbered"),
+            ("a b\nb a\n", ("--names",), "2 vertices, 2 edges, and ids are renumbered"), ("1048577 9\n", ("--rebase",), "1048578 vertices, 1 edges"),
+        ):
+            with tempfile.TemporaryDirectory() as folder:
+                run = run_tool("edgebpf-import", "--store", "-", *words, text=text, cwd=folder)
+                self.assertEqual((run.stdout, run.stderr, run.returncode, os.listdir(folder)), (wanted + "\n", "", 0, []))
+        self.refused("0 1\n2 x\n", "line 2: `x` is no id", "--store")
+        many = "".join(f"{vertex} {vertex + 1}\n" for vertex in range(0, 1_048_578, 2))
+        self.assertEqual(self.made(many, "--store").stdout, "1048578 vertices, 524289 edges\n")
+
+    def test_runs(self):
+        """Edges that are sorted in many runs, which lie in a file, are those that are sorted at once; no file is left."""
+        import numpy
+        from edgebpf_tools import edge_files, edge_runs, import_edges
+
+        chance = numpy.random.default_rng(7)
+        for most, count in ((30, 2_000), (1 << 27, 500), (1 << 62, 700)):
+            edges = chance.integers(0, most, (count, 2))
+            edges = numpy.concatenate((edges, edges[: count // 2]))
+            ids = numpy.unique(edges)
+            ends = numpy.searchsorted(ids, edges) if most > 1 << 20 else edges
+            wanted = sorted(set(map(tuple, ends.tolist())))
+            for run_edges, memory in ((7, 0), (100, 1_000), (1 << 22, 1 << 30)):
+                sizes = unittest.mock.patch.multiple(edge_runs, RUN_EDGES=run_edges, MERGED_EDGES=40, LEAST_MERGED=2)
+                with tempfile.TemporaryDirectory() as folder, sizes, unittest.mock.patch.object(edge_files, "BLOCK", 100):
+                    with edge_runs.EdgeRuns(memory, folder) as runs:
+                        options = import_edges.arguments(["-", "--quiet"])
+                        text = "".join(f"{source} {target}\n" for source, target in edges.tolist()).encode()
+                        made = import_edges.SortedEdges("text", io.BytesIO(text), options, 1 << 20, self.fail, runs)
+                        self.assertEqual(runs.file is None, memory == 1 << 30)
+                        batches = [edge_runs.columns_of(batch) for batch in made.batches(64)]
+                        self.assertEqual(os.listdir(folder), [])
+                self.assertEqual([len(sources) for sources, _ in batches], [min(64, len(wanted) - place) for place in range(0, len(wanted), 64)])
+                self.assertEqual([pair for columns in batches for pair in zip(*map(numpy.ndarray.tolist, columns))], wanted)
+                self.assertEqual(made.ids is not None, most > 1 << 20)
+
+    def test_a_folder_that_is_not_there(self):
+        from edgebpf_tools import edge_runs, import_edges, refusal
+
+        with unittest.mock.patch.dict(os.environ, TMPDIR="/nowhere"), edge_runs.EdgeRuns(0) as runs, self.assertRaises(refusal.Refusal) as raised:
+            import_edges.SortedEdges("text", io.BytesIO(b"0 1\n"), import_edges.arguments(["-"]), 9, self.fail, runs)
+        self.assertEqual(str(raised.exception), "/nowhere: No such file or directory, where edges are sorted that memory does not hold")
 
     def test_undirected(self):
         self.assertEqual(self.made("0 1\n1 1\n", "--undirected").stdout, "graph 2\nbatch A\n+ 0 1\n+ 1 0\n+ 1 1\nend\n")

@@ -16,6 +16,7 @@ from edgebpf.errors import (
     ArgumentLength, Closed, EpochsFull, Error, LogFull, NoMemory, NotHere, Refused, TimedOut, TooManyEdits, TooManyNames, VertexRange, WrongText,
 )
 from edgebpf.from_c import compile_c
+from edgebpf.from_files import read_edges
 from edgebpf.live import Live
 from edgebpf.native import Store, Version
 from edgebpf.programs import Program, assemble
@@ -27,5 +28,5 @@ __version__ = "0.1.0"
 __all__ = [
     "ArgumentLength", "Closed", "Counts", "EpochsFull", "Error", "Live", "LogFull", "NoMemory", "NotHere", "NumbersRun", "PairsRun", "Program",
     "Refused", "Result", "Run", "Steps", "Store", "TimedOut", "TooManyEdits", "TooManyNames", "Version", "VertexRange", "WrongText", "assemble",
-    "compile_c", "connect",
+    "compile_c", "connect", "read_edges",
 ]

@@ -39,7 +39,9 @@ def memory_of(handle: library.Handle) -> memoryview:
 
 class Store:
     """A graph in this process, without an edge at first. Batches and runs have one worker; it may be used by several threads, which take
-    turns, and is a context manager. vertices: 1 to 268,435,456."""
+    turns, and is a context manager. vertices: 1 to 268,435,456. `ids` has the id of each vertex where `read_edges` renumbered them, else None."""
+
+    ids: npt.NDArray[np.int64] | list[str] | None = None
 
     def __init__(self, vertices: int) -> None:
         vertices = vertex_count(vertices, MOST_VERTICES)
