@@ -22,6 +22,7 @@ ROWS = {
     "one": "a batch of one edge",
     "keep": "a version that stays while edges come",
     "neighbours": "the neighbours of a vertex",
+    "again": "the neighbours of the same vertex again",
     "sum": "the targets of all edges, summed by source",
     "back": "edges that lead back, counted",
     "numbers": "the number of each edge, as an array",
@@ -62,6 +63,10 @@ def of_edgebpf(edges, asked):
     times["keep"], version = best(store.pin, 50)
     whole, _ = best(lambda: [version.neighbours(at) for at in asked], 3)
     times["neighbours"] = whole / len(asked)
+    again, first = [], int(asked[0])
+    for _ in range(200):
+        again.append(best(lambda: [version.neighbours(first) for _ in range(200)], 1)[0] / 200)
+    times["again"] = min(again)
     target, back = edgebpf.assemble(TARGET), edgebpf.assemble(BACK)
     times["sum"], result = best(lambda: version.run(target, "sum"), 3)
     times["back"], mutual = best(lambda: version.run(back, "sum"), 3)

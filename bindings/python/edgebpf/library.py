@@ -167,7 +167,7 @@ class Handle:
     def __init__(self) -> None:
         here = calls()
         self.at = here.keep(here.new(here.handle), here.close)
-        self.room: tuple[Any, Any] | None = None
+        self.room: tuple[Any, Any, memoryview] | None = None
 
 
 class Shared:
@@ -207,6 +207,7 @@ class Calls:
     def __init__(self) -> None:
         library, types = load(), foreign()
         self.new, self.buffer, self.keep, self.close = types.new, types.from_buffer, types.gc, library.edgebpf_close
+        self.bytes_of = types.buffer
         self.bytes, self.words, self.numbers = kind("uint8_t[]"), kind("uint32_t[]"), kind("uint64_t[]")
         self.progress, self.size, self.sizes = kind("progress *"), kind("size_t *"), kind("size_t[]")
         self.handle, self.info = kind("handle *"), kind("info *")
@@ -220,6 +221,11 @@ class Calls:
         """Memory for so many slices, each of which is an address and a length, and for how many there are."""
         lent = self.new(self.sizes, 2 * slices + 1)
         return lent, lent + 2 * slices
+
+    def read_often(self, slices: int) -> tuple[Any, Any, memoryview]:
+        """The same, and its numbers, which are read sooner from there."""
+        lent, count = self.room(slices)
+        return lent, count, memoryview(self.bytes_of(lent)).cast("B").cast("N")
 
     def columns(self, arrays: list[npt.NDArray[Any]]) -> tuple[Any, int]:
         """What a call takes for columns, an array and how many they are. The arrays have to stay until it has returned."""

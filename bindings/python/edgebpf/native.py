@@ -22,6 +22,7 @@ from edgebpf.store import MOST_EDITS, Counts, Result, described
 # Most lists lie in one slice. `lend` fills the room if there may be more.
 LEAST_ROOM, MORE_ROOM = 2, 64
 U32, U64 = np.dtype(np.uint32), np.dtype(np.uint64)
+view_of = np.frombuffer
 
 
 class Memory(ctypes.c_uint8 * (1 << 47)):  # type: ignore[misc]
@@ -355,26 +356,38 @@ class Version:
                 return [self._view(lent[2 * place], lent[2 * place + 1]) for place in range(count[0])]
             room *= 4
 
-    def _view(self, at: int, count: int) -> Vertices:
-        """The array of a slice."""
+    def _all_memory(self) -> memoryview:
+        """Where this version's slices lie."""
         if self._memory is None:
             self._memory = memory_of(self._open().first)
-        return np.frombuffer(self._memory, U32, count, at)
+        return self._memory
+
+    def _view(self, at: int, count: int) -> Vertices:
+        """The array of a slice."""
+        return view_of(self._all_memory(), U32, count, at)
 
     def neighbours(self, vertex: int) -> Vertices:
         """The targets of a vertex, ascending, as a read-only uint32 array: a view where they lie in one slice, else a copy."""
         shared, calls = self._shared or self._open(), self._calls
-        handle, number = shared.own(), vertex_of(vertex, self.vertices)
+        # Here no function is called that need not be: each takes as long as a tenth of the whole.
+        try:
+            handle = shared._own.handle
+        except AttributeError:
+            handle = shared.own()
+        if type(vertex) is not int:
+            vertex = whole(vertex, "vertex")
+        if not 0 <= vertex < self.vertices:
+            vertex_of(vertex, self.vertices)
         # The handle keeps the room but for this time: what handles a signal may ask for a list meanwhile.
-        room, handle.room = handle.room or calls.room(LEAST_ROOM), None
-        lent, count = room
-        status = calls.lend(handle.at, number, lent, LEAST_ROOM, count)
-        found, at, length = count[0], lent[0], lent[1]
+        room, handle.room = handle.room or calls.read_often(LEAST_ROOM), None
+        lent, count, numbers = room
+        status = calls.lend(handle.at, vertex, lent, LEAST_ROOM, count)
+        found, at, length = numbers[-1], numbers[0], numbers[1]
         handle.room = room
         if status:
             library.check(status)
         if found == 1:
-            return self._view(at, length)
+            return view_of(self._memory or self._all_memory(), U32, length, at)
         slices = self.slices(vertex) if found else []
         copied: Vertices = np.concatenate(slices) if slices else np.empty(0, U32)
         copied.flags.writeable = False
