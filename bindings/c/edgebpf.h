@@ -242,6 +242,44 @@ uint32_t edgebpf_pairs_of(edgebpf_version *version, edgebpf_program *program, co
                           const edgebpf_column *columns, size_t column_count, const uint32_t *sources, size_t source_count,
                           const uint32_t *targets, size_t target_count, edgebpf_progress *at, uint64_t *numbers, size_t number_count);
 
+/* So many vertices of a range are written down at a time. */
+enum { EDGEBPF_WINDOW = 1024 };
+
+/* What two parts of a run reduce to together. */
+static inline uint64_t edgebpf_join(uint32_t reduction, uint64_t one, uint64_t other) {
+    if (reduction == EDGEBPF_SUM) return one + other;
+    return (one < other) == (reduction == EDGEBPF_MIN) ? one : other;
+}
+
+/* Goes on with a run over the vertices from `first` on, as many as there are values, as edgebpf_pull_some does with a frontier that has
+   them in this order: no array of them is needed, but for EDGEBPF_WINDOW numbers on the stack. At the beginning `at` is 0 but for its
+   budget, and UINT64_MAX is enough for all. Statuses are those of edgebpf_pull_some; LENGTHS also for a range past 2^32. This function
+   is C, and only tested; the calls that it makes are proved. */
+static inline uint32_t edgebpf_pull_range(edgebpf_version *version, edgebpf_program *program, const uint8_t *argument,
+                                          size_t argument_length, const edgebpf_column *columns, size_t column_count, uint32_t first,
+                                          uint32_t reduction, edgebpf_progress *at, uint64_t *values, size_t value_count) {
+    uint32_t window[EDGEBPF_WINDOW], status;
+    if (reduction <= EDGEBPF_MAX && (value_count > EDGEBPF_MOST_VERTICES || first > ((uint64_t)1 << 32) - value_count)) return EDGEBPF_LENGTHS;
+    do {
+        const int is_past = at->vertex > value_count, has_begun = at->vertex || at->place;
+        size_t count = is_past ? 0 : value_count - at->vertex;
+        uint64_t *next = is_past ? values : values + at->vertex;
+        if (count > EDGEBPF_WINDOW) count = EDGEBPF_WINDOW;
+        for (size_t place = 0; place < count; place++) window[place] = first + at->vertex + (uint32_t)place;
+        /* Of the edges so far those of the window's first vertex belong to its part, which has their value. */
+        const uint64_t begun = at->place && count ? *next : 0, none = reduction == EDGEBPF_MIN ? UINT64_MAX : 0;
+        edgebpf_progress part = {at->budget, at->place, begun, 0, is_past ? 1 : at->place};
+        status = edgebpf_pull_some(version, program, argument, argument_length, columns, column_count, window, count, reduction, &part,
+                                   next, count);
+        if (status != EDGEBPF_DONE) return status;
+        const uint64_t before = !has_begun ? none : reduction == EDGEBPF_SUM ? at->total - begun : at->total;
+        at->edges = (has_begun ? at->edges - at->place : 0) + part.edges;
+        at->total = edgebpf_join(reduction, before, part.total);
+        at->budget = part.budget, at->vertex += part.vertex, at->place = part.place;
+    } while (at->budget && at->vertex < value_count);
+    return EDGEBPF_DONE;
+}
+
 /* Drops what a handle holds, and leaves it empty. An empty one may be closed. */
 void edgebpf_close(edgebpf_handle *handle);
 

@@ -52,8 +52,8 @@ def status_table(header):
 
 def declared(lines):
     """Declarations alone, of an inline function its head, each on as many lines as it needs."""
-    heads = [re.sub(r" \{ .* \}$", ";", line) if line.startswith("static inline") else line for line in lines]
-    whole = re.split(r"(?<=;)\n", "\n".join(heads))
+    heads = re.sub(r"^(static inline [^{]*) \{( [^\n]* \}$|\n.*?^\}$)", r"\1;", "\n".join(lines), flags=re.M | re.S)
+    whole = re.split(r"(?<=;)\n", heads)
     return [line for each in whole for line in ([each] if each.startswith("#") else wrapped(each))]
 
 

@@ -9,6 +9,8 @@ static edgebpf_version graph;
 static edgebpf_program targets_of;
 
 static const uint32_t all[VERTICES] = {0, 1, 2, 3, 4, 5, 6, 7};
+static const uint64_t nothing[1];
+static const edgebpf_column no_column = {nothing, 0};
 static const uint64_t sums[VERTICES] = {3, 2, 4, 6, 3, 6, 5, 0};
 
 /* 0-1, 0-2, 1-2, 2-3, 3-4 and 5-6, both ways. */
@@ -111,6 +113,71 @@ static void runs_the_least_of_few(void) {
     CHECK(values[0] == 0 && values[1] == 0);
     at = (edgebpf_progress){0, 0, 5, 0, 0};
     CHECK(goes_on(outside, 0, EDGEBPF_MAX, 0, &at, values) == EDGEBPF_DONE && stands(&at, 0, 0, 0, 0));
+}
+
+static uint32_t goes_over(uint32_t first, size_t count, uint32_t reduction, uint64_t budget, edgebpf_progress *at, uint64_t *values) {
+    at->budget = budget;
+    return edgebpf_pull_range(&graph, &targets_of, EDGEBPF_NO_BYTES, 0, &no_column, 0, first, reduction, at, values, count);
+}
+
+/* A range gives what a frontier gives that has its vertices, with each budget; also where it is longer than a window, and past the graph. */
+static void runs_over_a_range(void) {
+    static const struct { uint32_t first; size_t count; } ranges[] = {
+        {0, 8}, {2, 3}, {5, 1}, {7, 4}, {3, 0}, {0, EDGEBPF_WINDOW}, {0, EDGEBPF_WINDOW + 1}, {4, 3 * EDGEBPF_WINDOW + 5}, {UINT32_MAX - 1, 2},
+    };
+    static uint32_t frontier[4 * EDGEBPF_WINDOW];
+    static uint64_t whole[4 * EDGEBPF_WINDOW], values[4 * EDGEBPF_WINDOW];
+    static const uint64_t budgets[] = {0, 1, 6, 7, 16, 40, 41, 1000, 16 * EDGEBPF_WINDOW, 16 * EDGEBPF_WINDOW + 72, 40000, UINT64_MAX};
+    for (size_t row = 0; row < COUNT(ranges); row++) {
+        const uint32_t first = ranges[row].first;
+        const size_t count = ranges[row].count;
+        for (size_t place = 0; place < count; place++) frontier[place] = first + (uint32_t)place;
+        for (uint32_t reduction = EDGEBPF_SUM; reduction <= EDGEBPF_MAX; reduction++)
+            for (size_t budget = 0; budget < COUNT(budgets); budget++) {
+                edgebpf_totals totals;
+                edgebpf_progress at = {0, 77, 77, 0, 0}; /* a beginning, whatever its totals */
+                memset(values, 9, sizeof values);
+                CHECK(edgebpf_run(&graph, &targets_of, EDGEBPF_NO_BYTES, 0, frontier, count, reduction, whole, count, &totals) == 0);
+                size_t calls = 0;
+                do {
+                    const uint32_t vertex = at.vertex, place = at.place;
+                    CHECK(goes_over(first, count, reduction, budgets[budget], &at, values) == EDGEBPF_DONE && ++calls <= count + 13);
+                    CHECK(at.vertex == count || (at.budget == 0 && (at.vertex > vertex || at.place > place)));
+                    CHECK(at.vertex + 1u >= COUNT(values) || values[at.vertex + 1] == UINT64_MAX / 255 * 9);
+                } while (at.vertex < count);
+                CHECK(at.place == 0 && at.edges == totals.edges && at.total == totals.total && !memcmp(values, whole, count * sizeof *values));
+                CHECK(budgets[budget] != UINT64_MAX || calls == 1);
+            }
+    }
+    /* A program of many edges a vertex stops within one, and the next call knows what it had. */
+    edgebpf_progress at = {0};
+    CHECK(goes_over(2, 2, EDGEBPF_SUM, 0, &at, values) == EDGEBPF_DONE && stands(&at, 0, 1, 1, 0) && values[0] == 0);
+    CHECK(goes_over(2, 2, EDGEBPF_SUM, 0, &at, values) == EDGEBPF_DONE && stands(&at, 0, 2, 2, 1) && values[0] == 1);
+    CHECK(goes_over(2, 2, EDGEBPF_SUM, 0, &at, values) == EDGEBPF_DONE && stands(&at, 1, 0, 3, 4) && values[0] == 4);
+    CHECK(goes_over(2, 2, EDGEBPF_SUM, 0, &at, values) == EDGEBPF_DONE && stands(&at, 1, 1, 4, 6) && values[1] == 2);
+    CHECK(goes_over(2, 2, EDGEBPF_SUM, 0, &at, values) == EDGEBPF_DONE && stands(&at, 2, 0, 5, 10) && values[1] == 6);
+}
+
+/* Each fault of a range, in the order of edgebpf_pull_some: nothing is written. */
+static void refuses_ranges(void) {
+    static const struct { uint32_t first, vertex, place, reduction; size_t argument, columns, count; uint32_t status; } rows[] = {
+        {0, 9, 0, 3, 1, 9, EDGEBPF_MOST_VERTICES + 1u, EDGEBPF_REDUCTION}, {0, 9, 0, 0, 1, 9, EDGEBPF_MOST_VERTICES + 1u, EDGEBPF_LENGTHS},
+        {UINT32_MAX, 9, 0, 0, 1, 9, 2, EDGEBPF_LENGTHS}, {0, 9, 0, 0, 1, 9, 8, EDGEBPF_COLUMNS}, {0, 9, 0, 0, 1, 0, 8, EDGEBPF_ARGUMENT_LENGTH},
+        {0, 9, 0, 0, 0, 0, 8, EDGEBPF_PROGRESS}, {0, 8, 1, 0, 0, 0, 8, EDGEBPF_PROGRESS}, {0, 0, 3, 0, 0, 0, 8, EDGEBPF_PROGRESS},
+        {7, 0, 1, 0, 0, 0, 8, EDGEBPF_PROGRESS}, {0, UINT32_MAX, 0, 2, 0, 0, 0, EDGEBPF_PROGRESS},
+    };
+    const edgebpf_column columns[9] = {{nothing, 0}, {nothing, 0}, {nothing, 0}, {nothing, 0}, {nothing, 0}, {nothing, 0}, {nothing, 0}, {nothing, 0}, {nothing, 0}};
+    for (size_t row = 0; row < COUNT(rows); row++) {
+        uint64_t values[8];
+        edgebpf_progress at = {40, 5, 6, rows[row].vertex, rows[row].place};
+        memset(values, 9, sizeof values);
+        CHECK(edgebpf_pull_range(&graph, &targets_of, (const uint8_t *)"", rows[row].argument, columns, rows[row].columns, rows[row].first,
+                                 rows[row].reduction, &at, values, rows[row].count) == rows[row].status);
+        CHECK(at.budget == 40 && stands(&at, rows[row].vertex, rows[row].place, 5, 6) && values[0] == UINT64_MAX / 255 * 9 && values[7] == values[0]);
+    }
+    edgebpf_version none = {{0}};
+    edgebpf_progress at = {0};
+    CHECK(edgebpf_pull_range(&none, &targets_of, EDGEBPF_NO_BYTES, 0, &no_column, 0, 0, EDGEBPF_SUM, &at, &(uint64_t){0}, 1) == EDGEBPF_EMPTY);
 }
 
 static void numbers_a_frontier(void) {
@@ -246,6 +313,8 @@ int main(void) {
     runs_by_the_budget();
     runs_as_a_whole();
     runs_the_least_of_few();
+    runs_over_a_range();
+    refuses_ranges();
     numbers_a_frontier();
     numbers_pairs();
     refuses_places();

@@ -16,11 +16,13 @@ from edgebpf.given import (
 )
 from edgebpf.parts import Parts
 from edgebpf.programs import Program, argument_of, handle_of
-from edgebpf.steps import FIRST_BUDGET, LEAST_NUMBERS, End, Inputs, NumbersRun, PairsRun, Run, end_after
+from edgebpf.steps import FIRST_BUDGET, LEAST_NUMBERS, End, Frontier, Inputs, NumbersRun, PairsRun, Run, Windows, end_after
 from edgebpf.store import MOST_EDITS, Counts, Result, described
 
 # Most lists lie in one slice. `lend` fills the room if there may be more.
 LEAST_ROOM, MORE_ROOM = 2, 64
+# Of a graph of more vertices no array of all is made.
+MOST_IN_ARRAY = 1 << 20
 U32, U64 = np.dtype(np.uint32), np.dtype(np.uint64)
 view_of = np.frombuffer
 
@@ -195,7 +197,7 @@ class Version:
         number, chosen = REDUCTIONS[reduction_of(reduction)], self._frontier(frontier)
         inputs = self._inputs(argument, columns)
         end = None if seconds is None else end_after(seconds)
-        if threads != 1 or type(threads) is not int:
+        if threads != 1 or type(threads) is not int or isinstance(chosen, range):
             return self._run_in_parts(program, reduction, chosen, inputs, end, threads_of(threads))
         # Most runs are short, and done by this one call.
         calls, count = self._calls, len(chosen)
@@ -215,7 +217,7 @@ class Version:
         return Result(values, at.edges, at.total)
 
     def _run_in_parts(
-        self, program: Program, reduction: str, chosen: Vertices, inputs: Inputs, end: End | None, threads: int,
+        self, program: Program, reduction: str, chosen: Frontier, inputs: Inputs, end: End | None, threads: int,
     ) -> Result:
         shared = self._open()
         parts = Parts._over(self, program, reduction, chosen, inputs, threads)
@@ -271,10 +273,16 @@ class Version:
         """What runs are lent besides their edges."""
         return Inputs(argument, columns_of(columns, self.vertices))
 
-    def _frontier(self, frontier: npt.ArrayLike | None) -> Vertices:
-        """The vertices of a frontier, or all."""
-        if frontier is None:
-            return np.arange(self.vertices, dtype=U32)
+    def _frontier(self, frontier: npt.ArrayLike | None) -> Frontier:
+        """The vertices of a frontier, or all. Of a range an array is made only where it is short."""
+        chosen = range(self.vertices) if frontier is None else frontier
+        if isinstance(chosen, range) and chosen.step == 1 and len(chosen) > MOST_IN_ARRAY:
+            vertex_of(chosen.start, self.vertices, "frontier"), vertex_of(chosen.stop - 1, self.vertices, "frontier")
+            return chosen
+        return np.arange(self.vertices, dtype=U32) if frontier is None else self._vertices(chosen)
+
+    def _vertices(self, frontier: npt.ArrayLike) -> Vertices:
+        """The vertices of a frontier."""
         chosen = vertices_of(frontier, self.vertices, "frontier")
         if len(chosen) > MOST_VERTICES:
             raise ValueError(f"a frontier has at most {MOST_VERTICES} vertices, not {len(chosen)}")
@@ -300,10 +308,12 @@ class Version:
     def degrees(self, frontier: npt.ArrayLike | None = None) -> Vertices:
         """How many targets each vertex of a frontier has, or of the graph, as a uint32 array. A frontier has any order, and may have a vertex
         more than once."""
-        calls, chosen = self._calls, self._frontier(frontier)
-        counts, count = np.empty(len(chosen), U32), len(chosen)
-        arrays = calls.buffer(calls.words, chosen), count, calls.buffer(calls.words, counts), count
-        library.check(library.load().edgebpf_version_degrees(self._at(), *arrays))
+        calls, chosen, done = self._calls, self._frontier(frontier), 0
+        counts = np.empty(len(chosen), U32)
+        for some in Windows(chosen).each() if isinstance(chosen, range) else (chosen,):
+            arrays = calls.buffer(calls.words, some), len(some), calls.buffer(calls.words, counts[done:done + len(some)]), len(some)
+            library.check(library.load().edgebpf_version_degrees(self._at(), *arrays))
+            done += len(some)
         return counts
 
     def lists(self, frontier: npt.ArrayLike) -> tuple[npt.NDArray[np.int64], Vertices]:
@@ -312,7 +322,7 @@ class Version:
         frontier has any order, and may have a vertex more than once."""
         if frontier is None:
             raise TypeError("frontier is an array of vertices; the lists of all are csr()")
-        calls, chosen, found = self._calls, self._frontier(frontier), library.new("size_t *")
+        calls, chosen, found = self._calls, self._vertices(frontier), library.new("size_t *")
         starts, targets = np.empty(len(chosen) + 1, U64), np.empty(0, U32)
         ask, at = library.load().edgebpf_version_lists, self._at()
         asked = calls.buffer(calls.words, chosen), len(chosen), calls.buffer(calls.numbers, starts), len(starts)

@@ -8,9 +8,9 @@ from typing import TYPE_CHECKING
 import numpy as np
 
 from edgebpf import library
-from edgebpf.given import Numbers, Vertices
+from edgebpf.given import Numbers
 from edgebpf.programs import Program
-from edgebpf.steps import STEP_SECONDS, U64, End, Inputs, Run, Steps, readable
+from edgebpf.steps import STEP_SECONDS, U64, End, Frontier, Inputs, Run, Steps, readable
 
 if TYPE_CHECKING:
     from edgebpf.native import Version
@@ -29,7 +29,7 @@ class Parts(Steps):
         self._stop = threading.Event()
 
     @classmethod
-    def _over(cls, version: Version, program: Program, reduction: str, frontier: Vertices, inputs: Inputs, threads: int) -> Parts:
+    def _over(cls, version: Version, program: Program, reduction: str, frontier: Frontier, inputs: Inputs, threads: int) -> Parts:
         count = len(frontier)
         size = max(LEAST_PART, -(-count // (threads * PARTS_OF_A_THREAD)))
         values = np.empty(count, U64)

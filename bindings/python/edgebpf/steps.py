@@ -4,7 +4,8 @@ from __future__ import annotations
 import copy
 import threading
 import time
-from typing import TYPE_CHECKING, Any, NamedTuple
+from collections.abc import Iterator
+from typing import TYPE_CHECKING, Any, NamedTuple, Union
 
 import numpy as np
 import numpy.typing as npt
@@ -28,7 +29,12 @@ LEAST_RATE = 1e5
 FIRST_BUDGET, LEAST_BUDGET = int(FIRST_RATE * STEP_SECONDS), int(LEAST_RATE * STEP_SECONDS)
 # So many numbers have room at first, beside those that a frontier has on average.
 LEAST_NUMBERS = 64
-U64 = np.dtype(np.uint64)
+# So many vertices of a range are written down at a time.
+WINDOW = 1 << 16
+U32, U64 = np.dtype(np.uint32), np.dtype(np.uint64)
+
+# Vertices in any order; or a range, of which no array is made.
+Frontier = Union[Vertices, range]
 
 
 class End(NamedTuple):
@@ -149,17 +155,37 @@ class Steps:
         return other
 
 
+class Windows:
+    """The vertices of a range from a place on, as arrays. The last array is kept, since a step may end within it."""
+
+    def __init__(self, vertices: range) -> None:
+        self._vertices, self._begin, self._last = vertices, 0, np.empty(0, U32)
+
+    def at(self, place: int) -> Vertices:
+        """The vertices from a place on, some at least; there are none at the end."""
+        if not self._begin <= place < self._begin + len(self._last):
+            part = self._vertices[place:place + WINDOW]
+            self._begin, self._last = place, np.arange(part.start, part.stop, dtype=U32)
+        return self._last[place - self._begin:]
+
+    def each(self) -> Iterator[Vertices]:
+        """All of them, one array after another."""
+        return (self.at(place) for place in range(0, len(self._vertices), WINDOW))
+
+
 class Run(Steps):
     """A run over a frontier under way, made by `Version.begin`. `edges` and `total` are those of the edges so far. `vertex` values are final;
     the next one is that of its edges so far, and the others that of a vertex without edges."""
 
     def __init__(
-        self, version: Version, program: Program, reduction: str, frontier: Vertices, inputs: Inputs, values: Numbers | None = None,
+        self, version: Version, program: Program, reduction: str, frontier: Frontier, inputs: Inputs, values: Numbers | None = None,
     ) -> None:
         super().__init__(version, program, inputs, len(frontier))
         self._frontier, self._reduction = frontier, REDUCTIONS[reduction]
         # What no edge gives.
         self._at.total = none = WORD - 1 if reduction == "min" else 0
+        # Of a range the value of the next vertex at each of two places: where this run was before a call, and where it is after that.
+        self._begun: dict[tuple[int, int], int] = {}
         if values is None:
             values = np.full(self._count, none, U64) if none else np.zeros(self._count, U64)
         self._keep(values)
@@ -167,10 +193,44 @@ class Run(Steps):
     def _keep(self, values: Numbers) -> None:
         calls, count = self._calls, self._count
         self._values = values
-        self._arrays = calls.buffer(calls.words, self._frontier), count, self._reduction, self._at, calls.buffer(calls.numbers, values), count
+        if isinstance(self._frontier, range):
+            self._windows = Windows(self._frontier)
+        else:
+            self._arrays = calls.buffer(calls.words, self._frontier), count, self._reduction, self._at, calls.buffer(calls.numbers, values), count
 
     def _call(self, *handles: Any) -> int:
-        return int(self._calls.pull_some(*handles, *self._arrays))
+        if not isinstance(self._frontier, range):
+            return int(self._calls.pull_some(*handles, *self._arrays))
+        while not (status := self._call_window(handles)) and self._at.budget and not self.done:
+            pass
+        return status
+
+    def _call_window(self, handles: tuple[Any, ...]) -> int:
+        """A call for the next vertices of a range, which adds what it did to what was done before. An interrupt comes at any line here: until
+        `at` is written, all is as it was."""
+        calls, at, window = self._calls, self._at, self._windows.at(self._at.vertex)
+        vertex, place, count = at.vertex, at.place, len(window)
+        # The edges of the next vertex that are done belong to this call's part, and so does their value.
+        begun = self._begun[vertex, place] if place else 0
+        if place:
+            self._values[vertex] = begun
+        part = calls.new(calls.progress, {"budget": at.budget, "edges": place, "total": begun, "place": place})
+        values = self._values[vertex:vertex + count]
+        arrays = calls.buffer(calls.words, window), count, self._reduction, part, calls.buffer(calls.numbers, values), count
+        status = int(calls.pull_some(*handles, *arrays))
+        if not status:
+            total = (at.total - begun) % WORD if self._reduction == REDUCTIONS["sum"] else at.total
+            part.edges, part.total, part.vertex = at.edges - place + part.edges, self._joined(total, part.total), vertex + part.vertex
+            next_value = int(self._values[part.vertex]) if part.place else 0
+            self._begun = {(vertex, place): begun, (part.vertex, part.place): next_value}
+            at[0] = part[0]
+        return status
+
+    def _joined(self, one: int, other: int) -> int:
+        """What two parts reduce to."""
+        if self._reduction == REDUCTIONS["sum"]:
+            return (one + other) % WORD
+        return min(one, other) if self._reduction == REDUCTIONS["min"] else max(one, other)
 
     @property
     def total(self) -> int:
@@ -193,18 +253,37 @@ class Run(Steps):
 class NumbersRun(Steps):
     """The numbers of a frontier's edges under way, made by `Version.begin_numbers`."""
 
-    def __init__(self, version: Version, program: Program, frontier: Vertices, inputs: Inputs, room: int) -> None:
+    def __init__(self, version: Version, program: Program, frontier: Frontier, inputs: Inputs, room: int) -> None:
         super().__init__(version, program, inputs, len(frontier))
         self._frontier, self._numbers = frontier, np.empty(room, U64)
         self._written = self._calls.new(self._calls.size)
+        if isinstance(frontier, range):
+            self._windows = Windows(frontier)
 
     def _call(self, *handles: Any) -> int:
-        calls, at, written = self._calls, self._at, self._at.edges
-        if written == len(self._numbers):
+        if self._at.edges == len(self._numbers):
             self._grow()
-        room = len(self._numbers) - written
-        arrays = calls.buffer(calls.words, self._frontier), self._count, at, calls.buffer(calls.numbers, self._numbers) + written, room
-        return int(calls.numbers_of(*handles, *arrays, self._written))
+        if not isinstance(self._frontier, range):
+            return self._call_some(handles, self._frontier, self._at)
+        while not (status := self._call_window(handles)) and self._at.budget and not self.done and self._at.edges < len(self._numbers):
+            pass
+        return status
+
+    def _call_some(self, handles: tuple[Any, ...], frontier: Vertices, at: Any) -> int:
+        """A call for the next edges of a frontier, whose numbers come after those of all edges so far."""
+        calls, written = self._calls, self._at.edges
+        numbers, room = calls.buffer(calls.numbers, self._numbers) + written, len(self._numbers) - written
+        return int(calls.numbers_of(*handles, calls.buffer(calls.words, frontier), len(frontier), at, numbers, room, self._written))
+
+    def _call_window(self, handles: tuple[Any, ...]) -> int:
+        """A call for the next vertices of a range. Until `at` is written, all is as it was."""
+        calls, at = self._calls, self._at
+        part = calls.new(calls.progress, {"budget": at.budget, "edges": at.place, "place": at.place})
+        status = self._call_some(handles, self._windows.at(at.vertex), part)
+        if not status:
+            part.edges, part.vertex = at.edges - at.place + part.edges, at.vertex + part.vertex
+            at[0] = part[0]
+        return status
 
     def _grow(self) -> None:
         """Room for twice as many numbers. An array that somebody has stays as it is."""

@@ -332,6 +332,67 @@ class Steps(unittest.TestCase):
                 run.step(), run.step()
             self.assertLess(budgets[-1], 0.5 * budgets[-2])
 
+    def in_windows(self, size):
+        """No array of a range is made, but of so many vertices."""
+        self.enterContext(unittest.mock.patch.multiple(edgebpf.native, MOST_IN_ARRAY=0))
+        self.enterContext(unittest.mock.patch.object(edgebpf.steps, "WINDOW", size))
+
+    def test_ranges(self):
+        """All vertices, and a range of them, without an array of them: as a frontier gives it, however it is cut and by however many threads."""
+        for size in (1, 3, 1 << 16):
+            self.in_windows(size)
+            for chosen in (None, range(8), range(2, 5), range(5, 8)):
+                vertices = list(range(8) if chosen is None else chosen)
+                targets = [target for vertex in vertices for target in TARGETS[vertex]]
+                for reduction, nothing, reduced in (("sum", 0, sum), ("min", MOST, min), ("max", 0, max)):
+                    values = [reduced(TARGETS[vertex]) if TARGETS[vertex] else nothing for vertex in vertices]
+                    for threads in (1, 3):
+                        result = self.version.run(self.target, reduction, chosen, threads=threads)
+                        self.assertEqual((result.values.tolist(), result.total, result.edges), (values, reduced(targets), len(targets)))
+                    for budget in (0, 6, 23, 40, MOST):
+                        run, before = self.version.begin(self.target, reduction, chosen), (-1, 0)
+                        while not run.done:
+                            self.assertLess(before, run.at)
+                            before = run.at
+                            run.step(budget)
+                            run = run.share() if run.at[1] else run
+                        self.assertEqual((run.values.tolist(), run.total, run.edges), (values, reduced(targets), len(targets)))
+                        self.assertEqual((before[0] < 0, run.used <= 6 * len(targets) + 16 * len(vertices)), (False, True))
+                numbers = self.version.begin_numbers(self.target, chosen)
+                while not numbers.done:
+                    numbers.step(7)
+                self.assertEqual((numbers.numbers.tolist(), self.version.numbers(self.target, frontier=chosen).tolist()), (targets, targets))
+                self.assertEqual(self.version.degrees(chosen).tolist(), [len(TARGETS[vertex]) for vertex in vertices])
+            for wrong in (range(5, 9), range(-1, 3)):
+                with self.assertRaisesRegex(edgebpf.VertexRange, "frontier"):
+                    self.version.run(self.target, frontier=wrong)
+            self.assertEqual(self.version.run(self.target, frontier=range(6, 1, -2)).values.tolist(), [VALUES[6], VALUES[4], VALUES[2]])
+
+    def test_a_range_that_is_interrupted(self):
+        """An interrupt that comes as a call of the library returns leaves a run that goes on to the same end."""
+        self.in_windows(3)
+        for name, made in (("pull_some", self.version.begin), ("numbers_of", self.version.begin_numbers)):
+            call, calls = getattr(self.version._calls, name), [0]
+
+            def interrupted(*words):
+                status = call(*words)
+                calls[0] += 1
+                if calls[0] % 3:
+                    raise KeyboardInterrupt
+                return status
+
+            run = made(self.target)
+            with unittest.mock.patch.object(self.version._calls, name, interrupted):
+                while not run.done:
+                    with contextlib.suppress(KeyboardInterrupt):
+                        run.step(6)
+            self.assertGreater(calls[0], 30)
+            self.assertEqual((run.edges, run.used <= 12 * 6 + 8 * 16), (12, True))
+            if name == "pull_some":
+                self.assertEqual((run.values.tolist(), run.total), (VALUES, sum(VALUES)))
+            else:
+                self.assertEqual(run.numbers.tolist(), [target for _, target in EDGES])
+
     def test_random_pieces(self):
         """A few of the comparisons that random_steps.py makes by the thousands."""
         self.assertEqual(random_steps.compared(5 * BATCHES, 1), 5 * BATCHES)

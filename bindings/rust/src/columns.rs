@@ -3,7 +3,10 @@ use crate::calls::{edgebpf_pull, RawColumn, RawTotals};
 use crate::error::{done, Error};
 use crate::program::Program;
 use crate::version::{Reduction, Totals, Version};
-use crate::MOST_COLUMNS;
+use crate::{MOST_COLUMNS, MOST_VERTICES};
+
+/// So many vertices of a range are written down at a time.
+const WINDOW: usize = 1_024;
 
 /// A version whose runs are lent columns, each with a number for each vertex. A record has, after the argument, of each column in turn the
 /// number of the edge's source and that of its target, eight bytes each. Made by `Version::with_columns`; the borrows keep the columns as
@@ -81,5 +84,33 @@ impl WithColumns<'_> {
             )
         })?;
         Ok(Totals { edges: totals.edges, total: totals.total })
+    }
+
+    /// Runs a program on each edge of the vertices from `first` on, as many as there are values, as `run` does with a frontier of them:
+    /// no array of them is made, but of 1,024 at a time. `Lengths` where they are more than 268,435,456, or go past 2^32.
+    pub fn run_range(
+        self,
+        program: &Program,
+        argument: &[u8],
+        first: u32,
+        reduction: Reduction,
+        values: &mut [u64],
+    ) -> Result<Totals, Error> {
+        if values.len() > MOST_VERTICES as usize || u64::from(first) + values.len() as u64 > 1 << 32 {
+            return Err(Error::Lengths);
+        }
+        let mut window = [0; WINDOW];
+        // The first call finds all that may be wrong, and later ones find the same right.
+        let mut totals = self.run(program, argument, &[], reduction, &mut [])?;
+        for (place, part) in values.chunks_mut(WINDOW).enumerate() {
+            let begin = first + (place * WINDOW) as u32;
+            for (vertex, number) in window.iter_mut().zip(begin..=u32::MAX) {
+                *vertex = number;
+            }
+            let more = self.run(program, argument, &window[..part.len()], reduction, part)?;
+            totals.edges += more.edges;
+            totals.total = reduction.join(totals.total, more.total);
+        }
+        Ok(totals)
     }
 }

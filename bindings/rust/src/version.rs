@@ -32,6 +32,15 @@ pub enum Reduction {
 }
 
 impl Reduction {
+    /// What two parts reduce to together.
+    pub(crate) fn join(self, one: u64, other: u64) -> u64 {
+        match self {
+            Reduction::Sum => one.wrapping_add(other),
+            Reduction::Min => one.min(other),
+            Reduction::Max => one.max(other),
+        }
+    }
+
     /// Its number in the library.
     pub(crate) fn number(self) -> u32 {
         match self {
@@ -239,6 +248,19 @@ impl Version {
         values: &mut [u64],
     ) -> Result<Totals, Error> {
         self.without_columns().run(program, argument, frontier, reduction, values)
+    }
+
+    /// Runs a program on each edge of the vertices from `first` on, as many as there are values, as `run` does with a frontier of them:
+    /// no array of them is made, but of 1,024 at a time. `Lengths` where they are more than 268,435,456, or go past 2^32.
+    pub fn run_range(
+        &self,
+        program: &Program,
+        argument: &[u8],
+        first: u32,
+        reduction: Reduction,
+        values: &mut [u64],
+    ) -> Result<Totals, Error> {
+        self.without_columns().run_range(program, argument, first, reduction, values)
     }
 
     /// The number of each edge, in the order of `csr`. `ArgumentLength` and `NoMemory`.

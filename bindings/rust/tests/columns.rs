@@ -41,6 +41,26 @@ fn pulls_the_rows() {
 }
 
 #[test]
+fn pulls_ranges() {
+    let (version, columns, program) = (graph(), [&X[..]], of_target());
+    let lent = version.with_columns(&columns).unwrap();
+    for (first, count) in [(0, 8), (2, 3), (7, 4), (3, 0), (0, 1_024), (0, 1_025), (5, 3_000), (u32::MAX - 1, 2)] {
+        let frontier: Vec<u32> = (0..count as u32).map(|place| first + place).collect();
+        for reduction in [Reduction::Sum, Reduction::Min, Reduction::Max] {
+            let (mut wanted, mut values) = (vec![9; count], vec![9; count]);
+            let whole = lent.run(&program, &[], &frontier, reduction, &mut wanted).unwrap();
+            assert_eq!(lent.run_range(&program, &[], first, reduction, &mut values), Ok(whole));
+            assert_eq!(values, wanted);
+        }
+    }
+    let mut values = [7; 2];
+    assert_eq!(lent.run_range(&program, &[], u32::MAX, Reduction::Sum, &mut values), Err(Error::Lengths));
+    assert_eq!(lent.run_range(&program, &[1], 0, Reduction::Sum, &mut values), Err(Error::ArgumentLength));
+    assert_eq!(version.run_range(&program, &[], 0, Reduction::Sum, &mut values), Err(Error::ArgumentLength));
+    assert_eq!(values, [7; 2]);
+}
+
+#[test]
 fn scores_by_two_columns() {
     let text = "ldxdw r0, [r1+32]\nldxdw r2, [r1+16]\njge r0, r2, known\nmov r0, 0\nknown:\nldxdw r2, [r1+40]\n\
                 ldxdw r3, [r1+48]\njeq r2, r3, same\nlsh r0, 1\nsame:\nexit";
