@@ -324,9 +324,10 @@ class Package(unittest.TestCase):
         if importlib.util.find_spec("numpy") is None or importlib.util.find_spec("cffi") is None:
             return
         code = "import edgebpf; print(edgebpf.library.path()); print(edgebpf.Store(4).apply([0], [1]).added)"
+        code += "; import io; print(edgebpf.read_edges(io.BytesIO(b'0 1')).vertices)"
         if not MISSING:
             code += f"; print(edgebpf.compile_c(text={SCORE!r}, function='score').bound)"
         room = {"PATH": f"{unpacked}/usr/bin:/usr/bin:/bin", "PYTHONPATH": f"{unpacked}/usr/lib/python3/dist-packages", "PYTHONDONTWRITEBYTECODE": "1"}
         run = subprocess.run([PYTHON, "-c", code], env=room, cwd="/", capture_output=True, text=True)
-        wanted = f"{unpacked}/usr/lib/libedgebpf.so.1\n1\n" + ("" if MISSING else "2\n")
+        wanted = f"{unpacked}/usr/lib/libedgebpf.so.1\n1\n2\n" + ("" if MISSING else "2\n")
         self.assertEqual((run.stdout, run.stderr), (wanted, ""))

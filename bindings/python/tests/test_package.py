@@ -817,6 +817,7 @@ except KeyboardInterrupt:
             block = readme[readme.index("```python\n") + 10:].partition("```")[0]
             if edgebpf.library.cffi is not None:
                 self.assertEqual(says(block, "print(edgebpf.library.path())"), [f"{package}/libedgebpf.so"])
+                self.assertEqual(says("import edgebpf, io", "print(edgebpf.read_edges(io.BytesIO(b'0 1')).vertices)"), ["2"])
             connected = block.replace("edgebpf.Store(", "edgebpf.connect(")
             refused = "try: edgebpf.assemble('ldxw r0, [r1+13]\\nexit')", "except edgebpf.Refused as refused: print('ldxw r0' in refused.explain())"
             self.assertEqual(says(connected, *refused), ["True"])
