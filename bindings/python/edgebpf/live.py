@@ -3,6 +3,7 @@ from __future__ import annotations
 
 import dataclasses
 import threading
+from collections.abc import Callable
 from typing import Any
 
 import numpy.typing as npt
@@ -30,12 +31,24 @@ class Live:
     """
 
     def __init__(self, vertices: int, batches: int = REBASE_BATCHES, edits: int = REBASE_EDITS) -> None:
+        self._begin(lambda: Store(vertices), batches, edits)
+
+    @classmethod
+    def of(cls, version: Version, batches: int = REBASE_BATCHES, edits: int = REBASE_EDITS) -> Live:
+        """A graph of its own that begins with a version's, as a branch of it does, such as that of a store of a file of edges."""
+        live = cls.__new__(cls)
+        if not isinstance(version, Version):
+            raise TypeError(f"version is a version of a Store, not {type(version).__name__}")
+        live._begin(version.branch, batches, edits)
+        return live
+
+    def _begin(self, made: Callable[[], Store], batches: int, edits: int) -> None:
         self._batches, self._edits = whole(batches, "batches"), whole(edits, "edits")
         if not 1 <= self._batches <= MOST_BATCHES:
             raise ValueError(f"batches is 1 to {MOST_BATCHES}")
         if self._edits < 1:
             raise ValueError("edits is at least 1")
-        self._store = Store(vertices)
+        self._store = made()
         self.vertices = self._store.vertices
         self._writing, self._is_closed = threading.Lock(), False
         # How many batches there were before the last rebase, and since then, with how many edits.

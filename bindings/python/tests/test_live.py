@@ -38,6 +38,25 @@ class Live(unittest.TestCase):
         for version, wanted in held:
             self.assertEqual(self.edges_of(version), wanted)
 
+    def test_of_a_version(self):
+        """A graph that begins with a version's is one of its own, and is numbered from 0."""
+        with edgebpf.Store(4) as store:
+            store.apply(edges=[(0, 1), (2, 3)])
+            version = store.pin()
+        with edgebpf.Live.of(version, batches=1) as live:
+            self.assertEqual((live.numbered()[0], live.vertices, self.edges_of(live.latest())), (0, 4, [(0, 1), (2, 3)]))
+            self.assertEqual(live.apply([0, 3], [1, 0], [True, False]).version, 1)
+            self.assertEqual(live.apply([3], [1]).version, 2)
+            self.assertEqual((live.latest().epoch, self.edges_of(live.latest())), (1, [(2, 3), (3, 0), (3, 1)]))
+        self.assertEqual(self.edges_of(version), [(0, 1), (2, 3)])
+        with self.assertRaisesRegex(TypeError, "^version is a version of a Store, not int"):
+            edgebpf.Live.of(4)
+        with self.assertRaisesRegex(ValueError, "^batches is"):
+            edgebpf.Live.of(version, batches=0)
+        version.close()
+        with self.assertRaises(edgebpf.Closed):
+            edgebpf.Live.of(version)
+
     def test_edits_end_an_epoch(self):
         live = edgebpf.Live(4, edits=6)
         epochs = []

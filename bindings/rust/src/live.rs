@@ -43,7 +43,15 @@ impl Live {
 
     /// A graph that is rebased after so many batches, 1 to 4,096, or so many edits. Numbers outside are taken for the nearest.
     pub fn with_rebases(vertices: u32, batches: u64, edits: u64) -> Result<Live, Error> {
-        let store = Store::new(vertices)?;
+        Live::over(Store::new(vertices)?, batches, edits)
+    }
+
+    /// A graph of its own that begins with a version's, as a branch of it does. It is rebased as that of `new`. `NoMemory`.
+    pub fn of(version: &Version) -> Result<Live, Error> {
+        Live::over(Store::of(version)?, REBASE_BATCHES, REBASE_EDITS)
+    }
+
+    fn over(store: Store, batches: u64, edits: u64) -> Result<Live, Error> {
         let latest = Mutex::new((0, store.pin()?));
         let batches = batches.clamp(1, MOST_BATCHES);
         let writer = Writer { store, batches, edits: edits.max(1), before: 0, since: 0, edited: 0 };

@@ -42,6 +42,20 @@ fn versions_are_numbered_over_all_rebases() {
 }
 
 #[test]
+fn a_graph_begins_with_a_version() {
+    let mut store = edgebpf::Store::new(4).unwrap();
+    store.apply(Feed::A, &Batch::from_iter([(0, 1), (2, 3)])).unwrap();
+    let version = store.pin().unwrap();
+    let live = Live::of(&version).unwrap();
+    drop(store);
+    let (number, first) = live.numbered().unwrap();
+    assert_eq!((number, first.epoch(), first.number(), edges_of(&first)), (0, 0, 0, BTreeSet::from([(0, 1), (2, 3)])));
+    assert_eq!(live.apply(Feed::A, Batch::new().remove(0, 1).insert(3, 0)).unwrap().number, 1);
+    assert_eq!(edges_of(&live.latest().unwrap()), BTreeSet::from([(2, 3), (3, 0)]));
+    assert_eq!(edges_of(&version), BTreeSet::from([(0, 1), (2, 3)]));
+}
+
+#[test]
 fn many_edits_end_an_epoch() {
     let live = Live::with_rebases(4, 4_096, 6).unwrap();
     let batch = Batch::from_iter([(0, 1), (0, 2), (0, 3)]);
