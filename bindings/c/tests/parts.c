@@ -1,5 +1,5 @@
-/* Runs a program in parts, and numbers a frontier's edges and pairs, on a graph of eight vertices whose answers were found by hand, and
-   meets each progress that is refused. */
+/* Runs a program in parts and over ranges, and numbers a frontier's edges and pairs, on a graph of eight vertices whose answers were found
+   by hand, and meets each progress that is refused. */
 #include "check.h"
 
 enum { VERTICES = 8 };
