@@ -34,10 +34,6 @@ class Text:
         return block.removeprefix(BYTE_ORDER_MARK) if is_first else block
 
 
-def text_of(name, stream):
-    return Text(name, stream)
-
-
 class EdgeFile:
     """The edges of a file as columns of ids, which are handed to `take` block by block, and what its header said."""
 

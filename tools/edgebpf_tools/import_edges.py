@@ -4,6 +4,7 @@ import contextlib
 import sys
 
 from edgebpf_tools import decimals, ends, owned
+from edgebpf_tools.edge_files import Text
 from edgebpf_tools.edge_runs import EdgeRuns, columns_of
 from edgebpf_tools.sorted_edges import SortedEdges
 
@@ -64,9 +65,9 @@ def read_file(options, runs):
     name = "standard input" if options.file == "-" else options.file
     most = MOST_IN_PROCESS if options.store else MOST_VERTICES
     if options.file == "-":
-        return SortedEdges(name, ends.standard_input().buffer, options, most, warn, runs)
+        return SortedEdges(Text(name, ends.standard_input().buffer), options, most, warn, runs)
     with open(options.file, "rb") as stream:
-        return SortedEdges(name, stream, options, most, warn, runs)
+        return SortedEdges(Text(name, stream), options, most, warn, runs)
 
 
 def count_edges(edges):

@@ -1,5 +1,5 @@
 """The edges of a file in order, each once, between vertices."""
-from edgebpf_tools.edge_files import EdgeFile, text_of
+from edgebpf_tools.edge_files import EdgeFile
 from edgebpf_tools.named_edges import NamedEdgeFile
 from edgebpf_tools.refusal import Refusal
 
@@ -16,14 +16,14 @@ class SortedEdges:
     """The edges of a graph of `count` vertices. Where ids are renumbered, `ids` has that of each vertex, an array, or of words a list; else it is
     None."""
 
-    def __init__(self, name, stream, options, most, warn, runs):
-        """options: what EdgeFile needs, `names` and `renumber`. most: how many vertices the graph may have. runs: where edges are sorted."""
+    def __init__(self, text, options, most, warn, runs):
+        """text: as edge_files.py has it. options: what EdgeFile needs, `names` and `renumber`. most: how many vertices the graph may have. runs: where edges are sorted."""
         test_options(options)
         self.runs = runs
-        self.file = (NamedEdgeFile if options.names else EdgeFile)(name, options, warn, self._take, most)
-        self.file.read(text_of(name, stream))
+        self.file = (NamedEdgeFile if options.names else EdgeFile)(text.name, options, warn, self._take, most)
+        self.file.read(text)
         if not self.file.count:
-            raise Refusal(f"{name} has no edge")
+            raise Refusal(f"{text.name} has no edge")
         self.runs.finish()
         self.ids = None
         if options.names:

@@ -232,7 +232,7 @@ class EdgebpfImport(unittest.TestCase):
                     with edge_runs.EdgeRuns(memory, folder) as runs:
                         options = import_edges.arguments(["-", "--quiet"])
                         text = "".join(f"{source} {target}\n" for source, target in edges.tolist()).encode()
-                        made = import_edges.SortedEdges("text", io.BytesIO(text), options, 1 << 20, self.fail, runs)
+                        made = import_edges.SortedEdges(edge_files.Text("text", io.BytesIO(text)), options, 1 << 20, self.fail, runs)
                         self.assertEqual(runs.file is None, memory == 1 << 30)
                         batches = [edge_runs.columns_of(batch) for batch in made.batches(64)]
                         self.assertEqual(os.listdir(folder), [])
@@ -241,10 +241,10 @@ class EdgebpfImport(unittest.TestCase):
                 self.assertEqual(made.ids is not None, most > 1 << 20)
 
     def test_a_folder_that_is_not_there(self):
-        from edgebpf_tools import edge_runs, import_edges, refusal
+        from edgebpf_tools import edge_files, edge_runs, import_edges, refusal
 
         with unittest.mock.patch.dict(os.environ, TMPDIR="/nowhere"), edge_runs.EdgeRuns(0) as runs, self.assertRaises(refusal.Refusal) as raised:
-            import_edges.SortedEdges("text", io.BytesIO(b"0 1\n"), import_edges.arguments(["-"]), 9, self.fail, runs)
+            import_edges.SortedEdges(edge_files.Text("text", io.BytesIO(b"0 1\n")), import_edges.arguments(["-"]), 9, self.fail, runs)
         self.assertEqual(str(raised.exception), "/nowhere: No such file or directory, where edges are sorted that memory does not hold")
 
     def test_undirected(self):

@@ -67,21 +67,16 @@ def opened(path: Any) -> Iterator[tuple[str, Any]]:
             buffered.detach()
 
 
-def options_of(
-    base: int | None, skip: int, names: bool, renumber: bool, undirected: bool, rectangular: str | None,
-) -> types.SimpleNamespace:
-    """The options of the reader."""
-    if base is not None and whole(base, "base") not in (0, 1):
+def test_options(options: types.SimpleNamespace) -> None:
+    """Refuses what the reader could not take."""
+    if options.base is not None and whole(options.base, "base") not in (0, 1):
         raise ValueError("base is 0, 1 or None")
-    if whole(skip, "skip") < 0:
+    if whole(options.skip, "skip") < 0:
         raise ValueError("skip is a number of lines")
-    if rectangular not in (None, "same", "apart"):
+    if options.rectangular not in (None, "same", "apart"):
         raise ValueError('rectangular is "same", "apart" or None')
-    if names and (renumber or base is not None or rectangular is not None):
+    if options.names and (options.renumber or options.base is not None or options.rectangular is not None):
         raise ValueError("names numbers the vertices itself, without renumber, base and rectangular")
-    return types.SimpleNamespace(
-        base=base, skip=int(skip), names=bool(names), renumber=bool(renumber), undirected=bool(undirected), rectangular=rectangular, quiet=True,
-    )
 
 
 def loaded(edges: Any, count: int) -> Store:
@@ -99,6 +94,24 @@ def loaded(edges: Any, count: int) -> Store:
     return made
 
 
+def read(path: Any, options: types.SimpleNamespace, least: int, memory: int, folder: str | None) -> tuple[Store, list[str]]:
+    """A store of the edges of a file, with `least` vertices at least, and what the reader warns of."""
+    sorting, said = reader(), list[str]()
+    files, sorter = (importlib.import_module(f"{TOOLS}.{name}") for name in ("edge_files", "edge_runs"))
+    try:
+        with sorter.EdgeRuns(memory, folder) as runs:
+            with opened(path) as (name, stream):
+                edges = sorting.SortedEdges(files.Text(name, stream), options, MOST_VERTICES, said.append, runs)
+            return loaded(edges, max(edges.count, least)), said
+    except sorting.Refusal as refusal:
+        words = str(refusal)
+        for option, argument in OPTIONS.items():
+            words = words.replace(option, argument)
+        raise ValueError(words) from None
+    except MemoryError:
+        raise NoMemory("there is no memory for the edges") from None
+
+
 def read_edges(
     path: Any, *, base: int | None = None, skip: int = 0, names: bool = False, renumber: bool = False, undirected: bool = False,
     rectangular: str | None = None, vertices: int | None = None, memory: int = MEMORY, folder: str | os.PathLike[str] | None = None,
@@ -114,25 +127,16 @@ def read_edges(
     a file without a name in `folder`, else in that of TMPDIR, else in /var/tmp. Raises `ValueError`, which names the line, for what is no such
     file, `NoMemory`, and `OSError`.
     """
-    options = options_of(base, skip, names, renumber, undirected, rectangular)
+    options = types.SimpleNamespace(
+        base=base, skip=skip, names=bool(names), renumber=bool(renumber), undirected=bool(undirected), rectangular=rectangular, quiet=True,
+    )
+    test_options(options)
     least = 1 if vertices is None else vertex_count(vertices, MOST_VERTICES)
     if whole(memory, "memory") < 0:
         raise ValueError("memory is a number of bytes")
     if folder is not None and not isinstance(folder, (str, os.PathLike)):
         raise TypeError(f"folder is the name of a folder, not {type(folder).__name__}")
-    sorting, said = reader(), list[str]()
-    try:
-        with importlib.import_module(f"{TOOLS}.edge_runs").EdgeRuns(int(memory), folder and os.fspath(folder)) as runs:
-            with opened(path) as (name, stream):
-                edges = sorting.SortedEdges(name, stream, options, MOST_VERTICES, said.append, runs)
-            made = loaded(edges, max(edges.count, least))
-    except sorting.Refusal as refusal:
-        words = str(refusal)
-        for option, argument in OPTIONS.items():
-            words = words.replace(option, argument)
-        raise ValueError(words) from None
-    except MemoryError:
-        raise NoMemory("there is no memory for the edges") from None
+    store, said = read(path, options, least, int(memory), None if folder is None else os.fspath(folder))
     for words in said:
         warnings.warn(words, stacklevel=2)
-    return made
+    return store
