@@ -32,7 +32,8 @@ enum {
     EDGEBPF_EPOCHS_FULL = 17,
     EDGEBPF_TABLE_LENGTH = 18,
     EDGEBPF_COLUMNS = 19,
-    EDGEBPF_PROGRESS = 20
+    EDGEBPF_PROGRESS = 20,
+    EDGEBPF_NOT_SORTED = 21
 };
 
 /* The same in words. */
@@ -59,6 +60,7 @@ static inline const char *edgebpf_words(uint32_t status) {
         "the table has more than 4096 bytes",
         "there are more than 8 columns, or one has not a number for each vertex",
         "the progress names no place of this frontier",
+        "the arrays are not sorted",
     };
     return status < sizeof words / sizeof *words ? words[status] : "there is no such status";
 }
@@ -112,6 +114,14 @@ enum { EDGEBPF_SUM = 0, EDGEBPF_MIN = 1, EDGEBPF_MAX = 2 };
 
 /* A store of a graph of 1 to 268,435,456 vertices, without an edge. VERTEX_COUNT. */
 uint32_t edgebpf_store_new(uint32_t vertices, edgebpf_store *out);
+
+/* A store of a graph whose edges are sorted, as edgebpf_version_copy writes them: `starts` has the place in `targets` at which each vertex's
+   list begins, and after the last one their number, and each list ascends. The arrays are read once, and no log is kept of them: they are
+   version 0 of epoch 0. VERTEX_COUNT; LENGTHS if there is not one start for each vertex and one more; NOT_SORTED if the first start is not
+   0, the last one not `target_count`, a start less than the one before it, or a target not greater than the one before it in its list;
+   VERTEX_RANGE if a target is no vertex; tested in this order. */
+uint32_t edgebpf_store_from(uint32_t vertices, const uint64_t *starts, size_t start_count, const uint32_t *targets, size_t target_count,
+                            edgebpf_store *out);
 
 /* A branch: a store of its own whose graph is that of a version. No list is copied, so it takes some microseconds whatever the graph's
    size. It begins anew, with version 0 of epoch 0 and room for 4,096 batches, and nothing that is done to it changes the version, or the

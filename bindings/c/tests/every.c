@@ -208,6 +208,43 @@ static void edit(edgebpf_store *edited, uint32_t *rows, uint32_t source, uint32_
     rows[source] = is_out ? rows[source] & ~(1u << target) : rows[source] | 1u << target;
 }
 
+/* Sorted arrays: those of a copy, and each test of them in its order. */
+static void sorted_arrays(void) {
+    const uint64_t starts[] = {0, 2, 2, 5}, low[] = {1, 2, 2, 5}, high[] = {0, 2, 2, 4}, back[] = {0, 3, 2, 5}, past[] = {0, 2, 9, 5};
+    const uint32_t targets[] = {1, 2, 0, 1, 2}, twice[] = {1, 1, 0, 1, 2}, fall[] = {1, 2, 0, 2, 1}, outside[] = {1, 3, 0, 1, 2};
+    const uint32_t both[] = {3, 1, 0, 1, 2};
+    const uint32_t rows[] = {6, 0, 7};
+    uint64_t copied[4] = {9, 9, 9, 9};
+    uint32_t found[5] = {9, 9, 9, 9, 9}, after[] = {6, 0, 7};
+    edgebpf_store made = {{0}};
+    edgebpf_version now = {{0}};
+    edgebpf_info info;
+    struct { uint32_t vertices; const uint64_t *starts; size_t start_count; const uint32_t *targets; size_t count; uint32_t status; } each[] = {
+        {0, starts, 1, targets, 0, EDGEBPF_VERTEX_COUNT}, {EDGEBPF_MOST_VERTICES + 1, starts, 4, targets, 5, EDGEBPF_VERTEX_COUNT},
+        {3, starts, 3, targets, 2, EDGEBPF_LENGTHS}, {2, low, 4, twice, 5, EDGEBPF_LENGTHS}, {1, starts, 0, targets, 0, EDGEBPF_LENGTHS},
+        {3, low, 4, targets, 5, EDGEBPF_NOT_SORTED}, {3, high, 4, targets, 5, EDGEBPF_NOT_SORTED}, {3, starts, 4, targets, 4, EDGEBPF_NOT_SORTED},
+        {3, back, 4, targets, 5, EDGEBPF_NOT_SORTED}, {3, past, 4, targets, 5, EDGEBPF_NOT_SORTED}, {3, starts, 4, twice, 5, EDGEBPF_NOT_SORTED},
+        {3, starts, 4, fall, 5, EDGEBPF_NOT_SORTED}, {3, starts, 4, both, 5, EDGEBPF_NOT_SORTED}, {3, starts, 4, outside, 5, EDGEBPF_VERTEX_RANGE},
+    };
+    for (size_t at = 0; at < COUNT(each); at++)
+        CHECK(edgebpf_store_from(each[at].vertices, each[at].starts, each[at].start_count, each[at].targets, each[at].count, &made)
+              == each[at].status && !made.handle.at);
+    CHECK(edgebpf_store_from(3, starts, 4, targets, 5, &made) == EDGEBPF_DONE && edgebpf_store_pin(&made, &now) == EDGEBPF_DONE);
+    CHECK(edgebpf_version_info(&now, &info) == EDGEBPF_DONE && info.epoch == 0 && info.number == 0 && info.edges == 5 && info.vertices == 3);
+    CHECK(has_rows(&now, rows, 3) && edgebpf_version_copy(&now, copied, 4, found, 5) == EDGEBPF_DONE);
+    CHECK(!memcmp(copied, starts, sizeof starts) && !memcmp(found, targets, sizeof targets));
+    edit(&made, after, 1, 1, 0, 1), edit(&made, after, 2, 0, 1, 2);
+    CHECK(has_rows(&now, rows, 3));
+    edgebpf_close_version(&now);
+    CHECK(edgebpf_store_pin(&made, &now) == EDGEBPF_DONE && has_rows(&now, after, 3));
+    /* A store is left where it is if another cannot be made in its place. */
+    CHECK(edgebpf_store_from(3, back, 4, targets, 5, &made) == EDGEBPF_NOT_SORTED);
+    edgebpf_close_version(&now);
+    CHECK(edgebpf_store_pin(&made, &now) == EDGEBPF_DONE && has_rows(&now, after, 3));
+    CHECK(edgebpf_store_from(1, low + 1, 0, targets, 0, &made) == EDGEBPF_LENGTHS && edgebpf_store_from(1, starts + 1, 2, targets, 0, &made) == EDGEBPF_NOT_SORTED);
+    edgebpf_close_version(&now), edgebpf_close_store(&made);
+}
+
 /* A branch, and a branch of it, each edited by itself; what they were made of stays, also when they go first. */
 static void branches(void) {
     edgebpf_store first = {{0}}, second = {{0}}, third = {{0}}, none = {{0}};
@@ -498,10 +535,10 @@ static void tells_what_handles_hold(void) {
     static const char *const words[] = {
         "done", "memory", "empty", "another kind", "number of vertices", "an edit names", "65536 edits", "4096 batches",
         "feed", "lengths", "refuses", "record length", "code is not", "argument", "reduction", "means no code", "neighbour", "64 bits count",
-        "the table has more than 4096", "more than 8 columns", "the progress names no place",
+        "the table has more than 4096", "more than 8 columns", "the progress names no place", "are not sorted",
     };
     for (uint32_t status = 0; status < COUNT(words); status++) CHECK(strstr(edgebpf_words(status), words[status]));
-    CHECK(!strcmp(edgebpf_words(EDGEBPF_PROGRESS + 1), "there is no such status"));
+    CHECK(!strcmp(edgebpf_words(EDGEBPF_NOT_SORTED + 1), "there is no such status"));
 }
 
 int main(void) {
@@ -521,6 +558,7 @@ int main(void) {
     refuses_batches();
     rebases();
     branches();
+    sorted_arrays();
     tells_what_handles_hold();
     edgebpf_close_store(&store);
     lends_and_copies(); /* a version outlives its store */

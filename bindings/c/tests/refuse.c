@@ -80,24 +80,28 @@ static void apply_all(edgebpf_store *store) {
     }
 }
 
-/* A branch of the last version, which is edited. */
-static void branch_off(edgebpf_store *store) {
-    const uint32_t vertex = VERTICES - 1;
-    const uint8_t insert = 0, out = 1;
+/* A branch of the last version, and a store of its edges; both have them, and are edited. */
+static void store_again(edgebpf_store *store) {
+    static uint64_t starts[VERTICES + 1];
+    const uint8_t out = 1;
     edgebpf_version pin = {{0}};
-    edgebpf_store branch = {{0}};
+    edgebpf_store branch = {{0}}, sorted = {{0}};
     edgebpf_info info;
     edgebpf_change change;
     while (again(edgebpf_store_pin(store, &pin))) continue;
     CHECK(edgebpf_version_info(&pin, &info) == EDGEBPF_DONE);
+    uint32_t *all = calloc(info.edges + 1, sizeof *all), source = 0;
+    CHECK(all && edgebpf_version_copy(&pin, starts, VERTICES + 1, all, info.edges) == EDGEBPF_DONE && info.edges);
     while (again(edgebpf_store_of(&pin, &branch))) CHECK(!branch.handle.at);
+    while (again(edgebpf_store_from(VERTICES, starts, VERTICES + 1, all, info.edges, &sorted))) CHECK(!sorted.handle.at);
+    while (!starts[source + 1]) source++;
     edgebpf_close_version(&pin);
-    check_last(&branch, 0, 0, info.edges);
-    while (again(edgebpf_store_apply(&branch, 0, &vertex, 1, &vertex, 1, &insert, 1, &change))) check_last(&branch, 0, 0, info.edges);
-    check_last(&branch, 0, 1, info.edges + change.added);
-    while (again(edgebpf_store_apply(&branch, 0, &vertex, 1, &vertex, 1, &out, 1, &change))) continue;
-    CHECK(change.removed == 1);
-    edgebpf_close_store(&branch);
+    check_last(&branch, 0, 0, info.edges), check_last(&sorted, 0, 0, info.edges);
+    while (again(edgebpf_store_apply(&branch, 0, &source, 1, all, 1, &out, 1, &change))) check_last(&branch, 0, 0, info.edges);
+    while (again(edgebpf_store_apply(&sorted, 0, &source, 1, all, 1, &out, 1, &change))) check_last(&sorted, 0, 0, info.edges);
+    check_last(&branch, 0, 1, info.edges - 1), check_last(&sorted, 0, 1, info.edges - 1);
+    edgebpf_close_store(&branch), edgebpf_close_store(&sorted);
+    free(all);
 }
 
 static void run_all(edgebpf_store *store) {
@@ -160,7 +164,7 @@ int main(void) {
         refusals = 0;
         while (again(edgebpf_store_new(VERTICES, &store))) continue;
         apply_all(&store);
-        branch_off(&store);
+        store_again(&store);
         run_all(&store);
         edgebpf_close_store(&store);
         CHECK(blocks == 0);

@@ -101,6 +101,14 @@ def vertices_of(values: npt.ArrayLike, count: int, name: str = "vertices") -> Ve
     return array.astype(np.uint32, order="C")
 
 
+def starts_of(values: npt.ArrayLike) -> Numbers:
+    """A copy of where lists begin. A negative number becomes one that is past every list."""
+    array = given_array(values, "starts")
+    if array.ndim != 1 or (array.size and array.dtype.kind not in "iu"):
+        raise TypeError("starts are an array of whole numbers with one dimension")
+    return array.astype(np.uint64, order="C")
+
+
 def vertex_of(vertex: int, count: int, name: str = "vertex") -> int:
     """A vertex that the graph has. `name` is what the caller calls it."""
     number = vertex if type(vertex) is int else whole(vertex, name)

@@ -26,9 +26,9 @@ NAME = "libedgebpf.so"
 INTERFACE = 1
 DONE, NO_MEMORY, EMPTY = 0, 1, 2
 VERTEX_RANGE, TOO_MANY_EDITS, LOG_FULL, LENGTHS, REFUSED, RECORD_LENGTH, CODE_LENGTH, ARGUMENT_LENGTH, WRONG_TEXT = 5, 6, 7, 9, 10, 11, 12, 13, 15
-NO_NEIGHBOUR, EPOCHS_FULL, TABLE_LENGTH, COLUMNS, PROGRESS = 16, 17, 18, 19, 20
+NO_NEIGHBOUR, EPOCHS_FULL, TABLE_LENGTH, COLUMNS, PROGRESS, NOT_SORTED = 16, 17, 18, 19, 20, 21
 # The last call that was added to the interface: a library without it is of an older release.
-NEWEST = "edgebpf_pairs_of"
+NEWEST = "edgebpf_store_from"
 ERRORS: dict[int, tuple[type[Exception], str]] = {
     NO_MEMORY: (NoMemory, "there is no memory; nothing was changed"),
     EMPTY: (Closed, "it is closed"),
@@ -42,6 +42,8 @@ ERRORS: dict[int, tuple[type[Exception], str]] = {
     TABLE_LENGTH: (ValueError, "a table has at most 4,096 bytes"),
     ARGUMENT_LENGTH: (ArgumentLength, "the argument does not have the record's length less 16 bytes, and less 16 for each column"),
     COLUMNS: (ValueError, "there are at most 8 columns, each with a number for each vertex"),
+    NOT_SORTED: (
+        ValueError, "the arrays are not sorted: starts ascend from 0 to the number of targets, and the targets of each vertex ascend"),
     PROGRESS: (Error, "the progress names no place of this frontier"),
 }
 # What bindings/c/edgebpf.h declares, as far as this package calls it. A slice is two numbers here, its address and its length.
@@ -56,6 +58,7 @@ typedef struct {{ uint64_t budget, edges, total; uint32_t vertex, place; }} prog
 typedef struct {{ const uint64_t *at; size_t count; }} column;
 uint32_t edgebpf_store_new(uint32_t, handle *);
 uint32_t edgebpf_store_of(handle *, handle *);
+uint32_t edgebpf_store_from(uint32_t, const uint64_t *, size_t, const uint32_t *, size_t, handle *);
 uint32_t edgebpf_store_apply(handle *, uint8_t, const uint32_t *, size_t, const uint32_t *, size_t, const uint8_t *, size_t, change *);
 uint32_t edgebpf_store_rebase(handle *, uint64_t *);
 uint32_t edgebpf_store_pin(handle *, handle *);

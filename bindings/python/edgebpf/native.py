@@ -12,7 +12,7 @@ from edgebpf import library
 from edgebpf.errors import Closed, TooManyEdits, VertexRange
 from edgebpf.given import (
     MOST_VERTICES, NO_COLUMNS, REDUCTIONS, Columns, Edges, Numbers, Pairs, Vertices, columns_of, edits_of, edits_of_batch, ends_of_pairs,
-    feed_of, frozen, reduction_of, threads_of, vertex_count, vertex_of, vertices_of, whole,
+    feed_of, frozen, reduction_of, starts_of, threads_of, vertex_count, vertex_of, vertices_of, whole,
 )
 from edgebpf.parts import Parts
 from edgebpf.programs import Program, argument_of, handle_of
@@ -56,6 +56,25 @@ class Store:
         self.vertices = vertices
         self._handle: library.Handle | None = handle
         self._lock = threading.Lock()
+
+    @classmethod
+    def from_csr(cls, starts: npt.ArrayLike, targets: npt.ArrayLike) -> Store:
+        """A store of edges that are sorted, as `Version.csr` and a `scipy.sparse.csr_array` have them, in one call and without a log.
+
+        starts: for each vertex the place in `targets` at which its list begins, and after the last one the number of targets. targets: the
+        lists, each ascending without one twice. Raises `ValueError` if they are not so, `VertexRange` if a target is no vertex, and
+        `NoMemory`.
+        """
+        places = starts_of(starts)
+        vertices = len(places) - 1
+        if not 1 <= vertices <= MOST_VERTICES:
+            raise ValueError(f"starts have a place for each vertex, of which there are 1 to {MOST_VERTICES}, and one more, not {len(places)} places")
+        lists = vertices_of(targets, vertices, "targets")
+        store, handle, calls = cls.__new__(cls), library.Handle(), library.calls()
+        arrays = calls.buffer(calls.numbers, places), len(places), calls.buffer(calls.words, lists), len(lists)
+        library.check(library.load().edgebpf_store_from(vertices, *arrays, handle.at))
+        store._hold(handle, vertices)
+        return store
 
     @classmethod
     def _of(cls, version: Version) -> Store:

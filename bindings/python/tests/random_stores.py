@@ -3,7 +3,7 @@
 
     random_stores.py [--batches N] [--seed S]
 
-Some batches come after a rebase, or in a branch of the last version. After each batch the counts are those of a set, the arrays those of scipy, and one random program, half of the
+Some batches come after a rebase, in a branch of the last version, or in a store of its sorted edges. After each batch the counts are those of a set, the arrays those of scipy, and one random program, half of the
 time with a table, is verified, run and asked for each edge's number, all as the second implementation has it. It ends with status 1 at the first
 difference.
 """
@@ -56,10 +56,16 @@ class Trial:
         return [(self.chance.randrange(self.vertices), self.chance.randrange(self.vertices)) for _ in range(self.chance.randint(0, most))]
 
     def begin_anew(self):
-        """Goes on in a branch of the last version."""
-        version = self.store.pin()
-        self.store.close()
-        self.store, self.epoch, self.number = version.branch(), 0, 0
+        """Goes on in a branch of the last version, or in a store of the set's edges, sorted."""
+        if self.chance.random() < 0.5:
+            version = self.store.pin()
+            self.store.close()
+            self.store = version.branch()
+        else:
+            ordered = sorted(self.edges)
+            starts = np.searchsorted([one for one, _ in ordered], np.arange(self.vertices + 1))
+            self.store = edgebpf.Store.from_csr(starts, [other for _, other in ordered])
+        self.epoch, self.number = 0, 0
         self.compare_arrays(self.store.pin())
 
     def batch(self):

@@ -45,6 +45,37 @@ class Native(test_package.Package):
         with self.assertRaises(TypeError):
             edgebpf.Store(4.0)
 
+    def test_sorted_edges(self):
+        """Sorted arrays are the edges, with no batch before; they are those that `csr` gives, and what is wrong is said."""
+        chance = random.Random(2)
+        for vertices in (1, 63, 64, 65, 256, 257, 1_000):
+            # The last vertex's list may be in a tree, that of the first in an array, and others in blocks.
+            wanted = {(chance.randrange(vertices), chance.randrange(vertices)) for _ in range(chance.randrange(5 * vertices))}
+            wanted |= {(0, target) for target in range(min(vertices, 40))} | {(vertices - 1, target) for target in range(vertices)}
+            edges = sorted(wanted)
+            starts = np.searchsorted([source for source, _ in edges], np.arange(vertices + 1))
+            with edgebpf.Store.from_csr(starts, np.array([target for _, target in edges])) as store:
+                version = store.pin()
+                self.assertEqual((store.vertices, version.epoch, version.number, version.edges), (vertices, 0, 0, len(edges)))
+                found = version.csr()
+                self.assertEqual((found[0].tolist(), found[1].tolist()), (starts.tolist(), [target for _, target in edges]))
+                # It is edited as any other.
+                store.apply(edges=edges[::3], removes=[True] * len(edges[::3]))
+                wanted -= set(edges[::3])
+                starts, targets = store.pin().csr()
+                self.assertEqual(set(zip(np.repeat(np.arange(vertices), np.diff(starts)).tolist(), targets.tolist())), wanted)
+                copied = edgebpf.Store.from_csr(starts.astype(np.int32), targets).pin().csr()
+                self.assertEqual((copied[0].tolist(), copied[1].tolist()), (starts.tolist(), targets.tolist()))
+        for starts, targets, error, words in (
+            ([], [], ValueError, "^starts have a place"), ([0], [], ValueError, "^starts have a place"), ([[0, 0]], [], TypeError, "starts are"),
+            ([0.0, 1.0], [0], TypeError, "starts are"), ([0, 1], [0.5], TypeError, "targets are"), ([0, 1, 1], [2], edgebpf.VertexRange, "targets"),
+            ([1, 1], [0], ValueError, "not sorted"), ([0, 2], [0], ValueError, "not sorted"), ([0, 0], [0], ValueError, "not sorted"),
+            ([0, 2, 1, 2], [0, 1], ValueError, "not sorted"), ([0, -1, 1], [0], ValueError, "not sorted"),
+            ([0, 2, 2], [1, 1], ValueError, "not sorted"), ([0, 2, 2], [1, 0], ValueError, "not sorted"),
+        ):
+            with self.assertRaisesRegex(error, words):
+                edgebpf.Store.from_csr(starts, targets)
+
     def test_branches(self):
         """A branch and a branch of it are edited by themselves: each has the edges of its own set, and versions stay as they are."""
         def edges_of(version):

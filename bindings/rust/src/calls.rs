@@ -73,6 +73,14 @@ pub(crate) struct RawProgress {
 extern "C" {
     pub(crate) fn edgebpf_store_new(vertices: u32, out: *mut RawHandle) -> u32;
     pub(crate) fn edgebpf_store_of(version: *mut RawHandle, out: *mut RawHandle) -> u32;
+    pub(crate) fn edgebpf_store_from(
+        vertices: u32,
+        starts: *const u64,
+        start_count: usize,
+        targets: *const u32,
+        target_count: usize,
+        out: *mut RawHandle,
+    ) -> u32;
     pub(crate) fn edgebpf_store_apply(
         store: *mut RawHandle,
         feed: u8,

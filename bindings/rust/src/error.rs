@@ -32,6 +32,8 @@ pub enum Error {
     Columns,
     /// A progress names no place of the frontier.
     Progress,
+    /// The arrays of a graph's edges are not sorted.
+    NotSorted,
     /// A batch of a `Live` was applied, and there was no memory to show its version before the next one.
     NotShown,
     /// The library answered a status of which this crate knows nothing.
@@ -60,6 +62,7 @@ impl Error {
             13 => Error::ArgumentLength,
             19 => Error::Columns,
             20 => Error::Progress,
+            21 => Error::NotSorted,
             other => Error::Unknown(other),
         }
     }
@@ -100,6 +103,7 @@ impl fmt::Display for Error {
             }
             Error::Columns => to.write_str("there are more than 8 columns, or one has not a number for each vertex"),
             Error::Progress => to.write_str("the progress names no place of this frontier"),
+            Error::NotSorted => to.write_str("the arrays are not sorted"),
             Error::NotShown => {
                 to.write_str("the batch was applied, and there is no memory to show its version before the next one")
             }
@@ -207,6 +211,7 @@ mod tests {
             (17, Error::EpochsFull),
             (18, Error::TableLength),
             (20, Error::Progress),
+            (21, Error::NotSorted),
         ] {
             assert_eq!((Error::of(status), error.to_string().as_str()), (error, words[status as usize]));
         }

@@ -1,7 +1,7 @@
 //! A graph that changes.
 use crate::batch::{Batch, Feed};
 use crate::calls::{
-    edgebpf_store_apply, edgebpf_store_new, edgebpf_store_of, edgebpf_store_pin, edgebpf_store_rebase,
+    edgebpf_store_apply, edgebpf_store_from, edgebpf_store_new, edgebpf_store_of, edgebpf_store_pin, edgebpf_store_rebase,
     RawChange,
 };
 use crate::error::{done, Error};
@@ -29,6 +29,19 @@ impl Store {
         let handle = Handle::empty();
         // SAFETY: `at` is an empty handle.
         done(unsafe { edgebpf_store_new(vertices, handle.at()) })?;
+        Ok(Store(handle))
+    }
+
+    /// A store of edges that are sorted, as `Version::csr` writes them, in one call and without a log: `starts` has for each vertex the
+    /// place in `targets` at which its list begins, and after the last one their number, and each list ascends without a target twice.
+    /// `VertexCount`; `NotSorted` if they are not so; `VertexRange` if a target is no vertex; tested in this order. `NoMemory`.
+    pub fn from_sorted(starts: &[u64], targets: &[u32]) -> Result<Store, Error> {
+        let vertices = starts.len().checked_sub(1).and_then(|count| u32::try_from(count).ok());
+        let (vertices, handle) = (vertices.ok_or(Error::VertexCount)?, Handle::empty());
+        // SAFETY: the slices are as long as said, and `handle` is empty.
+        done(unsafe {
+            edgebpf_store_from(vertices, starts.as_ptr(), starts.len(), targets.as_ptr(), targets.len(), handle.at())
+        })?;
         Ok(Store(handle))
     }
 

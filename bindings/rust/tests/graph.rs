@@ -106,6 +106,41 @@ fn a_rebase_begins_numbers_again() {
 }
 
 #[test]
+fn sorted_edges_are_a_store() {
+    // Lists in blocks, in arrays and in trees, over a range's end.
+    let is_edge = |vertex: u32, target: u32| vertex == 256 || (vertex * 7 + target) % (vertex % 90 + 2) == 0;
+    let lists: Vec<Vec<u32>> =
+        (0..1_300).map(|vertex| (0..1_300).filter(|target| is_edge(vertex, *target)).collect()).collect();
+    let mut starts = vec![0];
+    for list in &lists {
+        starts.push(starts[starts.len() - 1] + list.len() as u64);
+    }
+    let targets = lists.concat();
+    let mut store = Store::from_sorted(&starts, &targets).unwrap();
+    let version = store.pin().unwrap();
+    assert_eq!((version.epoch(), version.number(), version.edges()), (0, 0, targets.len() as u64));
+    let csr = version.csr().unwrap();
+    assert_eq!((&csr.starts, &csr.targets), (&starts, &targets));
+    let made = store.apply(Feed::A, Batch::new().remove(256, 0).insert(256, 0).remove(1_299, 1_298)).unwrap();
+    assert_eq!((made.added, made.removed), (0, u64::from(is_edge(1_299, 1_298))));
+    let wrong: [(&[u64], &[u32], Error); 10] = [
+        (&[], &[], Error::VertexCount),
+        (&[0], &[], Error::VertexCount),
+        (&[1, 1], &[0], Error::NotSorted),
+        (&[0, 2], &[0], Error::NotSorted),
+        (&[0, 0], &[0], Error::NotSorted),
+        (&[0, 2, 1, 2], &[0, 1], Error::NotSorted),
+        (&[0, u64::MAX, 1], &[0], Error::NotSorted),
+        (&[0, 2, 2], &[1, 1], Error::NotSorted),
+        (&[0, 2, 2], &[9, 1], Error::NotSorted),
+        (&[0, 1, 1], &[2], Error::VertexRange),
+    ];
+    for (starts, targets, error) in wrong {
+        assert_eq!(Store::from_sorted(starts, targets).err(), Some(error));
+    }
+}
+
+#[test]
 fn a_branch_has_a_history_of_its_own() {
     let mut store = Store::new(300).unwrap();
     store.apply(Feed::A, &Batch::from_iter((0..299).map(|vertex| (vertex, vertex + 1)))).unwrap();

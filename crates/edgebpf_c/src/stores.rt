@@ -3,12 +3,15 @@ ghost use Rattle.std.specs.Prelude.{◌≡◌, ◌≢◌, None};
 ghost use Rattle.past_model.specs.Past.{opening};
 ghost use Rattle.past_model.specs.Epochs.{branched};
 ghost use Rattle.version.specs.Version.{IsVertexCount};
+ghost use Rattle.version.specs.Sorted.{past_of};
 ghost use Rattle.embedding.specs.declared.statuses.TheConstants.{DONE, NO_MEMORY, VERTEX_COUNT};
 ghost use Rattle.embedding.specs.Holding.{OnStore, OnVersion, HoldsStore, HoldsVersion};
 ghost use Rattle.embedding.specs.Batches.{IsAppliedTo, IsRebasedTo, IsHandedOut};
+ghost use Rattle.embedding.specs.Sorted.{IsTested};
 
 use embedding::{
-    Arrays, Change, EMPTY, Handle, apply_held, new_store, pin_held, rebase_held, store_of_held,
+    Arrays, Change, EMPTY, Handle, apply_held, new_store, pin_held, rebase_held, store_from,
+    store_of_held,
 };
 use std::alloc::Global;
 
@@ -22,6 +25,24 @@ pub extern "C" fn edgebpf_store_new(alloc: Global, vertex_count: u32, out: &mut 
     ensures inside { result ≢ VERTEX_COUNT → IsVertexCount vertex_count }
 {
     new_store(alloc, vertex_count, out)
+}
+
+/// A store of a graph of so many vertices whose edges are given in sorted arrays: where the list of each vertex begins, their number
+/// after the last, and the targets, ascending for each vertex.
+#[unsafe(no_mangle)]
+pub extern "C" fn edgebpf_store_from(
+    alloc: Global,
+    vertex_count: u32,
+    starts: &[u64],
+    targets: &[u32],
+    out: &mut Handle,
+) -> u32
+    ensures tested { result ≢ NO_MEMORY → IsTested vertex_count starts.now targets.now result }
+    ensures memory { result ≡ NO_MEMORY → IsTested vertex_count starts.now targets.now DONE }
+    ensures made { result ≡ DONE → HoldsStore out.new.held (past_of vertex_count starts.now targets.now) }
+    ensures left { result ≢ DONE → out.new.held ≡ out.old.held }
+{
+    store_from(alloc, vertex_count, starts, targets, out)
 }
 
 /// A store of its own whose first version is this one, as the base of a first epoch without a batch. No list is copied.

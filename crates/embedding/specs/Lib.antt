@@ -12,3 +12,4 @@ pub mod Runs
 pub mod Parts
 pub mod Lists
 pub mod Lent
+pub mod Sorted

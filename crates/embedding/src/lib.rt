@@ -19,6 +19,7 @@ mod raw_box;
 mod runnable;
 mod runs;
 mod slices;
+mod sorted;
 mod statuses;
 mod store;
 mod texts;
@@ -40,10 +41,11 @@ pub use questions::{
 pub use runnable::{Edges, Lent, Runnable};
 pub use runs::{RunAsked, Totals, run_held, run_some_held};
 pub use slices::{Slice, lend_from_held, lend_held};
+pub use sorted::store_from;
 pub use statuses::{
     ARGUMENT_LENGTH, CODE_LENGTH, DONE, EMPTY, EPOCHS_FULL, FEED, LENGTHS, LOG_FULL, NO_MEMORY,
-    NO_NEIGHBOUR, OTHER_KIND, PROGRESS, RECORD_LENGTH, REDUCTION, REFUSED, TABLE_LENGTH,
-    TOO_MANY_EDITS, VERTEX_COUNT, VERTEX_RANGE, WRONG_TEXT,
+    NO_NEIGHBOUR, NOT_SORTED, OTHER_KIND, PROGRESS, RECORD_LENGTH, REDUCTION, REFUSED,
+    TABLE_LENGTH, TOO_MANY_EDITS, VERTEX_COUNT, VERTEX_RANGE, WRONG_TEXT,
 };
 pub use store::{Change, Store};
 pub use texts::{Assembled, assemble_into, explain_into};

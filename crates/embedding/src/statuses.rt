@@ -42,3 +42,5 @@ pub const TABLE_LENGTH: u32 = 18;
 pub const COLUMNS: u32 = 19;
 /// The progress names no place of this frontier.
 pub const PROGRESS: u32 = 20;
+/// The arrays are not sorted: the starts of the lists ascend from 0 to the number of targets, and the targets of each list ascend.
+pub const NOT_SORTED: u32 = 21;

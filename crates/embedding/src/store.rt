@@ -6,6 +6,7 @@ ghost use Rattle.past_model.specs.Edits.{AreEditsBelow};
 ghost use Rattle.past_model.specs.Past.{number_of, epoch_of, opening, longer};
 ghost use Rattle.past_model.specs.Epochs.{branched, rebased};
 ghost use Rattle.version.specs.Version.{IsVertexCount};
+ghost use Rattle.version.specs.Sorted.{AreSorted, past_of};
 ghost use Rattle.embedding.specs.declared.statuses.TheConstants.{DONE, NO_MEMORY};
 ghost use Rattle.embedding.specs.Applying.{fault_in, change_of, IsApplied, IsRebased};
 
@@ -73,6 +74,24 @@ impl Store {
         ensures { IfOk result (λ store. store ≡ branched version.now) }
     {
         let version = version.branched(alloc)?;
+        Ok(Store {
+            alloc,
+            current: Arc::new(alloc, version)?,
+        })
+    }
+
+    /// A graph whose edges are given in sorted arrays, as the base of a first epoch without a batch.
+    pub fn of_lists(
+        alloc: Global,
+        vertex_count: u32,
+        starts: &[u64],
+        targets: &[u32],
+    ) -> Result<Store, AllocError>
+        requires count { IsVertexCount vertex_count }
+        requires sorted { AreSorted vertex_count starts.now targets.now }
+        ensures { IfOk result (λ store. store ≡ past_of vertex_count starts.now targets.now) }
+    {
+        let version = Version::of_lists(alloc, vertex_count, starts, targets)?;
         Ok(Store {
             alloc,
             current: Arc::new(alloc, version)?,
