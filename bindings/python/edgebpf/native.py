@@ -25,6 +25,7 @@ LEAST_ROOM, MORE_ROOM = 2, 64
 MOST_IN_ARRAY = 1 << 20
 U32, U64 = np.dtype(np.uint32), np.dtype(np.uint64)
 view_of = np.frombuffer
+NO_VERTICES: Vertices = frozen(np.empty(0, U32))
 
 
 class Memory(ctypes.c_uint8 * (1 << 47)):  # type: ignore[misc]
@@ -417,8 +418,9 @@ class Version:
             library.check(status)
         if found == 1:
             return view_of(self._memory or self._all_memory(), U32, length, at)
-        slices = self.slices(vertex) if found else []
-        copied: Vertices = np.concatenate(slices) if slices else np.empty(0, U32)
+        if not found:
+            return NO_VERTICES
+        copied: Vertices = np.concatenate(self.slices(vertex))
         copied.flags.writeable = False
         return copied
 
