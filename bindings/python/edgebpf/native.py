@@ -3,6 +3,7 @@ from __future__ import annotations
 
 import ctypes
 import threading
+from operator import index
 from typing import Any
 
 import numpy as np
@@ -405,7 +406,10 @@ class Version:
         except AttributeError:
             handle = shared.own()
         if type(vertex) is not int:
-            vertex = whole(vertex, "vertex")
+            try:
+                vertex = index(vertex)
+            except TypeError:
+                whole(vertex, "vertex")
         if not 0 <= vertex < self.vertices:
             vertex_of(vertex, self.vertices)
         # The handle keeps the room but for this time: what handles a signal may ask for a list meanwhile.
