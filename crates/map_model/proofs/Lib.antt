@@ -1,3 +1,4 @@
 pub mod Whole
 pub mod Pushes
 pub mod Joined
+pub mod PushedWhole

@@ -1,4 +1,5 @@
 pub mod EdgeMap
 pub mod Parts
 pub mod Pushes
+pub mod PushParts
 pub mod PushRows

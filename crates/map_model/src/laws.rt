@@ -1,12 +1,19 @@
 //! Laws of maps in parts, and of pushes. Each function does nothing: its contract is the law.
 ghost use Rattle.map_model.specs.Parts.{PartsAreTheWhole};
 ghost use Rattle.map_model.specs.Pushes.{PushedNumbersReduce, PushesInTurn, PushesJoin};
+ghost use Rattle.map_model.specs.PushParts.{PushPartsAreTheWhole};
 ghost use Rattle.map_model.specs.PushRows.{WorkedPushes};
 
 /// A map in parts that has come to the frontier's end has written what a map of the whole frontier gives: a value for each vertex,
 /// how many edges there are, and what all their numbers reduce to. However it was cut, nothing is lost or counted twice.
 pub fn parts_are_the_whole()
     ensures { PartsAreTheWhole }
+{}
+
+/// A push in parts that has come to the frontier's end has left what a push of the whole frontier leaves, and has counted and reduced
+/// all its numbers. However it was cut, no number went to its target twice, and none is missing.
+pub fn push_parts_are_the_whole()
+    ensures { PushPartsAreTheWhole }
 {}
 
 /// A push leaves at each vertex what the number before and all numbers that went there reduce to, in whatever order they came.
