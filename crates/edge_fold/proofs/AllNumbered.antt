@@ -1,6 +1,6 @@
 -- Each run of an accepted program has a number, so no edge is left out of a map.
-use Rattle.std.proofs.Common.{◌≡◌, ℕ, zero, suc, ◌+◌, ◌*◌, ◌<◌, ◌≤◌, true, List, Option, Some, [], ◌∷◌, ◌++◌, length, filter, refl, ap, ◌∙◌, lt-ltb, arith}
-use Rattle.std.specs.Prelude.{nat_lt, slice_index}
+use Rattle.std.proofs.Common.{◌≡◌, ℕ, zero, suc, ◌+◌, ◌*◌, ◌≤◌, true, List, Option, Some, [], ◌∷◌, ◌++◌, length, filter, refl, ap, ◌∙◌, lt-ltb, arith}
+use Rattle.std.specs.Prelude.{nat_lt}
 use Rattle.std.specs.Int.{w32, to_le_bytes}
 use Rattle.std.specs.List.{filter_map, sum_by}
 use Rattle.std.proofs.Math.Path.{fun_ext}

@@ -31,7 +31,7 @@ fn is_counted(program: &Verified) -> bool {
 
 /// What `run_edge` does, with the work that the run took.
 #[inline(always)]
-fn run_edge_counted(
+pub(crate) fn run_edge_counted(
     mapped: &Mapped<'_>,
     memory: &mut bpf_runs::Memory,
     edge: Edge,

@@ -21,10 +21,10 @@ use crate::span::Source;
 use map_model::{Progress, Reduction};
 
 /// So many of the next vertices are looked at for a block that they share: those without neighbours are passed.
-const MOST_LOOKED: usize = 1024;
+pub(crate) const MOST_LOOKED: usize = 1024;
 
 /// The totals of no edges, where a map begins.
-fn begin(progress: &mut Progress, reduction: Reduction)
+pub(crate) fn begin(progress: &mut Progress, reduction: Reduction)
     ensures first { progress.old.vertex ≡ 0 → progress.old.place ≡ 0
         → (progress.new.edges ≡ 0) × (progress.new.total ≡ reduction_of_numbers reduction []) }
     ensures later { (0 < progress.old.vertex) ⊎ (0 < progress.old.place) → progress.new ≡ progress.old }
@@ -39,7 +39,7 @@ fn begin(progress: &mut Progress, reduction: Reduction)
 }
 
 /// Adds what a vertex's next edges have to the totals, and goes to the place after them.
-fn add(progress: &mut Progress, reduction: Reduction, part: &Part)
+pub(crate) fn add(progress: &mut Progress, reduction: Reduction, part: &Part)
     requires { progress.old.place + part.now.count ≤ MOST_VERTICES }
     ensures edges { progress.new.edges ≡ (progress.old.edges + part.now.count) % 2 ^ 64 }
     ensures total { progress.new.total ≡ combination reduction progress.old.total part.now.value }

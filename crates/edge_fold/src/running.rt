@@ -45,7 +45,8 @@ fn write_next(memory: &mut bpf_runs::Memory, edge: Edge, argument: &[u8])
 }
 
 /// Writes what columns have for the ends of an edge into a memory, from a place on.
-#[inline(always)]
+// Runs without columns have a loop without this code, which would take registers from it.
+#[inline(never)]
 fn write_columns(memory: &mut bpf_runs::Memory, from: usize, columns: &[&[u64]], edge: Edge)
     requires { from + COLUMN_BYTES * length columns.now ≤ RECORD_ROOM }
     ensures record { take (from + COLUMN_BYTES * length columns.now) memory.new.bytes

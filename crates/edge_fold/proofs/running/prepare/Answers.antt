@@ -1,5 +1,4 @@
-use Rattle.std.proofs.Common.{◌≡◌, ◌+◌, ◌*◌, ◌≤◌, List, ℕ, length, map, take, sym, ap, ◌∙◌, ◌++◌, arith}
-use Rattle.map_model.specs.declared.limits.TheConstants.{EDGE_BYTES, COLUMN_BYTES}
+use Rattle.std.proofs.Common.{List, ℕ, take, sym, ap, ◌∙◌, ◌++◌}
 use Rattle.edge_fold.specs.Inputs.{inputs_of, end_bytes}
 use Rattle.edge_fold.proofs.EndBytes.{record_split}
 use Rattle.edge_fold.proofs.running.prepare.Goals as goal

@@ -1,9 +1,8 @@
-use Rattle.std.proofs.Common.{◌≡◌, ◌+◌, ◌*◌, ◌-◌, ◌≤◌, List, ℕ, length, map, sym, ap, ◌∙◌, rules, arith}
+use Rattle.std.proofs.Common.{◌≡◌, ◌+◌, ◌*◌, ◌-◌, List, ℕ, length, map, ap, ◌∙◌, rules, arith}
 use Rattle.std.specs.Borrow.{Bor}
 use Rattle.std.proofs.lemmas.List.{length-map}
-use Rattle.std.proofs.lemmas.Slice.{drop-put_mid, take-put_mid}
-use Rattle.bpf_runs.specs.declared.memory.TheConstants.{RECORD_ROOM, MEMORY_BYTES}
-use Rattle.edge_fold.specs.Inputs.{end_bytes}
+use Rattle.std.proofs.lemmas.Slice.{drop-put_mid}
+use Rattle.bpf_runs.specs.declared.memory.TheConstants.{RECORD_ROOM}
 use Rattle.edge_fold.proofs.EndBytes.{ends_long}
 use Rattle.edge_fold.proofs.running.write_columns.Goals as goal
 
