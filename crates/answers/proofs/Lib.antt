@@ -1,0 +1,3 @@
+pub mod Ways
+pub mod Walks
+pub mod Places
