@@ -5,6 +5,8 @@
 mod columns;
 mod lists;
 mod programs;
+mod pushes;
 mod runs;
 mod stores;
+mod tested;
 mod versions;

@@ -12,4 +12,6 @@ pub mod Runs
 pub mod Parts
 pub mod Lists
 pub mod Lent
+pub mod Pushing
+pub mod Answers
 pub mod Sorted

@@ -1,5 +1,5 @@
 -- A run over a frontier, as a host asks for it.
-use Rattle.std.specs.Prelude.{◌≡◌, ◌≢◌, ℕ, ◌+◌, ◌==◌, ◌&&◌, nat_le, if◌then◌else◌, List, length, map, Option, Some, None}
+use Rattle.std.specs.Prelude.{◌≡◌, ◌≢◌, ℕ, ◌==◌, ◌&&◌, nat_le, if◌then◌else◌, List, length, map, Option, Some, None}
 use Rattle.bpf_image.specs.Program.{Program}
 use Rattle.graph_model.specs.Graph.{Graph}
 use Rattle.map_model.specs.declared.reduction.Reduction.{Reduction}

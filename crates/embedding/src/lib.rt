@@ -14,6 +14,7 @@ mod numbers;
 mod pairs;
 mod places;
 mod programs;
+mod pushes;
 mod questions;
 mod raw_box;
 mod runnable;
@@ -22,8 +23,10 @@ mod slices;
 mod sorted;
 mod statuses;
 mod store;
+mod tested;
 mod texts;
 
+pub use answers::{Components, Search};
 pub use branches::store_of_held;
 pub use changes::{apply_held, new_store, pin_held, rebase_held};
 pub use copies::copy_held;
@@ -35,6 +38,7 @@ pub use lists::{degrees_held, lists_held};
 pub use numbers::{NumbersAsked, number_held, numbers_some_held};
 pub use pairs::{PairsAsked, pairs_held};
 pub use programs::{ProgramBytes, Verdict, new_program, share_program_held};
+pub use pushes::{push_held, push_some_held};
 pub use questions::{
     Info, degree_held, has_edge_held, info_held, neighbour_held, share_version_held,
 };
@@ -48,4 +52,5 @@ pub use statuses::{
     TABLE_LENGTH, TOO_MANY_EDITS, VERTEX_COUNT, VERTEX_RANGE, WRONG_TEXT,
 };
 pub use store::{Change, Store};
+pub use tested::{are_components_held, is_search_held};
 pub use texts::{Assembled, assemble_into, explain_into};

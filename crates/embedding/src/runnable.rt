@@ -1,10 +1,11 @@
 //! A program with the memory of its runs.
-ghost use Rattle.std.specs.Prelude.{◌≡◌, ◌+◌, ◌-◌, ◌*◌, ◌^◌, ◌%◌, ◌<◌, ◌≤◌, ◌⊎◌, ◌++◌, IfOk, length, take, drop, slice_range};
+ghost use Rattle.std.specs.Prelude.{◌≡◌, ◌+◌, ◌-◌, ◌*◌, ◌^◌, ◌%◌, ◌<◌, ◌≤◌, ◌⊎◌, ◌++◌, IfOk, ℕ, List, length, take, drop, slice_range};
 ghost use Rattle.past_model.specs.Past.{graph_of};
 ghost use Rattle.past_model.specs.declared.limits.TheConstants.{MOST_VERTICES};
 ghost use Rattle.graph_model.specs.Graph.{edge_count, numbers_below};
 ghost use Rattle.map_model.specs.EdgeMap.{all_with, reduction_of_numbers};
 ghost use Rattle.map_model.specs.Parts.{IsPlace, IsBefore, IsSoFar, HasBegun, numbers_before, pair_numbers, values_for};
+ghost use Rattle.map_model.specs.PushParts.{pushed_edges, IsPushedSoFar, HasBegunPush};
 ghost use Rattle.verifier.specs.Walks.{longest};
 ghost use Rattle.edge_fold.specs.declared.budget.TheConstants.{EDGE_COST};
 ghost use Rattle.embedding.specs.Lent.{FitRecords, lent_of};
@@ -12,7 +13,7 @@ ghost use Rattle.embedding.specs.Parts.{least_of, most_of};
 
 use edge_fold::{
     Mapped, Memory, Pairs, Progress, Request, map_some, map_whole, number_edges, number_pairs,
-    number_some,
+    number_some, push_some, push_whole,
 };
 use std::alloc::{AllocError, Global};
 use std::marker::Model;
@@ -158,6 +159,64 @@ impl Runnable {
             columns: on.lent.columns,
         };
         map_some(&mut self.memory, &mapped, request, progress, values);
+    }
+
+    /// Runs it on each edge of the vertices of a frontier, and reduces the number of each into the place of its target. It answers the
+    /// progress at the end, which has what all have together.
+    pub fn push(&mut self, on: &Edges<'_>, request: &Request<'_>, values: &mut [u64]) -> Progress
+        requires lent { FitRecords self.old (lent_of on.now.lent) }
+        requires few { length request.now.frontier.now ≤ MOST_VERTICES }
+        requires long { length values.old ≡ (graph_of on.now.version.now).vertex_count }
+        ensures program { self.new ≡ self.old }
+        ensures values { let p = self.old in let g = graph_of on.now.version.now in values.new
+            ≡ pushed_edges p (longest p) g request.now.reduction (lent_of on.now.lent) request.now.frontier.now values.old }
+        ensures edges { let p = self.old in let g = graph_of on.now.version.now in
+            result.edges ≡ length (all_with p (longest p) g (lent_of on.now.lent) request.now.frontier.now) }
+        ensures total { let p = self.old in let g = graph_of on.now.version.now in result.total
+            ≡ reduction_of_numbers request.now.reduction (all_with p (longest p) g (lent_of on.now.lent) request.now.frontier.now) }
+    {
+        let mapped = Mapped {
+            version: on.version,
+            program: &self.program,
+            argument: on.lent.argument,
+            columns: on.lent.columns,
+        };
+        push_whole(&mut self.memory, &mapped, request, values)
+    }
+
+    /// Goes on with a push over a frontier, as far as the budget goes: one edge or vertex at least, if any is left.
+    pub fn push_some(
+        &mut self,
+        on: &Edges<'_>,
+        request: &Request<'_>,
+        progress: &mut Progress,
+        values: &mut [u64],
+    )
+        requires lent { FitRecords self.old (lent_of on.now.lent) }
+        requires few { length request.now.frontier.now ≤ MOST_VERTICES }
+        requires long { length values.old ≡ (graph_of on.now.version.now).vertex_count }
+        requires place { IsPlace (graph_of on.now.version.now) request.now.frontier.now progress.old }
+        ensures program { self.new ≡ self.old }
+        ensures so_far { let p = self.old in let g = graph_of on.now.version.now in let f = request.now.frontier.now in
+            (first : List ℕ) → HasBegunPush p (longest p) g request.now.reduction (lent_of on.now.lent) f progress.old first values.old
+            → IsPushedSoFar p (longest p) g request.now.reduction (lent_of on.now.lent) f progress.new first values.new }
+        ensures place { IsPlace (graph_of on.now.version.now) request.now.frontier.now progress.new }
+        ensures on { progress.old.vertex < length request.now.frontier.now → IsBefore progress.old progress.new }
+        ensures stops { (progress.new.vertex ≡ length request.now.frontier.now) ⊎ (progress.new.budget ≡ 0) }
+        ensures cost { let most = most_of (graph_of on.now.version.now) self.old (lent_of on.now.lent)
+            request.now.frontier.now in
+            progress.old.budget + most progress.old ≤ progress.new.budget + most progress.new }
+        ensures falls { let least = least_of (graph_of on.now.version.now) self.old (lent_of on.now.lent)
+            request.now.frontier.now in
+            progress.new.budget ≤ progress.old.budget + least progress.old - least progress.new }
+    {
+        let mapped = Mapped {
+            version: on.version,
+            program: &self.program,
+            argument: on.lent.argument,
+            columns: on.lent.columns,
+        };
+        push_some(&mut self.memory, &mapped, request, progress, values);
     }
 
     /// Writes the number of each edge of a version.

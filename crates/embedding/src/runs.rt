@@ -37,7 +37,7 @@ pub struct RunAsked<'a> {
 }
 
 /// The reduction of a number: 0 is the sum, 1 the least and 2 the greatest.
-fn reduction_from(number: u32) -> Option<Reduction>
+pub(crate) fn reduction_from(number: u32) -> Option<Reduction>
     ensures { result ≡ reduction_at number }
 {
     match number {
