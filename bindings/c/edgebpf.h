@@ -252,6 +252,18 @@ uint32_t edgebpf_pairs_of(edgebpf_version *version, edgebpf_program *program, co
                           const edgebpf_column *columns, size_t column_count, const uint32_t *sources, size_t source_count,
                           const uint32_t *targets, size_t target_count, edgebpf_progress *at, uint64_t *numbers, size_t number_count);
 
+/* A push: a run whose numbers go to the values of the edges' targets. `values` has one for each vertex of the graph. The number of each
+   edge of the frontier's vertices is reduced into the value of its target; a vertex that no such edge leads to keeps its value. A vertex
+   that stands twice in the frontier counts twice. REDUCTION, LENGTHS, COLUMNS, ARGUMENT_LENGTH, tested in this order, and then PROGRESS;
+   else nothing is written. `edgebpf_push_some` goes on as `edgebpf_run_some` does: it is done where `at->vertex` is
+   `frontier_count`, and `values` keeps its content from call to call. */
+uint32_t edgebpf_push(edgebpf_version *version, edgebpf_program *program, const uint8_t *argument, size_t argument_length,
+                      const edgebpf_column *columns, size_t column_count, const uint32_t *frontier, size_t frontier_count,
+                      uint32_t reduction, uint64_t *values, size_t value_count, edgebpf_totals *totals);
+uint32_t edgebpf_push_some(edgebpf_version *version, edgebpf_program *program, const uint8_t *argument, size_t argument_length,
+                           const edgebpf_column *columns, size_t column_count, const uint32_t *frontier, size_t frontier_count,
+                           uint32_t reduction, edgebpf_progress *at, uint64_t *values, size_t value_count);
+
 /* So many vertices of a range are written down at a time. */
 enum { EDGEBPF_WINDOW = 1024 };
 
@@ -289,6 +301,19 @@ static inline uint32_t edgebpf_pull_range(edgebpf_version *version, edgebpf_prog
     } while (at->budget && at->vertex < value_count);
     return EDGEBPF_DONE;
 }
+
+/* Whether what somebody computed of a version, by whatever means, is right: `answer` is 1, or else 0. Both are proved to be exact, take no
+   memory, and go once over the edges.
+   Of a search from `root`: for each vertex a level, UINT32_MAX where it was not found, and a parent, from which an edge leads to it one level
+   further. A 1 says that each level is the length of a shortest way from the root, and that there is none to the others. What the root and
+   vertices that were not found have as parents does not matter.
+   Of components, whatever the direction of edges: for each vertex a label, and for one that is not its own label a parent, to which an edge
+   joins it in any direction, and one step more than the parent has. A 1 says that each label is the least vertex of a component.
+   Arrays of another length than the graph has vertices are no answer: 0. */
+uint32_t edgebpf_is_search(edgebpf_version *version, uint32_t root, const uint32_t *levels, size_t level_count, const uint32_t *parents,
+                           size_t parent_count, uint32_t *answer);
+uint32_t edgebpf_are_components(edgebpf_version *version, const uint32_t *labels, size_t label_count, const uint32_t *parents,
+                                size_t parent_count, const uint32_t *steps, size_t step_count, uint32_t *answer);
 
 /* Drops what a handle holds, and leaves it empty. An empty one may be closed. */
 void edgebpf_close(edgebpf_handle *handle);

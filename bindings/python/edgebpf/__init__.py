@@ -20,13 +20,13 @@ from edgebpf.from_files import read_edges
 from edgebpf.live import Live
 from edgebpf.native import Store, Version
 from edgebpf.programs import Program, assemble
-from edgebpf.steps import NumbersRun, PairsRun, Run, Steps
-from edgebpf.store import Counts, Result, connect
+from edgebpf.steps import NumbersRun, PairsRun, Push, Run, Steps
+from edgebpf.store import Counts, Pushed, Result, connect
 
 __version__ = "0.1.0"
 
 __all__ = [
     "ArgumentLength", "Closed", "Counts", "EpochsFull", "Error", "Live", "LogFull", "NoMemory", "NotHere", "NumbersRun", "PairsRun", "Program",
-    "Refused", "Result", "Run", "Steps", "Store", "TimedOut", "TooManyEdits", "TooManyNames", "Version", "VertexRange", "WrongText", "assemble",
-    "compile_c", "connect", "read_edges",
+    "Push", "Pushed", "Refused", "Result", "Run", "Steps", "Store", "TimedOut", "TooManyEdits", "TooManyNames", "Version", "VertexRange",
+    "WrongText", "assemble", "compile_c", "connect", "read_edges",
 ]

@@ -225,6 +225,32 @@ def columns_of(columns: Columns, count: int) -> list[Numbers]:
     return arrays
 
 
+def found_of(entries: npt.ArrayLike, name: str) -> Vertices:
+    """What an algorithm found for each vertex, as words of 32 bits; -1 is the greatest of them, which says that there is nothing."""
+    array = np.asarray(entries)
+    if array.ndim != 1:
+        raise ValueError(f"{name} has one dimension, not {array.ndim}")
+    if array.size and array.dtype.kind not in "iu":
+        raise TypeError(f"{name} are whole numbers, not {array.dtype}")
+    if array.size and (int(array.min()) < -1 or int(array.max()) >= 1 << 32):
+        raise ValueError(f"{name} are -1 to 2^32 - 1")
+    return np.ascontiguousarray(array.astype(np.int64) & 0xFFFFFFFF, np.uint32)
+
+
+def values_into(into: Numbers, count: int, columns: list[Numbers]) -> Numbers:
+    """The array that a push writes: a value for each of `count` vertices, none of which is a column's."""
+    if not isinstance(into, np.ndarray) or into.dtype != np.uint64 or into.ndim != 1 or not into.flags.c_contiguous:
+        raise TypeError("into is an array of uint64 in one dimension, without steps; it is written in place")
+    if not into.flags.writeable:
+        raise TypeError("into is read-only")
+    if len(into) != count:
+        raise ValueError(f"into has {len(into)} numbers, and the graph {count} vertices")
+    for place, column in enumerate(columns):
+        if np.may_share_memory(into, column):
+            raise ValueError(f"into and column {place} share memory")
+    return into
+
+
 def budget_of(budget: int) -> int:
     """How much work a step may do."""
     number = budget if type(budget) is int else whole(budget, "budget")

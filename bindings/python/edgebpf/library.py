@@ -71,10 +71,14 @@ uint32_t edgebpf_version_lend(handle *, uint32_t, size_t *, size_t, size_t *);
 uint32_t edgebpf_version_copy(handle *, uint64_t *, size_t, uint32_t *, size_t);
 uint32_t edgebpf_version_degrees(handle *, const uint32_t *, size_t, uint32_t *, size_t);
 uint32_t edgebpf_version_lists(handle *, const uint32_t *, size_t, uint64_t *, size_t, uint32_t *, size_t, size_t *);
+uint32_t edgebpf_is_search(handle *, uint32_t, const uint32_t *, size_t, const uint32_t *, size_t, uint32_t *);
+uint32_t edgebpf_are_components(handle *, const uint32_t *, size_t, const uint32_t *, size_t, const uint32_t *, size_t, uint32_t *);
 uint32_t edgebpf_program_new(uint16_t, const uint8_t *, size_t, const uint8_t *, size_t, verdict *, handle *);
 uint32_t edgebpf_program_share(handle *, handle *);
 uint32_t edgebpf_assemble(const uint8_t *, size_t, uint8_t *, size_t, assembled *);
 uint32_t edgebpf_pull_some(
+    handle *, handle *, const uint8_t *, size_t, const column *, size_t, const uint32_t *, size_t, uint32_t, progress *, uint64_t *, size_t);
+uint32_t edgebpf_push_some(
     handle *, handle *, const uint8_t *, size_t, const column *, size_t, const uint32_t *, size_t, uint32_t, progress *, uint64_t *, size_t);
 uint32_t edgebpf_numbers_of(
     handle *, handle *, const uint8_t *, size_t, const column *, size_t, const uint32_t *, size_t, progress *, uint64_t *, size_t, size_t *);
@@ -215,6 +219,7 @@ class Calls:
         self.progress, self.size, self.sizes = kind("progress *"), kind("size_t *"), kind("size_t[]")
         self.handle, self.info = kind("handle *"), kind("info *")
         self.pull_some, self.numbers_of, self.pairs_of = library.edgebpf_pull_some, library.edgebpf_numbers_of, library.edgebpf_pairs_of
+        self.push_some = library.edgebpf_push_some
         self.column = kind("column[]")
         self.no_columns = self.new(self.column, 1), 0
         self.lend, self.pin = library.edgebpf_version_lend, library.edgebpf_store_pin

@@ -13,12 +13,12 @@ from edgebpf import library
 from edgebpf.errors import Closed, TooManyEdits, VertexRange
 from edgebpf.given import (
     MOST_VERTICES, NO_COLUMNS, REDUCTIONS, Columns, Edges, Numbers, Pairs, Vertices, columns_of, edits_of, edits_of_batch, ends_of_pairs,
-    feed_of, frozen, reduction_of, starts_of, threads_of, vertex_count, vertex_of, vertices_of, whole,
+    feed_of, found_of, frozen, reduction_of, starts_of, threads_of, values_into, vertex_count, vertex_of, vertices_of, whole,
 )
 from edgebpf.parts import Parts
 from edgebpf.programs import Program, argument_of, handle_of
-from edgebpf.steps import FIRST_BUDGET, LEAST_NUMBERS, End, Frontier, Inputs, NumbersRun, PairsRun, Run, Windows, end_after
-from edgebpf.store import MOST_EDITS, Counts, Result, described
+from edgebpf.steps import FIRST_BUDGET, LEAST_NUMBERS, End, Frontier, Inputs, NumbersRun, PairsRun, Push, Run, Windows, end_after
+from edgebpf.store import MOST_EDITS, Counts, Pushed, Result, described
 
 # Most lists lie in one slice. `lend` fills the room if there may be more.
 LEAST_ROOM, MORE_ROOM = 2, 64
@@ -253,6 +253,35 @@ class Version:
         self._open()
         return Run(self, program, reduction_of(reduction), self._frontier(frontier), self._inputs(argument, columns))
 
+    def push(
+        self, program: Program, reduction: str = "sum", frontier: npt.ArrayLike | None = None, argument: bytes = b"", *, into: Numbers,
+        columns: Columns = NO_COLUMNS, changed: bool = False, seconds: float | None = None,
+    ) -> Pushed:
+        """Runs a program for each edge of some vertices, and reduces the number of each edge into the value of its target.
+
+        into: an array of uint64 with a value for each vertex of the graph, which is written in place; a vertex to which none of the edges
+        leads keeps its value. changed: tells which vertices have another value than before, at the cost of a copy of `into`. The others are
+        as for `run`. After `TimedOut`, `into` has what the edges so far have left, and its `run` may be stepped on.
+        """
+        end, shared = end_after(seconds), self._open()
+        run = self.begin_push(program, reduction, frontier, argument, into=into, columns=columns)
+        before = into.copy() if changed else None
+        run._finish(end, shared)
+        others = None if before is None else np.flatnonzero(before != into).astype(U32)
+        return Pushed(run.edges, run.total, others)
+
+    def begin_push(
+        self, program: Program, reduction: str = "sum", frontier: npt.ArrayLike | None = None, argument: bytes = b"", *, into: Numbers,
+        columns: Columns = NO_COLUMNS,
+    ) -> Push:
+        """A push as `push` makes it, of which nothing is done yet: each `step` of it goes on with it. Leave `into` alone until it is done."""
+        self._open()
+        inputs = self._inputs(argument, columns)
+        values, chosen = values_into(into, self.vertices, inputs.columns), self._frontier(frontier)
+        # The values are as many as the vertices, so an array of these may be, too.
+        vertices = np.arange(chosen.start, chosen.stop, dtype=U32) if isinstance(chosen, range) else chosen
+        return Push(self, program, reduction_of(reduction), vertices, inputs, values)
+
     def numbers(
         self, program: Program, argument: bytes = b"", frontier: npt.ArrayLike | None = None, *, columns: Columns = NO_COLUMNS,
         seconds: float | None = None,
@@ -354,6 +383,30 @@ class Version:
             status = ask(at, *asked, calls.buffer(calls.words, targets), len(targets), found)
         library.check(status)
         return starts.view(np.int64), targets
+
+    def is_search(self, root: int, levels: npt.ArrayLike, parents: npt.ArrayLike) -> bool:
+        """Whether levels and parents are the answer of a breadth first search from a vertex, whoever computed them; the test is proved.
+
+        levels: for each vertex the length of a shortest way from the root, -1 where there is none. parents: the vertex before each on such a
+        way; those of the root, and of vertices without a level, do not matter.
+        """
+        calls, answer = self._calls, library.new("uint32_t *")
+        arrays = [found_of(array, name) for array, name in ((levels, "levels"), (parents, "parents"))]
+        asked = [given for array in arrays for given in (calls.buffer(calls.words, array), len(array))]
+        library.check(library.load().edgebpf_is_search(self._at(), vertex_of(root, self.vertices, "root"), *asked, answer))
+        return bool(answer[0])
+
+    def are_components(self, labels: npt.ArrayLike, parents: npt.ArrayLike, steps: npt.ArrayLike) -> bool:
+        """Whether labels are the components of the graph, whatever the direction of its edges, and whoever computed them; the test is proved.
+
+        labels: for each vertex the least one of its component. parents: for a vertex that is not its own label another one, to which an edge
+        joins it. steps: one more for each vertex than for its parent, 0 for labels.
+        """
+        calls, answer = self._calls, library.new("uint32_t *")
+        arrays = [found_of(array, name) for array, name in ((labels, "labels"), (parents, "parents"), (steps, "steps"))]
+        asked = [given for array in arrays for given in (calls.buffer(calls.words, array), len(array))]
+        library.check(library.load().edgebpf_are_components(self._at(), *asked, answer))
+        return bool(answer[0])
 
     def has_edge(self, source: int, target: int) -> bool:
         """Whether there is an edge from `source` to `target`."""

@@ -250,6 +250,20 @@ class Run(Steps):
         return other
 
 
+class Push(Run):
+    """A push over a frontier under way, made by `Version.begin_push`. `values` is the array that it writes, with one for each vertex of the
+    graph; `edges` and `total` are those of the edges so far. A `share` goes on over a copy of it."""
+
+    def _keep(self, values: Numbers) -> None:
+        calls = self._calls
+        self._values = values
+        frontier = calls.buffer(calls.words, self._frontier)
+        self._arrays = frontier, self._count, self._reduction, self._at, calls.buffer(calls.numbers, values), len(values)
+
+    def _call(self, *handles: Any) -> int:
+        return int(self._calls.push_some(*handles, *self._arrays))
+
+
 class NumbersRun(Steps):
     """The numbers of a frontier's edges under way, made by `Version.begin_numbers`."""
 

@@ -10,7 +10,7 @@ import signal
 import subprocess
 import threading
 from collections.abc import Iterator, Sequence
-from typing import IO, Any, NoReturn, cast
+from typing import IO, Any, NamedTuple, NoReturn, cast
 
 import numpy as np
 import numpy.typing as npt
@@ -56,6 +56,15 @@ class Result:
         # Each short run makes one. The class would set these in twice the time.
         own = self.__dict__
         own["values"], own["edges"], own["total"] = values, edges, total
+
+
+class Pushed(NamedTuple):
+    """What a push gave beside what it wrote: the number of runs, the reduction of all their numbers, and, if that was asked for, the
+    vertices whose value is another than before, ascending."""
+
+    edges: int
+    total: int
+    changed: Vertices | None = None
 
 
 def described(version: Any, is_closed: bool) -> str:
@@ -289,7 +298,11 @@ class Version:
         """Raises `NotHere`."""
         raise NotHere("an edgebpf process makes no runs in steps: use edgebpf.Store")
 
-    begin_numbers = begin_pairs = begin
+    begin_numbers = begin_pairs = begin_push = begin
+
+    def push(self, *_: Any, **__: Any) -> NoReturn:
+        """Raises `NotHere`."""
+        raise NotHere("an edgebpf process makes no pushes: use edgebpf.Store")
 
     def pairs(self, *_: Any, **__: Any) -> NoReturn:
         """Raises `NotHere`."""

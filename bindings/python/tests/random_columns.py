@@ -1,5 +1,5 @@
 #!/usr/bin/python3
-"""Runs, numbers and pairs with columns beside the second implementation, over random graphs, programs, columns, frontiers and budgets.
+"""Runs, numbers, pairs and pushes with columns beside the second implementation, over random graphs, programs, columns, frontiers and budgets.
 By hand:
 
     random_columns.py [--comparisons N] [--seed S]
@@ -109,6 +109,7 @@ class Trial:
             self.same(f"a run by {threads} threads", (whole.values.tolist(), whole.edges, whole.total), wanted)
         pieces = self.finished(self.version.begin(*given, **lent))
         self.same("a run in pieces", (pieces.values.tolist(), pieces.edges, pieces.total), wanted)
+        self.compare_pushes(given, numbers, frontier, reduction, wanted[1:])
         self.same("numbers", self.version.numbers(self.program, self.argument, frontier, **lent).tolist(), flat)
         in_pieces = self.finished(self.version.begin_numbers(self.program, frontier, self.argument, **lent))
         self.same("numbers in pieces", in_pieces.numbers.tolist(), flat)
@@ -117,6 +118,20 @@ class Trial:
         place = lambda u, v: sum(neighbour < v for neighbour in self.targets.get(u, ()))
         of_pairs = [self.number(u, v, place(u, v)) for u, v in zip(sources, targets)]
         self.same("pairs", self.version.pairs(self.program, sources, targets, self.argument, **lent).tolist(), of_pairs)
+
+    def compare_pushes(self, given, numbers, frontier, reduction, wanted):
+        begins = [self.chance.choice([0, 5, self.chance.randrange(WORD), WORD - 1]) for _ in range(self.vertices)]
+        gone = {vertex: [] for vertex in range(self.vertices)}
+        for vertex in frontier:
+            for target in self.targets[vertex]:
+                gone[target].append(numbers[vertex, target])
+        left = [REDUCTIONS[reduction]([begins[vertex], *gone[vertex]]) for vertex in range(self.vertices)]
+        changed = [vertex for vertex in range(self.vertices) if left[vertex] != begins[vertex]]
+        into = np.array(begins, np.uint64)
+        pushed = self.version.push(*given, into=into, columns=self.columns, changed=True)
+        self.same("a push", (into.tolist(), pushed.edges, pushed.total, pushed.changed.tolist()), (left, *wanted, changed))
+        pieces = self.finished(self.version.begin_push(*given, into=np.array(begins, np.uint64), columns=self.columns))
+        self.same("a push in pieces", (pieces.values.tolist(), pieces.edges, pieces.total), (left, *wanted))
 
 
 def compared(comparisons, first_seed):

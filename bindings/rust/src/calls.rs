@@ -145,6 +145,25 @@ extern "C" {
         verdict: *mut RawVerdict,
         out: *mut RawHandle,
     ) -> u32;
+    pub(crate) fn edgebpf_is_search(
+        version: *mut RawHandle,
+        root: u32,
+        levels: *const u32,
+        level_count: usize,
+        parents: *const u32,
+        parent_count: usize,
+        answer: *mut u32,
+    ) -> u32;
+    pub(crate) fn edgebpf_are_components(
+        version: *mut RawHandle,
+        labels: *const u32,
+        label_count: usize,
+        parents: *const u32,
+        parent_count: usize,
+        steps: *const u32,
+        step_count: usize,
+        answer: *mut u32,
+    ) -> u32;
     pub(crate) fn edgebpf_program_share(program: *mut RawHandle, out: *mut RawHandle) -> u32;
     pub(crate) fn edgebpf_assemble(
         text: *const u8,
@@ -186,6 +205,34 @@ extern "C" {
         number_count: usize,
     ) -> u32;
     pub(crate) fn edgebpf_pull_some(
+        version: *mut RawHandle,
+        program: *mut RawHandle,
+        argument: *const u8,
+        argument_length: usize,
+        columns: *const RawColumn,
+        column_count: usize,
+        frontier: *const u32,
+        frontier_count: usize,
+        reduction: u32,
+        at: *mut RawProgress,
+        values: *mut u64,
+        value_count: usize,
+    ) -> u32;
+    pub(crate) fn edgebpf_push(
+        version: *mut RawHandle,
+        program: *mut RawHandle,
+        argument: *const u8,
+        argument_length: usize,
+        columns: *const RawColumn,
+        column_count: usize,
+        frontier: *const u32,
+        frontier_count: usize,
+        reduction: u32,
+        values: *mut u64,
+        value_count: usize,
+        totals: *mut RawTotals,
+    ) -> u32;
+    pub(crate) fn edgebpf_push_some(
         version: *mut RawHandle,
         program: *mut RawHandle,
         argument: *const u8,

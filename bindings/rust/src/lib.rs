@@ -1,6 +1,7 @@
 #![doc = include_str!("../README.md")]
 #![deny(missing_debug_implementations, missing_docs, unsafe_op_in_unsafe_fn)]
 
+mod answers;
 mod batch;
 mod calls;
 mod columns;
@@ -8,15 +9,18 @@ mod error;
 mod handle;
 mod live;
 mod program;
+mod pushes;
 mod steps;
 mod store;
 mod version;
 
+pub use answers::NOT_FOUND;
 pub use batch::{Batch, Feed};
 pub use columns::WithColumns;
 pub use error::{Error, NotAssembled, Refusal, Refused};
 pub use live::Live;
 pub use program::{assemble, explain, Program, Verdict};
+pub use pushes::Push;
 pub use steps::{Numbers, Pairs, Progress, Run};
 pub use store::{Change, Store};
 pub use version::{Csr, Reduction, Totals, Version};

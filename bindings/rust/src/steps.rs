@@ -28,7 +28,7 @@ pub struct Progress {
 
 impl Progress {
     /// A step by a call of the library.
-    fn step(&mut self, budget: u64, call: impl FnOnce(*mut RawProgress) -> u32) {
+    pub(crate) fn step(&mut self, budget: u64, call: impl FnOnce(*mut RawProgress) -> u32) {
         let Progress { edges, total, vertex, place, used } = *self;
         let mut raw = RawProgress { budget, edges, total, vertex, place };
         let status = call(&mut raw);
@@ -41,16 +41,16 @@ impl Progress {
 
 /// What a step is over: as long as this is there, nothing of it changes.
 #[derive(Clone, Copy, Debug)]
-struct Asked<'a> {
-    on: WithColumns<'a>,
-    program: &'a Program,
-    argument: &'a [u8],
-    frontier: &'a [u32],
+pub(crate) struct Asked<'a> {
+    pub(crate) on: WithColumns<'a>,
+    pub(crate) program: &'a Program,
+    pub(crate) argument: &'a [u8],
+    pub(crate) frontier: &'a [u32],
 }
 
 impl Asked<'_> {
     /// `Lengths`, `ArgumentLength` and `Progress`, tested in this order.
-    fn test(&self, progress: &Progress) -> Result<(), Error> {
+    pub(crate) fn test(&self, progress: &Progress) -> Result<(), Error> {
         if self.frontier.len() > MOST_VERTICES as usize {
             return Err(Error::Lengths);
         }

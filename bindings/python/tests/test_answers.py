@@ -1,0 +1,83 @@
+"""The tests of answers, beside answers that a model found, each once as it is and once with an entry changed."""
+import collections
+import pathlib
+import random
+import sys
+import unittest
+
+sys.path.insert(0, str(pathlib.Path(__file__).resolve().parent))
+from test_package import edgebpf, np
+
+
+def searched(count, edges, root):
+    """Levels and parents by a queue."""
+    after = collections.defaultdict(list)
+    for source, target in edges:
+        after[source].append(target)
+    levels, parents, queue = [-1] * count, [0] * count, [root]
+    levels[root] = 0
+    for vertex in queue:
+        for target in after[vertex]:
+            if levels[target] < 0:
+                levels[target], parents[target] = levels[vertex] + 1, vertex
+                queue.append(target)
+    return levels, parents
+
+
+def labelled(count, edges):
+    """Labels, parents and steps: a search from each vertex that has no label yet, over edges in both directions."""
+    both = edges + [(target, source) for source, target in edges]
+    labels, parents, steps = [-1] * count, [0] * count, [0] * count
+    for vertex in range(count):
+        if labels[vertex] < 0:
+            levels, before = searched(count, both, vertex)
+            for other in range(count):
+                if levels[other] >= 0:
+                    labels[other], parents[other], steps[other] = vertex, before[other], levels[other]
+    return labels, parents, steps
+
+
+@unittest.skipIf(np is None, "not there: numpy")
+@unittest.skipIf(np is not None and edgebpf.library.path() is None, "not there: cffi, or libedgebpf.so, which make -C dist makes")
+class Answers(unittest.TestCase):
+    def version_of(self, count, edges):
+        store = edgebpf.Store(count)
+        self.addCleanup(store.close)
+        store.batch("A", edges=edges or np.empty((0, 2), int))
+        return store.pin()
+
+    def test_random(self):
+        chance = random.Random(3)
+        for _ in range(200):
+            count = chance.choice([1, 2, 5, 12, 40])
+            edges = sorted({(chance.randrange(count), chance.randrange(count)) for _ in range(chance.choice([0, 1, count, 3 * count]))})
+            version, root, vertex = self.version_of(count, edges), chance.randrange(count), chance.randrange(count)
+            levels, parents = searched(count, edges, root)
+            self.assertTrue(version.is_search(root, levels, parents))
+            for other in {-1, *range(count)} - {levels[vertex]}:
+                self.assertFalse(version.is_search(root, levels[:vertex] + [other] + levels[vertex + 1:], parents))
+            labels, parents, steps = labelled(count, edges)
+            self.assertTrue(version.are_components(labels, parents, steps))
+            for other in {*range(count)} - {labels[vertex]}:
+                self.assertFalse(version.are_components(labels[:vertex] + [other] + labels[vertex + 1:], parents, steps))
+
+    def test_what_is_wrong(self):
+        version = self.version_of(3, [(0, 1)])
+        self.assertTrue(version.is_search(0, np.array([0, 1, -1], np.int8), np.array([0, 0, 0], np.uint64)))
+        self.assertFalse(version.is_search(0, [0, 1], [0, 0]))
+        self.assertFalse(version.are_components([0, 0, 2, 3], [0, 0, 0, 0], [0, 1, 0, 0]))
+        for wrong in ([0.0, 1.0, 2.0], ["0", "1", "2"]):
+            with self.assertRaisesRegex(TypeError, "levels"):
+                version.is_search(0, wrong, [0, 0, 0])
+        for wrong in ([0, 1, -2], [0, 1, 1 << 32], [[0, 1, -1]]):
+            with self.assertRaisesRegex(ValueError, "parents"):
+                version.is_search(0, [0, 1, -1], wrong)
+        with self.assertRaises(edgebpf.VertexRange):
+            version.is_search(3, [0, 1, -1], [0, 0, 0])
+        version.close()
+        with self.assertRaises(edgebpf.Closed):
+            version.are_components([0, 0, 2], [0, 0, 0], [0, 1, 0])
+
+
+if __name__ == "__main__":
+    unittest.main()

@@ -1,0 +1,131 @@
+"""Pushes: rows that were found by hand, rounds of search, components and cores, and what is wrong."""
+import pathlib
+import sys
+import unittest
+
+sys.path.insert(0, str(pathlib.Path(__file__).resolve().parent))
+from test_package import edgebpf, np
+
+ENDS = [(0, 1), (0, 2), (1, 2), (2, 3), (3, 4), (5, 6)]
+EDGES = sorted(ENDS + [(target, source) for source, target in ENDS])
+MOST = 2**64 - 1
+FIRST = "ldxdw r0, [r1+16]\nexit"
+
+
+@unittest.skipIf(np is None, "not there: numpy")
+@unittest.skipIf(np is not None and edgebpf.library.path() is None, "not there: cffi, or libedgebpf.so, which make -C dist makes")
+class Pushes(unittest.TestCase):
+    def setUp(self):
+        self.store, self.small = edgebpf.Store(8), edgebpf.Store(4)
+        self.addCleanup(self.store.close)
+        self.addCleanup(self.small.close)
+        self.store.batch("A", edges=EDGES)
+        self.small.batch("A", edges=[(0, 1), (0, 2), (1, 2), (3, 2)])
+        self.version, self.few = self.store.pin(), self.small.pin()
+        self.of_source, self.of_argument = edgebpf.assemble(FIRST, record=32), edgebpf.assemble(FIRST, record=24)
+        self.y = np.array([1, 10, 100, 1000], np.uint64)
+
+    def test_rows(self):
+        rows = [
+            ("sum", None, 0, [0, 1, 1011, 0], 4, 1012, [1, 2]),
+            ("sum", None, MOST, [MOST, 0, 1010, MOST], 4, 1012, [1, 2]),
+            ("min", None, MOST, [MOST, 1, 1, MOST], 4, 1, [1, 2]),
+            ("max", [0, 3], 5, [5, 5, 1000, 5], 3, 1000, [2]),
+            ("sum", [0, 0], 0, [0, 2, 2, 0], 4, 4, [1, 2]),
+            ("sum", [], 7, [7, 7, 7, 7], 0, 0, []),
+        ]
+        for reduction, frontier, begins, values, edges, total, changed in rows:
+            into = np.full(4, begins, np.uint64)
+            pushed = self.few.push(self.of_source, reduction, frontier, into=into, columns=[self.y], changed=True)
+            self.assertEqual((into.tolist(), pushed.edges, pushed.total, pushed.changed.tolist()), (values, edges, total, changed))
+            into = np.full(4, begins, np.uint64)
+            self.assertIsNone(self.few.push(self.of_source, reduction, frontier, into=into, columns=[self.y]).changed)
+            self.assertEqual(into.tolist(), values)
+
+    def test_search(self):
+        hops, front, fronts = np.full(8, MOST, np.uint64), [0], []
+        hops[0] = 0
+        while len(front):
+            level = (len(fronts) + 1).to_bytes(8, "little")
+            front = self.version.push(self.of_argument, "min", front, level, into=hops, changed=True).changed
+            fronts.append(front.tolist())
+        self.assertEqual((hops.tolist(), fronts), ([0, 1, 1, 2, 3, MOST, MOST, MOST], [[1, 2], [3], [4], []]))
+
+    def test_components(self):
+        labels, front, rounds = np.arange(8, dtype=np.uint64), None, []
+        while front is None or len(front):
+            front = self.version.push(self.of_source, "min", front, into=labels, columns=[labels.copy()], changed=True).changed
+            rounds.append((labels.tolist(), front.tolist()))
+        self.assertEqual(rounds, [
+            ([0, 0, 0, 2, 3, 5, 5, 7], [1, 2, 3, 4, 6]), ([0, 0, 0, 0, 2, 5, 5, 7], [3, 4]), ([0, 0, 0, 0, 0, 5, 5, 7], [4]),
+            ([0, 0, 0, 0, 0, 5, 5, 7], []),
+        ])
+
+    def test_cores(self):
+        """What is left where every vertex has two neighbours at least."""
+        one, degrees = edgebpf.assemble("mov r0, 1\nexit"), self.version.degrees().astype(np.int64)
+        is_there, rounds = np.ones(8, bool), 0
+        while len(gone := np.flatnonzero(is_there & (degrees < 2))):
+            is_there[gone] = False
+            lost = np.zeros(8, np.uint64)
+            self.version.push(one, "sum", gone, into=lost)
+            degrees -= lost.astype(np.int64)
+            rounds += 1
+        self.assertEqual((np.flatnonzero(is_there).tolist(), rounds), ([0, 1, 2], 2))
+
+    def test_steps(self):
+        for budget in (0, 1, 10, 1_000, None):
+            into = np.zeros(4, np.uint64)
+            push = self.few.begin_push(self.of_source, into=into, columns=[self.y])
+            self.assertEqual((push.done, push.edges, push.total), (False, 0, 0))
+            while not push.done:
+                push.step(budget)
+            self.assertEqual((into.tolist(), push.values.tolist(), push.edges, push.total), ([0, 1, 1011, 0], [0, 1, 1011, 0], 4, 1012))
+        into = np.zeros(4, np.uint64)
+        push = self.few.begin_push(self.of_source, into=into, columns=[self.y])
+        push.step(0)
+        other = push.share()
+        while not other.done:
+            other.step(0)
+        self.assertEqual((other.values.tolist(), push.edges, into.tolist()), ([0, 1, 1011, 0], 1, [0, 1, 0, 0]))
+
+    def test_ends_by_time(self):
+        into = np.zeros(4, np.uint64)
+        with self.assertRaises(edgebpf.TimedOut) as raised:
+            self.few.push(self.of_source, into=into, columns=[self.y], seconds=0)
+        while not raised.exception.run.done:
+            raised.exception.run.step()
+        self.assertEqual(into.tolist(), [0, 1, 1011, 0])
+
+    def test_what_is_wrong(self):
+        into = np.zeros(4, np.uint64)
+        push = lambda into=into, **others: self.few.push(self.of_source, **({"into": into, "columns": [self.y]} | others))
+        frozen = np.zeros(4, np.uint64)
+        frozen.flags.writeable = False
+        longer = np.zeros(8, np.uint64)
+        for wrong in ([0] * 4, np.zeros(4), np.zeros(4, np.int64), np.zeros((4, 1), np.uint64), longer[::2], frozen, None):
+            with self.assertRaisesRegex(TypeError, "into"):
+                push(wrong)
+        for wrong in (longer, longer[:3]):
+            with self.assertRaisesRegex(ValueError, "into"):
+                push(wrong)
+        with self.assertRaisesRegex(ValueError, "into and column 0 share memory"):
+            push(self.y)
+        with self.assertRaisesRegex(ValueError, "into and column 1 share memory"):
+            push(longer[:4], columns=[self.y, longer[2:6]])
+        with self.assertRaises(edgebpf.ArgumentLength):
+            push(argument=b"12345678")
+        with self.assertRaisesRegex(ValueError, "column 0"):
+            push(columns=[longer])
+        with self.assertRaisesRegex(ValueError, "reduction"):
+            push(reduction="mean")
+        with self.assertRaises(edgebpf.VertexRange):
+            push(frontier=[4])
+        self.few.close()
+        with self.assertRaises(edgebpf.Closed):
+            push()
+        self.assertEqual((into.tolist(), longer.tolist()), ([0] * 4, [0] * 8))
+
+
+if __name__ == "__main__":
+    unittest.main()
