@@ -1,7 +1,7 @@
 /* Runs a program over each edge of a random graph of 16,384 vertices, by the library for C, so that count_runs.py can count instructions.
  *     count_runs PROGRAM KIND BATCHES ROUNDS
  * PROGRAM is two, filter, calls, or column and columns, whose records have the numbers of one or two columns; KIND is run, range (a
- * run over a range), numbers, steps (a run in steps) or some (numbers in steps). It prints how many edges there are. */
+ * run over a range), push, numbers, steps (a run in steps) or some (numbers in steps). It prints how many edges there are. */
 #include <edgebpf.h>
 #include <stdio.h>
 #include <stdlib.h>
@@ -64,6 +64,8 @@ static void run(const char *kind, edgebpf_version *version, edgebpf_program *pro
     edgebpf_progress at = {.budget = BUDGET};
     if (!strcmp(kind, "run"))
         done(edgebpf_pull(version, program, none, 0, columns, column_count, frontier, VERTICES, EDGEBPF_SUM, values, VERTICES, &totals));
+    else if (!strcmp(kind, "push"))
+        done(edgebpf_push(version, program, none, 0, columns, column_count, frontier, VERTICES, EDGEBPF_SUM, values, VERTICES, &totals));
     else if (!strcmp(kind, "numbers") && !column_count)
         done(edgebpf_numbers(version, program, none, 0, numbers, count));
     else if (!strcmp(kind, "range")) {

@@ -1,5 +1,5 @@
 #!/usr/bin/python3
-"""Counts the instructions that runs take for each edge, by callgrind: whole ones, over a range, and in steps of 100,000 units.
+"""Counts the instructions that runs and pushes take for each edge, by callgrind: whole ones, over a range, and in steps of 100,000 units.
 
     tools/dev/count_runs.py [LIBRARY]   libedgebpf.a, by default that of dist/build
 
@@ -12,7 +12,7 @@ import sys
 import tempfile
 
 TOP = pathlib.Path(__file__).resolve().parent.parent.parent
-PROGRAMS, KINDS, BATCHES = ("two", "column", "columns", "filter", "calls"), ("run", "range", "steps", "numbers", "some"), (1, 3)
+PROGRAMS, KINDS, BATCHES = ("two", "column", "columns", "filter", "calls"), ("run", "range", "push", "steps", "numbers", "some"), (1, 3)
 
 
 def output(*command):

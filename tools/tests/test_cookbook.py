@@ -219,6 +219,10 @@ class FunctionsInPython(unittest.TestCase):
         ranks = [119882822, 119882822, 177149872, 132846313, 75238138, 125000000, 125000000, 18750000]
         self.assertEqual(load("rounds").ranks(version).tolist(), ranks)
         self.assertEqual(load("rounds").components(version).tolist(), [0, 0, 0, 0, 0, 5, 5, 7])
+        pushes = load("pushes")
+        self.assertEqual(pushes.hops(version, 0).tolist(), [0, 1, 1, 2, 3, *[pushes.NONE] * 3])
+        self.assertEqual(pushes.components(version).tolist(), [0, 0, 0, 0, 0, 5, 5, 7])
+        self.assertEqual(pushes.cores(version).tolist(), [2, 2, 2, 1, 1, 1, 1, 0])
 
     @unittest.mock.patch.dict(os.environ, {"EDGEBPF": STORE})
     def test_over_several_processes(self):
