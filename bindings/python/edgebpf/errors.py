@@ -4,6 +4,7 @@ from __future__ import annotations
 import typing
 
 if typing.TYPE_CHECKING:
+    from edgebpf.companion import Task
     from edgebpf.programs import Program
     from edgebpf.steps import Steps
 
@@ -100,7 +101,7 @@ class Closed(Error):
 class TimedOut(Error):
     """The seconds that a call was given are over. `run` has what was done until then, and may be stepped on."""
 
-    def __init__(self, words: str, run: Steps) -> None:
+    def __init__(self, words: str, run: Steps | Task[typing.Any]) -> None:
         super().__init__(words)
         self.run = run
 
