@@ -1,6 +1,7 @@
 #![doc = include_str!("../README.md")]
 #![deny(missing_debug_implementations, missing_docs, unsafe_op_in_unsafe_fn)]
 
+pub mod algorithms;
 mod batch;
 mod calls;
 mod columns;
