@@ -17,7 +17,7 @@ NO_EDGES: Edges = ((), ())
 # So many vertices are read, edges looked up or residuals pushed before a Ctrl-C is heard.
 READ_AT_ONCE = 1 << 12
 LOW_HALF, HIGH_HALF = np.uint64(0xFFFFFFFF), np.uint64(32)
-# Residuals are pushed that are so many times their limits, so that they gather before they go on.
+# Residuals are pushed that are so many times their limits, so that small ones add up before they go on.
 TIMES = (64.0, 16.0, 4.0, 1.0)
 # Once pushes went along so large a share of the edges, whole rounds do the rest.
 SHARE_OF_EDGES = 1 / 4

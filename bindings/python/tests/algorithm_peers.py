@@ -120,7 +120,7 @@ def ranks_by_networkx(graph, *given):
     with warnings.catch_warnings():
         # Of a part of itself that networkx will remove.
         warnings.simplefilter("ignore", DeprecationWarning)
-        return networkx.pagerank(graph.directed, *given, tol=1e-13 / graph.count, max_iter=1_000)
+        return networkx.pagerank(graph.directed, *given, tol=1e-11 / graph.count, max_iter=1_000)
 
 
 def check_ranks(chance, graph, version):

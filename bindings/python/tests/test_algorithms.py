@@ -1,6 +1,8 @@
 """`edgebpf.algorithms`: rows that were found by hand, random graphs and streams beside networkx, igraph and scipy, what is refused, and calls that end
 before they are done."""
+import contextlib
 import importlib.util
+import io
 import os
 import pathlib
 import random
@@ -10,8 +12,10 @@ import sys
 import threading
 import time
 import unittest
+import warnings
 
 sys.path.insert(0, str(pathlib.Path(__file__).resolve().parent))
+import test_package
 from test_package import edgebpf, np
 
 if np is not None:
@@ -190,6 +194,17 @@ class ByHand(WithStores):
                         lambda: algorithms.LiveComponents(version), lambda: algorithms.LiveTriangles(version), lambda: algorithms.LiveRank(version)):
                 with self.assertRaises(edgebpf.NotHere):
                     ask()
+
+
+    def test_documents(self):
+        """Each example in Python of docs/ALGORITHMS.md runs as printed, and its `assert`s hold."""
+        blocks = test_package.python_blocks(test_package.TOP / "docs" / "ALGORITHMS.md")
+        self.assertEqual(len(blocks), 4)
+        for block in blocks:
+            with contextlib.redirect_stdout(io.StringIO()), warnings.catch_warnings():
+                # Of what peers do themselves.
+                warnings.simplefilter("ignore")
+                exec(compile(block, "ALGORITHMS.md", "exec"), {})
 
 
 class Refused(WithStores):

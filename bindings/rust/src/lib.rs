@@ -38,3 +38,7 @@ pub const MOST_COLUMNS: usize = 8;
 #[cfg(doctest)]
 #[doc = include_str!("../../../docs/EMBEDDING.md")]
 struct EmbeddingPage;
+
+#[cfg(doctest)]
+#[doc = include_str!("../../../docs/ALGORITHMS.md")]
+struct AlgorithmsPage;
