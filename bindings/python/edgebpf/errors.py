@@ -107,5 +107,5 @@ class TimedOut(Error):
 
 
 class NotHere(Error):
-    """A version of `connect` has no steps, no limit of time, no columns, no pairs and no numbers of a frontier; one of `Store`
-    has them."""
+    """A version of `connect` has no steps, no limit of time, no columns, no pairs, no numbers of a frontier, and none of the algorithms that
+    read lists where they lie; one of `Store` has them."""

@@ -42,7 +42,93 @@ impl<'a> Lender<'a> {
     }
 }
 
+#[repr(C)]
+#[derive(Clone, Default)]
+pub(super) struct RawSearch {
+    todo: u32,
+    todo_last: u32,
+    done: u32,
+    done_last: u32,
+    up: u32,
+    place: u32,
+}
+
+#[repr(C)]
+pub(super) struct RawSplit {
+    pub(super) searches: *mut RawSearch,
+    pub(super) ring: *mut u32,
+    pub(super) owner: *mut u32,
+    pub(super) next: *mut u32,
+    pub(super) count: u32,
+    pub(super) live: u32,
+    pub(super) turn: u32,
+}
+
+#[repr(C)]
+pub(super) struct RawResiduals {
+    pub(super) damping: f64,
+    pub(super) unit: f64,
+    pub(super) degrees: *const u32,
+    pub(super) ranks: *mut f64,
+    pub(super) residuals: *mut f64,
+    pub(super) queue: *mut u32,
+    pub(super) touched: *mut u32,
+    pub(super) queued: *mut u8,
+    pub(super) is_touched: *mut u8,
+    pub(super) vertices: u32,
+    pub(super) at: u32,
+    pub(super) count: u32,
+    pub(super) touched_count: u32,
+    pub(super) edges: u64,
+}
+
 extern "C" {
+    pub(super) fn edgebpf_join_pairs(sources: *const u32, targets: *const u32, count: usize, up: *mut u32);
+    pub(super) fn edgebpf_find_parts(up: *mut u32, vertices: *const u32, count: usize, parts: *mut u32);
+    pub(super) fn edgebpf_have_edges(
+        version: *mut Lender<'_>,
+        sources: *const u32,
+        targets: *const u32,
+        count: usize,
+        answers: *mut u8,
+    );
+    pub(super) fn edgebpf_split_begin(split: *mut RawSplit, seeds: *const u32, count: u32);
+    pub(super) fn edgebpf_split_go_on(split: *mut RawSplit, version: *mut Lender<'_>, most: usize) -> usize;
+    pub(super) fn edgebpf_split_end(split: *mut RawSplit, fresh: u32, parts: *mut u32) -> u32;
+    pub(super) fn edgebpf_label_parts(
+        vertices: u32,
+        numbers: u32,
+        parts: *const u32,
+        up: *mut u32,
+        least: *mut u32,
+        labels: *mut u32,
+    );
+    pub(super) fn edgebpf_triangles_of(
+        version: *mut Lender<'_>,
+        sources: *const u32,
+        targets: *const u32,
+        count: usize,
+        from: usize,
+        to: usize,
+        sign: i64,
+        vertices: u32,
+        spare: *mut u32,
+        each: *mut i64,
+    ) -> u64;
+    pub(super) fn edgebpf_move_residuals(
+        state: *mut RawResiduals,
+        version: *mut Lender<'_>,
+        changed: *const u32,
+        count: usize,
+        sign: f64,
+    );
+    pub(super) fn edgebpf_queue_residuals(state: *mut RawResiduals, times: f64);
+    pub(super) fn edgebpf_push_residuals(
+        state: *mut RawResiduals,
+        version: *mut Lender<'_>,
+        times: f64,
+        most: usize,
+    ) -> usize;
     pub(super) fn edgebpf_search_from(
         graph: *const RawGraph,
         front: *const u32,

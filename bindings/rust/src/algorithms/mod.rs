@@ -16,11 +16,13 @@
 //! Each algorithm goes in pieces. Before each of them it asks its last parameter, with how much is done and of how much, whether to go on;
 //! `to_the_end` always does.
 mod calls;
+mod live;
 mod pairs;
 
 use crate::error::{zeros, Error};
 use crate::version::{Csr, Version};
 use calls::*;
+pub use live::{LiveComponents, LiveRank, LiveTriangles};
 pub use pairs::{bfs_within, pair_scores, Candidates, Score};
 use std::fmt;
 use std::ptr::null;
@@ -44,8 +46,12 @@ pub enum Failure {
     /// There is no root; or weights are not one for each vertex, of which none is negative and one is more than 0; or a damping is not from 0
     /// to 1, or to 100 in hundredths; or candidates are asked for by `Jaccard`.
     Argument,
+    /// The edits of an update do not explain how many edges the two versions have, or these have not as many vertices.
+    Edits,
     /// It was told not to go on.
     Stopped,
+    /// An update was told not to go on, or failed, after it had changed something.
+    CutOff,
 }
 
 impl From<Error> for Failure {
@@ -60,6 +66,8 @@ impl fmt::Display for Failure {
             Failure::Error(error) => error.fmt(to),
             Failure::NotMirrored => to.write_str("the graph has an edge without an edge back"),
             Failure::Argument => to.write_str("an argument is outside of what the algorithm takes"),
+            Failure::Edits => to.write_str("the edits are not all edits between the two versions"),
+            Failure::CutOff => to.write_str("an update was cut off"),
             Failure::Stopped => to.write_str("the algorithm was told not to go on"),
         }
     }
