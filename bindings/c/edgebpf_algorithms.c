@@ -372,7 +372,6 @@ size_t edgebpf_two_steps(edgebpf_lender *version, uint32_t kind, uint32_t vertex
     size_t near_count, count, met = 0, kept = 0;
     const uint32_t *near = whole_list(version, vertex, spare, &near_count);
     for (size_t i = 0; i < near_count; i++) {
-        if (near[i] == vertex) continue;
         const uint32_t *list = whole_list(version, near[i], spare + vertices, &count);
         double share = share_of(kind, count);
         if (share == 0) continue;

@@ -104,6 +104,12 @@ static void counts_neighbours(void) {
     const edgebpf_graph directed = {one_way, there, 2};
     memcpy(met, one_way, 2 * sizeof *met);
     CHECK(!edgebpf_is_mirrored(&directed, 0, 2, met));
+    /* Round a cycle as many edges lead to each vertex as from it. */
+    const uint64_t round_starts[] = {0, 1, 2, 3};
+    const uint32_t round_targets[] = {1, 2, 0};
+    const edgebpf_graph cycle = {round_starts, round_targets, 3};
+    memcpy(met, round_starts, 3 * sizeof *met);
+    CHECK(!edgebpf_is_mirrored(&cycle, 0, 3, met));
     CHECK(edgebpf_degrees(&graph, 0, VERTICES, degrees) == 3);
     SAME(degrees, 2, 2, 3, 2, 1, 1, 1, 0);
     memcpy(cores, degrees, sizeof cores);
@@ -217,6 +223,36 @@ static void pushes(void) {
     CHECK(residuals[3] < before - 0.8 * ranks[4]);
 }
 
+/* Lists that are lent by more than one call: 0 leads to all others, and 1 to each third. */
+static void reads_long_lists(void) {
+    enum { LONG = 9000 };
+    static uint32_t sources[LONG], ends[LONG], levels[LONG], parents[LONG], found[LONG], spare[2 * LONG];
+    static int64_t each[LONG];
+    static double score[LONG], numbers[LONG];
+    edgebpf_store large = {{0}};
+    edgebpf_version version = {{0}};
+    CHECK(edgebpf_store_new(LONG, &large) == EDGEBPF_DONE);
+    for (uint32_t vertex = 1; vertex < LONG; vertex++) ends[vertex - 1] = vertex;
+    apply(&large, sources, ends, LONG - 1, 0);
+    for (uint32_t place = 0; place < LONG / 3; place++) sources[place] = 1, ends[place] = 3 * place;
+    apply(&large, sources, ends, LONG / 3, 0);
+    CHECK(edgebpf_store_pin(&large, &version) == EDGEBPF_DONE);
+    edgebpf_slice slices[100];
+    size_t lent;
+    CHECK(edgebpf_version_lend(&version, 0, slices, 100, &lent) == EDGEBPF_DONE && lent > 64);
+    edgebpf_lender from = edgebpf_lender_of(&version);
+    memset(levels, 0xff, sizeof levels), memset(parents, 0xff, sizeof parents);
+    levels[0] = parents[0] = 0;
+    const uint32_t zero[] = {0}, one[] = {1};
+    CHECK(edgebpf_search_lent(&from, zero, 1, 0, levels, parents, found) == LONG - 1 && levels[LONG - 1] == 1);
+    edgebpf_pair_scores(&from, EDGEBPF_COMMON, zero, one, 1, NULL, LONG, spare, numbers);
+    CHECK(numbers[0] == LONG / 3 - 1);
+    CHECK(edgebpf_two_steps(&from, EDGEBPF_COMMON, 1, LONG, spare, score, found, numbers) == LONG - LONG / 3 - 1);
+    CHECK(edgebpf_triangles_of(&from, zero, one, 1, 0, 1, 1, LONG, spare, each) == LONG / 3 - 1 && each[LONG - 3] == 1);
+    edgebpf_close_version(&version);
+    edgebpf_close_store(&large);
+}
+
 /* ---- random graphs ---- */
 
 enum { MOST = 1200, MOST_EDGES = 9000 };
@@ -305,6 +341,7 @@ int main(void) {
     tells_an_empty_handle();
     splits();
     pushes();
+    reads_long_lists();
     compares_on_random_graphs();
     edgebpf_close_version(&pin);
     edgebpf_close_store(&store);

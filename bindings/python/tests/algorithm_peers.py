@@ -15,7 +15,7 @@ from edgebpf import algorithms
 
 MOST_SMALL = 40
 # Lists of so many targets lie in a tree, in many slices.
-HUB = range(1_500, 3_000)
+HUB = range(5_000, 9_000)
 
 
 def same(name, found, wanted):
@@ -39,6 +39,10 @@ def random_edges(chance, is_mirrored, vertices):
         edges |= {(hub, target) for target in chance.sample(range(vertices), vertices * 2 // 3)}
     if is_mirrored:
         edges |= {(target, source) for source, target in edges}
+    elif chance.random() < 0.3:
+        # As many edges lead to each vertex as from it, and yet it is not mirrored.
+        circle = chance.sample(range(vertices), chance.randint(1, vertices)) if chance.random() < 0.5 else range(min(3, vertices))
+        edges = {(one, other) for one, other in zip(circle, [*circle[1:], circle[0]])}
     return edges
 
 
