@@ -98,37 +98,34 @@ static int next_common(common *both, uint32_t *vertex) {
 
 /* ---- breadth first search ---- */
 
-/* Goes along some edges of a vertex. Returns how many vertices were found until now. */
-static inline size_t follow(const uint32_t *target, size_t count, uint32_t source, uint32_t level, uint32_t *levels, uint32_t *parents,
-                            uint32_t *found, size_t many) {
+/* Goes along some edges of a vertex to the next level. */
+static inline void follow(const uint32_t *target, size_t count, uint32_t source, uint32_t level, uint32_t *levels, uint32_t *parents,
+                          edgebpf_queue *queue) {
+    uint32_t *vertices = queue->vertices;
+    size_t found = queue->end;
     for (const uint32_t *end = target + count; target < end; target++) {
         uint32_t known = levels[*target];
-        if (known == none) levels[*target] = level, parents[*target] = source, found[many++] = *target;
+        if (known == none) levels[*target] = level, parents[*target] = source, vertices[found++] = *target;
         else if (known == level && parents[*target] > source) parents[*target] = source;
     }
-    return many;
+    queue->end = found;
 }
 
-size_t edgebpf_search_from(const edgebpf_graph *graph, const uint32_t *front, size_t count, uint32_t level, uint32_t *levels,
-                           uint32_t *parents, uint32_t *found) {
-    size_t many = 0;
-    for (size_t i = 0; i < count; i++) {
-        uint64_t start = graph->starts[front[i]];
-        many = follow(graph->targets + start, graph->starts[front[i] + 1] - start, front[i], level + 1, levels, parents, found, many);
+void edgebpf_search_from(const edgebpf_graph *graph, edgebpf_queue *queue, size_t count, uint32_t most, uint32_t *levels, uint32_t *parents) {
+    for (size_t done = 0; done < count && queue->at < queue->end; done++) {
+        uint32_t vertex = queue->vertices[queue->at++], level = levels[vertex];
+        uint64_t start = graph->starts[vertex];
+        if (level < most) follow(graph->targets + start, graph->starts[vertex + 1] - start, vertex, level + 1, levels, parents, queue);
     }
-    return many;
 }
 
-size_t edgebpf_search_lent(edgebpf_lender *version, const uint32_t *front, size_t count, uint32_t level, uint32_t *levels,
-                           uint32_t *parents, uint32_t *found) {
-    size_t many = 0;
+void edgebpf_search_lent(edgebpf_lender *version, edgebpf_queue *queue, size_t count, uint32_t most, uint32_t *levels, uint32_t *parents) {
     reader list;
-    for (size_t i = 0; i < count; i++) {
-        EACH_SLICE(version, front[i], list, slice) {
-            many = follow(slice->at, slice->count, front[i], level + 1, levels, parents, found, many);
-        }
+    for (size_t done = 0; done < count && queue->at < queue->end; done++) {
+        uint32_t vertex = queue->vertices[queue->at++], level = levels[vertex];
+        if (level >= most) continue;
+        EACH_SLICE(version, vertex, list, slice) follow(slice->at, slice->count, vertex, level + 1, levels, parents, queue);
     }
-    return many;
 }
 
 /* ---- components ---- */

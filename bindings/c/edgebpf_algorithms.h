@@ -37,13 +37,14 @@ static inline edgebpf_lender edgebpf_lender_of(edgebpf_version *version) {
 
 /* ---- breadth first search ---- */
 
-/* Goes on from vertices of level `level`, all or some of them. Those that have no level yet get the next one, and are written to `found`,
-   which has room for all vertices; returns how many. Each vertex of the next level has as parent the least of those that led to it. At
-   first the roots have level 0 and themselves as parents, and all others EDGEBPF_NO_VERTEX. */
-size_t edgebpf_search_from(const edgebpf_graph *graph, const uint32_t *front, size_t count, uint32_t level, uint32_t *levels,
-                           uint32_t *parents, uint32_t *found);
-size_t edgebpf_search_lent(edgebpf_lender *version, const uint32_t *front, size_t count, uint32_t level, uint32_t *levels,
-                           uint32_t *parents, uint32_t *found);
+/* The vertices that a search has found: those from `at` to below `end` have not been followed yet. There is room for all vertices. */
+typedef struct edgebpf_queue { uint32_t *vertices; size_t at, end; } edgebpf_queue;
+
+/* Follows the edges of at most `count` vertices of the queue. The search is done once `at` is `end`. What is found gets the next level, and as
+   parent the least vertex of the level before that leads to it; vertices of level `most` are not followed. At first the queue has the
+   roots, each once, with level 0 and themselves as parents, and all others have EDGEBPF_NO_VERTEX for both. */
+void edgebpf_search_from(const edgebpf_graph *graph, edgebpf_queue *queue, size_t count, uint32_t most, uint32_t *levels, uint32_t *parents);
+void edgebpf_search_lent(edgebpf_lender *version, edgebpf_queue *queue, size_t count, uint32_t most, uint32_t *levels, uint32_t *parents);
 
 /* ---- components ---- */
 

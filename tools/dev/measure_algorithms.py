@@ -21,7 +21,7 @@ import numpy as np
 
 sys.dont_write_bytecode = True
 TOP = pathlib.Path(__file__).resolve().parent.parent.parent
-sys.path.insert(0, str(TOP / "bindings" / "python"))
+sys.path[:0] = [str(TOP / "bindings" / "python"), str(TOP / "examples" / "cookbook")]
 EDGES_OF_A_VERTEX = 7.63
 QUARTERS = (0.57, 0.19, 0.19)
 BATCH, ROUNDS_OF_RANKS = 65_536, 20
@@ -91,6 +91,8 @@ class Forms:
         self.hub = int(np.argmax(np.diff(starts)))
 
     def rows(self):
+        import rounds
+
         a, v, matrix, peer = self.algorithms, self.version, self.matrix, self.peer
         return [
             ("the copy, a matrix, a graph", {"edgebpf": self.copy, "scipy": self.make_matrix, "igraph": lambda: self.igraph.Graph(n=self.count, edges=self.ends)}, None),
@@ -98,6 +100,9 @@ class Forms:
             ("components", {"edgebpf": lambda: a.components(v), "scipy": lambda: self.csgraph.connected_components(matrix, directed=False), "igraph": lambda: peer.connected_components().membership}, self.components),
             (f"PageRank, {ROUNDS_OF_RANKS} rounds; scipy: products alone", {"edgebpf": lambda: a.pagerank(v, within=0, most=ROUNDS_OF_RANKS), "scipy": self.products}, None),
             ("the same in whole numbers", {"edgebpf": lambda: a.pagerank_fixed(v, ROUNDS_OF_RANKS)}, None),
+            ("the same by rounds of a program, as in the cookbook", {"edgebpf": lambda: rounds.ranks(v, ROUNDS_OF_RANKS)}, self.programs),
+            ("components by rounds of a program", {"edgebpf": lambda: rounds.components(v)}, None),
+            ("levels by rounds of a program", {"edgebpf": lambda: rounds.levels(v, self.hub)}, None),
             ("PageRank within 10^-10; igraph: to its end", {"edgebpf": lambda: a.pagerank(v, within=1e-10, most=1_000), "igraph": peer.pagerank}, self.ranks),
             ("test that mirrored", {"edgebpf": lambda: a.is_mirrored(v)}, None),
             ("cores, assumed mirrored", {"edgebpf": lambda: a.cores(v, assume_mirrored=True), "igraph": peer.coreness}, lambda found: agree("cores", found["edgebpf"], found["igraph"])),
@@ -121,6 +126,9 @@ class Forms:
         for _ in range(ROUNDS_OF_RANKS):
             ranks = self.matrix @ ranks
         return ranks
+
+    def programs(self, found):
+        agree("rounds of programs", found["edgebpf"], self.algorithms.pagerank_fixed(self.version, ROUNDS_OF_RANKS))
 
     def searches(self, found):
         agree("reached", found["edgebpf"].reached, len(found["scipy"][0]))

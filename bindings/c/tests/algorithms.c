@@ -37,16 +37,29 @@ static void makes_the_graph(void) {
     } while (0)
 #define NONE EDGEBPF_NO_VERTEX
 
+/* Over a version or, without one, over its copy. */
+static void search(edgebpf_lender *version, const edgebpf_graph *copy, edgebpf_queue *queue, size_t count, uint32_t most, uint32_t *levels,
+                   uint32_t *parents) {
+    if (version) edgebpf_search_lent(version, queue, count, most, levels, parents);
+    else edgebpf_search_from(copy, queue, count, most, levels, parents);
+}
+
 static void searches(void) {
     for (int is_lent = 0; is_lent < 2; is_lent++) {
-        uint32_t levels[VERTICES], parents[VERTICES], lists[2][VERTICES] = {{4, 5}};
-        memset(levels, 0xff, sizeof levels), memset(parents, 0xff, sizeof parents);
-        levels[4] = levels[5] = 0, parents[4] = 4, parents[5] = 5;
-        for (size_t level = 0, count = 2; count > 0; level++)
-            count = is_lent ? edgebpf_search_lent(&lender, lists[level % 2], count, level, levels, parents, lists[(level + 1) % 2])
-                            : edgebpf_search_from(&graph, lists[level % 2], count, level, levels, parents, lists[(level + 1) % 2]);
-        SAME(levels, 3, 3, 2, 1, 0, 0, 1, NONE);
-        SAME(parents, 2, 2, 3, 4, 4, 5, 5, NONE);
+        for (size_t count = 1; count < 4; count++) {
+            uint32_t levels[VERTICES], parents[VERTICES], found[VERTICES] = {4, 5};
+            edgebpf_queue queue = {found, 0, 2};
+            memset(levels, 0xff, sizeof levels), memset(parents, 0xff, sizeof parents);
+            levels[4] = levels[5] = 0, parents[4] = 4, parents[5] = 5;
+            while (queue.at < queue.end)
+                search(is_lent ? &lender : NULL, &graph, &queue, count, 2, levels, parents);
+            SAME(levels, NONE, NONE, 2, 1, 0, 0, 1, NONE);
+            queue.at = 0;
+            search(is_lent ? &lender : NULL, &graph, &queue, VERTICES, VERTICES, levels, parents);
+            SAME(levels, 3, 3, 2, 1, 0, 0, 1, NONE);
+            SAME(parents, 2, 2, 3, 4, 4, 5, 5, NONE);
+            CHECK(queue.at == 7 && queue.end == 7);
+        }
     }
 }
 
@@ -168,8 +181,10 @@ static void tells_an_empty_handle(void) {
     edgebpf_have_edges(&broken, one, other, 1, &answer);
     CHECK(broken.status == EDGEBPF_EMPTY && answer == 0);
     broken.status = EDGEBPF_DONE;
-    uint32_t levels[] = {0, NONE}, parents[] = {0, NONE}, found[2];
-    CHECK(edgebpf_search_lent(&broken, one, 1, 0, levels, parents, found) == 0 && broken.status == EDGEBPF_EMPTY);
+    uint32_t levels[] = {0, NONE}, parents[] = {0, NONE}, found[2] = {0};
+    edgebpf_queue queue = {found, 0, 1};
+    edgebpf_search_lent(&broken, &queue, 2, 2, levels, parents);
+    CHECK(queue.at == 1 && queue.end == 1 && broken.status == EDGEBPF_EMPTY);
 }
 
 /* The part of 0 without 0-2, 1-2 and 2-3 falls into 0-1, 2, and 3-4. */
@@ -242,9 +257,11 @@ static void reads_long_lists(void) {
     CHECK(edgebpf_version_lend(&version, 0, slices, 100, &lent) == EDGEBPF_DONE && lent > 64);
     edgebpf_lender from = edgebpf_lender_of(&version);
     memset(levels, 0xff, sizeof levels), memset(parents, 0xff, sizeof parents);
-    levels[0] = parents[0] = 0;
+    levels[0] = parents[0] = found[0] = 0;
     const uint32_t zero[] = {0}, one[] = {1};
-    CHECK(edgebpf_search_lent(&from, zero, 1, 0, levels, parents, found) == LONG - 1 && levels[LONG - 1] == 1);
+    edgebpf_queue queue = {found, 0, 1};
+    edgebpf_search_lent(&from, &queue, 1, LONG, levels, parents);
+    CHECK(queue.end == LONG && levels[LONG - 1] == 1);
     edgebpf_pair_scores(&from, EDGEBPF_COMMON, zero, one, 1, NULL, LONG, spare, numbers);
     CHECK(numbers[0] == LONG / 3 - 1);
     CHECK(edgebpf_two_steps(&from, EDGEBPF_COMMON, 1, LONG, spare, score, found, numbers) == LONG - LONG / 3 - 1);
@@ -286,7 +303,7 @@ static void looks_at_pairs(uint32_t count, const uint32_t *levels, const uint32_
 }
 
 static void compares_on_random_graphs(void) {
-    static uint32_t levels[MOST], parents[MOST], lists[2][MOST], up[MOST], chosen[MOST_EDGES * 2], spare[2 * MOST];
+    static uint32_t levels[MOST], parents[MOST], found[MOST], up[MOST], chosen[MOST_EDGES * 2], spare[2 * MOST];
     static uint64_t begins[MOST + 1];
     static int64_t each[MOST];
     for (int number = 0; number < 12; number++) {
@@ -306,10 +323,9 @@ static void compares_on_random_graphs(void) {
         edgebpf_lender from = edgebpf_lender_of(&version);
         for (int is_lent = 0; is_lent < 2; is_lent++) {
             for (uint32_t vertex = 0; vertex < count; vertex++) levels[vertex] = parents[vertex] = NONE, up[vertex] = vertex;
-            levels[0] = parents[0] = lists[0][0] = 0;
-            for (size_t level = 0, front = 1; front > 0; level++)
-                front = is_lent ? edgebpf_search_lent(&from, lists[level % 2], front, level, levels, parents, lists[(level + 1) % 2])
-                                : edgebpf_search_from(&all, lists[level % 2], front, level, levels, parents, lists[(level + 1) % 2]);
+            levels[0] = parents[0] = found[0] = 0;
+            edgebpf_queue queue = {found, 0, 1};
+            while (queue.at < queue.end) search(is_lent ? &from : NULL, &all, &queue, 7, count, levels, parents);
             edgebpf_join_edges(&all, 0, count, up);
             edgebpf_name_parts(count, up);
             looks_at_pairs(count, levels, parents, up);

@@ -20,7 +20,8 @@ import numpy.typing as npt
 
 from edgebpf import native
 from edgebpf.companion import (
-    F64, NO_VERTEX, PIECE, SHARED_PIECE, U8, U32, U64, AnyVersion, Copy, Lender, Pieces, Progress, Task, by_threads, call, cut, finished, version_of,
+    F64, NO_VERTEX, PIECE, SHARED_PIECE, U8, U32, U64, AnyVersion, Copy, Lender, Pieces, Progress, Task, by_threads, call, cut, finished, foreign,
+    pointer, version_of,
 )
 from edgebpf.given import Numbers, Vertices, given_array, threads_of, vertex_of, vertices_of, whole
 from edgebpf.live_algorithms import LiveComponents, LiveRank, LiveTriangles, NotMirrored, mirrored
@@ -80,24 +81,19 @@ def bfs(
 
 def _bfs(version: AnyVersion, roots: npt.ArrayLike, most: int | None = None) -> Pieces[Search]:
     count = version_of(version).vertices
-    front = np.unique(vertices_of(np.atleast_1d(given_array(roots, "roots")), count, "roots"))
-    if len(front) == 0:
+    begins = np.unique(vertices_of(np.atleast_1d(given_array(roots, "roots")), count, "roots"))
+    if len(begins) == 0:
         raise ValueError("roots has at least one vertex")
-    last = count if most is None else at_least(most, 0, "most")
+    last = count if most is None else min(at_least(most, 0, "most"), count)
     lists: Copy | Lender = Copy(version) if most is None or not isinstance(version, native.Version) else Lender(version)
     name = "search_from" if isinstance(lists, Copy) else "search_lent"
-    levels, parents = np.full(count, NO_VERTEX, U32), np.full(count, NO_VERTEX, U32)
-    levels[front], parents[front] = 0, front
-    level, reached = 0, len(front)
-    yield reached, count
-    while len(front) and level < last:
-        found = np.empty(count - reached, U32)
-        many = 0
-        for begin, end in cut(len(front)):
-            many += lists.call(name, front[begin:end], end - begin, level, levels, parents, found[many:])
-            yield reached + many, count
-        front, level, reached = found[:many], level + 1, reached + many
-    return Search(levels.view(np.int32), parents.view(np.int32), reached)
+    levels, parents, found = np.full(count, NO_VERTEX, U32), np.full(count, NO_VERTEX, U32), np.empty(count, U32)
+    levels[begins], parents[begins], found[:len(begins)] = 0, begins, begins
+    queue = foreign().new("edgebpf_queue *", (pointer(found), 0, len(begins)))
+    while queue.at < queue.end:
+        yield queue.at, count
+        lists.call(name, queue, PIECE, last, levels, parents)
+    return Search(levels.view(np.int32), parents.view(np.int32), queue.end)
 
 
 def components(version: AnyVersion, *, progress: Progress | None = None, seconds: float | None = None) -> Vertices:

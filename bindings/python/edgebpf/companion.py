@@ -59,8 +59,9 @@ typedef struct {{
     uint32_t vertices, at, count, touched_count;
     uint64_t edges;
 }} edgebpf_residuals;
-size_t edgebpf_search_from(const edgebpf_graph *, const uint32_t *, size_t, uint32_t, uint32_t *, uint32_t *, uint32_t *);
-size_t edgebpf_search_lent(edgebpf_lender *, const uint32_t *, size_t, uint32_t, uint32_t *, uint32_t *, uint32_t *);
+typedef struct {{ uint32_t *vertices; size_t at, end; }} edgebpf_queue;
+void edgebpf_search_from(const edgebpf_graph *, edgebpf_queue *, size_t, uint32_t, uint32_t *, uint32_t *);
+void edgebpf_search_lent(edgebpf_lender *, edgebpf_queue *, size_t, uint32_t, uint32_t *, uint32_t *);
 void edgebpf_join_edges(const edgebpf_graph *, uint32_t, uint32_t, uint32_t *);
 void edgebpf_join_pairs(const uint32_t *, const uint32_t *, size_t, uint32_t *);
 void edgebpf_name_parts(uint32_t, uint32_t *);

@@ -43,6 +43,13 @@ impl<'a> Lender<'a> {
 }
 
 #[repr(C)]
+pub(super) struct RawQueue {
+    pub(super) vertices: *mut u32,
+    pub(super) at: usize,
+    pub(super) end: usize,
+}
+
+#[repr(C)]
 #[derive(Clone, Default)]
 pub(super) struct RawSearch {
     todo: u32,
@@ -131,22 +138,20 @@ extern "C" {
     ) -> usize;
     pub(super) fn edgebpf_search_from(
         graph: *const RawGraph,
-        front: *const u32,
+        queue: *mut RawQueue,
         count: usize,
-        level: u32,
+        most: u32,
         levels: *mut u32,
         parents: *mut u32,
-        found: *mut u32,
-    ) -> usize;
+    );
     pub(super) fn edgebpf_search_lent(
         version: *mut Lender<'_>,
-        front: *const u32,
+        queue: *mut RawQueue,
         count: usize,
-        level: u32,
+        most: u32,
         levels: *mut u32,
         parents: *mut u32,
-        found: *mut u32,
-    ) -> usize;
+    );
     pub(super) fn edgebpf_join_edges(graph: *const RawGraph, from: u32, to: u32, up: *mut u32);
     pub(super) fn edgebpf_name_parts(vertices: u32, up: *mut u32);
     pub(super) fn edgebpf_rank_gives(

@@ -142,19 +142,19 @@ pub struct Graph {
 }
 
 /// How far a whole is that has several passes over the vertices.
-pub(crate) struct Watched<F> {
+struct Watched<F> {
     go_on: F,
     done: u64,
     of: u64,
 }
 
 impl<F: FnMut(u64, u64) -> bool> Watched<F> {
-    pub(crate) fn new(go_on: F, of: u64) -> Self {
+    fn new(go_on: F, of: u64) -> Self {
         Watched { go_on, done: 0, of }
     }
 
     /// So much more is done: whether to go on.
-    pub(crate) fn more(&mut self, count: usize) -> Result<(), Failure> {
+    fn more(&mut self, count: usize) -> Result<(), Failure> {
         self.done += count as u64;
         if (self.go_on)(self.done, self.of) {
             Ok(())
@@ -164,7 +164,7 @@ impl<F: FnMut(u64, u64) -> bool> Watched<F> {
     }
 
     /// A pass over so many things in pieces.
-    pub(crate) fn pass(&mut self, count: usize, mut piece: impl FnMut(usize, usize)) -> Result<(), Failure> {
+    fn pass(&mut self, count: usize, mut piece: impl FnMut(usize, usize)) -> Result<(), Failure> {
         for begin in (0..count).step_by(PIECE) {
             let end = count.min(begin + PIECE);
             piece(begin, end);
@@ -184,30 +184,57 @@ fn numbered(count: usize) -> Result<Vec<u32>, Error> {
 }
 
 /// So many of one number.
-pub(crate) fn filled<T: Clone + Default>(count: usize, number: T) -> Result<Vec<T>, Error> {
+fn filled<T: Clone + Default>(count: usize, number: T) -> Result<Vec<T>, Error> {
     let mut all = zeros(count)?;
     all.fill(number);
     Ok(all)
 }
 
-/// The roots of a search, each once, at level 0, and the arrays of the search.
-pub(crate) fn begun(vertices: u32, roots: &[u32]) -> Result<(Vec<u32>, Search), Failure> {
-    if roots.iter().any(|&root| root >= vertices) {
-        return Err(Error::VertexRange.into());
+/// A search under way.
+struct Searching {
+    search: Search,
+    found: Vec<u32>,
+    at: usize,
+}
+
+impl Searching {
+    /// One of which nothing but the roots is found, each once.
+    fn new(vertices: u32, roots: &[u32]) -> Result<Self, Failure> {
+        if roots.iter().any(|&root| root >= vertices) {
+            return Err(Error::VertexRange.into());
+        }
+        if roots.is_empty() {
+            return Err(Failure::Argument);
+        }
+        let count = vertices as usize;
+        let search = Search { levels: filled(count, NO_VERTEX)?, parents: filled(count, NO_VERTEX)?, reached: 0 };
+        let mut begun = Searching { search, found: zeros(count)?, at: 0 };
+        for &root in roots {
+            let own = &mut begun.search;
+            if own.levels[root as usize] == NO_VERTEX {
+                (own.levels[root as usize], own.parents[root as usize]) = (0, root);
+                begun.found[own.reached] = root;
+                own.reached += 1;
+            }
+        }
+        Ok(begun)
     }
-    let mut front = roots.to_vec();
-    front.sort_unstable();
-    front.dedup();
-    if front.is_empty() {
-        return Err(Failure::Argument);
+
+    /// Goes on until nothing is left. `follow` is given the queue, how many vertices it may follow, the levels and the parents.
+    fn finish<F: FnMut(u64, u64) -> bool>(
+        mut self,
+        mut watched: Watched<F>,
+        mut follow: impl FnMut(*mut RawQueue, usize, *mut u32, *mut u32) -> Result<(), Failure>,
+    ) -> Result<Search, Failure> {
+        watched.more(0)?;
+        while self.at < self.search.reached {
+            let mut queue = RawQueue { vertices: self.found.as_mut_ptr(), at: self.at, end: self.search.reached };
+            follow(&mut queue, PIECE, self.search.levels.as_mut_ptr(), self.search.parents.as_mut_ptr())?;
+            watched.more(queue.at - self.at)?;
+            (self.at, self.search.reached) = (queue.at, queue.end);
+        }
+        Ok(self.search)
     }
-    let count = vertices as usize;
-    let (mut levels, mut parents) = (filled(count, NO_VERTEX)?, filled(count, NO_VERTEX)?);
-    for &root in &front {
-        (levels[root as usize], parents[root as usize]) = (0, root);
-    }
-    let reached = front.len();
-    Ok((front, Search { levels, parents, reached }))
 }
 
 impl Graph {
@@ -237,28 +264,12 @@ impl Graph {
 
     /// Breadth first search along the edges' direction, from one vertex or several. `VertexRange`, and `Argument` without a root.
     pub fn bfs(&self, roots: &[u32], go_on: impl FnMut(u64, u64) -> bool) -> Result<Search, Failure> {
-        let (mut front, mut search) = begun(self.vertices, roots)?;
-        let (graph, mut found, mut level) = (self.raw(), zeros::<u32>(self.count())?, 0);
-        let mut watched = self.watched(go_on, 1);
-        watched.more(search.reached)?;
-        while !front.is_empty() {
-            let mut many = 0;
-            for part in front.chunks(PIECE) {
-                let (levels, parents) = (search.levels.as_mut_ptr(), search.parents.as_mut_ptr());
-                // SAFETY: the graph is a version's, all vertices are in it, and `found` has room for those that have no level yet.
-                let more = unsafe {
-                    let room = found.as_mut_ptr().add(many);
-                    edgebpf_search_from(&graph, part.as_ptr(), part.len(), level, levels, parents, room)
-                };
-                many += more;
-                watched.more(more)?;
-            }
-            search.reached += many;
-            level += 1;
-            front.clear();
-            front.extend_from_slice(&found[..many]);
-        }
-        Ok(search)
+        let (begun, graph) = (Searching::new(self.vertices, roots)?, self.raw());
+        begun.finish(self.watched(go_on, 1), |queue, count, levels, parents| {
+            // SAFETY: the graph is a version's, all vertices are in it, and the queue and the arrays have a place for each.
+            unsafe { edgebpf_search_from(&graph, queue, count, self.vertices, levels, parents) };
+            Ok(())
+        })
     }
 
     /// The components, whatever the direction of edges: each vertex has the least vertex of its own.

@@ -1,6 +1,6 @@
 //! What reads a small part of a version, whose lists are read where they lie.
 use super::calls::{edgebpf_pair_scores, edgebpf_search_lent, edgebpf_two_steps, Lender};
-use super::{begun, Failure, Search, Watched, PIECE};
+use super::{Failure, Search, Searching, Watched, PIECE};
 use crate::error::{zeros, Error};
 use crate::version::Version;
 use std::ptr::null;
@@ -37,31 +37,12 @@ pub fn bfs_within(
     go_on: impl FnMut(u64, u64) -> bool,
 ) -> Result<Search, Failure> {
     let vertices = version.vertices();
-    let (mut front, mut search) = begun(vertices, roots)?;
-    let (mut lender, mut found) = (Lender::of(version), zeros::<u32>(vertices as usize)?);
-    let mut watched = Watched::new(go_on, u64::from(vertices));
-    watched.more(search.reached)?;
-    for level in 0..most {
-        let mut many = 0;
-        for part in front.chunks(PIECE) {
-            let (levels, parents) = (search.levels.as_mut_ptr(), search.parents.as_mut_ptr());
-            // SAFETY: all vertices are in the version, and `found` has room for those that have no level yet.
-            let more = unsafe {
-                let room = found.as_mut_ptr().add(many);
-                edgebpf_search_lent(&mut lender, part.as_ptr(), part.len(), level, levels, parents, room)
-            };
-            lender.answered()?;
-            many += more;
-            watched.more(more)?;
-        }
-        search.reached += many;
-        front.clear();
-        front.extend_from_slice(&found[..many]);
-        if front.is_empty() {
-            break;
-        }
-    }
-    Ok(search)
+    let (begun, mut lender) = (Searching::new(vertices, roots)?, Lender::of(version));
+    begun.finish(Watched::new(go_on, u64::from(vertices)), |queue, count, levels, parents| {
+        // SAFETY: all vertices are in the version, and the queue and the arrays have a place for each.
+        unsafe { edgebpf_search_lent(&mut lender, queue, count, most, levels, parents) };
+        lender.answered()
+    })
 }
 
 /// The score of each pair. `Lengths` and `VertexRange`.
