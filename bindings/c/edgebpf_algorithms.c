@@ -463,9 +463,9 @@ static void read_next(edgebpf_split *split, edgebpf_lender *version, uint32_t se
     }
 }
 
-size_t edgebpf_split_go_on(edgebpf_split *split, edgebpf_lender *version, size_t most) {
+size_t edgebpf_split_go_on(edgebpf_split *split, edgebpf_lender *version, size_t count) {
     size_t read = 0;
-    while (split->live > 1 && read < most) {
+    while (split->live > 1 && read < count) {
         if (split->turn >= split->live) split->turn = 0;
         uint32_t search = split->ring[split->turn];
         if (split->searches[search].todo == none) {
@@ -567,10 +567,10 @@ void edgebpf_queue_residuals(edgebpf_residuals *state, double times) {
     }
 }
 
-size_t edgebpf_push_residuals(edgebpf_residuals *state, edgebpf_lender *version, double times, size_t most) {
+size_t edgebpf_push_residuals(edgebpf_residuals *state, edgebpf_lender *version, double times, size_t count) {
     size_t pushed = 0;
     reader list;
-    while (state->count > 0 && pushed < most) {
+    while (state->count > 0 && pushed < count) {
         uint32_t vertex = state->queue[state->at];
         state->at = state->at + 1 == state->vertices ? 0 : state->at + 1, state->count--;
         state->queued[vertex] = 0;

@@ -23,9 +23,13 @@ typedef struct edgebpf_graph { const uint64_t *starts; const uint32_t *targets; 
 /* A version, and the calls by which its lists are read. `status` is 0 until one of these calls fails, which happens only if the handle is
    empty or of another kind: then it is that call's status, and the answer is of no use. */
 typedef struct edgebpf_lender {
-    uint32_t (*lend_from)(edgebpf_version *version, uint32_t vertex, uint32_t place, edgebpf_slice *slices, size_t room, size_t *lent);
-    uint32_t (*degree)(edgebpf_version *version, uint32_t vertex, uint32_t *count);
-    uint32_t (*has_edge)(edgebpf_version *version, uint32_t source, uint32_t target, uint32_t *answer);
+    uint32_t (*lend_from)(edgebpf_version *version, uint32_t vertex,
+                          uint32_t place, edgebpf_slice *slices,
+                          size_t room, size_t *lent);
+    uint32_t (*degree)(edgebpf_version *version, uint32_t vertex,
+                       uint32_t *count);
+    uint32_t (*has_edge)(edgebpf_version *version, uint32_t source,
+                         uint32_t target, uint32_t *answer);
     edgebpf_version *version;
     uint32_t status;
 } edgebpf_lender;
@@ -130,7 +134,7 @@ size_t edgebpf_two_steps(edgebpf_lender *version, uint32_t kind, uint32_t vertex
 void edgebpf_have_edges(edgebpf_lender *version, const uint32_t *sources, const uint32_t *targets, size_t count, uint8_t *answers);
 
 /* The parts of a part from which edges were taken: searches from all ends of these edges take turns, and join if they meet, until one is
-   left. A search that comes to its end before is a part. Each vertex is in two lists at most, by `next`, so nothing is allocated. */
+   left. A search that comes to its end before is a part. Each vertex that was found stands in a list of its search, by `next`. */
 typedef struct edgebpf_search { uint32_t todo, todo_last, done, done_last, up, place; } edgebpf_search;
 typedef struct edgebpf_split { edgebpf_search *searches; uint32_t *ring, *owner, *next; uint32_t count, live, turn; } edgebpf_split;
 
@@ -138,8 +142,8 @@ typedef struct edgebpf_split { edgebpf_search *searches; uint32_t *ring, *owner,
    vertex; `owner` is all EDGEBPF_NO_VERTEX before and after. */
 void edgebpf_split_begin(edgebpf_split *split, const uint32_t *seeds, uint32_t count);
 
-/* Reads the lists of at most `most` vertices. Returns how many; it is at its end once `split->live` is at most 1. */
-size_t edgebpf_split_go_on(edgebpf_split *split, edgebpf_lender *version, size_t most);
+/* Reads the lists of at most `count` vertices. Returns how many; it is at its end once `split->live` is at most 1. */
+size_t edgebpf_split_go_on(edgebpf_split *split, edgebpf_lender *version, size_t count);
 
 /* Ends it at any moment: gives the vertices of each part that was cut off a new number in `parts`, from `fresh` on, and returns how many
    there are. What is left keeps its number. */
@@ -174,9 +178,9 @@ void edgebpf_move_residuals(edgebpf_residuals *state, edgebpf_lender *version, c
 /* Puts each touched vertex into the queue whose residual is greater than `times` its limit. */
 void edgebpf_queue_residuals(edgebpf_residuals *state, double times);
 
-/* Pushes residuals greater than `times` their limits on, until the queue is empty or `most` vertices were read. Returns how many were
-   pushed; `edges` grows by their edges. */
-size_t edgebpf_push_residuals(edgebpf_residuals *state, edgebpf_lender *version, double times, size_t most);
+/* Pushes residuals greater than `times` their limits on, until the queue is empty or those of `count` vertices were pushed. Returns how
+   many were; `edges` grows by their edges. */
+size_t edgebpf_push_residuals(edgebpf_residuals *state, edgebpf_lender *version, double times, size_t count);
 
 #ifdef __cplusplus
 }

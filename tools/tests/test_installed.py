@@ -208,7 +208,7 @@ class Installed(unittest.TestCase):
 
     @unittest.skipIf(shutil.which("man") is None, "there is no man")
     def test_man_page(self):
-        for name, said in (("man1/edgebpf-c.1", "--workers"), ("man3/edgebpf.3", "edgebpf_version_lists("), ("man3/edgebpf_run_some.3", "EDGEBPF_PROGRESS"), ("man5/edgebpf-script.5", "edgebpf: memory"), ("man7/edgebpf-bpf.7", "calllocal")):
+        for name, said in (("man1/edgebpf-c.1", "--workers"), ("man3/edgebpf.3", "edgebpf_version_lists("), ("man3/edgebpf_run_some.3", "EDGEBPF_PROGRESS"), ("man3/edgebpf_join_edges.3", "edgebpf_name_parts("), ("man3/edgebpf_lender_of.3", "not proved"), ("man5/edgebpf-script.5", "edgebpf: memory"), ("man7/edgebpf-bpf.7", "calllocal")):
             page = self.place / "share/man" / name
             words = ["man", "--warnings", "-l", page]
             run = subprocess.run(words, env={**os.environ, "MANWIDTH": "100", "LC_ALL": "C"}, capture_output=True, text=True)
