@@ -94,22 +94,35 @@ class Forms:
         import rounds
 
         a, v, matrix, peer = self.algorithms, self.version, self.matrix, self.peer
+        def mine(name, *given, **options):
+            return lambda: getattr(a, name)(v, *given, **options)
+
+        assumed, ours, igraph, scipy = {"assume_mirrored": True}, "edgebpf", "igraph", "scipy"
+        targets = v.csr()[1]
         return [
-            ("the copy, a matrix, a graph", {"edgebpf": self.copy, "scipy": self.make_matrix, "igraph": lambda: self.igraph.Graph(n=self.count, edges=self.ends)}, None),
-            ("search from the vertex with most edges", {"edgebpf": lambda: a.bfs(v, self.hub), "scipy": lambda: self.csgraph.breadth_first_order(matrix, self.hub), "igraph": lambda: peer.bfs(self.hub)}, self.searches),
-            ("components", {"edgebpf": lambda: a.components(v), "scipy": lambda: self.csgraph.connected_components(matrix, directed=False), "igraph": lambda: peer.connected_components().membership}, self.components),
-            (f"PageRank, {ROUNDS_OF_RANKS} rounds; scipy: products alone", {"edgebpf": lambda: a.pagerank(v, within=0, most=ROUNDS_OF_RANKS), "scipy": self.products}, None),
-            ("the same in whole numbers", {"edgebpf": lambda: a.pagerank_fixed(v, ROUNDS_OF_RANKS)}, None),
-            ("the same by rounds of a program, as in the cookbook", {"edgebpf": lambda: rounds.ranks(v, ROUNDS_OF_RANKS)}, self.programs),
-            ("components by rounds of a program", {"edgebpf": lambda: rounds.components(v)}, None),
-            ("levels by rounds of a program", {"edgebpf": lambda: rounds.levels(v, self.hub)}, None),
-            ("PageRank within 10^-10; igraph: to its end", {"edgebpf": lambda: a.pagerank(v, within=1e-10, most=1_000), "igraph": peer.pagerank}, self.ranks),
-            ("test that mirrored", {"edgebpf": lambda: a.is_mirrored(v)}, None),
-            ("cores, assumed mirrored", {"edgebpf": lambda: a.cores(v, assume_mirrored=True), "igraph": peer.coreness}, lambda found: agree("cores", found["edgebpf"], found["igraph"])),
-            ("triangles of each vertex, assumed mirrored", {"edgebpf": lambda: a.triangles(v, assume_mirrored=True), "igraph": lambda: peer.transitivity_local_undirected(mode="zero")}, self.triangles),
-            ("independent set, assumed mirrored", {"edgebpf": lambda: a.independent_set(v, assume_mirrored=True)}, None),
-            ("labels, up to 20 rounds; igraph: in random order", {"edgebpf": lambda: a.label_propagation(v), "igraph": peer.community_label_propagation}, None),
-            ("common neighbours of 100,000 edges", {"edgebpf": lambda: a.pair_scores(v, self.sources[:100_000], v.csr()[1][:100_000], "common")}, None),
+            ("the copy, a matrix, a graph", {ours: self.copy, scipy: self.make_matrix, igraph: self.make_graph}, None),
+            ("search from the vertex with most edges",
+             {ours: mine("bfs", self.hub), scipy: lambda: self.csgraph.breadth_first_order(matrix, self.hub), igraph: lambda: peer.bfs(self.hub)},
+             self.searches),
+            ("components",
+             {ours: mine("components"), scipy: lambda: self.csgraph.connected_components(matrix, directed=False),
+              igraph: lambda: peer.connected_components().membership},
+             self.components),
+            (f"PageRank, {ROUNDS_OF_RANKS} rounds; scipy: products alone",
+             {ours: mine("pagerank", within=0, most=ROUNDS_OF_RANKS), scipy: self.products}, None),
+            ("the same in whole numbers", {ours: mine("pagerank_fixed", ROUNDS_OF_RANKS)}, None),
+            ("the same by rounds of a program, as in the cookbook", {ours: lambda: rounds.ranks(v, ROUNDS_OF_RANKS)}, self.programs),
+            ("components by rounds of a program", {ours: lambda: rounds.components(v)}, None),
+            ("levels by rounds of a program", {ours: lambda: rounds.levels(v, self.hub)}, None),
+            ("PageRank within 10^-10; igraph: to its end", {ours: mine("pagerank", within=1e-10, most=1_000), igraph: peer.pagerank}, self.ranks),
+            ("test that mirrored", {ours: mine("is_mirrored")}, None),
+            ("cores, assumed mirrored", {ours: mine("cores", **assumed), igraph: peer.coreness}, self.cores),
+            ("triangles of each vertex, assumed mirrored",
+             {ours: mine("triangles", **assumed), igraph: lambda: peer.transitivity_local_undirected(mode="zero")}, self.triangles),
+            ("independent set, assumed mirrored", {ours: mine("independent_set", **assumed)}, None),
+            ("labels, up to 20 rounds; igraph: in random order",
+             {ours: mine("label_propagation"), igraph: peer.community_label_propagation}, None),
+            ("common neighbours of 100,000 edges", {ours: mine("pair_scores", self.sources[:100_000], targets[:100_000], "common")}, None),
         ]
 
     def copy(self):
@@ -120,6 +133,9 @@ class Forms:
     def make_matrix(self):
         starts, targets = self.version.csr()
         return self.sparse.csr_array((np.ones(len(targets)), targets.astype(np.int32), starts.astype(np.int32)), shape=(self.count, self.count))
+
+    def make_graph(self):
+        return self.igraph.Graph(n=self.count, edges=self.ends)
 
     def products(self):
         ranks = np.full(self.count, 1 / self.count)
@@ -136,6 +152,9 @@ class Forms:
     def components(self, found):
         agree("components", len(np.unique(found["edgebpf"])), found["scipy"][0])
         agree("components", len(np.unique(found["edgebpf"])), max(found["igraph"]) + 1)
+
+    def cores(self, found):
+        agree("cores", found["edgebpf"], found["igraph"])
 
     def ranks(self, found):
         agree("ranks", found["edgebpf"].ranks, found["igraph"])
@@ -174,8 +193,10 @@ def after_batches(store, version, rounds, within):
     """What updates cost, in milliseconds, the middle of some, beside the whole answer."""
     from edgebpf import algorithms as a
 
-    live = {"components": a.LiveComponents(version), "triangles": a.LiveTriangles(version), f"ranks, apart by at most {within:g}": a.LiveRank(version, within=within)}
-    chance, spent = np.random.default_rng(5), {name: {count: [] for count in EDITS} for name in ["apply the batch", *live, "vertices read for components"]}
+    live = {"components": a.LiveComponents(version), "triangles": a.LiveTriangles(version)}
+    live[f"ranks, apart by at most {within:g}"] = a.LiveRank(version, within=within)
+    chance, names = np.random.default_rng(5), ["apply the batch", *live, "vertices read for components"]
+    spent = {name: {count: [] for count in EDITS} for name in names}
     for count in EDITS:
         for _ in range(rounds):
             edits = batch_of(chance, version, count)
@@ -212,18 +233,21 @@ def tables(scales, rounds, only):
         sources, targets = graph_of(scale)
         store, version = stored(sources, targets, 1 << scale)
         degrees = version.degrees()
-        sizes.append(f"{version.vertices:,} vertices, {version.edges:,} edges, at most {degrees.max():,} of a vertex, {int((degrees == 0).sum()):,} without one")
+        sizes.append(f"{version.vertices:,} vertices, {version.edges:,} edges, at most {degrees.max():,} of a vertex, "
+                     f"{int((degrees == 0).sum()):,} without one")
         print(sizes[-1], file=sys.stderr, flush=True)
         for title, least in measure(Forms(version), rounds, only):
             columns.setdefault(title, []).append(least)
         if not only or only == "update":
-            updates[scale] = after_batches(store, version, rounds, 1e-4)
+            updates[scale] = after_batches(store, version, 2 * rounds + 1, 1e-4)
     lines = [f"On {'; '.join(sizes)}:", "", "| CPU seconds | edgebpf | scipy | igraph |", "|---|---|---|---|"]
     for title, least in columns.items():
         cells = ["; ".join(two_digits(one[name]) if name in one else "" for one in least).strip("; ") for name in ("edgebpf", "scipy", "igraph")]
         lines.append(f"| {title} | {' | '.join(cells)} |")
     for scale, spent in updates.items():
-        lines += ["", f"After a batch on the graph of {1 << scale:,} vertices:", "", "| Milliseconds, for so many undirected edits | " + " | ".join(f"{count:,}" for count in EDITS) + " | anew |", "|---" * (len(EDITS) + 2) + "|"]
+        heads = " | ".join(f"{count:,}" for count in EDITS)
+        lines += ["", f"After a batch on the graph of {1 << scale:,} vertices, the middle of some:", ""]
+        lines += [f"| Milliseconds, for so many undirected edits | {heads} | anew |", "|---" * (len(EDITS) + 2) + "|"]
         for name, of in spent.items():
             factor = 1 if name.startswith("vertices") else 1_000
             cells = [two_digits(factor * sorted(of[key])[len(of[key]) // 2]) if of.get(key) else "" for key in (*EDITS, "anew")]

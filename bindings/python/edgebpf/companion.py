@@ -7,7 +7,6 @@ import functools
 import os
 import pathlib
 import threading
-import time
 from collections.abc import Callable, Generator, Iterator
 from typing import Any, Generic, TypeVar, Union
 
@@ -222,48 +221,62 @@ def cut(count: int, size: int = PIECE) -> Iterator[tuple[int, int]]:
         yield begin, min(begin + size, count)
 
 
-def by_threads(cuts: list[tuple[int, int]], threads: int, worker: Callable[[], Callable[[int, int], object]]) -> Pieces[None]:
+Worker = Callable[[], Callable[[int, int], object]]
+
+
+def by_threads(cuts: list[tuple[int, int]], threads: int, worker: Worker) -> Pieces[None]:
     """Pieces that are independent of each other. Each thread asks `worker` for a function of its own, and does by it one piece after another that
     nobody has."""
-    if threads == 1:
-        own = worker()
-        for begin, end in cuts:
-            own(begin, end)
-            yield end, cuts[-1][1]
+    of = cuts[-1][1] if cuts else 0
+    if threads > 1:
+        yield from Crew(cuts, worker).finished(threads, of)
         return
-    left, done, failed, stop = iter(cuts), [0], list[BaseException](), threading.Event()
-    lock = threading.Lock()
+    own = worker()
+    for begin, end in cuts:
+        own(begin, end)
+        yield end, of
 
-    def work() -> None:
+
+class Crew:
+    """Threads that share pieces. If one of them fails, or who waits for them is interrupted, they stop after their pieces."""
+
+    def __init__(self, cuts: list[tuple[int, int]], worker: Worker) -> None:
+        self._left, self._worker, self._done = iter(cuts), worker, 0
+        self._lock, self._stop, self._failed = threading.Lock(), threading.Event(), list[BaseException]()
+
+    def _work(self) -> None:
         try:
-            own = worker()
-            while not stop.is_set():
-                with lock:
-                    piece = next(left, None)
+            own = self._worker()
+            while not self._stop.is_set():
+                with self._lock:
+                    piece = next(self._left, None)
                 if piece is None:
                     return
                 own(*piece)
-                with lock:
-                    done[0] += piece[1] - piece[0]
+                with self._lock:
+                    self._done += piece[1] - piece[0]
         except BaseException as error:
-            failed.append(error)
-            stop.set()
+            self._failed.append(error)
+            self._stop.set()
 
-    workers = [threading.Thread(target=work, daemon=True) for _ in range(threads)]
-    try:
-        for thread in workers:
-            thread.start()
-        while any(thread.is_alive() for thread in workers):
-            workers[0].join(WAIT_SECONDS) if workers[0].is_alive() else time.sleep(WAIT_SECONDS / 10)
-            if not failed:
-                yield done[0], cuts[-1][1] if cuts else 0
-    finally:
-        stop.set()
-        for thread in workers:
-            if thread.ident is not None:
-                thread.join()
-    if failed:
-        raise failed[0]
+    def finished(self, threads: int, of: int) -> Pieces[None]:
+        """Has so many threads do all pieces."""
+        workers = [threading.Thread(target=self._work, daemon=True) for _ in range(threads)]
+        try:
+            for thread in workers:
+                thread.start()
+            for thread in workers:
+                while thread.is_alive():
+                    thread.join(WAIT_SECONDS)
+                    if not self._failed:
+                        yield self._done, of
+        finally:
+            self._stop.set()
+            for thread in workers:
+                if thread.ident is not None:
+                    thread.join()
+        if self._failed:
+            raise self._failed[0]
 
 
 class Task(Generic[Answer]):

@@ -4,12 +4,12 @@ from __future__ import annotations
 import threading
 from collections.abc import Iterator
 from contextlib import contextmanager
-from typing import Any, NamedTuple
+from typing import NamedTuple
 
 import numpy as np
 import numpy.typing as npt
 
-from edgebpf.companion import I64, NO_VERTEX, PIECE, U8, U32, U64, AnyVersion, Copy, Lender, Pieces, Progress, call, cut, finished, foreign, pointer
+from edgebpf.companion import I64, NO_VERTEX, U8, U32, U64, AnyVersion, Copy, Lender, Pieces, Progress, call, cut, finished, foreign, pointer
 from edgebpf.errors import Closed
 from edgebpf.given import Edges, Numbers, Vertices, ends_of, frozen
 
