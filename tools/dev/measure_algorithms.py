@@ -23,7 +23,8 @@ sys.dont_write_bytecode = True
 TOP = pathlib.Path(__file__).resolve().parent.parent.parent
 sys.path[:0] = [str(TOP / "bindings" / "python"), str(TOP / "examples" / "cookbook")]
 EDGES_OF_A_VERTEX = 7.63
-QUARTERS = (0.57, 0.19, 0.19)
+# Where the shares of the quarters end: top left, top right, bottom left.
+QUARTERS = (0.57, 0.76, 0.95)
 BATCH, ROUNDS_OF_RANKS = 65_536, 20
 BEGIN, END = "<!-- measured by tools/dev/measure_algorithms.py -->\n", "<!-- end of the measured tables -->\n"
 EDITS = (10, 100, 1_000, 10_000)
@@ -37,8 +38,9 @@ def graph_of(scale, seed=1):
     while len(keys) < wanted:
         sources, targets = np.zeros((2, wanted), np.int64)
         for _ in range(scale):
-            quarter = np.searchsorted(np.cumsum(QUARTERS), chance.random(wanted), side="right")
-            sources, targets = 2 * sources + (quarter >> 1), 2 * targets + (quarter & 1)
+            place = chance.random(wanted, dtype=np.float32)
+            is_low, is_right = place >= QUARTERS[1], (place >= QUARTERS[0]) & (place < QUARTERS[1]) | (place >= QUARTERS[2])
+            sources, targets = 2 * sources + is_low, 2 * targets + is_right
         sources, targets = mixed[sources], mixed[targets]
         low, high = np.minimum(sources, targets), np.maximum(sources, targets)
         keys = np.unique(np.concatenate([keys, (low << scale | high)[low != high]]))

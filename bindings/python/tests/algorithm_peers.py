@@ -13,7 +13,7 @@ import scipy.sparse
 import scipy.sparse.csgraph
 from edgebpf import algorithms
 
-MOST_SMALL = 40
+MOST_SMALL, MOST_EDITS = 40, 65_536
 # Lists of so many targets lie in a tree, in many slices.
 HUB = range(5_000, 9_000)
 
@@ -52,9 +52,11 @@ def columns(edges):
 
 def stored(edges, vertices):
     """A version of a store with these edges, after some that came and are gone again."""
-    store = edgebpf.Store(vertices)
-    store.batch("A", inserts=columns({(source, (3 * target + 1) % vertices) for source, target in edges}))
-    store.batch("B", inserts=columns(edges), removes=columns({(source, (3 * target + 1) % vertices) for source, target in edges} - edges))
+    store, others = edgebpf.Store(vertices), {(source, (3 * target + 1) % vertices) for source, target in edges}
+    for name, some in (("inserts", others), ("inserts", edges), ("removes", others - edges)):
+        ends = columns(some)
+        for begin in range(0, len(some), MOST_EDITS):
+            store.batch("B", **{name: [end[begin:begin + MOST_EDITS] for end in ends]})
     return store, store.pin()
 
 
