@@ -36,6 +36,10 @@ fn main() {
     let folder = std::env::var_os("EDGEBPF_LIBRARY_DIR").map_or_else(|| built(&out), PathBuf::from);
     println!("cargo:rustc-link-search=native={}", folder.display());
     for name in LIBRARIES.into_iter().rev() {
+        if !folder.join(format!("lib{name}.a")).exists() {
+            eprintln!("edgebpf: there is no lib{name}.a in {}, which EDGEBPF_LIBRARY_DIR names", folder.display());
+            exit(1);
+        }
         println!("cargo:rustc-link-lib=static={name}");
     }
     // Its logarithm.

@@ -231,6 +231,10 @@ def two_digits(number):
 
 def tables(scales, rounds, only):
     columns, sizes, updates = {}, [], {}
+    # The companion is loaded before the clock starts.
+    import edgebpf
+
+    edgebpf.algorithms.bfs(edgebpf.Store(1).pin(), 0)
     for scale in scales:
         sources, targets = graph_of(scale)
         store, version = stored(sources, targets, 1 << scale)
