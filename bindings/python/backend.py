@@ -13,7 +13,7 @@ from pathlib import Path
 NAME = "edgebpf"
 PACKAGE = Path(__file__).resolve().parent / NAME
 VERSION = re.search(r'^__version__ = "(.*)"', (PACKAGE / "__init__.py").read_text(), re.M)[1]
-LIBRARY = "libedgebpf.so"
+LIBRARIES = ("libedgebpf.so", "libedgebpf_algorithms.so")
 DIST = PACKAGE.parents[2] / "dist"
 # The folder of the package that has the programs, as `make install` lays them out.
 INSTALLED = "installed"
@@ -54,13 +54,13 @@ def installation():
         try:
             subprocess.run(words, check=True, capture_output=True, text=True)
         except (OSError, subprocess.CalledProcessError) as error:
-            print(f"edgebpf: without {LIBRARY}: {getattr(error, 'stderr', '') or error}", file=sys.stderr)
+            print(f"edgebpf: without {LIBRARIES[0]}: {getattr(error, 'stderr', '') or error}", file=sys.stderr)
             return {}
         libraries = Path(folder, "root", "usr", "lib")
-        named = {f"{NAME}/{LIBRARY}": libraries / LIBRARY}
+        named = {f"{NAME}/{library}": libraries / library for library in LIBRARIES}
         programs = libraries / NAME
         named |= {f"{NAME}/{INSTALLED}/{path.relative_to(programs)}": path for path in sorted(programs.rglob("*")) if path.is_file()}
-        return {name: (path.read_bytes(), os.access(path, os.X_OK) and name != f"{NAME}/{LIBRARY}") for name, path in named.items()}
+        return {name: (path.read_bytes(), os.access(path, os.X_OK) and path.name not in LIBRARIES) for name, path in named.items()}
 
 
 def commands(names):

@@ -21,7 +21,10 @@ struct Numbers(u64);
 
 impl Numbers {
     fn below(&mut self, bound: u64) -> u32 {
-        self.0 = self.0.wrapping_mul(6_364_136_223_846_793_005).wrapping_add(1_442_695_040_888_963_407);
+        self.0 = self
+            .0
+            .wrapping_mul(6_364_136_223_846_793_005)
+            .wrapping_add(1_442_695_040_888_963_407);
         (((self.0 >> 33) * bound) >> 31) as u32
     }
 
@@ -52,9 +55,15 @@ fn take_payments(graph: &Live, accounts: u32, batches: usize) -> Result<(), edge
 
 /// The rule that COOKBOOK.md compiles of C: how many neighbours both ends of an edge have.
 fn common_neighbours() -> Result<Program, Box<dyn Error>> {
-    let digits = COMMON.lines().find_map(|line| line.strip_prefix("code common 16 ")).ok_or("no program")?;
+    let digits = COMMON
+        .lines()
+        .find_map(|line| line.strip_prefix("code common 16 "))
+        .ok_or("no program")?;
     let byte = |place: usize| u8::from_str_radix(&digits[place..place + 2], 16);
-    let code = (0..digits.len()).step_by(2).map(byte).collect::<Result<Vec<u8>, _>>()?;
+    let code = (0..digits.len())
+        .step_by(2)
+        .map(byte)
+        .collect::<Result<Vec<u8>, _>>()?;
     Ok(Program::verify(16, &code)?)
 }
 
@@ -63,7 +72,10 @@ fn best(accounts: impl IntoIterator<Item = u32>, scores: &[u64]) -> String {
     let mut all: Vec<(u32, u64)> = accounts.into_iter().zip(scores.iter().copied()).collect();
     all.sort_unstable_by_key(|&(account, score)| (Reverse(score), account));
     all.truncate(BEST);
-    all.iter().map(|(account, score)| format!("{account}:{score}")).collect::<Vec<_>>().join(" ")
+    all.iter()
+        .map(|(account, score)| format!("{account}:{score}"))
+        .collect::<Vec<_>>()
+        .join(" ")
 }
 
 fn all_scores(version: &Version) -> Result<(), Box<dyn Error>> {
@@ -71,7 +83,12 @@ fn all_scores(version: &Version) -> Result<(), Box<dyn Error>> {
     let frontier: Vec<u32> = (0..version.vertices()).collect();
     let mut values = vec![0; frontier.len()];
     let totals = version.run(&program, &[], &frontier, Reduction::Sum, &mut values)?;
-    println!("scores of {} edges: {}; best {}", totals.edges, totals.total, best(frontier, &values));
+    println!(
+        "scores of {} edges: {}; best {}",
+        totals.edges,
+        totals.total,
+        best(frontier, &values)
+    );
     Ok(())
 }
 
@@ -79,7 +96,10 @@ fn all_scores(version: &Version) -> Result<(), Box<dyn Error>> {
 fn of_one_account(version: &Version, common: &Program, account: u32) -> Result<(), edgebpf::Error> {
     let numbers = version.numbers_of(common, &[], &[account])?;
     let (count, sum) = (numbers.len(), numbers.iter().sum::<u64>());
-    println!("account {account} pays {count}; in common {sum}; best {}", best(version.neighbours(account), &numbers));
+    println!(
+        "account {account} pays {count}; in common {sum}; best {}",
+        best(version.neighbours(account), &numbers)
+    );
     Ok(())
 }
 
@@ -92,7 +112,10 @@ fn whom_to_pay(version: &Version, common: &Program, account: u32) -> Result<(), 
     others.retain(|other| *other != account && own.binary_search(other).is_err());
     let numbers = version.pairs(common, &[], &vec![account; others.len()], &others)?;
     let (count, sum) = (numbers.len(), numbers.iter().sum::<u64>());
-    println!("account {account} may pay {count}; in common {sum}; best {}", best(others, &numbers));
+    println!(
+        "account {account} may pay {count}; in common {sum}; best {}",
+        best(others, &numbers)
+    );
     Ok(())
 }
 

@@ -1,6 +1,7 @@
 """What stands in examples/cookbook/, which docs/COOKBOOK.md shows: the programs in C, the functions in Python and the scripts, on a small graph
 with totals that were found by hand, and on random graphs beside plain sets."""
 import importlib
+import importlib.util
 import os
 import pathlib
 import random
@@ -216,13 +217,43 @@ class FunctionsInPython(unittest.TestCase):
         np = load("rounds").np
         risk, land = (np.array(column, np.uint64) for column in ([3, 9, 4, 7, 1, 8, 2, 6], [1, 1, 2, 2, 1, 1, 3, 3]))
         self.assertEqual(load("scores").scores(version, risk, land, 4, range(8)).tolist(), [9, 8, 18, 4, 14, 0, 16, 0])
-        ranks = [119882822, 119882822, 177149872, 132846313, 75238138, 125000000, 125000000, 18750000]
-        self.assertEqual(load("rounds").ranks(version).tolist(), ranks)
+        # As docs/ALGORITHMS.md has them, of the same formula by hand in one round.
+        first = [132571323869, 132571323869, 210453397502, 190982879095, 93630287052, 152041842278, 152041842278, 35218731827]
+        self.assertEqual(load("rounds").ranks(version, 1).tolist(), first)
         self.assertEqual(load("rounds").components(version).tolist(), [0, 0, 0, 0, 0, 5, 5, 7])
         pushes = load("pushes")
         self.assertEqual(pushes.hops(version, 0).tolist(), [0, 1, 1, 2, 3, *[pushes.NONE] * 3])
         self.assertEqual(pushes.components(version).tolist(), [0, 0, 0, 0, 0, 5, 5, 7])
         self.assertEqual(pushes.cores(version).tolist(), [2, 2, 2, 1, 1, 1, 1, 0])
+        self.assertEqual(load("rounds").levels(version, 4).tolist(), [3, 3, 2, 1, 0, -1, -1, -1])
+
+    def test_algorithms(self):
+        ends = [(0, 1), (0, 2), (1, 2), (2, 3), (3, 4), (5, 6)]
+        store, version = self.version(ends + [(target, source) for source, target in ends], 8)
+        ready = load("ready")
+        self.assertEqual(ready.leaders(version, 3), [2, 3, 0])
+        self.assertEqual(ready.suggestions(version, [0, 4, 7], 2), {0: [3], 4: [2], 7: []})
+        batches = [columns([(5, 7), (7, 5)]), columns([(4, 6), (6, 4)])]
+        self.assertEqual(list(ready.joined(store, batches, 0, 7)), [False, True])
+        if importlib.util.find_spec("igraph"):
+            found = ready.communities(version)
+            self.assertTrue(found[5] == found[6] != found[7] != found[0] == found[1], found)
+
+    def test_rounds_of_programs_and_algorithms(self):
+        """On mirrored graphs they give the same, ranks to the last bit."""
+        from edgebpf import algorithms
+
+        chance, rounds = random.Random(9), load("rounds")
+        for _ in range(30):
+            vertices = chance.randint(1, 60)
+            edges = [(chance.randrange(vertices), chance.randrange(vertices)) for _ in range(chance.randrange(2 * vertices))]
+            store = self.edgebpf.Store(vertices)
+            store.batch("A", edges=edges + [(target, source) for source, target in edges])
+            version, root, many = store.pin(), chance.randrange(vertices), chance.randrange(30)
+            self.assertEqual(rounds.ranks(version, many).tolist(), algorithms.pagerank_fixed(version, many).tolist())
+            self.assertEqual(rounds.components(version).tolist(), algorithms.components(version).tolist())
+            self.assertEqual(rounds.levels(version, root).tolist(), algorithms.bfs(version, root).levels.tolist())
+            store.close()
 
     @unittest.mock.patch.dict(os.environ, {"EDGEBPF": STORE})
     def test_over_several_processes(self):

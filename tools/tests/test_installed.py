@@ -208,7 +208,7 @@ class Installed(unittest.TestCase):
 
     @unittest.skipIf(shutil.which("man") is None, "there is no man")
     def test_man_page(self):
-        for name, said in (("man1/edgebpf-c.1", "--workers"), ("man3/edgebpf.3", "edgebpf_version_lists("), ("man3/edgebpf_run_some.3", "EDGEBPF_PROGRESS"), ("man5/edgebpf-script.5", "edgebpf: memory"), ("man7/edgebpf-bpf.7", "calllocal")):
+        for name, said in (("man1/edgebpf-c.1", "--workers"), ("man3/edgebpf.3", "edgebpf_version_lists("), ("man3/edgebpf_run_some.3", "EDGEBPF_PROGRESS"), ("man3/edgebpf_join_edges.3", "edgebpf_name_parts("), ("man3/edgebpf_lender_of.3", "not proved"), ("man5/edgebpf-script.5", "edgebpf: memory"), ("man7/edgebpf-bpf.7", "calllocal")):
             page = self.place / "share/man" / name
             words = ["man", "--warnings", "-l", page]
             run = subprocess.run(words, env={**os.environ, "MANWIDTH": "100", "LC_ALL": "C"}, capture_output=True, text=True)
@@ -243,11 +243,26 @@ class Installed(unittest.TestCase):
             found = subprocess.run(["pkg-config", "--cflags", "--libs", "edgebpf"], env=room, capture_output=True, text=True, check=True).stdout.split()
             self.assertEqual(found, [f"-I{self.place}/include", f"-L{self.place}/lib", "-ledgebpf"])
         libraries = sorted(path.name for path in (self.place / "lib").glob("libedgebpf*"))
-        self.assertEqual(libraries, ["libedgebpf.a", "libedgebpf.so", "libedgebpf.so.1"])
-        self.assertEqual(os.readlink(self.place / "lib/libedgebpf.so"), "libedgebpf.so.1")
-        for library in (self.place / "lib/libedgebpf.so.1", self.room / "build/libedgebpf.so.1"):
-            said = subprocess.run(["readelf", "-dW", library], capture_output=True, text=True, check=True).stdout
-            self.assertRegex(said, r"SONAME.*\[libedgebpf\.so\.1\]")
+        names = ("libedgebpf", "libedgebpf_algorithms")
+        self.assertEqual(libraries, sorted(f"{name}.{end}" for name in names for end in ("a", "so", "so.1")))
+        for name in names:
+            self.assertEqual(os.readlink(self.place / f"lib/{name}.so"), f"{name}.so.1")
+            for library in (self.place / f"lib/{name}.so.1", self.room / f"build/{name}.so.1"):
+                said = subprocess.run(["readelf", "-dW", library], capture_output=True, text=True, check=True).stdout
+                self.assertRegex(said, rf"SONAME.*\[{name}\.so\.1\]")
+
+    def test_algorithms(self):
+        """The program in C of docs/ALGORITHMS.md, over what is installed, with the flags that pkg-config is told."""
+        described = (self.place / "lib/pkgconfig/edgebpf-algorithms.pc").read_text().splitlines()
+        for line in (f"prefix={self.place}", "Requires: edgebpf", "Libs: -L${libdir} -ledgebpf_algorithms -lm", "Cflags: -I${includedir}"):
+            self.assertIn(line, described)
+        (self.work / "parts.c").write_text((TOP / "docs/ALGORITHMS.md").read_text().split("```c\n")[1].split("```")[0])
+        for more in ([], ["-static"]):
+            made = self.work / f"parts{len(more)}"
+            words = ["cc", f"-I{self.place}/include", f"-L{self.place}/lib", "-o", made, self.work / "parts.c", "-ledgebpf_algorithms", "-ledgebpf", "-lm", *more]
+            subprocess.run(words, check=True)
+            run = subprocess.run([made], env={"LD_LIBRARY_PATH": f"{self.place}/lib"}, capture_output=True, text=True)
+            self.assertEqual((run.stdout, run.stderr, run.returncode), ("0 0 2 2\n", "", 0))
 
     def test_links_of_pages(self):
         """Each leads to a page that is installed, and those that would not are plain words."""
@@ -308,12 +323,13 @@ class Package(unittest.TestCase):
             self.assertEqual(listed, set(entries))
             make(f"BUILD={rooms[0]}", "install", f"PREFIX={folder}/place")
             programs = pathlib.Path(folder, "place", "lib", "edgebpf")
-            wanted = {f"edgebpf/installed/{path.relative_to(programs)}" for path in programs.rglob("*") if path.is_file()} | {"edgebpf/libedgebpf.so"}
+            wanted = {f"edgebpf/installed/{path.relative_to(programs)}" for path in programs.rglob("*") if path.is_file()}
+            wanted |= {"edgebpf/libedgebpf.so", "edgebpf/libedgebpf_algorithms.so"}
             self.assertEqual({name for name in entries if not name.endswith((".py", ".typed")) or "/installed/" in name if ".dist-info/" not in name and ".data/" not in name}, wanted)
             companions = {path.name for path in (programs / "tools").iterdir() if path.name.startswith("edgebpf-")}
             self.assertEqual({name.rpartition("/")[2] for name in entries if ".data/scripts/" in name}, companions | {"edgebpf"})
             run = {name for name, mode in entries.items() if mode & 0o111}
-            self.assertEqual(run & {"edgebpf/installed/edgebpf", "edgebpf/installed/programs/edgebpf", "edgebpf/installed/tools/edgebpf-c", "edgebpf/native.py", "edgebpf/libedgebpf.so"},
+            self.assertEqual(run & {"edgebpf/installed/edgebpf", "edgebpf/installed/programs/edgebpf", "edgebpf/installed/tools/edgebpf-c", "edgebpf/native.py", "edgebpf/libedgebpf.so", "edgebpf/libedgebpf_algorithms.so"},
                              {"edgebpf/installed/edgebpf", "edgebpf/installed/programs/edgebpf", "edgebpf/installed/tools/edgebpf-c"})
 
     def python_in(self, unpacked, package):
@@ -323,11 +339,12 @@ class Package(unittest.TestCase):
         self.assertRegex(said, r"^edgebpf \(= [0-9.]+\), python3 \(>= 3\.9\), python3-numpy, python3-cffi$")
         if importlib.util.find_spec("numpy") is None or importlib.util.find_spec("cffi") is None:
             return
-        code = "import edgebpf; print(edgebpf.library.path()); print(edgebpf.Store(4).apply([0], [1]).added)"
+        code = "import edgebpf; print(edgebpf.library.path()); store = edgebpf.Store(4); print(store.apply([0], [1]).added)"
+        code += "; print(edgebpf.companion.path(), edgebpf.algorithms.components(store.pin()))"
         code += "; import io; print(edgebpf.read_edges(io.BytesIO(b'0 1')).vertices)"
         if not MISSING:
             code += f"; print(edgebpf.compile_c(text={SCORE!r}, function='score').bound)"
         room = {"PATH": f"{unpacked}/usr/bin:/usr/bin:/bin", "PYTHONPATH": f"{unpacked}/usr/lib/python3/dist-packages", "PYTHONDONTWRITEBYTECODE": "1"}
         run = subprocess.run([PYTHON, "-c", code], env=room, cwd="/", capture_output=True, text=True)
-        wanted = f"{unpacked}/usr/lib/libedgebpf.so.1\n1\n2\n" + ("" if MISSING else "2\n")
+        wanted = f"{unpacked}/usr/lib/libedgebpf.so.1\n1\n{unpacked}/usr/lib/libedgebpf_algorithms.so [0 0 2 3]\n" + ("" if MISSING else "2\n")
         self.assertEqual((run.stdout, run.stderr), (wanted, ""))

@@ -12,6 +12,7 @@
 The graph of a `Store` lives in this process, in the memory of `libedgebpf.so`. That of `connect` lives in an `edgebpf` process, which it
 starts and `close` ends; batches and runs may have several workers there.
 """
+from edgebpf import algorithms
 from edgebpf.errors import (
     ArgumentLength, Closed, EpochsFull, Error, LogFull, NoMemory, NotHere, Refused, TimedOut, TooManyEdits, TooManyNames, VertexRange, WrongText,
 )
@@ -28,5 +29,5 @@ __version__ = "0.1.0"
 __all__ = [
     "ArgumentLength", "Closed", "Counts", "EpochsFull", "Error", "Live", "LogFull", "NoMemory", "NotHere", "NumbersRun", "PairsRun", "Program",
     "Push", "Pushed", "Refused", "Result", "Run", "Steps", "Store", "TimedOut", "TooManyEdits", "TooManyNames", "Version", "VertexRange",
-    "WrongText", "assemble", "compile_c", "connect", "read_edges",
+    "WrongText", "algorithms", "assemble", "compile_c", "connect", "read_edges",
 ]

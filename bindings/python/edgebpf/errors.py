@@ -4,6 +4,7 @@ from __future__ import annotations
 import typing
 
 if typing.TYPE_CHECKING:
+    from edgebpf.companion import Task
     from edgebpf.programs import Program
     from edgebpf.steps import Steps
 
@@ -100,11 +101,11 @@ class Closed(Error):
 class TimedOut(Error):
     """The seconds that a call was given are over. `run` has what was done until then, and may be stepped on."""
 
-    def __init__(self, words: str, run: Steps) -> None:
+    def __init__(self, words: str, run: Steps | Task[typing.Any]) -> None:
         super().__init__(words)
         self.run = run
 
 
 class NotHere(Error):
-    """A version of `connect` has no steps, no limit of time, no columns, no pairs, no pushes and no numbers of a frontier; one of
-    `Store` has them."""
+    """A version of `connect` has no steps, no limit of time, no columns, no pairs, no pushes, no numbers of a frontier, and none of the
+    algorithms that read lists where they lie; one of `Store` has them."""

@@ -89,16 +89,16 @@ void edgebpf_close(handle *);
 """
 
 
-def in_checkout() -> str | None:
-    """The library of the checkout's `dist/`, which the C compiler builds at the first use; None where there is no checkout or compiler."""
-    built, parts = DIST / "build" / NAME, [DIST / "libedgebpf.s", DIST / "link"]
+def in_checkout(name: str = "libedgebpf", source: pathlib.Path = DIST / "libedgebpf.s") -> str | None:
+    """A library of the checkout's `dist/`, which the C compiler builds at the first use; None where there is no checkout or compiler."""
+    built, parts = DIST / "build" / f"{name}.so", [source, DIST / "link"]
     # Path.is_file raises an error where a folder may not be read.
     if not all(map(os.path.isfile, parts)):
         return None
     if not os.path.isfile(built) or built.stat().st_mtime < max(part.stat().st_mtime for part in parts):
         try:
             built.parent.mkdir(exist_ok=True)
-            subprocess.run([DIST / "link", "libedgebpf", built], check=True, capture_output=True)
+            subprocess.run([DIST / "link", name, built], check=True, capture_output=True)
         except (OSError, subprocess.CalledProcessError):
             return None
     return str(built)

@@ -9,7 +9,7 @@ from typing import Any
 import numpy as np
 import numpy.typing as npt
 
-from edgebpf import library
+from edgebpf import adapters, library
 from edgebpf.errors import Closed, TooManyEdits, VertexRange
 from edgebpf.given import (
     MOST_VERTICES, NO_COLUMNS, REDUCTIONS, Columns, Edges, Numbers, Pairs, Vertices, columns_of, edits_of, edits_of_batch, ends_of_pairs,
@@ -85,6 +85,29 @@ class Store:
         library.check(library.load().edgebpf_store_of(version._at(), handle.at))
         store._hold(handle, version.vertices)
         return store
+
+    @classmethod
+    def _with(cls, vertices: int, sources: npt.NDArray[Any], targets: npt.NDArray[Any]) -> Store:
+        """A store with these edges, which has forgotten the batches that put them in."""
+        store = cls(vertices)
+        adapters.put(store, sources, targets)
+        return store
+
+    @classmethod
+    def from_scipy(cls, matrix: Any) -> Store:
+        """A store with an edge for each entry that a square matrix has, also for one that is stored as 0. Its first version is number 0 of a
+        later epoch: no batch is kept."""
+        return cls._with(*adapters.from_scipy(matrix))
+
+    @classmethod
+    def from_igraph(cls, graph: Any) -> Store:
+        """The same of an `igraph.Graph`. One that is undirected gives edges in both directions, and parallel edges are one."""
+        return cls._with(*adapters.from_igraph(graph))
+
+    @classmethod
+    def from_networkx(cls, graph: Any) -> Store:
+        """The same of a graph of networkx whose nodes are the numbers from 0 on, in any order."""
+        return cls._with(*adapters.from_networkx(graph))
 
     def _open(self) -> library.Handle:
         if self._handle is None:
@@ -348,6 +371,19 @@ class Version:
             library.check(library.load().edgebpf_version_copy(at, *arrays))
             self._csr = frozen(starts).view(np.int64), frozen(targets)
         return self._csr
+
+    def to_scipy(self, dtype: npt.DTypeLike = np.float64) -> Any:
+        """The graph as a `scipy.sparse.csr_array` with a one for each edge, for `scipy.sparse.csgraph` and products."""
+        return adapters.to_scipy(self, dtype)
+
+    def to_igraph(self, directed: bool = True) -> Any:
+        """The graph as an `igraph.Graph`. directed: False makes one edge of each two that lead back and forth, and raises
+        `algorithms.NotMirrored` if one leads only forth."""
+        return adapters.to_igraph(self, directed)
+
+    def to_networkx(self, directed: bool = True) -> Any:
+        """The graph as a `networkx.DiGraph`, or as a `networkx.Graph`, for which the same holds."""
+        return adapters.to_networkx(self, directed)
 
     def degree(self, vertex: int) -> int:
         """How many targets a vertex has."""

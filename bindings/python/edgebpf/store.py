@@ -15,6 +15,7 @@ from typing import IO, Any, NamedTuple, NoReturn, cast
 import numpy as np
 import numpy.typing as npt
 
+from edgebpf import adapters
 from edgebpf.errors import Closed, EpochsFull, Error, LogFull, NoMemory, NotHere, TooManyEdits, TooManyNames
 from edgebpf.given import (
     FEEDS, NO_COLUMNS, SERVED_VERTICES, Columns, Edges, Numbers, Pairs, Vertices, edits_of, edits_of_batch, feed_of, frozen, reduction_of, threads_of,
@@ -319,6 +320,19 @@ class Version:
             targets = edges[:, 1].astype(np.uint32)
             self._csr = frozen(starts), frozen(targets)
         return self._csr
+
+    def to_scipy(self, dtype: npt.DTypeLike = np.float64) -> Any:
+        """The graph as a `scipy.sparse.csr_array` with a one for each edge, for `scipy.sparse.csgraph` and products."""
+        return adapters.to_scipy(self, dtype)
+
+    def to_igraph(self, directed: bool = True) -> Any:
+        """The graph as an `igraph.Graph`. directed: False makes one edge of each two that lead back and forth, and raises
+        `algorithms.NotMirrored` if one leads only forth."""
+        return adapters.to_igraph(self, directed)
+
+    def to_networkx(self, directed: bool = True) -> Any:
+        """The graph as a `networkx.DiGraph`, or as a `networkx.Graph`, for which the same holds."""
+        return adapters.to_networkx(self, directed)
 
     def neighbours(self, vertex: int) -> Vertices:
         """The targets of a vertex, ascending: a read-only uint32 view of `csr`, which the first question for edges makes."""

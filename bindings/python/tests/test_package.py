@@ -802,10 +802,11 @@ except KeyboardInterrupt:
             (package,) = pathlib.Path(folder, "own").glob("lib/python3*/site-packages/edgebpf")
             names = {path.name for path in package.iterdir()} - {"__pycache__"}
             wanted = {path.name for path in (FOLDER / "edgebpf").iterdir()} - {"__pycache__"}
-            self.assertEqual(names - {"libedgebpf.so", "installed"}, wanted)
+            built = {"libedgebpf.so", "libedgebpf_algorithms.so", "installed"}
+            self.assertEqual(names - built, wanted)
             if not shutil.which("cc") or not shutil.which("make"):
                 return
-            self.assertLess({"libedgebpf.so", "installed"}, names)
+            self.assertLess(built, names)
 
             def says(*lines):
                 """What lines in Python write there, where nothing else of edgebpf is to be found."""
@@ -818,6 +819,8 @@ except KeyboardInterrupt:
             if edgebpf.library.cffi is not None:
                 self.assertEqual(says(block, "print(edgebpf.library.path())"), [f"{package}/libedgebpf.so"])
                 self.assertEqual(says("import edgebpf, io", "print(edgebpf.read_edges(io.BytesIO(b'0 1')).vertices)"), ["2"])
+                parts = "with edgebpf.Store(2) as store: print(edgebpf.algorithms.components(store.pin()).tolist())"
+                self.assertEqual(says("import edgebpf", parts, "print(edgebpf.companion.path())"), ["[0, 1]", f"{package}/libedgebpf_algorithms.so"])
             connected = block.replace("edgebpf.Store(", "edgebpf.connect(")
             refused = "try: edgebpf.assemble('ldxw r0, [r1+13]\\nexit')", "except edgebpf.Refused as refused: print('ldxw r0' in refused.explain())"
             self.assertEqual(says(connected, *refused), ["True"])

@@ -1,6 +1,7 @@
 #![doc = include_str!("../README.md")]
 #![deny(missing_debug_implementations, missing_docs, unsafe_op_in_unsafe_fn)]
 
+pub mod algorithms;
 mod answers;
 mod batch;
 mod calls;
@@ -41,3 +42,7 @@ pub const MOST_COLUMNS: usize = 8;
 #[cfg(doctest)]
 #[doc = include_str!("../../../docs/EMBEDDING.md")]
 struct EmbeddingPage;
+
+#[cfg(doctest)]
+#[doc = include_str!("../../../docs/ALGORITHMS.md")]
+struct AlgorithmsPage;

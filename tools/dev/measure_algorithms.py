@@ -1,0 +1,282 @@
+#!/usr/bin/python3
+"""Measures `edgebpf.algorithms` beside scipy and igraph in one process, and what an update after a batch costs beside the whole answer.
+
+    tools/dev/measure_algorithms.py [--scales 18,20] [--rounds 3] [--only WORD]   prints the tables
+    tools/dev/measure_algorithms.py --write                                       and writes them into docs/SPEED.md, with date and commit
+
+Graphs are recursive matrices (57, 19, 19 and 5 %) whose vertices' numbers were mixed, mirrored and without loops: 2^18 vertices with some
+2,000,000 edges, or 2^20 with 8,000,000. Times are CPU time of this process, the least of some rounds in which each form has its turn. Each answer
+is compared with the peer's. Debian's packages: python3-numpy python3-cffi python3-scipy python3-igraph.
+"""
+import argparse
+import datetime
+import os
+import pathlib
+import re
+import subprocess
+import sys
+import time
+
+import numpy as np
+
+sys.dont_write_bytecode = True
+TOP = pathlib.Path(__file__).resolve().parent.parent.parent
+sys.path[:0] = [str(TOP / "bindings" / "python"), str(TOP / "examples" / "cookbook")]
+EDGES_OF_A_VERTEX = 7.63
+# Where the shares of the quarters end: top left, top right, bottom left.
+QUARTERS = (0.57, 0.76, 0.95)
+BATCH, ROUNDS_OF_RANKS = 65_536, 20
+BEGIN, END = "<!-- measured by tools/dev/measure_algorithms.py -->\n", "<!-- end of the measured tables -->\n"
+EDITS = (10, 100, 1_000, 10_000)
+
+
+def graph_of(scale, seed=1):
+    """The ends of a mirrored graph, each edge once."""
+    chance, count = np.random.default_rng(seed), 1 << scale
+    wanted, keys = int(count * EDGES_OF_A_VERTEX / 2), np.empty(0, np.int64)
+    mixed = chance.permutation(count)
+    while len(keys) < wanted:
+        sources, targets = np.zeros((2, wanted), np.int64)
+        for _ in range(scale):
+            place = chance.random(wanted, dtype=np.float32)
+            is_low, is_right = place >= QUARTERS[1], (place >= QUARTERS[0]) & (place < QUARTERS[1]) | (place >= QUARTERS[2])
+            sources, targets = 2 * sources + is_low, 2 * targets + is_right
+        sources, targets = mixed[sources], mixed[targets]
+        low, high = np.minimum(sources, targets), np.maximum(sources, targets)
+        keys = np.unique(np.concatenate([keys, (low << scale | high)[low != high]]))
+    keys = chance.permutation(keys)[:wanted]
+    low, high = keys >> scale, keys & count - 1
+    return np.concatenate([low, high]), np.concatenate([high, low])
+
+
+def stored(sources, targets, count):
+    import edgebpf
+
+    store = edgebpf.Store(count)
+    for at in range(0, len(sources), BATCH):
+        store.batch("A", inserts=(sources[at:at + BATCH], targets[at:at + BATCH]))
+    store.rebase()
+    return store, store.pin()
+
+
+def timed(call):
+    begun = time.process_time()
+    answer = call()
+    return time.process_time() - begun, answer
+
+
+def agree(name, found, wanted):
+    """Stops where two forms answer something else. Floats may differ by rounding."""
+    found, wanted = np.asarray(found), np.asarray(wanted)
+    is_same = np.abs(found - wanted).sum() < 1e-6 if found.dtype.kind == "f" else np.array_equal(found, wanted)
+    if not is_same:
+        sys.exit(f"measure_algorithms: {name}: other answers")
+
+
+class Forms:
+    """What is measured on one graph: for each row the calls of each form, and how their answers are compared."""
+
+    def __init__(self, version):
+        import igraph
+        import scipy.sparse
+        from edgebpf import algorithms
+        from scipy.sparse import csgraph
+
+        self.version, self.algorithms, self.igraph, self.csgraph, self.sparse = version, algorithms, igraph, csgraph, scipy.sparse
+        starts, targets = version.csr()
+        self.count = version.vertices
+        self.matrix = scipy.sparse.csr_array((np.ones(version.edges), targets.astype(np.int32), starts.astype(np.int32)), shape=(self.count, self.count))
+        self.sources = np.repeat(np.arange(self.count), np.diff(starts))
+        keep = self.sources < targets
+        self.ends = np.column_stack([self.sources[keep], targets[keep]])
+        self.peer = igraph.Graph(n=self.count, edges=self.ends)
+        self.hub = int(np.argmax(np.diff(starts)))
+
+    def rows(self):
+        import rounds
+
+        a, v, matrix, peer = self.algorithms, self.version, self.matrix, self.peer
+        def mine(name, *given, **options):
+            return lambda: getattr(a, name)(v, *given, **options)
+
+        assumed, ours, igraph, scipy = {"assume_mirrored": True}, "edgebpf", "igraph", "scipy"
+        targets = v.csr()[1]
+        return [
+            ("the copy, a matrix, a graph", {ours: self.copy, scipy: self.make_matrix, igraph: self.make_graph}, None),
+            ("search from the vertex with most edges",
+             {ours: mine("bfs", self.hub), scipy: lambda: self.csgraph.breadth_first_order(matrix, self.hub), igraph: lambda: peer.bfs(self.hub)},
+             self.searches),
+            ("components",
+             {ours: mine("components"), scipy: lambda: self.csgraph.connected_components(matrix, directed=False),
+              igraph: lambda: peer.connected_components().membership},
+             self.components),
+            (f"PageRank, {ROUNDS_OF_RANKS} rounds; scipy: products alone",
+             {ours: mine("pagerank", within=0, most=ROUNDS_OF_RANKS), scipy: self.products}, None),
+            ("the same in whole numbers", {ours: mine("pagerank_fixed", ROUNDS_OF_RANKS)}, None),
+            ("the same by rounds of a program, as in the cookbook", {ours: lambda: rounds.ranks(v, ROUNDS_OF_RANKS)}, self.programs),
+            ("components by rounds of a program", {ours: lambda: rounds.components(v)}, None),
+            ("levels by rounds of a program", {ours: lambda: rounds.levels(v, self.hub)}, None),
+            ("PageRank within 10^-10; igraph: to its end", {ours: mine("pagerank", within=1e-10, most=1_000), igraph: peer.pagerank}, self.ranks),
+            ("test that mirrored", {ours: mine("is_mirrored")}, None),
+            ("cores, assumed mirrored", {ours: mine("cores", **assumed), igraph: peer.coreness}, self.cores),
+            ("triangles of each vertex, assumed mirrored",
+             {ours: mine("triangles", **assumed), igraph: lambda: peer.transitivity_local_undirected(mode="zero")}, self.triangles),
+            ("independent set, assumed mirrored", {ours: mine("independent_set", **assumed)}, None),
+            ("labels, up to 20 rounds; igraph: in random order",
+             {ours: mine("label_propagation"), igraph: peer.community_label_propagation}, None),
+            ("common neighbours of 100,000 edges", {ours: mine("pair_scores", self.sources[:100_000], targets[:100_000], "common")}, None),
+        ]
+
+    def copy(self):
+        """As `csr` makes it, which keeps it."""
+        self.version._csr = None
+        return self.version.csr()
+
+    def make_matrix(self):
+        starts, targets = self.version.csr()
+        return self.sparse.csr_array((np.ones(len(targets)), targets.astype(np.int32), starts.astype(np.int32)), shape=(self.count, self.count))
+
+    def make_graph(self):
+        return self.igraph.Graph(n=self.count, edges=self.ends)
+
+    def products(self):
+        ranks = np.full(self.count, 1 / self.count)
+        for _ in range(ROUNDS_OF_RANKS):
+            ranks = self.matrix @ ranks
+        return ranks
+
+    def programs(self, found):
+        agree("rounds of programs", found["edgebpf"], self.algorithms.pagerank_fixed(self.version, ROUNDS_OF_RANKS))
+
+    def searches(self, found):
+        agree("reached", found["edgebpf"].reached, len(found["scipy"][0]))
+
+    def components(self, found):
+        agree("components", len(np.unique(found["edgebpf"])), found["scipy"][0])
+        agree("components", len(np.unique(found["edgebpf"])), max(found["igraph"]) + 1)
+
+    def cores(self, found):
+        agree("cores", found["edgebpf"], found["igraph"])
+
+    def ranks(self, found):
+        agree("ranks", found["edgebpf"].ranks, found["igraph"])
+
+    def triangles(self, found):
+        agree("clustering", self.algorithms.clustering(self.version), found["igraph"])
+
+
+def measure(forms, rounds, only):
+    """For each row the least time of each form."""
+    for title, calls, compare in forms.rows():
+        if only and only not in title:
+            continue
+        least, found = {}, {}
+        for _ in range(rounds):
+            for name, call in calls.items():
+                spent, found[name] = timed(call)
+                least[name] = min(spent, least.get(name, spent))
+        if compare:
+            compare(found)
+        print(f"  {title}: " + ", ".join(f"{name} {spent:.4f}" for name, spent in least.items()), file=sys.stderr, flush=True)
+        yield title, least
+
+
+def batch_of(chance, version, count):
+    """So many undirected edits, of which one in ten removes an edge that is there."""
+    out = max(1, count // 10)
+    starts, targets = version.csr()
+    chosen = chance.integers(0, len(targets), out)
+    removes = np.searchsorted(starts, chosen, side="right") - 1, targets[chosen].astype(np.int64)
+    inserts = chance.integers(0, version.vertices, (2, count - out))
+    return tuple(tuple(np.concatenate([pair[end], pair[1 - end]]) for end in (0, 1)) for pair in (inserts, removes))
+
+
+def after_batches(store, version, rounds, within):
+    """What updates cost, in milliseconds, the middle of some, beside the whole answer."""
+    from edgebpf import algorithms as a
+
+    live = {"components": a.LiveComponents(version), "triangles": a.LiveTriangles(version)}
+    live[f"ranks, apart by at most {within:g}"] = a.LiveRank(version, within=within)
+    chance, names = np.random.default_rng(5), ["apply the batch", *live, "vertices read for components"]
+    spent = {name: {count: [] for count in EDITS} for name in names}
+    for count in EDITS:
+        for _ in range(rounds):
+            edits = batch_of(chance, version, count)
+            spent["apply the batch"][count].append(timed(lambda edits=edits: store.batch("A", *edits))[0])
+            version = store.pin()
+            for name, kept in live.items():
+                spent[name][count].append(timed(lambda kept=kept, edits=edits, version=version: kept.update(version, *edits))[0])
+            spent["vertices read for components"][count].append(live["components"].read)
+        agree("live components", live["components"].labels, a.components(version))
+        agree("live triangles", live["triangles"].each, a.triangles(version, assume_mirrored=True))
+    wholes = {
+        "components": lambda: a.components(version), "triangles": lambda: a.triangles(version, assume_mirrored=True),
+        f"ranks, apart by at most {within:g}": lambda: a.LiveRank(version, within=within),
+    }
+    for name, call in wholes.items():
+        spent[name]["anew"] = [timed(call)[0] for _ in range(2)]
+    spent["labels of all vertices, after an update"] = {EDITS[0]: []}
+    for _ in range(rounds):
+        edits = batch_of(chance, version, EDITS[0])
+        store.batch("A", *edits)
+        version = store.pin()
+        live["components"].update(version, *edits)
+        spent["labels of all vertices, after an update"][EDITS[0]].append(timed(lambda: live["components"].labels)[0])
+    return spent
+
+
+def two_digits(number):
+    return f"{number:.0f}" if number >= 10 else f"{number:.2g}"
+
+
+def tables(scales, rounds, only):
+    columns, sizes, updates = {}, [], {}
+    # The companion is loaded before the clock starts.
+    import edgebpf
+
+    edgebpf.algorithms.bfs(edgebpf.Store(1).pin(), 0)
+    for scale in scales:
+        sources, targets = graph_of(scale)
+        store, version = stored(sources, targets, 1 << scale)
+        degrees = version.degrees()
+        sizes.append(f"{version.vertices:,} vertices, {version.edges:,} edges, at most {degrees.max():,} of a vertex, "
+                     f"{int((degrees == 0).sum()):,} without one")
+        print(sizes[-1], file=sys.stderr, flush=True)
+        for title, least in measure(Forms(version), rounds, only):
+            columns.setdefault(title, []).append(least)
+        if not only or only == "update":
+            updates[scale] = after_batches(store, version, 2 * rounds + 1, 1e-4)
+    lines = [f"On {'; '.join(sizes)}:", "", "| CPU seconds | edgebpf | scipy | igraph |", "|---|---|---|---|"]
+    for title, least in columns.items():
+        cells = ["; ".join(two_digits(one[name]) if name in one else "" for one in least).strip("; ") for name in ("edgebpf", "scipy", "igraph")]
+        lines.append(f"| {title} | {' | '.join(cells)} |")
+    for scale, spent in updates.items():
+        heads = " | ".join(f"{count:,}" for count in EDITS)
+        lines += ["", f"After a batch on the graph of {1 << scale:,} vertices, the middle of some:", ""]
+        lines += [f"| Milliseconds, for so many undirected edits | {heads} | anew |", "|---" * (len(EDITS) + 2) + "|"]
+        for name, of in spent.items():
+            factor = 1 if name.startswith("vertices") else 1_000
+            cells = [two_digits(factor * sorted(of[key])[len(of[key]) // 2]) if of.get(key) else "" for key in (*EDITS, "anew")]
+            lines.append(f"| {name} | {' | '.join(cells)} |")
+    return "\n".join(lines) + "\n"
+
+
+def main():
+    parser = argparse.ArgumentParser(description=__doc__, formatter_class=argparse.RawDescriptionHelpFormatter)
+    parser.add_argument("--scales", default="18,20")
+    parser.add_argument("--rounds", type=int, default=3)
+    parser.add_argument("--only", help="rows with this word alone; update for what follows a batch")
+    parser.add_argument("--write", action="store_true")
+    options = parser.parse_args()
+    made = tables([int(scale) for scale in options.scales.split(",")], options.rounds, options.only)
+    commit = subprocess.run(["git", "describe", "--always", "--dirty", "--abbrev=8", "--exclude", "*"], cwd=TOP, capture_output=True, text=True).stdout.strip()
+    said = f"Measured on {datetime.date.today()}, commit {commit}, load {os.getloadavg()[0]:.0f} on {os.cpu_count()} processors.\n\n{made}"
+    print(said)
+    if options.write:
+        page = TOP / "docs" / "SPEED.md"
+        text = page.read_text()
+        page.write_text(re.sub(re.escape(BEGIN) + ".*?" + re.escape(END), lambda _: f"{BEGIN}\n{said}\n{END}", text, flags=re.S))
+
+
+if __name__ == "__main__":
+    main()
