@@ -12,7 +12,7 @@ import sys
 import time
 
 from harness import Fault, Forks, folder
-from lives import IDS, OPTIONS, Life, World, introduce, learned, recovered
+from lives import IDS, OPTIONS, Life, World, whole_life
 
 # Of the kills so many come while the service recovers, and the others so many seconds after its start.
 IN_RECOVERY, RECOVERY_SECONDS, LIFE_SECONDS = 0.25, 0.04, 0.5
@@ -34,19 +34,7 @@ def one_life(world, forks, data):
     port, status = forks.port()
     if port is None:
         raise Fault(f"the service ended with {status} before it listened")
-    life = Life(world, port)
-    try:
-        client = life.client()
-        recovered(world, client)
-        if not world.programs:
-            introduce(world, client)
-        life.begin()
-        time.sleep(chance.random() * LIFE_SECONDS)
-    finally:
-        os.kill(pid, signal.SIGKILL)
-        forks.wait(pid)
-    life.end()
-    learned(world, life)
+    whole_life(world, forks, Life(world, port), (pid, chance.random() * LIFE_SECONDS))
 
 
 def loop(options, forks, data):

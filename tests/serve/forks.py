@@ -4,10 +4,12 @@ It reads lines of JSON: {"options": {..}} starts a service, and is answered by i
 its end, and is answered by its status. A service that ends before it listens is answered by its status alone.
 """
 import asyncio
+import faulthandler
 import importlib
 import json
 import os
 import pathlib
+import signal
 import sys
 
 TOP = pathlib.Path(__file__).resolve().parent.parent.parent
@@ -19,7 +21,8 @@ from edgebpf_serve import app, command, disk, limits  # noqa: E402
 
 
 def child(options, out):
-    """A service until it ends."""
+    """A service until it ends. SIGUSR1 has it print where its threads are."""
+    faulthandler.register(signal.SIGUSR1, all_threads=True)
     try:
         kept = disk.Disk(options.data, options.vertices, **FOLDER, reserve=options.reserve_bytes)
         asyncio.run(app.serve(kept, options, command.log, lambda service, server: say(out, port=server.sockets[0].getsockname()[1])))

@@ -64,6 +64,9 @@ class Forks:
         told = self.told()
         return told.get("port"), told.get("status")
 
+    def client(self, port):
+        return Client(f"http://127.0.0.1:{port}", timeout=30, tries=1)
+
     def wait(self, pid):
         with self.lock:
             self.process.stdin.write(json.dumps({"wait": pid}) + "\n")

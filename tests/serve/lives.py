@@ -2,6 +2,8 @@
 import collections
 import contextlib
 import http.client
+import os
+import signal
 import threading
 import time
 
@@ -215,3 +217,20 @@ def learned(world, life):
     world.reads += life.reads
     world.tables += life.tables
     world.life += 1
+
+
+def whole_life(world, forks, life, ending):
+    """The life of a service that listens, from what it recovered to its sudden end. ending: its pid, and after how many seconds."""
+    pid, seconds = ending
+    try:
+        client = life.client()
+        recovered(world, client)
+        if not world.programs:
+            introduce(world, client)
+        life.begin()
+        time.sleep(seconds)
+    finally:
+        os.kill(pid, signal.SIGKILL)
+        forks.wait(pid)
+    life.end()
+    learned(world, life)

@@ -144,31 +144,37 @@ class Disk:
     # Snapshots
 
     def write_snapshot(self, seq, starts, targets):
-        """Writes the file of a snapshot, whose row is not there yet, and returns its name."""
-        name = f"snapshot-{seq:016}.npz"
+        """Writes the file of a snapshot, whose row is not there yet: where the list of each vertex begins, 64 bits each, and then the targets,
+        32 bits each. Returns the row."""
+        name, number = f"snapshot-{seq:016}.csr", 0
         with replaced(self.folder / name) as file:
-            np.savez(file, starts=starts, targets=targets, seq=np.uint64(seq))
-        return name
+            for array in (starts.astype("<i8", copy=False), targets.astype("<u4", copy=False)):
+                data = memoryview(array).cast("B") if len(array) else b""
+                file.write(data)
+                number = zlib.crc32(data, number)
+        return seq, name, len(targets), number
 
-    def enter_snapshot(self, seq, name, edges):
+    def enter_snapshot(self, row):
         """Enters a snapshot, within a transaction, and keeps the one before it. Returns up to which batch the journal is superfluous, and the
         files that are."""
-        rows.put(self.db, "snapshots", (seq, name, edges))
+        rows.put(self.db, "snapshots", row)
         entered = rows.read(self.db, "snapshots")
         for old, *_ in entered[:-2]:
             rows.remove(self.db, "snapshots", old)
-        return entered[-2][0] if len(entered) > 1 else 0, [name for _, name, _ in entered[:-2]]
+        return entered[-2][0] if len(entered) > 1 else 0, [name for _, name, *_ in entered[:-2]]
 
     def snapshots(self):
-        """(seq, file, edges) of each snapshot, the newest first."""
+        """(seq, file, edges, sum of the file) of each snapshot, the newest first."""
         return list(reversed(rows.read(self.db, "snapshots")))
 
-    def read_snapshot(self, seq, name, edges):
-        """The arrays of a snapshot; numpy compares its sums."""
-        with np.load(self.folder / name) as arrays:
-            starts, targets, number = arrays["starts"], arrays["targets"], int(arrays["seq"])
-        if number != seq or len(targets) != edges or len(starts) != self.vertices + 1 or int(starts[-1]) != edges:
-            raise ValueError("it is of another version")
+    def read_snapshot(self, row):
+        """The arrays of a snapshot. Raises `Damaged`, and errors of files."""
+        _, name, edges, number = row
+        with open(self.folder / name, "rb") as file:
+            starts, targets = np.fromfile(file, "<i8", self.vertices + 1), np.fromfile(file, "<u4", edges)
+            is_longer = bool(file.read(1))
+        if zlib.crc32(targets, zlib.crc32(starts)) != number or is_longer:
+            raise Damaged(f"the file {name} is damaged")
         return starts, targets
 
     # Columns

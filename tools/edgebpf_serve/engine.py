@@ -199,13 +199,20 @@ class Engine:
                 if group or self.cut_to:
                     self._write(group)
                 self._maintain()
-            if self.results:
-                with transaction(self.disk.db):
-                    self.disk.keep_results(self.results)
+            self._keep_last_results()
         except BaseException as error:
             self.log("the writer failed", error=f"{type(error).__name__}: {error}")
             # What the disk has decides what was kept: the next start reads it. Nothing is tried again, also no sync.
             os._exit(WRONG_DISK)
+
+    def _keep_last_results(self):
+        """Writes the results of the last group, if there is room for them: else the next start finds them again."""
+        try:
+            with transaction(self.disk.db):
+                self.disk.keep_results(self.results)
+        except sqlite3.OperationalError as error:
+            if error.sqlite_errorname not in ("SQLITE_FULL", "SQLITE_BUSY"):
+                raise
 
     # A group
 
@@ -348,8 +355,8 @@ class Engine:
         try:
             # The copy of the edges lies in a share of the version, which goes with it.
             with self.snapshot_lock:
-                name = self.disk.write_snapshot(moment.seq, *moment.version.share().csr())
-            self.do(Task(lambda db: self.disk.enter_snapshot(moment.seq, name, moment.version.edges), entered,
+                row = self.disk.write_snapshot(moment.seq, *moment.version.share().csr())
+            self.do(Task(lambda db: self.disk.enter_snapshot(row), entered,
                          lambda result: failed(result) if isinstance(result, Exception) else answer(result)))
         except (OSError, Busy, Stopped) as error:
             failed(error)

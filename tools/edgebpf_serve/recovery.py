@@ -54,13 +54,13 @@ def _recovered(disk, options, log):
 def _newest(disk, log):
     """(seq, starts, targets) of the newest snapshot that is whole; None to begin without an edge."""
     entered = disk.snapshots()
-    for seq, name, edges in entered:
+    for row in entered:
         try:
-            return seq, *disk.read_snapshot(seq, name, edges)
-        except Exception as error:  # numpy and zipfile raise all kinds of errors for a damaged file
-            log("snapshot damaged", file=name, error=f"{type(error).__name__}: {error}")
+            return row[0], *disk.read_snapshot(row)
+        except (Damaged, OSError) as error:
+            log("snapshot damaged", file=row[1], error=str(error))
     if entered and disk.first_batch() != 1:
-        raise Damaged(f"no snapshot is whole: {', '.join(name for _, name, _ in entered)}")
+        raise Damaged(f"no snapshot is whole: {', '.join(row[1] for row in entered)}")
     return None
 
 

@@ -10,9 +10,9 @@ create table results(seq integer primary key, id text, digest blob, added intege
 create table programs(name text primary key, record integer, form text, body blob, tab blob, owner text, sum integer) without rowid;
 create table columns(name text primary key, seq integer, file text, digest blob, owner text, sum integer) without rowid;
 create table tokens(hash blob primary key, name text, roles text, limits text, sum integer) without rowid;
-create table snapshots(seq integer primary key, file text, edges integer, sum integer);
+create table snapshots(seq integer primary key, file text, edges integer, file_sum integer, sum integer);
 """
-WIDTHS = {"journal": 4, "results": 6, "programs": 7, "columns": 6, "tokens": 5, "snapshots": 4}
+WIDTHS = {"journal": 4, "results": 6, "programs": 7, "columns": 6, "tokens": 5, "snapshots": 5}
 # The tables whose rows are summed in `meta`, and the name of their key.
 SUMMED = {"programs": "name", "columns": "name", "tokens": "hash", "snapshots": "seq"}
 

@@ -135,8 +135,9 @@ class Service:
     def close(self):
         """Writes what waits, and ends all threads."""
         self.turns.close()
-        self.engine.close()
+        # The last connection has to be the one that writes: SQLite then takes its log into the file.
         self.tokens.close()
+        self.engine.close()
 
 
 async def collected(content, most):

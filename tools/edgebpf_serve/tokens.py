@@ -54,7 +54,7 @@ class Tokens:
 
     def __init__(self, disk):
         # Each commit of another connection changes this connection's number.
-        self.db = sqlite3.connect(f"file:{disk.folder / 'serve.db'}?mode=ro", uri=True, isolation_level=None)
+        self.db = sqlite3.connect(f"file:{disk.folder / 'serve.db'}?mode=ro", uri=True, isolation_level=None, check_same_thread=False)
         self.seen, self.of = None, {}
         self.used = collections.defaultdict(collections.Counter)
         self.began = {}
