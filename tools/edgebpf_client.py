@@ -255,6 +255,12 @@ class Client:
             self.own.connection.close()
             self.own.connection = None
 
+    def __enter__(self):
+        return self
+
+    def __exit__(self, *_):
+        self.close()
+
 
 def packed(numbers, kind="I"):
     """Numbers as bytes, the lowest byte first."""

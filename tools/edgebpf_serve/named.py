@@ -44,7 +44,7 @@ class Kept(typing.NamedTuple):
 
 def verified(name, form, body, record, table, owner=""):
     """A program that the verifier has accepted. Raises what the package raises."""
-    program = edgebpf.assemble(body.decode("ascii"), record, table) if form == "text" else edgebpf.Program(body, record, table)
+    program = edgebpf.assemble(body.decode("utf-8", "surrogatepass"), record, table) if form == "text" else edgebpf.Program(body, record, table)
     return Kept(name, program, asks_of(program._bytes()), form, body, owner)
 
 
