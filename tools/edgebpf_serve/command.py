@@ -4,6 +4,7 @@ import asyncio
 import dataclasses
 import ipaddress
 import json
+import logging
 import os
 import pathlib
 import sqlite3
@@ -33,6 +34,20 @@ def log(what, **fields):
     """A line of JSON on standard error."""
     line = json.dumps({"time": round(time.time(), 3), "what": what, **fields}, default=str)
     os.write(2, f"{line}\n".encode())
+
+
+class Lines(logging.Handler):
+    """What Python's modules say, as lines of the log, without traces: clients that break off or send no HTTP are no news."""
+
+    def emit(self, record):
+        raised = record.exc_info[1] if record.exc_info else None
+        more = {"error": f"{type(raised).__name__}: {raised}"} if raised is not None else {}
+        log(record.getMessage().splitlines()[0][:300], module=record.name, **more)
+
+
+def begin_log():
+    logging.basicConfig(handlers=[Lines()], level=logging.WARNING)
+    logging.getLogger("aiohttp.server").setLevel(logging.CRITICAL)
 
 
 def parsed(words):
@@ -107,6 +122,7 @@ def stop(words, status=WRONG_FOLDER):
 
 def main_serve(words):
     options = parsed(words)
+    begin_log()
     try:
         disk = Disk(options.data, options.vertices, reserve=options.reserve_bytes)
         if not is_near(options) and not options.open and not read(disk.db):

@@ -11,7 +11,7 @@ import numpy as np
 
 from edgebpf_serve.disk import transaction
 from edgebpf_serve.limits import (
-    AGAIN_SECONDS, BEAT_SECONDS, CUT_ROWS, CUT_SECONDS, MOST_CHANGED, MOST_GROUPS, MOST_KEPT_VERSIONS, REMOVE, VERTEX_BYTES, WRONG_DISK,
+    AGAIN_SECONDS, BEAT_SECONDS, BLOCK_BYTES, BLOCK_VERTICES, COPIED_EDGES, CUT_ROWS, CUT_SECONDS, MOST_CHANGED, MOST_GROUPS, MOST_KEPT_VERSIONS, REMOVE, WRONG_DISK,
 )
 from edgebpf_serve.recovery import recover
 from edgebpf_serve.rows import digest_of
@@ -97,6 +97,15 @@ class Queue:
             self.changed.notify()
 
 
+def copied_bytes(version, changed):
+    """About how much a store copied for batches that changed the lists of some vertices: it keeps those of 64 vertices in one block, but for long
+    lists, of which it copies a part."""
+    blocks = np.unique(changed // BLOCK_VERTICES).astype(np.uint32)
+    vertices = (BLOCK_VERTICES * blocks[:, None] + np.arange(BLOCK_VERTICES, dtype=np.uint32)).ravel()
+    degrees = version.degrees(vertices[vertices < version.vertices])
+    return BLOCK_BYTES * len(blocks) + 4 * int(np.minimum(degrees, COPIED_EDGES).sum(dtype=np.int64))
+
+
 class Shown:
     """The versions that readers see, and which sources changed between them."""
 
@@ -107,7 +116,7 @@ class Shown:
 
     def show(self, moment, changed):
         """Shows a version. `changed` are the sources of the batches since the last one."""
-        cost = 4 * int(moment.version.degrees(changed).sum(dtype=np.int64)) + VERTEX_BYTES * len(changed)
+        cost = copied_bytes(moment.version, changed)
         with self.lock:
             self.changes.append((moment.seq, changed))
             self.changed_count += len(changed)
