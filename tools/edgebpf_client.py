@@ -9,9 +9,11 @@
     for event in graph.watch("target"):                # an Event for each group of batches
         print(event.version, event.rows)
 """
+import argparse
 import array
 import http.client
 import json
+import os
 import random
 import socket
 import sys
@@ -312,3 +314,124 @@ def events_of(lines):
             elif kind == "end":
                 return
             kind, data = "", []
+
+
+# The command `edgebpf-client`.
+
+HELP = """talks to edgebpf-serve
+
+  edgebpf-client status
+  edgebpf-client batch < EDITS          lines of `SOURCE TARGET`, or `- SOURCE TARGET` to take the edge out
+  edgebpf-client program NAME FILE      a text of the assembler
+  edgebpf-client run NAME [VERTEX ..]   lines of `VERTEX VALUE`
+  edgebpf-client numbers NAME VERTEX .. lines of `SOURCE TARGET NUMBER`
+  edgebpf-client pairs NAME < PAIRS     lines of `SOURCE TARGET NUMBER`
+  edgebpf-client neighbours VERTEX
+  edgebpf-client expand STEPS VERTEX ..
+  edgebpf-client column NAME < NUMBERS  a line for each vertex
+  edgebpf-client watch NAME             lines of `VERSION VERTEX VALUE`, without end
+  edgebpf-client snapshot; edgebpf-client backup NAME
+
+The service is --url, or EDGEBPF_URL; the token is EDGEBPF_TOKEN."""
+
+
+def lines_of_numbers(count, has_marks=False):
+    """The numbers of standard input's lines, each so many; an edit may begin with `-`."""
+    found = []
+    for number, line in enumerate(sys.stdin, 1):
+        words = line.split()
+        if not words or words[0].startswith("#"):
+            continue
+        is_out = has_marks and words[0] == "-"
+        words = words[1:] if is_out else words
+        if len(words) != count or not all(word.isascii() and word.isdigit() for word in words):
+            raise ValueError(f"line {number}: {count} whole numbers are wanted")
+        found.append([*map(int, words), 1] if is_out else [*map(int, words)])
+    return found
+
+
+def command_batch(client, given):
+    for outcome in client.batch(lines_of_numbers(2, has_marks=True)):
+        print(f"version {outcome.version} added {outcome.added} removed {outcome.removed}")
+
+
+def command_program(client, given):
+    with open(given.words[1], encoding="utf-8") as file:
+        told = client.program(given.words[0], file.read(), record=given.record)
+    print(f"program {told['name']} bound {told['bound']} frames {told['frames']} asks {told['asks']}")
+
+
+def asked_of(given):
+    return {"argument": bytes.fromhex(given.argument), "columns": given.column}
+
+
+def command_run(client, given):
+    name, *vertices = given.words
+    frontier = [int(word) for word in vertices] or None
+    told = client.run(name, given.reduction, frontier, **asked_of(given))
+    for vertex, value in zip(frontier or range(len(told["values"])), told["values"]):
+        print(vertex, value)
+    print(f"version {told['version']} edges {told['edges']} total {told['total']}")
+
+
+def command_numbers(client, given):
+    name, *vertices = given.words
+    told = client.numbers(name, [int(word) for word in vertices], **asked_of(given))
+    for place, vertex in enumerate(vertices):
+        for edge in range(told["starts"][place], told["starts"][place + 1]):
+            print(vertex, told["targets"][edge], told["numbers"][edge])
+
+
+def command_pairs(client, given):
+    pairs = lines_of_numbers(2)
+    for (source, target), number in zip(pairs, client.pairs(given.words[0], pairs, **asked_of(given))["numbers"]):
+        print(source, target, number)
+
+
+def command_column(client, given):
+    client.column(given.words[0], [number for number, in lines_of_numbers(1)])
+
+
+def command_watch(client, given):
+    for event in client.watch(given.words[0], given.reduction, **asked_of(given)):
+        for vertex, value in event.rows:
+            print(event.version, vertex, value, flush=True)
+
+
+COMMANDS = {
+    "status": (0, lambda client, given: print(*(f"{name} {value}" for name, value in client.status().items()))),
+    "batch": (0, command_batch), "program": (2, command_program), "run": (1, command_run), "numbers": (2, command_numbers), "pairs": (1, command_pairs),
+    "neighbours": (1, lambda client, given: print(*client.neighbours(int(given.words[0])))),
+    "expand": (2, lambda client, given: print(*client.expand([int(word) for word in given.words[1:]], int(given.words[0]))["vertices"])),
+    "column": (1, command_column), "watch": (1, command_watch), "snapshot": (0, lambda client, given: print(f"version {client.snapshot()}")),
+    "backup": (1, lambda client, given: print(f"version {client.json('POST', '/backups', {'name': given.words[0]})['version']}")),
+}
+
+
+def main():
+    parser = argparse.ArgumentParser("edgebpf-client", description=HELP, formatter_class=argparse.RawDescriptionHelpFormatter)
+    parser.add_argument("command", choices=COMMANDS)
+    parser.add_argument("words", nargs="*")
+    parser.add_argument("--url", default=os.environ.get("EDGEBPF_URL", "http://127.0.0.1:8080"))
+    parser.add_argument("--reduction", choices=("sum", "min", "max"), default="sum")
+    parser.add_argument("--argument", default="", metavar="HEX")
+    parser.add_argument("--column", action="append", default=[], metavar="NAME", help="a column of a run; may be said again")
+    parser.add_argument("--record", type=int, default=16, metavar="BYTES", help="the length of a program's record")
+    given = parser.parse_intermixed_args()
+    count, call = COMMANDS[given.command]
+    if len(given.words) < count:
+        parser.error(f"{given.command} wants {count} more words at least; see --help")
+    try:
+        with Client(given.url, os.environ.get("EDGEBPF_TOKEN")) as client:
+            call(client, given)
+        sys.stdout.flush()
+    except (Error, NoAnswer, ValueError, OSError) as error:
+        if isinstance(error, BrokenPipeError):
+            os._exit(1)
+        sys.exit(f"edgebpf-client: {error}")
+    except KeyboardInterrupt:
+        os._exit(130)
+
+
+if __name__ == "__main__":
+    main()

@@ -4,6 +4,7 @@ import contextlib
 import os
 import pathlib
 import signal
+import sys
 import time
 import traceback
 import urllib.parse
@@ -14,7 +15,7 @@ from aiohttp import web
 from edgebpf_serve.asked import Unfit
 from edgebpf_serve.connections import Connections, feed_watchdog, notify
 from edgebpf_serve.engine import Busy, NoRoom, OtherBatch, Stopped
-from edgebpf_serve.limits import IDLE_SECONDS
+from edgebpf_serve.limits import IDLE_SECONDS, PAUSE_SECONDS
 from edgebpf_serve.named import Conflict, Missing, TooMany
 from edgebpf_serve.routes import ROUTES, Route, description
 from edgebpf_serve.runs import Gone, TookTooLong
@@ -32,6 +33,7 @@ ASK_AGAIN = {"Retry-After": "1"}
 TOKEN_SECONDS = 1.0
 # So long may answers under way take when the service ends.
 END_SECONDS = 10.0
+SWITCH_SECONDS = 0.001
 
 
 def error_answer(name, words, status):
@@ -72,12 +74,11 @@ def allow(service, request, route):
 
 
 async def made(service, request, route):
-    """The answer of a request. Nothing more of its connection is read until then, so no requests pile up in memory."""
-    begun, protocol = time.perf_counter(), request.protocol
+    """The answer of a request."""
+    begun, protocol = time.monotonic(), request.protocol
+    service.under_way[protocol] = request, begun
     try:
         token = allow(service, request, route)
-        if request.content.is_eof():
-            protocol.pause_reading()
         response = await route.handler(service, request, token)
     except (Gone, ConnectionError):
         response = None
@@ -92,9 +93,12 @@ async def made(service, request, route):
         if request.transport is not None:
             request.transport.abort()
         response = response or web.Response(status=503)
-    elif request.transport is not None:
-        protocol.resume_reading()
-    finish(service, route, response, time.perf_counter() - begun)
+    del service.under_way[protocol]
+    if protocol in service.paused:
+        service.paused.remove(protocol)
+        if request.transport is not None:
+            protocol.resume_reading()
+    finish(service, route, response, time.monotonic() - begun)
     return response
 
 
@@ -190,6 +194,8 @@ async def watch_tokens(service):
 
 async def serve(disk, options, log, begun=lambda service, server: None):
     """Serves a folder until SIGTERM or SIGINT. `begun` is called once requests are taken."""
+    # The writer and the readers give the loop its turn sooner than Python would have them.
+    sys.setswitchinterval(SWITCH_SECONDS)
     loop, stop = asyncio.get_running_loop(), asyncio.Event()
     for number in (signal.SIGTERM, signal.SIGINT):
         loop.add_signal_handler(number, stop.set)
@@ -199,7 +205,8 @@ async def serve(disk, options, log, begun=lambda service, server: None):
     connections = Connections(runner.server, options.connections, service.meter)
     server = await listening(connections, options.listen)
     service.engine.start()
-    tasks = [asyncio.ensure_future(one) for one in (connections.look_after(), watch_tokens(service), feed_watchdog(service.engine))]
+    tasks = [asyncio.ensure_future(one) for one in (
+        connections.look_after(), watch_tokens(service), pause_long_requests(service), feed_watchdog(service.engine))]
     log("serves", listen=options.listen, version=service.engine.latest.seq, edges=service.engine.latest.version.edges,
         recovery_seconds=round(service.engine.recovery_seconds, 3))
     notify("READY=1")
@@ -215,6 +222,20 @@ async def serve(disk, options, log, begun=lambda service, server: None):
         task.cancel()
     await asyncio.to_thread(service.close)
     log("ended", version=service.engine.latest.seq)
+
+
+async def pause_long_requests(service):
+    """Reads nothing more of connections whose requests take long."""
+    while True:
+        await asyncio.sleep(PAUSE_SECONDS)
+        before = time.monotonic() - PAUSE_SECONDS
+        # The oldest come first.
+        for protocol, (request, begun) in list(service.under_way.items()):
+            if begun > before:
+                break
+            if protocol not in service.paused and request.content.is_eof() and request.transport is not None:
+                service.paused.add(protocol)
+                protocol.pause_reading()
 
 
 async def under_way_ended(server):

@@ -20,9 +20,11 @@ class Unfit(Exception):
 
 def media_of(request, *allowed):
     """The type of a request's body. It has to be said: a body of JSON must not be taken for edits."""
-    if "Content-Type" not in request.headers or request.content_type not in allowed:
+    # What aiohttp has for that takes a third of a millisecond.
+    media = request.headers.get("Content-Type", "").partition(";")[0].strip().lower()
+    if media not in allowed:
         raise web.HTTPUnsupportedMediaType(text=f"Content-Type is {' or '.join(allowed)}")
-    return request.content_type
+    return media
 
 
 def object_of(body):

@@ -1,5 +1,6 @@
 """Connections, within limits: their number, slow heads, answers that nobody reads, and the watchdog of systemd."""
 import asyncio
+import contextlib
 import os
 import resource
 import socket
@@ -20,8 +21,11 @@ class Connections:
     """Makes a protocol for each connection of a server of aiohttp, and looks after them."""
 
     def __init__(self, server, most, meter):
-        files = resource.getrlimit(resource.RLIMIT_NOFILE)[1]
-        resource.setrlimit(resource.RLIMIT_NOFILE, (files, files))
+        _, files = resource.getrlimit(resource.RLIMIT_NOFILE)
+        # A sandbox may not let it ask for more.
+        with contextlib.suppress(OSError, ValueError):
+            resource.setrlimit(resource.RLIMIT_NOFILE, (files, files))
+        files = resource.getrlimit(resource.RLIMIT_NOFILE)[0]
         self.server, self.meter, self.most = server, meter, max(1, min(most, files - OTHER_FILES))
         # By connection: since when it has sent no head, and since when how much of an answer lies there unread.
         self.headless, self.unread = {}, {}

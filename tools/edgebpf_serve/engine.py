@@ -11,7 +11,7 @@ import numpy as np
 
 from edgebpf_serve.disk import transaction
 from edgebpf_serve.limits import (
-    AGAIN_SECONDS, BEAT_SECONDS, BLOCK_BYTES, BLOCK_VERTICES, COPIED_EDGES, CUT_ROWS, CUT_SECONDS, MOST_CHANGED, MOST_GROUPS, MOST_KEPT_VERSIONS, REMOVE, WRONG_DISK,
+    AGAIN_SECONDS, BEAT_SECONDS, BLOCK_BYTES, BLOCK_VERTICES, BLOCKS_LOOKED_AT, COPIED_EDGES, CUT_ROWS, CUT_SECONDS, MOST_CHANGED, MOST_GROUPS, MOST_KEPT_VERSIONS, REMOVE, WRONG_DISK,
 )
 from edgebpf_serve.recovery import recover
 from edgebpf_serve.rows import digest_of
@@ -99,11 +99,13 @@ class Queue:
 
 def copied_bytes(version, changed):
     """About how much a store copied for batches that changed the lists of some vertices: it keeps those of 64 vertices in one block, but for long
-    lists, of which it copies a part."""
+    lists, of which it copies a part. Of many blocks some are looked at."""
     blocks = np.unique(changed // BLOCK_VERTICES).astype(np.uint32)
+    times = -(-len(blocks) // BLOCKS_LOOKED_AT) or 1
+    blocks = blocks[::times]
     vertices = (BLOCK_VERTICES * blocks[:, None] + np.arange(BLOCK_VERTICES, dtype=np.uint32)).ravel()
     degrees = version.degrees(vertices[vertices < version.vertices])
-    return BLOCK_BYTES * len(blocks) + 4 * int(np.minimum(degrees, COPIED_EDGES).sum(dtype=np.int64))
+    return times * (BLOCK_BYTES * len(blocks) + 4 * int(np.minimum(degrees, COPIED_EDGES).sum(dtype=np.int64)))
 
 
 class Shown:

@@ -24,7 +24,7 @@ CUT_SECONDS, BEAT_SECONDS = 0.05, 1.0
 # Seconds after which a snapshot or a reserve that failed is tried again.
 AGAIN_SECONDS = 30.0
 # How the memory of a kept version is estimated: measured with graphs of 300 to 1,000,000 vertices of degrees from 4 to 100, and with hubs.
-BLOCK_VERTICES, BLOCK_BYTES, COPIED_EDGES = 64, 1_024, 1_024
+BLOCK_VERTICES, BLOCK_BYTES, COPIED_EDGES, BLOCKS_LOOKED_AT = 64, 1_024, 1_024, 16
 MOST_KEPT_VERSIONS = 1_000
 # What watchers can look back on: sources of edits, and groups of batches.
 MOST_CHANGED, MOST_GROUPS = 4_000_000, 10_000
@@ -33,6 +33,8 @@ HEARTBEAT_SECONDS = 15.0
 KEPT_EVENTS = 4
 # A standing query over the whole graph rests for so many times as long as it took.
 REST = 3
+# Of a connection whose request takes longer nothing more is read until it is answered, so that no requests pile up in memory.
+PAUSE_SECONDS = 0.05
 HEAD_SECONDS, BODY_SECONDS, UNREAD_SECONDS, SWEEP_SECONDS, IDLE_SECONDS = 10.0, 60.0, 60.0, 5.0, 75.0
 MOST_STEPS, MOST_REACHED = 64, 1_000_000
 MOST_PAGE, PAGE = 100_000, 10_000

@@ -55,6 +55,8 @@ class Service:
         self.programs, self.columns = Programs(disk, options.programs), Columns(disk, options.columns)
         self.engine = Engine(disk, options, self.meter, log, lambda: self.loop.call_soon_threadsafe(self.published))
         self.tokens, self.turns, self.standing = Tokens(disk), Turns(options.readers, self.meter), {}
+        # Requests under way, with when they began, by their connection; and the connections of which nothing is read meanwhile.
+        self.under_way, self.paused = {}, set()
         self.meter.gauges(self._gauges())
 
     def _gauges(self):
@@ -151,8 +153,11 @@ async def collected(content, most):
     return b"".join(parts)
 
 
+written = json.JSONEncoder(separators=(",", ":")).encode
+
+
 def answer(told, status=200, heads=None):
-    return web.Response(body=json.dumps(told, separators=(",", ":")).encode(), status=status, headers=heads, content_type="application/json")
+    return web.Response(body=written(told).encode(), status=status, headers=heads, content_type="application/json")
 
 
 def resident_bytes():

@@ -265,6 +265,7 @@ class Installed(unittest.TestCase):
         place = self.room / "gone"
         make(f"BUILD={self.room / 'build'}", "install", f"PREFIX={place}")
         make(f"BUILD={self.room / 'build'}", "install-python", f"PREFIX={place}")
+        make(f"BUILD={self.room / 'build'}", "install-serve", f"PREFIX={place}")
         make(f"BUILD={self.room / 'build'}", "uninstall", f"PREFIX={place}")
         self.assertEqual([path for path in place.rglob("*") if not path.is_dir()], [])
         self.assertFalse((place / "lib/edgebpf").exists())
@@ -275,7 +276,7 @@ class Package(unittest.TestCase):
     def test_the_same_bytes_twice(self):
         with tempfile.TemporaryDirectory() as folder:
             rooms = [pathlib.Path(folder) / name for name in ("one", "another_place")]
-            both = [[pathlib.Path(line) for line in make(f"BUILD={room}", "deb").split()[-2:]] for room in rooms]
+            both = [[pathlib.Path(line) for line in make(f"BUILD={room}", "deb").split()[-3:]] for room in rooms]
             for one, other in zip(*both):
                 self.assertEqual(one.read_bytes(), other.read_bytes())
             made = both[0]
@@ -286,7 +287,8 @@ class Package(unittest.TestCase):
                 run = subprocess.run([unpacked / "usr/bin/edgebpf"], stdin=script, capture_output=True, text=True)
             self.assertEqual((run.stdout, run.stderr), (first.with_suffix(".output").read_text(), ""))
             subprocess.run(["dpkg-deb", "-x", made[1], unpacked], check=True)
-            for name in ("edgebpf", "python3-edgebpf"):
+            subprocess.run(["dpkg-deb", "-x", made[2], unpacked], check=True)
+            for name in ("edgebpf", "python3-edgebpf", "edgebpf-serve"):
                 self.assertIn("no licence", (unpacked / "usr/share/doc" / name / "copyright").read_text())
             for package in made:
                 listed = subprocess.run(["dpkg-deb", "-c", package], stdout=subprocess.PIPE, text=True, check=True).stdout
