@@ -36,7 +36,8 @@ class Error(Exception):
 
     def __init__(self, status, told):
         self.status, self.error, self.words, self.told = status, told.get("error", ""), told.get("words", ""), told
-        super().__init__(f"{status} {self.error}: {self.words}")
+        place = f" at unit {told['unit']}" if "unit" in told else ""
+        super().__init__(f"{status} {self.error}{place}: {self.words}")
 
 
 class NoAnswer(Exception):

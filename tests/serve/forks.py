@@ -64,6 +64,10 @@ def main():
     edgebpf.assemble("mov r0, 0\nexit")
     for name in filter(None, os.environ.get("SERVE_MISTAKE", "").split(",")):
         importlib.import_module("mistakes").plant(name)
+    for change in filter(None, os.environ.get("SERVE_LIMITS", "").split(",")):
+        # A limit of seconds, which a test would have to wait for: MODULE.NAME=SECONDS.
+        (module, name), value = change.split("=")[0].split("."), float(change.split("=")[1])
+        setattr(importlib.import_module(f"edgebpf_serve.{module}"), name, value)
     log = os.open(os.environ.get("SERVE_LOG", os.devnull), os.O_CREAT | os.O_WRONLY | os.O_APPEND, 0o600)
     for line in sys.stdin:
         asked = json.loads(line)

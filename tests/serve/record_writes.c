@@ -2,7 +2,7 @@
    made of that: what was not synced may be there or not. It syncs nothing itself.
 
    RECORD_FOLDER: the folder, whose name all that is recorded begins with. RECORD_LOG: where records go.
-   RECORD_FAIL: while a file of this name is there, each sync fails with EIO.
+   RECORD_FAIL: while a file of this name is there, each sync fails with EIO of a file whose path has the text in it.
 
    A record: its kind, and seven bytes of zeros; five 64-bit numbers: inode, offset, length of data, length of a name, length of another; then these.
    Kinds: 'W' data at an offset, 'T' a length, 'S' a sync of an inode, 'C' a new name, 'R' a name in the place of another, 'U' a name less,
@@ -97,13 +97,24 @@ static int cut(int file, off_t length) {
 int ftruncate(int file, off_t length) { return cut(file, length); }
 int ftruncate64(int file, off64_t length) { return cut(file, length); }
 
+static int fails(const char *path) {
+    char part[256];
+    const char *name = getenv("RECORD_FAIL");
+    int file = name ? (int)syscall(SYS_openat, AT_FDCWD, name, O_RDONLY | O_CLOEXEC, 0) : -1;
+    if (file < 0)
+        return 0;
+    ssize_t length = syscall(SYS_read, file, part, sizeof part - 1);
+    syscall(SYS_close, file);
+    part[length < 0 ? 0 : length] = 0;
+    return strstr(path, part) != NULL;
+}
+
 static int synced(int file) {
     char path[4096];
     struct stat about;
-    const char *fail = getenv("RECORD_FAIL");
     if (!path_of(file, path, sizeof path))
         return (int)syscall(SYS_fsync, file);
-    if (fail && access(fail, F_OK) == 0) {
+    if (fails(path)) {
         errno = EIO;
         return -1;
     }

@@ -142,6 +142,28 @@ class Answers(WithService):
                                  [[[u, v, *(mark for mark in more if mark)] for u, v, *more in edits] for edits in sent[after:]])
             self.assertEqual(self.refused(422, client.changes, 13).error, "Unfit")
 
+    def test_changes_that_the_journal_has_no_more(self):
+        with self.served() as client:
+            for number in range(9):
+                client.batch([(0, number)])
+                if number in (3, 6):
+                    self.assertEqual(client.snapshot(), number + 1)
+            # The batches up to the older snapshot are cut off soon.
+            for _ in range(50):
+                client.batch([(1, 1)])
+                if client.json("GET", "/healthz")["version"] and self.is_gone(client):
+                    break
+                time.sleep(0.05)
+            self.assertIn("GET /edges", self.refused(410, client.changes, 3).words)
+            self.assertEqual(client.changes(4)[0], (5, [[0, 4]]))
+
+    def is_gone(self, client):
+        try:
+            client.changes(3)
+        except Error as error:
+            return error.status == 410
+        return False
+
     def test_versions(self):
         with self.served() as client:
             client.batch([(0, 1)])
@@ -263,9 +285,18 @@ class Watch(WithService):
                 client.batch([(number, 7)])
             later = next(Client(client.url).watch("target", after=first.id))
             self.assertEqual((later.kind, later.before, later.version, later.rows), ("changes", 0, 30, [(u, 7) for u in range(30)]))
+            by_query = self.first_event(client, f"/watch?program=target&from={first.id}")
+            self.assertEqual(by_query, later)
             # Of another query it begins with all rows.
             other = next(Client(client.url).watch("target", "max", after=first.id))
             self.assertEqual((other.kind, other.version), ("rows", 30))
+
+    def first_event(self, client, path):
+        events = client._events(path, None)
+        try:
+            return next(events)
+        finally:
+            events.close()
 
     def test_a_query_whose_column_goes(self):
         with self.served() as client:

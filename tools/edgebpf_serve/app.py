@@ -34,6 +34,8 @@ TOKEN_SECONDS = 1.0
 # So long may answers under way take when the service ends.
 END_SECONDS = 10.0
 SWITCH_SECONDS = 0.001
+# So long it reads on what is left of a body that it refused, so that the client reads why.
+LINGER_SECONDS = 1.0
 
 
 def error_answer(name, words, status):
@@ -52,7 +54,7 @@ def answer_of(service, error):
         return made
     for kinds, status in ERRORS:
         if isinstance(error, kinds):
-            return error_answer(type(error).__name__, str(error), status)
+            return error_answer("BadRequest" if status == 400 else type(error).__name__, str(error), status)
     service.log("a request failed", error=f"{type(error).__name__}: {error}", trace=traceback.format_exc()[-4000:])
     return error_answer("Internal", "the service has a mistake here; its log says more", 500)
 
@@ -200,7 +202,8 @@ async def serve(disk, options, log, begun=lambda service, server: None):
     for number in (signal.SIGTERM, signal.SIGINT):
         loop.add_signal_handler(number, stop.set)
     service = Service(disk, options, log)
-    runner = web.AppRunner(application(service), access_log=None, keepalive_timeout=IDLE_SECONDS, auto_decompress=False)
+    runner = web.AppRunner(application(service), access_log=None, keepalive_timeout=IDLE_SECONDS, lingering_time=LINGER_SECONDS,
+                           auto_decompress=False)
     await runner.setup()
     connections = Connections(runner.server, options.connections, service.meter)
     server = await listening(connections, options.listen)

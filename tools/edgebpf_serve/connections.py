@@ -28,14 +28,17 @@ class Connections:
         files = resource.getrlimit(resource.RLIMIT_NOFILE)[0]
         self.server, self.meter, self.most = server, meter, max(1, min(most, files - OTHER_FILES))
         # By connection: since when it has sent no head, and since when how much of an answer lies there unread.
-        self.headless, self.unread = {}, {}
+        self.headless, self.unread, self.coming = {}, {}, []
 
     def __call__(self):
-        if len(self.server.connections) >= self.most:
+        # Of many that come at once the server knows those that are begun alone.
+        self.coming = [one for one in self.coming if one.transport is None and one._manager is not None]
+        if len(self.server.connections) + len(self.coming) >= self.most:
             self.meter.refused.labels("connections").inc()
             return Refusing()
         made = self.server()
         self.headless[made] = time.monotonic()
+        self.coming.append(made)
         return made
 
     async def look_after(self):

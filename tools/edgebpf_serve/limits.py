@@ -28,7 +28,7 @@ BLOCK_VERTICES, BLOCK_BYTES, COPIED_EDGES, BLOCKS_LOOKED_AT = 64, 1_024, 1_024, 
 MOST_KEPT_VERSIONS = 1_000
 # What watchers can look back on: sources of edits, and groups of batches.
 MOST_CHANGED, MOST_GROUPS = 4_000_000, 10_000
-HEARTBEAT_SECONDS = 15.0
+HEARTBEAT_SECONDS, LOOK_SECONDS = 15.0, 1.0
 # Of a standing query so many last events are kept for its other subscribers, each with its version.
 KEPT_EVENTS = 4
 # A standing query over the whole graph rests for so many times as long as it took.

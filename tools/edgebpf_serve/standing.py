@@ -11,7 +11,7 @@ from aiohttp import web
 
 from edgebpf_serve import asked as ask
 from edgebpf_serve.graph import Moment, lists_of
-from edgebpf_serve.limits import HEARTBEAT_SECONDS, KEPT_EVENTS, PIECE, REST
+from edgebpf_serve.limits import HEARTBEAT_SECONDS, KEPT_EVENTS, LOOK_SECONDS, PIECE, REST
 from edgebpf_serve.rows import sum_of
 from edgebpf_serve.runs import Gone, has_gone
 
@@ -208,17 +208,18 @@ class Stream:
         return point
 
     async def wait(self, wake):
-        """Waits for a version, a column or the end; a comment shows the client meanwhile that the connection stands."""
-        waiting = [asyncio.ensure_future(one.wait()) for one in (wake, self.service.closing)]
+        """Waits for a version, a column or the end, and looks whether the client is there. A comment shows it that the connection stands."""
+        waiting, until = [asyncio.ensure_future(one.wait()) for one in (wake, self.service.closing)], time.monotonic() + HEARTBEAT_SECONDS
         try:
-            done, _ = await asyncio.wait(waiting, timeout=HEARTBEAT_SECONDS, return_when=asyncio.FIRST_COMPLETED)
+            while not (await asyncio.wait(waiting, timeout=LOOK_SECONDS, return_when=asyncio.FIRST_COMPLETED))[0]:
+                if has_gone(self.request):
+                    raise Gone
+                if time.monotonic() >= until:
+                    await self.response.write(b": \n\n")
+                    return
         finally:
             for one in waiting:
                 one.cancel()
-        if not done:
-            if has_gone(self.request):
-                raise Gone
-            await self.response.write(b": \n\n")
 
     async def go(self, point, patience):
         if point is None:
