@@ -103,7 +103,35 @@ def sync_normal():
     disk.PRAGMAS = tuple(line.replace("synchronous=full", "synchronous=normal") for line in disk.PRAGMAS)
 
 
-# The loop that has to find each.
+# What a machine may do, and is no mistake: a service has to go on, or to end so that nothing is lost.
+
+def memory_short():
+    """Each third batch is refused memory at first."""
+    apply, count = graph.edgebpf.Store.apply, [0]
+
+    def changed(self, *words):
+        count[0] += 1
+        if count[0] % 3 == 0:
+            raise graph.edgebpf.NoMemory("there is no memory")
+        return apply(self, *words)
+
+    graph.edgebpf.Store.apply = changed
+
+
+def memory_gone():
+    """All batches but the first five are refused memory."""
+    apply, count = graph.edgebpf.Store.apply, [0]
+
+    def changed(self, *words):
+        count[0] += 1
+        if count[0] > 5:
+            raise graph.edgebpf.NoMemory("there is no memory")
+        return apply(self, *words)
+
+    graph.edgebpf.Store.apply = changed
+
+
+# The loop that has to find each mistake.
 MISTAKES = {
     "seen_early": "crash_loop", "answered_early": "crash_loop", "ids_forgotten": "crash_loop", "newest_taken": "crash_loop", "rebase_loses": "crash_loop",
     "snapshot_not_synced": "power_loss", "sync_normal": "power_loss",

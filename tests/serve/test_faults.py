@@ -3,6 +3,7 @@ import os
 import pathlib
 import shutil
 import socket
+import sqlite3
 import sys
 import threading
 import time
@@ -59,6 +60,74 @@ class Syncs(unittest.TestCase):
                 fail.unlink()
                 self.assertEqual(client.batch([(0, 2)])[0].version, 2)
                 self.assertEqual(client.snapshot(), 2)
+
+
+@unittest.skipIf(MISSING, f"not there: {MISSING}")
+class Memory(unittest.TestCase):
+    def test_a_batch_that_is_refused_memory(self):
+        """Without memory for a batch the service makes room and tries once more; without any it ends, and the next start has the batch."""
+        with folder() as place:
+            options, graph, chance = {"data": str(place / "graph"), "vertices": VERTICES}, Graph(VERTICES), seeded("memory")
+            with Forks(SERVE_MISTAKE="memory_short") as forks, served(forks, **options) as client:
+                for _ in range(30):
+                    edits = random_edits(chance, VERTICES, 20)
+                    self.assertEqual(client.batch(edits)[0][1:3], graph.apply(edits))
+                self.assertEqual(client.neighbours(3), sorted(graph.out[3]))
+                version = client.snapshot()
+            with Forks(SERVE_MISTAKE="memory_gone") as forks:
+                pid = forks.begin(**options)
+                client, ended = forks.client(forks.port()[0]), False
+                while not ended:
+                    edits = random_edits(chance, VERTICES, 20)
+                    try:
+                        client.batch(edits, key=f"after{version}")
+                    except NoAnswer:
+                        ended = True
+                    graph.apply(edits)
+                    version += 1
+                self.assertEqual(forks.wait(pid), 70)
+            with Forks() as forks, served(forks, **options) as client:
+                again, = client.batch(edits, key=f"after{version - 1}")
+                self.assertEqual((again.version, again.new), (version, False))
+                self.assertEqual([client.neighbours(u) for u in range(VERTICES)], [sorted(targets) for targets in graph.out])
+
+
+@unittest.skipIf(MISSING, f"not there: {MISSING}")
+class Notices(unittest.TestCase):
+    """What systemd is told by its socket: here a test has it."""
+
+    def heard(self, notices, seconds):
+        """All notices of some seconds."""
+        found, until = [], time.monotonic() + seconds
+        while (left := until - time.monotonic()) > 0:
+            notices.settimeout(left)
+            try:
+                found.append(notices.recv(100).decode())
+            except TimeoutError:
+                pass
+        return found
+
+    def test_ready_the_watchdog_and_the_end(self):
+        with folder() as place, socket.socket(socket.AF_UNIX, socket.SOCK_DGRAM) as notices:
+            notices.bind(str(place / "notices"))
+            with Forks(NOTIFY_SOCKET=str(place / "notices"), WATCHDOG_USEC="4000000") as forks:
+                with served(forks, data=str(place / "graph"), vertices=VERTICES) as client:
+                    client.batch([(0, 1)])
+                    found = self.heard(notices, 4)
+                    self.assertEqual((found[0], set(found[1:])), ("READY=1", {"WATCHDOG=1"}))
+                    self.assertGreater(len(found), 2)
+                    # The writer waits for another process's lock: it is not the loop alone that feeds the watchdog.
+                    with sqlite3.connect(place / "graph" / "serve.db", isolation_level=None) as db:
+                        db.execute("begin immediate")
+                        waiting = threading.Thread(target=client.batch, args=([(0, 2)],))
+                        waiting.start()
+                        self.heard(notices, 3)
+                        self.assertEqual(self.heard(notices, 3), [])
+                        self.assertEqual(Client(client.url, tries=1).neighbours(0), [1])
+                        db.execute("rollback")
+                    waiting.join()
+                    self.assertIn("WATCHDOG=1", self.heard(notices, 3))
+                self.assertIn("STOPPING=1", self.heard(notices, 1))
 
 
 LIMITS = "connections.HEAD_SECONDS=0.5,connections.UNREAD_SECONDS=1,connections.SWEEP_SECONDS=0.2,service.BODY_SECONDS=0.5"

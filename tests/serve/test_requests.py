@@ -291,6 +291,25 @@ class Watch(WithService):
             other = next(Client(client.url).watch("target", "max", after=first.id))
             self.assertEqual((other.kind, other.version), ("rows", 30))
 
+    def test_equal_queries_share_their_runs(self):
+        with self.served() as client:
+            client.program("target", KINDS["target"].text)
+            streams = [Client(client.url).watch("target") for _ in range(8)]
+            for stream in streams:
+                next(stream)
+            before = self.runs_of(client)
+            for number in range(5):
+                client.batch([(number, 9)])
+                self.assertEqual({tuple(next(stream).rows) for stream in streams}, {((number, 9),)})
+            # One run of the version before and one of the version after, for each batch.
+            self.assertEqual(self.runs_of(client) - before, 10)
+            for stream in streams:
+                stream.close()
+
+    def runs_of(self, client):
+        lines = client.ask("GET", "/metrics")[1].decode().splitlines()
+        return next(float(line.split()[1]) for line in lines if line.startswith("edgebpf_runs_total"))
+
     def first_event(self, client, path):
         events = client._events(path, None)
         try:
@@ -393,6 +412,13 @@ class Limits(WithService):
         with self.served(units=10**6) as client:
             self.assertIn("units", self.refused(503, client.run, "endless", frontier=list(range(VERTICES)) * 200).words)
 
+    def test_too_many_numbers(self):
+        with self.served() as client:
+            client.batch([(0, v) for v in range(VERTICES)])
+            client.program("target", KINDS["target"].text)
+            self.assertEqual(len(client.numbers("target", [0] * 1000)["numbers"]), 1000 * VERTICES)
+            self.assertIn("frontier", self.refused(422, client.numbers, "target", [0] * 100_000).words)
+
     def test_a_run_ends_with_its_client(self):
         with self.served(seconds=60.0) as client:
             client.batch([(u, v) for u in range(VERTICES) for v in range(VERTICES)])
@@ -484,6 +510,13 @@ class Tokens(WithService):
             self.wait_until(lambda: self.is_refused(mine))
             self.assertEqual(Client(client.url, token=other).neighbours(0), [1, 2])
             self.assertEqual(self.token().split()[:2], ["two", "read"])
+
+    def test_without_tokens_an_address_of_others_is_closed(self):
+        with self.served(listen="0.0.0.0:0") as client:
+            self.assertEqual(client.status()["version"], 0)
+            self.refused(401, client.batch, [(0, 1)])
+        with self.served(listen="0.0.0.0:0", open=True) as client:
+            self.assertEqual(client.batch([(0, 1)])[0].version, 1)
 
     def wait_until(self, condition):
         for _ in range(50):

@@ -27,7 +27,7 @@ MOST_WORDS = 300
 ERRORS = [
     (Missing, 404), (Conflict, 409), (TooMany, 403), (TooFast, 429), (NoRoom, 507), ((Busy, Stopped, TookTooLong, edgebpf.NoMemory), 503),
     ((Unfit, OtherBatch, edgebpf.VertexRange, edgebpf.TooManyEdits, edgebpf.ArgumentLength, edgebpf.WrongText), 422),
-    ((ValueError, TypeError, RecursionError, web.RequestPayloadError), 400),
+    ((ValueError, TypeError, RecursionError, web.RequestPayloadError), 400), (OSError, 503),
 ]
 ASK_AGAIN = {"Retry-After": "1"}
 TOKEN_SECONDS = 1.0
@@ -54,6 +54,8 @@ def answer_of(service, error):
         return made
     for kinds, status in ERRORS:
         if isinstance(error, kinds):
+            if kinds is OSError:
+                service.log("a request failed", error=f"{type(error).__name__}: {error}")
             return error_answer("BadRequest" if status == 400 else type(error).__name__, str(error), status)
     service.log("a request failed", error=f"{type(error).__name__}: {error}", trace=traceback.format_exc()[-4000:])
     return error_answer("Internal", "the service has a mistake here; its log says more", 500)
@@ -63,7 +65,7 @@ def allow(service, request, route):
     """The token of a request, if that may make it."""
     # Browsers let the page of another site post here, and name it.
     origin = request.headers.get("Origin")
-    if origin is not None and urllib.parse.urlsplit(origin).netloc != request.host:
+    if origin is not None and urllib.parse.urlsplit(origin).netloc != request.headers.get("Host", ""):
         raise web.HTTPForbidden(text="Origin: this page is not of this service")
     if route.role is None:
         return None
@@ -77,8 +79,17 @@ def allow(service, request, route):
 
 async def made(service, request, route):
     """The answer of a request."""
-    begun, protocol = time.monotonic(), request.protocol
-    service.under_way[protocol] = request, begun
+    begun = time.monotonic()
+    service.under_way[request.protocol] = request, begun
+    try:
+        response = await answered(service, request, route)
+    finally:
+        forget(service, request)
+    finish(service, route, response, time.monotonic() - begun)
+    return response
+
+
+async def answered(service, request, route):
     try:
         token = allow(service, request, route)
         response = await route.handler(service, request, token)
@@ -95,13 +106,17 @@ async def made(service, request, route):
         if request.transport is not None:
             request.transport.abort()
         response = response or web.Response(status=503)
-    del service.under_way[protocol]
-    if protocol in service.paused:
-        service.paused.remove(protocol)
-        if request.transport is not None:
-            protocol.resume_reading()
-    finish(service, route, response, time.monotonic() - begun)
     return response
+
+
+def forget(service, request):
+    """The request of a connection is no longer under way."""
+    del service.under_way[request.protocol]
+    service.body_bytes -= request.get("body", 0)
+    if request.protocol in service.paused:
+        service.paused.remove(request.protocol)
+        if request.transport is not None:
+            request.protocol.resume_reading()
 
 
 def finish(service, route, response, seconds):
@@ -220,6 +235,7 @@ async def serve(disk, options, log, begun=lambda service, server: None):
     server.close()
     service.closing.set()
     await under_way_ended(runner.server)
+    await runner.server.shutdown(LINGER_SECONDS)
     await runner.cleanup()
     for task in tasks:
         task.cancel()

@@ -2,7 +2,6 @@
 import argparse
 import asyncio
 import dataclasses
-import ipaddress
 import json
 import logging
 import os
@@ -16,6 +15,7 @@ from edgebpf_serve.backup import back_up, check, restore
 from edgebpf_serve.disk import NAME, Disk, Wrong
 from edgebpf_serve.limits import HELP, ROLES, TOKEN_LIMITS, WRONG_FOLDER, Options
 from edgebpf_serve.rows import Damaged
+from edgebpf_serve.service import is_near
 from edgebpf_serve.tokens import add, change, drop, read
 
 USAGE = """a graph over HTTP that keeps on disk what it acknowledged
@@ -104,17 +104,6 @@ def check_address(parser, options):
         parser.error(f"--listen is ADDRESS:PORT or unix:PATH, not {options.listen!r}")
 
 
-def is_near(options):
-    """Whether only this machine reaches the address."""
-    if options.listen.startswith("unix:"):
-        return True
-    host = options.listen.rpartition(":")[0].strip("[]")
-    try:
-        return host == "localhost" or ipaddress.ip_address(host).is_loopback
-    except ValueError:
-        return False
-
-
 def stop(words, status=WRONG_FOLDER):
     sys.stderr.write(f"edgebpf-serve: {words}\n")
     sys.exit(status)
@@ -125,7 +114,7 @@ def main_serve(words):
     begin_log()
     try:
         disk = Disk(options.data, options.vertices, reserve=options.reserve_bytes)
-        if not is_near(options) and not options.open and not read(disk.db):
+        if not is_near(options.listen) and not options.open and not read(disk.db):
             stop(f"{options.listen} is reached by other machines, and {options.data} has no tokens: make one by edgebpf-serve token, or say --open")
         asyncio.run(serve(disk, options, log))
     except Wrong as error:

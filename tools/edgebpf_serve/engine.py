@@ -369,5 +369,5 @@ class Engine:
                 row = self.disk.write_snapshot(moment.seq, *moment.version.share().csr())
             self.do(Task(lambda db: self.disk.enter_snapshot(row), entered,
                          lambda result: failed(result) if isinstance(result, Exception) else answer(result)))
-        except (OSError, Busy, Stopped) as error:
+        except Exception as error:
             failed(error)

@@ -37,6 +37,8 @@ REST = 3
 PAUSE_SECONDS = 0.05
 HEAD_SECONDS, BODY_SECONDS, UNREAD_SECONDS, SWEEP_SECONDS, IDLE_SECONDS = 10.0, 60.0, 60.0, 5.0, 75.0
 MOST_STEPS, MOST_REACHED = 64, 1_000_000
+# Numbers of edges in one answer, and bytes of the bodies of all requests under way.
+MOST_NUMBERS, MOST_BODY_BYTES = 1 << 22, 256 << 20
 MOST_PAGE, PAGE = 100_000, 10_000
 MOST_TEXT = 1 << 18
 # Files that are open beside connections.

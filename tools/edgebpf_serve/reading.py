@@ -10,7 +10,7 @@ from aiohttp import web
 from edgebpf_serve import asked as ask
 from edgebpf_serve.asked import Unfit
 from edgebpf_serve.graph import lists_of
-from edgebpf_serve.limits import MOST_PAGE, MOST_REACHED, MOST_STEPS, PAGE, PIECE, REMOVE
+from edgebpf_serve.limits import MOST_NUMBERS, MOST_PAGE, MOST_REACHED, MOST_STEPS, PAGE, PIECE, REMOVE
 from edgebpf_serve.service import answer
 
 FORMATS = ("json", "bytes", "lines")
@@ -179,6 +179,9 @@ async def numbers(service, request, token):
     if frontier is None:
         raise ValueError("frontier is a list of whole numbers")
     version = asked.moment.version
+    count = int(version.degrees(frontier).sum(dtype=np.int64))
+    if count > MOST_NUMBERS:
+        raise Unfit(f"the vertices of frontier have {count} edges, and an answer {MOST_NUMBERS} numbers at most")
     with under_way(service, token):
         work = version.begin_numbers(asked.kept.program, frontier, asked.argument, **asked.lent())
         await service.turns.finish(work, asked.kept.program, service.patience(request))

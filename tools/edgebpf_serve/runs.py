@@ -4,7 +4,7 @@ import concurrent.futures
 import select
 import time
 
-from edgebpf_serve.engine import Busy
+from edgebpf_serve.engine import Busy, Stopped
 from edgebpf_serve.limits import SHORT_BOUND, SMALL_UNITS
 
 MOST_WAITING = 64
@@ -58,8 +58,9 @@ class Turns:
 class Patience:
     """How long a request waits for its runs."""
 
-    def __init__(self, request, options, meter):
-        self.request, self.options, self.meter, self.end = request, options, meter, time.monotonic() + options.seconds
+    def __init__(self, service, request):
+        self.request, self.options, self.meter, self.closing = request, service.options, service.meter, service.closing
+        self.end = time.monotonic() + self.options.seconds
 
     def look(self, run):
         """Raises an error where a run has to end before it is done."""
@@ -70,6 +71,8 @@ class Patience:
         self.look_at_client()
 
     def look_at_client(self):
+        if self.closing.is_set():
+            raise Stopped("the service is ending")
         if has_gone(self.request):
             self.meter.ended.labels("client").inc()
             raise Gone

@@ -1,6 +1,7 @@
 """What the requests of a service share."""
 import asyncio
 import errno
+import ipaddress
 import json
 import threading
 import time
@@ -8,8 +9,8 @@ import time
 from aiohttp import web
 
 from edgebpf_serve.asked import number_of
-from edgebpf_serve.engine import Engine, NoRoom, Stopped
-from edgebpf_serve.limits import BODY_SECONDS
+from edgebpf_serve.engine import Busy, Engine, NoRoom, Stopped
+from edgebpf_serve.limits import BODY_SECONDS, MOST_BODY_BYTES
 from edgebpf_serve.metrics import Meter
 from edgebpf_serve.named import Columns, Programs
 from edgebpf_serve.runs import Patience, Turns
@@ -54,9 +55,9 @@ class Service:
         self.answers, self.wake = Answers(self.loop), asyncio.Event()
         self.programs, self.columns = Programs(disk, options.programs), Columns(disk, options.columns)
         self.engine = Engine(disk, options, self.meter, log, lambda: self.loop.call_soon_threadsafe(self.published))
-        self.tokens, self.turns, self.standing = Tokens(disk), Turns(options.readers, self.meter), {}
+        self.tokens, self.turns, self.standing = Tokens(disk, is_near(options.listen) or options.open), Turns(options.readers, self.meter), {}
         # Requests under way, with when they began, by their connection; and the connections of which nothing is read meanwhile.
-        self.under_way, self.paused = {}, set()
+        self.under_way, self.paused, self.body_bytes = {}, set(), 0
         self.meter.gauges(self._gauges())
 
     def _gauges(self):
@@ -107,7 +108,7 @@ class Service:
         return found
 
     def patience(self, request):
-        return Patience(request, self.options, self.meter)
+        return Patience(self, request)
 
     async def body(self, request, most=None):
         """The bytes of a request's body, which has so many at most, and has to come in time."""
@@ -117,11 +118,27 @@ class Service:
         if (request.content_length or 0) > most:
             raise web.HTTPRequestEntityTooLarge(most, request.content_length)
         if request.content.is_eof():
-            return await collected(request.content, most)
+            return await self._collected(request, most)
         try:
-            return await asyncio.wait_for(collected(request.content, most), BODY_SECONDS)
+            return await asyncio.wait_for(self._collected(request, most), BODY_SECONDS)
         except asyncio.TimeoutError:
             raise web.HTTPRequestTimeout(text=f"a body comes within {BODY_SECONDS:g} seconds") from None
+
+    async def _collected(self, request, most):
+        """The parts of a body. All bodies of requests under way have so many bytes at most."""
+        parts, size = [], 0
+        while not request.content.at_eof():
+            part = await request.content.readany()
+            parts.append(part)
+            size += len(part)
+            if size > most:
+                raise web.HTTPRequestEntityTooLarge(most, size)
+            if size != len(part) and self.body_bytes + len(part) > MOST_BODY_BYTES:
+                self.meter.refused.labels("bodies").inc()
+                raise Busy("the bodies of all requests take too much memory")
+            self.body_bytes += len(part)
+            request["body"] = size
+        return b"".join(parts)
 
     async def on_disk(self, function, *words):
         """What a function returns that writes files, called by another thread."""
@@ -142,22 +159,22 @@ class Service:
         self.engine.close()
 
 
-async def collected(content, most):
-    parts, size = [], 0
-    while not content.at_eof():
-        part = await content.readany()
-        parts.append(part)
-        size += len(part)
-        if size > most:
-            raise web.HTTPRequestEntityTooLarge(most, size)
-    return b"".join(parts)
-
-
 written = json.JSONEncoder(separators=(",", ":")).encode
 
 
 def answer(told, status=200, heads=None):
     return web.Response(body=written(told).encode(), status=status, headers=heads, content_type="application/json")
+
+
+def is_near(listen):
+    """Whether only this machine reaches an address."""
+    if listen.startswith("unix:"):
+        return True
+    host = listen.rpartition(":")[0].strip("[]")
+    try:
+        return host == "localhost" or ipaddress.ip_address(host).is_loopback
+    except ValueError:
+        return False
 
 
 def resident_bytes():

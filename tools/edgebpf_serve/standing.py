@@ -233,6 +233,9 @@ class Stream:
                 continue
             await self.send("changes", event.point, event.data)
             point = event.point
+        await self.end()
+
+    async def end(self):
         await self.response.write(b"event: end\ndata: {}\n\n")
 
 
@@ -245,7 +248,9 @@ async def watch(service, request, token):
         try:
             await stream.go(point, WatchPatience(service, request))
         except (Gone, ConnectionError):
-            pass
+            if service.closing.is_set():
+                with contextlib.suppress(ConnectionError):
+                    await stream.end()
         except Exception as error:
             # A column or the program was dropped, or memory ran out: the client is told, and asks again.
             told = json.dumps({"error": type(error).__name__, "words": str(error)})

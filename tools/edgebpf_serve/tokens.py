@@ -50,9 +50,10 @@ def read(db):
 
 
 class Tokens:
-    """The tokens of a folder, read again when another process changed them."""
+    """The tokens of a folder, read again when another process changed them. Without any, `is_open` says whether everybody may do all."""
 
-    def __init__(self, disk):
+    def __init__(self, disk, is_open):
+        self.is_open = is_open
         # Each commit of another connection changes this connection's number.
         self.db = sqlite3.connect(f"file:{disk.folder / 'serve.db'}?mode=ro", uri=True, isolation_level=None, check_same_thread=False)
         self.seen, self.of = None, {}
@@ -68,7 +69,7 @@ class Tokens:
 
     def of_request(self, request):
         """The token of a request; None if it has none that is known."""
-        if not self.of:
+        if not self.of and self.is_open:
             return ANYBODY
         words = request.headers.get("Authorization", "").split(" ", 1)
         return self.of.get(hash_of(words[1].strip())) if len(words) == 2 and words[0].lower() == "bearer" else None

@@ -8,6 +8,7 @@ from aiohttp import web
 from edgebpf_serve import asked as ask
 from edgebpf_serve.backup import back_up
 from edgebpf_serve.named import verified
+from edgebpf_serve.reading import under_way
 from edgebpf_serve.service import answer
 
 
@@ -52,6 +53,11 @@ async def drop_program(service, request, token):
 
 async def put_column(service, request, token):
     """Puts a column: bytes, or a list of numbers."""
+    with under_way(service, token):
+        return await put_numbers(service, request, token)
+
+
+async def put_numbers(service, request, token):
     name, count = ask.name_of(request.match_info["name"], "the name"), service.disk.vertices
     media, body = ask.media_of(request, ask.JSON, ask.BYTES), await service.body(request, max(service.options.body, 8 * count))
     if media == ask.BYTES:
