@@ -21,7 +21,7 @@ import edgebpf  # noqa: E402
 import numpy as np  # noqa: E402
 from edgebpf_serve.graph import Graph  # noqa: E402
 from edgebpf_serve.limits import REMOVE, Options  # noqa: E402
-from edgebpf_serve.named import verified  # noqa: E402
+from edgebpf_serve.named import Source, verified  # noqa: E402
 from edgebpf_serve.standing import Point, Query, Standing  # noqa: E402
 
 VERTICES, BATCHES = 40, 5
@@ -84,7 +84,7 @@ class History:
 
 
 def one_program(chance, history, counts):
-    kept = verified("p", "text", random_program(chance).encode(), 16, b"")
+    kept = verified("p", Source(16, "text", random_program(chance).encode(), b""))
     reduction = chance.choice(["sum", "min", "max"])
     standing = Standing(None, Query("p", reduction, b"", ()), kept)
     for _ in range(3):
@@ -96,7 +96,7 @@ def one_program(chance, history, counts):
         differ = np.flatnonzero(old != new)
         missed = [] if asked is None else np.setdiff1d(differ, asked)
         if len(missed):
-            sys.exit(f"standing_rows: {kept.asks}: rows {missed.tolist()} changed and are not asked for: {kept.body.decode()!r}")
+            sys.exit(f"standing_rows: {kept.asks}: rows {missed.tolist()} changed and are not asked for: {kept.source.body.decode()!r}")
         counts[kept.asks] += 1
         counts["rows that changed"] += len(differ)
         counts["rows asked"] += VERTICES if asked is None else len(asked)

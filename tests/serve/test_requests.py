@@ -1,11 +1,13 @@
 """Each request of a service: its answers against the model, its wrong forms, tokens and their limits, backups, and its end."""
 import concurrent.futures
+import contextlib
 import http.client
 import json
 import os
 import pathlib
 import signal
 import socket
+import sqlite3
 import struct
 import subprocess
 import sys
@@ -18,9 +20,9 @@ sys.path.insert(0, str(HERE))
 
 from harness import TOOLS, Client, Error, Forks, folder, missing, served  # noqa: E402
 from model import KINDS, Graph, random_edits, seeded, table_of  # noqa: E402
+from wrong_forms import VERTICES, WRONG_FORMS  # noqa: E402
 
 MISSING = missing()
-VERTICES = 60
 # A program that takes some 0.4 ms an edge, and one that takes as long as it may.
 SLOW = "mov r0, 0\n" + "add r0, 1\n" * 4000 + "exit"
 ENDLESS = "\n".join(["mov r6, 0", *["mov r1, 7\nmov r2, 0\nmov r3, r10\nadd r3, -256\nmov r4, 256\ncall 5"] * 600, "exit"])
@@ -229,7 +231,8 @@ class Watch(WithService):
 
     def test_tables_of_all_kinds(self):
         for mirror in (False, True):
-            with self.subTest(mirror=mirror), folder() as place, served(self.forks, data=str(place), vertices=VERTICES, mirror=mirror, scan_seconds=0.0) as client:
+            options = {"vertices": VERTICES, "mirror": mirror, "scan_seconds": 0.0}
+            with self.subTest(mirror=mirror), folder() as place, served(self.forks, data=str(place), **options) as client:
                 self.watch_all(client)
 
     def watch_all(self, client):
@@ -334,7 +337,7 @@ class WrongForms(WithService):
         with self.served() as client:
             client.batch([(0, 1)])
             client.program("target", KINDS["target"].text)
-            for method, path, body, heads, status, word in wrong_forms():
+            for method, path, body, heads, status, word in WRONG_FORMS:
                 with self.subTest(path=path, body=body):
                     refused = self.refused(status, client.once, method, path, body, heads)
                     self.assertIn(word, refused.words)
@@ -344,60 +347,6 @@ class WrongForms(WithService):
         with self.served(body=1 << 16) as client:
             self.refused(413, client.batch, b"\0" * (1 << 17))
             self.refused(413, client.once, "POST", "/runs", b"\0" * (1 << 17))
-
-
-def wrong_forms():
-    """(method, path, body, heads, status, a word of the answer) of requests with a wrong form."""
-    def batch(edits, status=400, word="edit"):
-        return "POST", "/batches", {"edits": edits}, {}, status, word
-
-    def run(fields, status=400, word="", path="/runs"):
-        return "POST", path, {"program": "target", **fields}, {}, status, word
-
-    text = {"Content-Type": "text/plain"}
-    return [
-        batch(5), batch([5]), batch([[0]]), batch([[0, 1, 2]]), batch([[0, 1, 1, 1]]), batch([[0.0, 1]]), batch([["0", 1]]), batch([[True, 1]]),
-        batch([[0, None]]), batch({}), batch(None), batch([[0, VERTICES]], 422), batch([[-1, 0]], 422), batch([[0, 2**70]], 422),
-        batch([[0, 1]] * 65_537, 422, "65536"),
-        ("POST", "/batches", {"edits": [], "feed": "A"}, {}, 400, "feed"), ("POST", "/batches", {}, {}, 400, "edits"),
-        ("POST", "/batches", b"\0" * 9, {}, 400, "8 bytes"), ("POST", "/batches", struct.pack("<2I", VERTICES, 0), {}, 422, "edits"),
-        ("POST", "/batches", b"{", {"Content-Type": "application/json"}, 400, "JSON"),
-        ("POST", "/batches", b"[" * 100_000, {"Content-Type": "application/json"}, 400, "JSON"),
-        ("POST", "/batches", b'{"edits": []}', text, 415, "Content-Type"),
-        ("POST", "/batches", {"edits": []}, {"Idempotency-Key": "a b"}, 400, "Idempotency-Key"),
-        ("POST", "/batches", {"edits": []}, {"Idempotency-Key": "k" * 129}, 400, "Idempotency-Key"),
-        ("POST", "/batches", {"edits": []}, {"Content-Encoding": "gzip"}, 415, "Content-Encoding"),
-        ("POST", "/batches", {"edits": []}, {"Origin": "http://elsewhere.example"}, 403, "Origin"),
-        run({"reduction": "mean"}, 400, "reduction"), run({"frontier": 5}, 400, "frontier"), run({"frontier": [VERTICES]}, 422, "frontier"),
-        run({"frontier": [1.0]}, 400, "frontier"), run({"argument": "zz"}, 400, "argument"), run({"argument": "00"}, 422, "argument"),
-        run({"columns": "risk"}, 400, "columns"), run({"columns": ["risk"]}, 404, "risk"), run({"columns": ["-"]}, 400, "columns"),
-        run({"program": "none"}, 404, "none"), run({"program": 5}, 400, "program"), run({"program": ""}, 400, "program"), run({"vertices": []}, 400, "vertices"),
-        run({}, 400, "format", "/runs?format=xml"), run({"frontier": []}, 410, "version 99", "/runs?version=99"),
-        run({}, 400, "version", "/runs?version=-1"), run({}, 400, "frontier", "/numbers"), run({"pairs": [[0]]}, 400, "pairs", "/pairs"),
-        run({"pairs": [[0, VERTICES]]}, 422, "pairs", "/pairs"), run({"pairs": 1}, 400, "pairs", "/pairs"),
-        ("POST", "/runs?program=target", b"\0" * 3, {}, 400, "4 bytes"), ("POST", "/pairs?program=target", b"\0" * 4, {}, 400, "8 bytes"),
-        ("POST", "/programs", {"name": "x", "text": "exit", "code": ""}, {}, 400, "text or code"), ("POST", "/programs", {"name": "x"}, {}, 400, "text or code"),
-        ("POST", "/programs", {"name": "-", "text": "exit"}, {}, 400, "name"), ("POST", "/programs", {"name": "x", "text": 5}, {}, 400, "text"),
-        ("POST", "/programs", {"name": "x", "text": "exit", "record": 15}, {}, 400, "record"),
-        ("POST", "/programs", {"name": "x", "text": "exit", "record": "16"}, {}, 400, "record"),
-        ("POST", "/programs", {"name": "x", "text": "fly r0\nexit"}, {}, 422, "line 1"), ("POST", "/programs", {"name": "x", "text": "ä"}, {}, 400, "ASCII"),
-        ("POST", "/programs", {"name": "x", "code": "95"}, {}, 400, "code"), ("POST", "/programs", {"name": "x", "code": "zz"}, {}, 400, "code"),
-        ("POST", "/programs", {"name": "x", "text": "mov r0, 1\nexit", "table": "00" * 4097}, {}, 400, "table"),
-        ("DELETE", "/programs/none", None, {}, 404, "none"), ("GET", "/programs/none", None, {}, 404, "none"),
-        ("PUT", "/columns/risk", b"\0" * 8, {}, 422, "column"), ("PUT", "/columns/-", b"\0" * 8 * VERTICES, {}, 400, "name"),
-        ("PUT", "/columns/risk", {"numbers": [1]}, {}, 422, "numbers"), ("PUT", "/columns/risk", {"numbers": [2**64] * VERTICES}, {}, 400, "numbers"),
-        ("PUT", "/columns/risk", {"numbers": [-1] * VERTICES}, {}, 400, "numbers"), ("PUT", "/columns/risk", {}, {}, 400, "numbers"),
-        ("GET", "/columns/risk", None, {}, 404, "risk"), ("DELETE", "/columns/risk", None, {}, 404, "risk"),
-        ("GET", f"/neighbours/{VERTICES}", None, {}, 422, "vertex"), ("GET", "/neighbours/x", None, {}, 400, "vertex"),
-        ("GET", "/neighbours/" + "9" * 30, None, {}, 400, "vertex"), ("GET", "/neighbours/0?limit=x", None, {}, 400, "limit"),
-        ("GET", "/neighbours/0?direction=up", None, {}, 400, "direction"), ("GET", "/neighbours/0?direction=in", None, {}, 422, "--mirror"),
-        ("POST", "/expand", {}, {}, 400, "vertices"), ("POST", "/expand", {"vertices": [0], "steps": 65}, {}, 400, "steps"),
-        ("POST", "/expand", {"vertices": [0], "limit": -1}, {}, 400, "limit"), ("GET", "/edges?version=9", None, {}, 410, "version 9"),
-        ("GET", "/changes?after=x", None, {}, 400, "after"), ("GET", "/watch", None, {}, 400, "program"), ("GET", "/watch?program=none", None, {}, 404, "none"),
-        ("GET", "/watch?program=target&reduction=x", None, {}, 400, "reduction"), ("GET", "/watch?program=target&argument=00", None, {}, 422, "argument"),
-        ("GET", "/watch?program=target&columns=risk", None, {}, 404, "risk"), ("GET", "/watch?program=target", None, {"Last-Event-ID": "x"}, 400, "Last-Event-ID"),
-        ("POST", "/backups", {"name": "../x"}, {}, 400, "name"), ("GET", "/none", None, {}, 404, ""), ("PUT", "/batches", {}, {}, 405, ""),
-    ]
 
 
 class Limits(WithService):
@@ -443,7 +392,8 @@ class Limits(WithService):
             client.batch([(u, v) for u in range(VERTICES) for v in range(VERTICES)])
             for name, text in (("endless", ENDLESS), ("target", KINDS["target"].text), ("slow", SLOW)):
                 client.program(name, text)
-            long = threading.Thread(target=lambda: self.refused(503, Client(client.url, tries=1).run, "endless", frontier=list(range(VERTICES)) * 5_000))
+            frontier, other = list(range(VERTICES)) * 5_000, Client(client.url, tries=1)
+            long = threading.Thread(target=lambda: self.refused(503, other.run, "endless", frontier=frontier))
             long.start()
             time.sleep(0.3)
             taken = []
@@ -453,7 +403,8 @@ class Limits(WithService):
                 client.batch([(number, number, 1)])
                 taken.append(time.monotonic() - begun)
             long.join()
-            self.assertLess(max(taken), 1.0)
+            # Other processes may have the machine for some of them.
+            self.assertLess(sorted(taken)[len(taken) // 2], 0.3)
 
     def test_a_queue_that_is_full(self):
         with self.served(queue_batches=1, group_batches=1) as client:
@@ -549,7 +500,8 @@ class Tokens(WithService):
             self.assertIn(429, found)
             events = mine.watch("endless")
             threading.Thread(target=lambda: next(events, None), daemon=True).start()
-            long = threading.Thread(target=lambda: self.status_of(lambda: Client(client.url, token=secret, tries=1).run("endless", frontier=list(range(VERTICES)) * 3_000)))
+            frontier, other = list(range(VERTICES)) * 3_000, Client(client.url, token=secret, tries=1)
+            long = threading.Thread(target=lambda: self.status_of(lambda: other.run("endless", frontier=frontier)))
             long.start()
             time.sleep(0.5)
             self.assertEqual(self.refused(429, mine.run, "endless", frontier=[0]).error, "TooFast")
@@ -634,8 +586,12 @@ class Folders(WithService):
     def test_another_format(self):
         with self.served():
             pass
-        script = "import sys; sys.path.insert(0, sys.argv[1]); from edgebpf_serve import rows; import sqlite3; db = sqlite3.connect(sys.argv[2]); rows.set_meta(db, 'format', 2); db.commit()"
-        subprocess.run(["/usr/bin/python3", "-c", script, TOOLS, self.data / "serve.db"], check=True)
+        sys.path.insert(0, str(TOOLS))
+        from edgebpf_serve import rows
+
+        with contextlib.closing(sqlite3.connect(self.data / "serve.db")) as db:
+            rows.set_meta(db, "format", 2)
+            db.commit()
         run = self.tool("check", self.data)
         self.assertEqual((run.returncode, "format 2" in run.stderr), (2, True), run.stderr)
 
@@ -672,7 +628,8 @@ class Ends(WithService):
             told = client.json("GET", "/openapi.json")
             self.assertIn("/batches", told["paths"])
             text = client.ask("GET", "/metrics")[1].decode()
-            for line in ("edgebpf_version 1.0", "edgebpf_edges 1.0", "edgebpf_sync_seconds_count 1.0", 'edgebpf_requests_total{route="/batches",status="200"} 1.0'):
+            counted = 'edgebpf_requests_total{route="/batches",status="200"} 1.0'
+            for line in ("edgebpf_version 1.0", "edgebpf_edges 1.0", "edgebpf_sync_seconds_count 1.0", counted):
                 self.assertIn(line, text)
             self.assertIn(b"<svg", client.ask("GET", "/")[1])
 

@@ -11,7 +11,8 @@ import numpy as np
 
 from edgebpf_serve.disk import transaction
 from edgebpf_serve.limits import (
-    AGAIN_SECONDS, BEAT_SECONDS, BLOCK_BYTES, BLOCK_VERTICES, BLOCKS_LOOKED_AT, COPIED_EDGES, CUT_ROWS, CUT_SECONDS, MOST_CHANGED, MOST_GROUPS, MOST_KEPT_VERSIONS, REMOVE, WRONG_DISK,
+    AGAIN_SECONDS, BEAT_SECONDS, BLOCK_BYTES, BLOCK_VERTICES, BLOCKS_LOOKED_AT, COPIED_EDGES, CUT_ROWS, CUT_SECONDS, MOST_CHANGED, MOST_GROUPS,
+    MOST_KEPT_VERSIONS, REMOVE, WRONG_DISK,
 )
 from edgebpf_serve.recovery import recover
 from edgebpf_serve.rows import digest_of

@@ -24,28 +24,37 @@ class TooMany(Exception):
     """This token has as many as it may, or the service has."""
 
 
+class Source(typing.NamedTuple):
+    """What a program is made of. `form` is "text" or "code", and `body` the bytes of that."""
+
+    record: int
+    form: str
+    body: bytes
+    table: bytes
+
+
 class Kept(typing.NamedTuple):
-    """A program under its name. `asks` is "own", "target" or "all": which vertices it asks the graph about. `form` is "text" or "code"."""
+    """A program under its name. `asks` is "own", "target" or "all": which vertices it asks the graph about."""
 
     name: str
     program: edgebpf.Program
     asks: str
-    form: str
-    body: bytes
+    source: Source
     owner: str
 
     def row(self):
-        return self.name, self.program.record, self.form, self.body, self.program.table, self.owner
+        return self.name, *self.source, self.owner
 
     def about(self):
         program = self.program
         return {"name": self.name, "record": program.record, "bound": program.bound, "frames": program.frames, "asks": self.asks, "owner": self.owner}
 
 
-def verified(name, form, body, record, table, owner=""):
+def verified(name, source, owner=""):
     """A program that the verifier has accepted. Raises what the package raises."""
+    record, form, body, table = source
     program = edgebpf.assemble(body.decode("utf-8", "surrogatepass"), record, table) if form == "text" else edgebpf.Program(body, record, table)
-    return Kept(name, program, asks_of(program._bytes()), form, body, owner)
+    return Kept(name, program, asks_of(program._bytes()), source, owner)
 
 
 class Programs:
@@ -54,8 +63,8 @@ class Programs:
     def __init__(self, disk, most):
         self.most, self.of = most, {}
         try:
-            for name, record, form, body, table, owner in rows.read(disk.db, "programs"):
-                self.of[name] = verified(name, form, body, record, table, owner)
+            for name, *source, owner in rows.read(disk.db, "programs"):
+                self.of[name] = verified(name, Source(*source), owner)
         except (Damaged, edgebpf.Error, ValueError) as error:
             raise Wrong(f"{disk.folder}: programs: {error}") from None
 
@@ -70,7 +79,7 @@ class Programs:
         def write(db):
             old = self.of.get(kept.name)
             if old is not None:
-                if (old.form, old.body, old.program.record, old.program.table) != (kept.form, kept.body, kept.program.record, kept.program.table):
+                if old.source != kept.source:
                     raise Conflict(f"another program has the name {kept.name}")
                 return old, False
             refuse_more(self.of.values(), kept.owner, self.most, most_of_owner, "programs")

@@ -347,8 +347,9 @@ async def all_programs(service, request, token):
 
 async def one_program(service, request, token):
     kept = service.programs.get(ask.name_of(request.match_info["name"], "the name"))
-    told = {"text": kept.body.decode()} if kept.form == "text" else {"code": kept.body.hex()}
-    return answer({**kept.about(), **told, "table": kept.program.table.hex()})
+    record, form, body, table = kept.source
+    told = {"text": body.decode()} if form == "text" else {"code": body.hex()}
+    return answer({**kept.about(), **told, "table": table.hex()})
 
 
 async def all_columns(service, request, token):

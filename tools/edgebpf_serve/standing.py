@@ -55,7 +55,7 @@ class Standing:
     def now(self, moment=None):
         """The point of a version, or of the last one, with the columns as they are."""
         moment, columns = moment or self.service.engine.latest, tuple(self.service.columns.get(name) for name in self.query.columns)
-        asked = *self.kept.row()[1:5], self.query.reduction, self.query.argument, *(column.seq for column in columns)
+        asked = *self.kept.source, self.query.reduction, self.query.argument, *(column.seq for column in columns)
         return Point(moment, columns, f"{moment.seq}-{sum_of(*asked):08x}")
 
     async def event_after(self, point, patience):

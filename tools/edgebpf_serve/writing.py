@@ -7,7 +7,7 @@ from aiohttp import web
 
 from edgebpf_serve import asked as ask
 from edgebpf_serve.backup import back_up
-from edgebpf_serve.named import verified
+from edgebpf_serve.named import Source, verified
 from edgebpf_serve.reading import under_way
 from edgebpf_serve.service import answer
 
@@ -25,7 +25,7 @@ async def keep_program(service, request, token):
     name, record, table = ask.name_of(asked.get("name"), "name"), ask.whole_of(asked, "record", 16, 1 << 16), ask.hex_of(asked, "table")
     form, body = form_of(asked)
     try:
-        kept = await service.turns.call(verified, name, form, body, record, table, token.name)
+        kept = await service.turns.call(verified, name, Source(record, form, body, table), token.name)
     except edgebpf.Refused as refused:
         told = {"error": "Refused", "cause": refused.cause, "unit": refused.unit, "words": refused.words}
         return answer(told, 422)
