@@ -13,11 +13,11 @@ import zlib
 import numpy as np
 
 from edgebpf_serve import rows
-from edgebpf_serve.limits import EDIT_BYTES, FIRST_VERTICES, FORMAT, MOST_IDS
+from edgebpf_serve.limits import CUT_BYTES, CUT_ROWS, EDIT_BYTES, FIRST_VERTICES, FORMAT, MOST_IDS, SYNCED_BYTES
 from edgebpf_serve.rows import Damaged, checked, digest_of
 
 NAME = "serve.db"
-PRAGMAS = ("journal_mode=wal", "synchronous=full", "wal_autocheckpoint=2000", "journal_size_limit=67108864", "busy_timeout=10000")
+PRAGMAS = ("journal_mode=wal", "synchronous=full", "wal_autocheckpoint=500", "journal_size_limit=67108864", "busy_timeout=10000")
 LAST = struct.Struct("<QI")
 
 
@@ -136,10 +136,17 @@ class Disk:
                 raise Damaged(f"the result of batch {first + place} is missing")
         return found
 
-    def cut(self, seq, most):
-        """Deletes some batches up to a number, within a transaction, and returns how many."""
-        chosen = "select seq from journal where seq <= ? order by seq limit ?"
-        return self.db.execute(f"delete from journal where seq in ({chosen})", (seq, most)).rowcount
+    def cut(self, seq):
+        """Deletes the first batches up to a number, within a transaction, but not so many that writers wait long. Returns whether all are gone."""
+        last, size, is_all = 0, 0, True
+        for last, length in self.db.execute("select seq, length(edits) from journal where seq <= ? order by seq limit ?", (seq, CUT_ROWS)):
+            size += length
+            if size > CUT_BYTES:
+                break
+        if last:
+            self.db.execute("delete from journal where seq <= ?", (last,))
+            is_all = self.first_batch() is None or self.first_batch() > seq
+        return is_all
 
     # Snapshots
 
@@ -150,8 +157,12 @@ class Disk:
         with replaced(self.folder / name) as file:
             for array in (starts.astype("<i8", copy=False), targets.astype("<u4", copy=False)):
                 data = memoryview(array).cast("B") if len(array) else b""
-                file.write(data)
                 number = zlib.crc32(data, number)
+                # A sync of the journal may have to wait for what lies unsynced here.
+                for place in range(0, len(data), SYNCED_BYTES):
+                    file.write(data[place:place + SYNCED_BYTES])
+                    file.flush()
+                    os.fdatasync(file.fileno())
         return seq, name, len(targets), number
 
     def enter_snapshot(self, row):

@@ -11,7 +11,7 @@ import numpy as np
 
 from edgebpf_serve.disk import transaction
 from edgebpf_serve.limits import (
-    AGAIN_SECONDS, BEAT_SECONDS, BLOCK_BYTES, BLOCK_VERTICES, BLOCKS_LOOKED_AT, COPIED_EDGES, CUT_ROWS, CUT_SECONDS, MOST_CHANGED, MOST_GROUPS,
+    AGAIN_SECONDS, BEAT_SECONDS, BLOCK_BYTES, BLOCK_VERTICES, BLOCKS_LOOKED_AT, COPIED_EDGES, CUT_SECONDS, MOST_CHANGED, MOST_GROUPS,
     MOST_KEPT_VERSIONS, REMOVE, WRONG_DISK,
 )
 from edgebpf_serve.recovery import recover
@@ -287,7 +287,7 @@ class Engine:
                 db.execute("rollback to task")
                 entry[2] = error
             db.execute("release task")
-        if self.cut_to and self.disk.cut(self.cut_to, CUT_ROWS) < CUT_ROWS:
+        if self.cut_to and self.disk.cut(self.cut_to):
             self.cut_to = 0
 
     def _refuse(self, group, error):

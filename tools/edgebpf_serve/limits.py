@@ -18,8 +18,10 @@ COLUMN_NUMBER_BYTES = 8
 SMALL_UNITS, SHORT_BOUND = 100_000, 1_500
 # So many numbers of an answer are turned into text at once: others wait meanwhile.
 PIECE = 8_192
-# Rows of the journal that one commit deletes, when a snapshot has made them superfluous.
-CUT_ROWS = 500
+# So much of a snapshot is written between two syncs.
+SYNCED_BYTES = 1 << 20
+# Rows of the journal that one commit deletes, when a snapshot has made them superfluous, and their bytes.
+CUT_ROWS, CUT_BYTES = 500, 1 << 20
 CUT_SECONDS, BEAT_SECONDS = 0.05, 1.0
 # Seconds after which a snapshot or a reserve that failed is tried again.
 AGAIN_SECONDS = 30.0
