@@ -11,7 +11,7 @@ from harness import Client, Error, NoAnswer, require
 from model import KINDS, Graph, random_edits, seeded, table_of
 
 VERTICES, IDS = 60, 400
-WRITERS, OLD_BATCHES, MOST_EDITS = 4, 8, 40
+WRITERS, READERS, OLD_BATCHES, MOST_EDITS = 4, 2, 8, 40
 # Limits so small that each life sees rebases and snapshots.
 OPTIONS = {"vertices": VERTICES, "mirror": True, "rebase_batches": 7, "snapshot_batches": 30, "kept_bytes": 1 << 20, "group_batches": 8, "scan_seconds": 0.01}
 WATCHED = ("target", "mutual", "next")
@@ -45,7 +45,8 @@ class Life:
         return Client(f"http://127.0.0.1:{self.port}", timeout=20, tries=1)
 
     def begin(self):
-        jobs = [*(lambda n=n: self.write(n) for n in range(WRITERS)), self.read, self.administer, *(lambda k=k: self.subscribe(k) for k in WATCHED)]
+        jobs = [*(lambda n=n: self.write(n) for n in range(WRITERS)), *(lambda n=n: self.read(n) for n in range(READERS)), self.administer]
+        jobs += [lambda k=k: self.subscribe(k) for k in WATCHED]
         self.threads = [threading.Thread(target=self._attempt, args=(job,)) for job in jobs]
         for thread in self.threads:
             thread.start()
@@ -88,15 +89,15 @@ class Life:
             # Disks of machines are of many speeds.
             time.sleep(chance.random() * 0.01)
 
-    def read(self):
-        chance, client = self.chance("read"), self.client()
+    def read(self, number):
+        chance, client = self.chance("read", number), self.client()
         while not self.ending.is_set():
             kind, reduction = chance.choice(list(self.world.programs)), chance.choice(["sum", "min", "max"])
             frontier = chance.sample(range(VERTICES), 3)
             argument = (5).to_bytes(8, "little") if kind == "argument" else b""
             told = client.run(kind, reduction, frontier, argument)
             self.reads.append((told["version"], kind, reduction, frontier, told["values"]))
-            time.sleep(0.003)
+            time.sleep(0.001)
 
     def administer(self):
         """Columns, snapshots, and programs that come and go."""

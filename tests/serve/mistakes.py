@@ -22,7 +22,8 @@ def before_rows(act):
     def changed(self, news, tasks):
         if news:
             act(self, news, branched(self.graph))
-            time.sleep(0.002)
+            # As long as a disk may take for a sync.
+            time.sleep(0.01)
         write(self, news, tasks)
 
     engine.Engine._write_rows = changed

@@ -61,17 +61,26 @@ class Edges:
         return np.concatenate(([0], np.cumsum(rows.sum(axis=1, dtype=np.int64)))), np.concatenate([np.flatnonzero(row) for row in rows])
 
 
-def random_edits(chance, count):
-    edits = np.array([(chance.randrange(VERTICES), chance.randrange(VERTICES)) for _ in range(count)], np.uint32)
-    edits[:, 0] |= np.array([chance.random() < 0.5 for _ in edits], np.uint32) << np.uint32(31)
-    return edits
+def random_edits(chance, pool, count):
+    """As many edges that come as go, once there are some: `pool` has those that are there."""
+    edits = []
+    for number in range(count):
+        if number % 2 and pool:
+            place = chance.randrange(len(pool))
+            pool[place], pool[-1] = pool[-1], pool[place]
+            source, target = pool.pop()
+            edits.append((source | REMOVE, target))
+        else:
+            pool.append((chance.randrange(VERTICES), chance.randrange(VERTICES)))
+            edits.append(pool[-1])
+    return np.array(edits, np.uint32)
 
 
-def feed(engine, edges, options):
+def feed(engine, edges, pool, options):
     """Has so many batches applied, and prints what memory and files they take."""
     chance, answers, under_way, begun = random.Random(options.seed), queue.SimpleQueue(), 0, time.perf_counter()
     for number in range(1, options.batches + 1):
-        edits = random_edits(chance, EDITS)
+        edits = random_edits(chance, pool, EDITS)
         edges.apply(edits)
         engine.submit(f"id{number}", edits, answers.put)
         under_way += 1
@@ -109,12 +118,12 @@ def main():
             engine = Engine(Disk(limits.data, VERTICES), limits, Meter(), log)
             engine.start()
             if life == 0:
-                first = random_edits(random.Random(0), EDGES)
-                first[:, 0] &= ~np.uint32(REMOVE)
-                for part in np.array_split(first, 16):
+                chance = random.Random(0)
+                pool = [(chance.randrange(VERTICES), chance.randrange(VERTICES)) for _ in range(EDGES)]
+                for part in np.array_split(np.array(pool, np.uint32), 16):
                     edges.apply(part)
                     engine.submit(None, part, lambda answer: None)
-                feed(engine, edges, options)
+                feed(engine, edges, pool, options)
                 longest = engine.meter.longest
             check(engine, edges)
             engine.close()
