@@ -1,5 +1,5 @@
 #!/usr/bin/env python3
-"""Draws the pictures of docs/ by headless Chromium: `edgebpf-explain --html` of a program that is refused, and the page of examples/service.
+"""Draws the pictures of docs/ by headless Chromium: `edgebpf-explain --html` of a program that is refused, and the page of edgebpf-serve.
 
     tools/dev/make_pictures.py             draws them
     tools/dev/make_pictures.py --compare   draws them elsewhere, and compares: the same size, and few other points, since fonts differ
@@ -9,7 +9,6 @@ import json
 import pathlib
 import random
 import shutil
-import signal
 import subprocess
 import sys
 import tempfile
@@ -51,7 +50,8 @@ def explained(browser, picture):
 
 
 def post(path, body):
-    request = urllib.request.Request(f"http://127.0.0.1:{PORT}{path}", json.dumps(body).encode(), method="POST")
+    heads = {"Content-Type": "application/json"}
+    request = urllib.request.Request(f"http://127.0.0.1:{PORT}{path}", json.dumps(body).encode(), heads, method="POST")
     urllib.request.urlopen(request).read()
 
 
@@ -67,14 +67,18 @@ def wait_for(server):
 
 
 def served(browser, picture):
-    words = [sys.executable, TOP / "examples" / "service" / "server.py", "--vertices", "200", "--port", str(PORT)]
-    with subprocess.Popen(words) as server:
-        wait_for(server)
-        chance = random.Random(3)
-        post("/programs", {"name": "degree", "text": "mov r0, 1\nexit"})
-        post("/batches", {"inserts": [[int(200 * chance.random() ** 3), chance.randrange(200)] for _ in range(2500)]})
-        screenshot(browser, f"http://127.0.0.1:{PORT}/", picture, "900,640")
-        server.send_signal(signal.SIGINT)
+    with tempfile.TemporaryDirectory() as folder:
+        words = [TOP / "tools" / "edgebpf-serve", "--data", folder, "--vertices", "200", "--listen", f"127.0.0.1:{PORT}", "--reserve-bytes", "0"]
+        server = subprocess.Popen(words, stderr=subprocess.DEVNULL)
+        try:
+            wait_for(server)
+            chance = random.Random(3)
+            post("/programs", {"name": "degree", "text": "mov r0, 1\nexit"})
+            post("/batches", {"edits": [[int(200 * chance.random() ** 3), chance.randrange(200)] for _ in range(2500)]})
+            screenshot(browser, f"http://127.0.0.1:{PORT}/", picture, "900,640")
+        finally:
+            server.terminate()
+            server.wait()
 
 
 def is_like(picture, kept):

@@ -1,9 +1,11 @@
-"""Whether a program asks the graph only about the source of its own edge: a walk over its code."""
+"""Whether a program asks the graph only about the source of its own edge, or only about both its ends: a walk over its code."""
 import struct
 
 # What a register holds. A number N means the record's address plus N, and None means anything.
-SOURCE, STACK = "the edge's source", "an address in the stack"
-SOURCE_BYTES = 4
+SOURCE, TARGET, STACK = "the edge's source", "the edge's target", "an address in the stack"
+# The ends of the edge that a program may ask about, by where the record has them, each in so many bytes.
+OWN, BOTH = {0: SOURCE}, {0: SOURCE, 4: TARGET}
+END_BYTES = 4
 COUNT_VERTICES, GATHER = 4, 5
 KNOWN_HELPERS = range(1, 6)
 
@@ -13,19 +15,27 @@ class NotSeen(Exception):
 
 
 def asks_of_others(code):
-    """False only if no run of the code, once a verifier accepted it, asks about another vertex than its edge's source.
+    """False only if no run of the code, once a verifier accepted it, asks about another vertex than its edge's source."""
+    return asks_of(code) != "own"
+
+
+def asks_of(code):
+    """Which vertices runs of the code ask about, once a verifier accepted it: "own" is the edge's source alone, "target" its source and its
+    target alone, and "all" may be any.
 
     The walk goes through the instructions in their order, as jumps and calls only go forward in accepted code. It begins with the
-    record's address in r1, and takes four bytes that are loaded from there for the source. A store that may change these
-    bytes ends the walk. Accepted code reaches by an address that it made of r10 nothing but the stack."""
-    try:
-        _walk(code)
-    except NotSeen:
-        return True
-    return False
+    record's address in r1, and takes four bytes that are loaded from there for the source, and the next four for the target. A store that
+    may change these bytes ends the walk. Accepted code reaches by an address that it made of r10 nothing but the stack."""
+    for answer, ends in (("own", OWN), ("target", BOTH)):
+        try:
+            _walk(code, ends)
+        except NotSeen:
+            continue
+        return answer
+    return "all"
 
 
-def _walk(code):
+def _walk(code, ends):
     if not code or len(code) % 8:
         raise NotSeen
     units = len(code) // 8
@@ -35,14 +45,14 @@ def _walk(code):
     for pc in range(units):
         if pc not in known:
             continue
-        for target, registers in _ways(code, pc, known.pop(pc)):
+        for target, registers in _ways(code, pc, known.pop(pc), ends):
             if not pc < target < units:
                 raise NotSeen
             other = known.get(target, registers)
             known[target] = [mine if mine == its else None for mine, its in zip(registers, other)]
 
 
-def _ways(code, pc, registers):
+def _ways(code, pc, registers, ends):
     """The places where a run may go on after an instruction, with what the registers hold there."""
     opcode, both, offset, immediate = struct.unpack_from("<BBhi", code, 8 * pc)
     destination, source = both & 15, both >> 4
@@ -50,7 +60,7 @@ def _ways(code, pc, registers):
         raise NotSeen
     kind = opcode & 7
     if opcode == 0x85:
-        return _called(pc, registers, source, immediate)
+        return _called(pc, registers, (source, immediate), ends)
     if kind in (5, 6):
         return _jumped(pc, opcode, registers, offset, immediate)
     behind = registers[:]
@@ -61,10 +71,9 @@ def _ways(code, pc, registers):
         return [(pc + 2, behind)]
     elif kind == 1 and opcode >> 5 in (3, 4):
         base = registers[source]
-        is_source = opcode == 0x61 and isinstance(base, int) and base + offset == 0
-        behind[destination] = SOURCE if is_source else None
+        behind[destination] = ends.get(base + offset) if opcode == 0x61 and isinstance(base, int) else None
     elif kind in (2, 3) and opcode >> 5 == 3:
-        _keeps_source(registers[destination], offset)
+        _keeps_ends(registers[destination], offset, ends)
     else:
         raise NotSeen
     return [(pc + 1, behind)]
@@ -78,17 +87,18 @@ def _jumped(pc, opcode, registers, offset, immediate):
     return [(pc + 1, registers), (pc + 1 + offset, registers)]
 
 
-def _called(pc, registers, kind, immediate):
+def _called(pc, registers, callee, ends):
     """A call of a function of the program, or of a helper. Both leave r1 to r5 unset."""
+    kind, immediate = callee
     behind = [None] * 6 + registers[6:]
     if kind == 1:
         return [(pc + 1, behind), (pc + 1 + immediate, [None, *registers[1:6], *[None] * 4, STACK])]
     if kind != 0 or immediate not in KNOWN_HELPERS:
         raise NotSeen
-    if immediate != COUNT_VERTICES and registers[1] != SOURCE:
+    if immediate != COUNT_VERTICES and registers[1] not in ends.values():
         raise NotSeen
     if immediate == GATHER:
-        _keeps_source(registers[3], 0)
+        _keeps_ends(registers[3], 0, ends)
     return [(pc + 1, behind)]
 
 
@@ -96,16 +106,16 @@ def _computed(opcode, registers, destination, source, offset, immediate):
     """What an arithmetic instruction leaves in its destination."""
     if opcode == 0xBF and offset == 0:
         return registers[source]
-    # The low half of the source is the source: a vertex has at most 28 bits.
-    if opcode == 0xBC and offset == 0 and registers[source] == SOURCE:
-        return SOURCE
+    # The low half of an end is that end: a vertex has at most 28 bits.
+    if opcode == 0xBC and offset == 0 and registers[source] in (SOURCE, TARGET):
+        return registers[source]
     old = registers[destination]
     if opcode in (0x07, 0x17) and isinstance(old, int):
         return old + immediate if opcode == 0x07 else old - immediate
     return STACK if opcode in (0x07, 0x17, 0x0F, 0x1F) and old == STACK else None
 
 
-def _keeps_source(base, offset):
-    """Goes on only if writing from an address on leaves the edge's source in the record as it is."""
-    if base != STACK and not (isinstance(base, int) and base + offset >= SOURCE_BYTES):
+def _keeps_ends(base, offset, ends):
+    """Goes on only if writing from an address on leaves these ends of the edge in the record as they are."""
+    if base != STACK and not (isinstance(base, int) and base + offset >= END_BYTES * len(ends)):
         raise NotSeen

@@ -4,6 +4,7 @@ import os
 import pathlib
 import re
 import shutil
+import signal
 import subprocess
 import tempfile
 import unittest
@@ -280,6 +281,7 @@ class Installed(unittest.TestCase):
         place = self.room / "gone"
         make(f"BUILD={self.room / 'build'}", "install", f"PREFIX={place}")
         make(f"BUILD={self.room / 'build'}", "install-python", f"PREFIX={place}")
+        make(f"BUILD={self.room / 'build'}", "install-serve", f"PREFIX={place}")
         make(f"BUILD={self.room / 'build'}", "uninstall", f"PREFIX={place}")
         self.assertEqual([path for path in place.rglob("*") if not path.is_dir()], [])
         self.assertFalse((place / "lib/edgebpf").exists())
@@ -290,7 +292,7 @@ class Package(unittest.TestCase):
     def test_the_same_bytes_twice(self):
         with tempfile.TemporaryDirectory() as folder:
             rooms = [pathlib.Path(folder) / name for name in ("one", "another_place")]
-            both = [[pathlib.Path(line) for line in make(f"BUILD={room}", "deb").split()[-2:]] for room in rooms]
+            both = [[pathlib.Path(line) for line in make(f"BUILD={room}", "deb").split()[-3:]] for room in rooms]
             for one, other in zip(*both):
                 self.assertEqual(one.read_bytes(), other.read_bytes())
             made = both[0]
@@ -301,13 +303,15 @@ class Package(unittest.TestCase):
                 run = subprocess.run([unpacked / "usr/bin/edgebpf"], stdin=script, capture_output=True, text=True)
             self.assertEqual((run.stdout, run.stderr), (first.with_suffix(".output").read_text(), ""))
             subprocess.run(["dpkg-deb", "-x", made[1], unpacked], check=True)
-            for name in ("edgebpf", "python3-edgebpf"):
+            subprocess.run(["dpkg-deb", "-x", made[2], unpacked], check=True)
+            for name in ("edgebpf", "python3-edgebpf", "edgebpf-serve"):
                 self.assertIn("no licence", (unpacked / "usr/share/doc" / name / "copyright").read_text())
             for package in made:
                 listed = subprocess.run(["dpkg-deb", "-c", package], stdout=subprocess.PIPE, text=True, check=True).stdout
                 self.assertNotIn("__pycache__", listed)
                 self.assertTrue(all(line.split()[1] == "root/root" for line in listed.splitlines()))
             self.python_in(unpacked, made[1])
+            self.service_in(unpacked, made[2])
 
     def test_the_same_wheel_twice(self):
         """It has the library and all that `make install` puts into lib/edgebpf, and says which of it is run."""
@@ -331,6 +335,27 @@ class Package(unittest.TestCase):
             run = {name for name, mode in entries.items() if mode & 0o111}
             self.assertEqual(run & {"edgebpf/installed/edgebpf", "edgebpf/installed/programs/edgebpf", "edgebpf/installed/tools/edgebpf-c", "edgebpf/native.py", "edgebpf/libedgebpf.so", "edgebpf/libedgebpf_algorithms.so"},
                              {"edgebpf/installed/edgebpf", "edgebpf/installed/programs/edgebpf", "edgebpf/installed/tools/edgebpf-c"})
+
+    def service_in(self, unpacked, package):
+        """The service starts from what is unpacked, and its client finds it; the unit is what systemd takes."""
+        said = subprocess.run(["dpkg-deb", "-f", package, "Depends"], capture_output=True, text=True, check=True).stdout
+        self.assertRegex(said, r"^python3-edgebpf \(= [0-9.]+\), python3 \(>= 3\.11\), python3-aiohttp, python3-numpy, python3-prometheus-client$")
+        unit = unpacked / "usr/lib/systemd/system/edgebpf-serve.service"
+        self.assertIn("ExecStart=/usr/bin/edgebpf-serve --data %S/edgebpf-serve\n", unit.read_text())
+        if any(importlib.util.find_spec(name) is None for name in ("numpy", "cffi", "aiohttp", "prometheus_client")):
+            return
+        socket = unpacked / "socket"
+        room = {"PATH": f"{unpacked}/usr/bin:/usr/bin:/bin", "PYTHONPATH": f"{unpacked}/usr/lib/python3/dist-packages", "PYTHONDONTWRITEBYTECODE": "1"}
+        words = ["edgebpf-serve", "--data", unpacked / "graph", "--vertices", "10", "--listen", f"unix:{socket}", "--reserve-bytes", "0"]
+        default = {"preexec_fn": lambda: signal.signal(signal.SIGTERM, signal.SIG_DFL)}
+        server = subprocess.Popen([unpacked / "usr/bin" / words[0], *words[1:]], env=room, stderr=subprocess.DEVNULL, **default)
+        try:
+            client = [unpacked / "usr/bin/edgebpf-client", "--url", f"unix:{socket}"]
+            run = subprocess.run([*client, "batch"], input="0 1\n0 2\n", env=room, capture_output=True, text=True)
+            self.assertEqual((run.stdout, run.stderr), ("version 1 added 2 removed 0\n", ""))
+        finally:
+            server.terminate()
+            self.assertEqual(server.wait(30), 0)
 
     def python_in(self, unpacked, package):
         """The package for Python has its library and the compiler of C from the other one."""

@@ -16,7 +16,7 @@ from bpf import Graph, Trap, run  # noqa: E402
 from verifier import judged  # noqa: E402
 
 from edgebpf_tools.compile_c import arguments, linked  # noqa: E402
-from edgebpf_tools.own_source import asks_of_others  # noqa: E402
+from edgebpf_tools.own_source import asks_of, asks_of_others  # noqa: E402
 
 ASK = "ldxw r1, [r1+0]\ncall 1\nexit"
 OWN = {
@@ -48,6 +48,17 @@ OTHER = {
     "passed by one of two": "mov r6, r1\nldxw r1, [r6]\ncalllocal f\nldxw r1, [r6+4]\ncalllocal f\nexit\nf:\ncall 1\nexit",
     "written by a function": "mov r6, r1\ncalllocal f\nldxw r1, [r6]\ncall 1\nexit\nf:\nstw [r1], 9\nmov r0, 0\nexit",
 }
+# What may be any vertex, also for who looks at the edges of both ends.
+ANY = {
+    "constant": OTHER["constant"],
+    "a part of the target": "ldxb r1, [r1+4]\ncall 1\nexit",
+    "both ends at once": "ldxdw r1, [r1+0]\ncall 1\nexit",
+    "the target plus 1": "ldxw r1, [r1+4]\nadd r1, 1\ncall 1\nexit",
+    "a target that was written": "stw [r1+4], 9\n" + ASK.replace("+0", "+4"),
+    "half a target that was written": "stb [r1+7], 9\n" + ASK.replace("+0", "+4"),
+    "the target of the target": "ldxw r1, [r1+4]\nmov r2, 0\ncall 3\nmov r1, r0\ncall 1\nexit",
+}
+BOTH = ("target", "edges of the target", "neighbour", "gather")
 IN_C = """
 #include <edgebpf.h>
 u64 lead_back(struct edge *edge, u64 length) { return has_edge(edge->target, edge->source); }
@@ -86,18 +97,27 @@ class OwnSource(unittest.TestCase):
                 self.assertIsInstance(judged(code, 16), tuple, f"{name} is refused")
                 self.assertEqual(asks_of_others(code), asks, name)
 
+    def test_what_is_asked_of(self):
+        for programs, asks in ((OWN, "own"), ({name: OTHER[name] for name in BOTH}, "target"), (ANY, "all")):
+            for name, text in programs.items():
+                code = assemble(text)
+                self.assertIsInstance(judged(code, 16), tuple, f"{name} is refused")
+                self.assertEqual(asks_of(code), asks, name)
+
     def test_no_programs(self):
         for digits in ("", "95", "85000000060000009500000000000000", "0500ffff00000000", "6311000000000000"):
             self.assertTrue(asks_of_others(bytes.fromhex(digits)))
 
     def test_random_programs(self):
-        """An accepted program that is said to ask about its source alone does so whenever it is run."""
-        programs, accepted, asking = random_programs(), 0, 0
+        """An accepted program that is said to ask about its source alone, or about both its ends, does so whenever it is run."""
+        programs, accepted, asking, of_target = random_programs(), 0, 0, 0
         for _ in range(4000):
             code, graph = programs.code(16), Watched()
-            if not isinstance(judged(code, 16), tuple) or asks_of_others(code):
+            asks = asks_of(code) if isinstance(judged(code, 16), tuple) else "all"
+            if asks == "all":
                 continue
             accepted += 1
+            of_target += asks == "target"
             for source in (0, 1):
                 graph.asked.clear()
                 with self.subTest(code=code.hex(), source=source):
@@ -105,10 +125,11 @@ class OwnSource(unittest.TestCase):
                         run(code, struct.pack("<IIII", source, 2, 0, 1), graph, 2000)
                     except Trap as trap:
                         self.assertIn("fuel", str(trap))
-                    self.assertLessEqual(graph.asked, {source})
+                    self.assertLessEqual(graph.asked, {source} if asks == "own" else {source, 2})
                 asking += bool(graph.asked)
         self.assertGreater(accepted, 500)
         self.assertGreater(asking, 50)
+        self.assertGreater(of_target, 10)
 
     @unittest.skipIf(MISSING, f"not there: {MISSING}")
     def test_functions_in_c(self):

@@ -1,7 +1,7 @@
 #!/usr/bin/env python3
 """Serves honest clients beside as many hostile ones, and compares each answer with sets of edges.
 
-    examples/service/hostile_clients.py --seconds 10 --seed 1
+    tests/serve/hostile_clients.py --seconds 10 --seed 1
 
 Nothing that hostile_requests.py sends may change the graph, stop the server, or be answered by another status than those named there.
 """
@@ -17,12 +17,13 @@ import socket
 import struct
 import subprocess
 import sys
+import tempfile
 import threading
 import time
 
+from harness import TOOLS
 from hostile_requests import ATTACKS, CLOSED
 
-HERE = pathlib.Path(__file__).resolve().parent
 VERTICES, FIRST_EDGES, MOST_INSERTS, MOST_REMOVES, MOST_HELD = 300, 3_000, 60, 60, 50
 # Of the batches some come after each of several rebases. PROGRAMS is how many each honest client has.
 BATCHES, REBASE, PROGRAMS = 600, 100, 6
@@ -74,7 +75,7 @@ class Honest:
     def ask(self, kind, method, path, asked=None):
         connection = http.client.HTTPConnection("127.0.0.1", self.test.port, timeout=WAIT)
         try:
-            connection.request(method, path, None if asked is None else json.dumps(asked))
+            connection.request(method, path, None if asked is None else json.dumps(asked), {"Content-Type": "application/json"})
             answer = connection.getresponse()
             body = answer.read()
         finally:
@@ -96,7 +97,8 @@ class Honest:
         draw = self.chance.randrange
         inserts = [[draw(VERTICES), draw(VERTICES)] for _ in range(count)]
         removes = [[draw(VERTICES), draw(VERTICES)] for _ in range(draw(MOST_REMOVES))] + inserts[:draw(5)]
-        told = self.told("batch", "POST", "/batches", {"feed": self.chance.choice("ABCD"), "inserts": inserts, "removes": removes})
+        edits = [*inserts, *([u, v, 1] for u, v in removes)]
+        told = self.told("batch", "POST", "/batches", {"edits": edits})
         self.saw(told["version"])
         self.test.batches.append((told, inserts, removes))
 
@@ -112,7 +114,7 @@ class Honest:
 
     def run(self):
         name, reduction = self.chance.choice(self.own), self.chance.choice(list(REDUCTIONS))
-        frontier = sorted(self.chance.sample(range(VERTICES), self.chance.randrange(40))) if self.chance.random() < 0.8 else None
+        frontier = self.chance.sample(range(VERTICES), self.chance.randrange(40)) if self.chance.random() < 0.8 else None
         argument = self.chance.randrange(WORD) if self.test.programs[name][0] == "argument" else None
         digits = "" if argument is None else argument.to_bytes(8, "little").hex()
         asked = {"program": name, "reduction": reduction, "frontier": frontier, "argument": digits}
@@ -226,14 +228,14 @@ def check(test):
         if version:
             told, inserts, removes = test.batches[version - 1]
             later = (edges | set(map(tuple, inserts))) - set(map(tuple, removes))
-            if told != {"version": version, "added": len(later - edges), "removed": len(edges - later)}:
+            if told != {"version": version, "added": len(later - edges), "removed": len(edges - later), "new": True}:
                 raise Wrong(f"batch {version}: {told}")
             edges = later
         lists = [[] for _ in range(VERTICES)]
         for source, target in sorted(edges):
             lists[source].append(target)
         for _, kind, asked, told in reads.pop(version, []):
-            wanted = {"neighbours": lists[asked]} if kind == "neighbours" else wanted_run(test, lists, asked)
+            wanted = {"neighbours": lists[asked], "degree": len(lists[asked])} if kind == "neighbours" else wanted_run(test, lists, asked)
             if told != {"version": version, **wanted}:
                 raise Wrong(f"{kind} {asked} of version {version}: {told}, not {wanted}")
     if reads:
@@ -247,13 +249,13 @@ def memory(server):
     return next(int(line.split()[1]) // 1024 for line in lines if line.startswith("VmRSS"))
 
 
-def started(log):
+def started(log, folder):
     """The server's process and its port."""
     with socket.socket() as free:
         free.bind(("127.0.0.1", 0))
         port = free.getsockname()[1]
-    words = [sys.executable, HERE / "server.py", "--vertices", str(VERTICES), "--port", str(port), "--rebase", str(REBASE)]
-    words += ["--seconds", str(RUN_SECONDS)]
+    words = [TOOLS / "edgebpf-serve", "--data", folder, "--vertices", str(VERTICES), "--listen", f"127.0.0.1:{port}", "--rebase-batches", str(REBASE)]
+    words += ["--seconds", str(RUN_SECONDS), "--reserve-bytes", "0", "--snapshot-batches", "150", "--programs", "100", "--kept-bytes", str(1 << 20)]
     # Whoever runs this may ignore the signal that ends the server.
     server = subprocess.Popen(words, stderr=log, preexec_fn=lambda: signal.signal(signal.SIGINT, signal.SIG_DFL))
     for _ in range(200):
@@ -306,8 +308,8 @@ def main():
     parser.add_argument("--log", default=os.devnull, help="what the server writes to standard error")
     options = parser.parse_args()
     print(f"seed {options.seed}", flush=True)
-    with open(options.log, "w") as log:
-        server, port = started(log)
+    with open(options.log, "w") as log, tempfile.TemporaryDirectory() as folder:
+        server, port = started(log, folder)
         test = Test(port, options)
         try:
             early, late = tried(test, server)

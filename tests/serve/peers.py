@@ -1,0 +1,179 @@
+#!/usr/bin/python3
+"""The same stream by a service, by SQLite in process, and by networkx in process, with equal answers: CPU time of each.
+
+    tests/serve/peers.py --edges 500000
+
+100,000 vertices and edges half by a power law; then batches of 64 edits, each synced but networkx's. Asked are: the edges that lead back of a
+batch's sources, those of all vertices, and the vertices within two steps.
+"""
+import argparse
+import os
+import random
+import sqlite3
+import sys
+import time
+
+from figures import EDITS, VERTICES, cpu, packed, pid_of, power_law
+from harness import Forks, folder, served
+from model import KINDS
+
+try:
+    import networkx
+except ImportError:
+    networkx = None
+
+
+class Stream:
+    """What all get: edges at first, and batches of edits (source, target, whether it is taken out)."""
+
+    def __init__(self, count, batches):
+        chance = random.Random(3)
+        self.edges = power_law(chance, VERTICES, count)
+        self.batches = [[(u, v, chance.random() < 0.3) for u, v in power_law(chance, VERTICES, EDITS)] for _ in range(batches)]
+        self.asked = [sorted({u for u, _, _ in batch}) for batch in self.batches]
+        self.starts = [chance.randrange(VERTICES // 2, VERTICES) for _ in range(len(self.batches))]
+
+
+class Served:
+    """A service, by one client. Its CPU time is that of both processes."""
+
+    name = "edgebpf-serve, by its client"
+
+    def __init__(self, place, forks, client):
+        self.pid, self.client = pid_of(forks), client
+        client.program("mutual", KINDS["mutual"].text)
+
+    def now(self):
+        return cpu(self.pid) + time.process_time()
+
+    def load(self, edges):
+        for place in range(0, len(edges), 65_536):
+            self.client.batch(packed(edges[place:place + 65_536]))
+
+    def edit(self, batch):
+        self.client.batch(packed([(u | out << 31, v) for u, v, out in batch]))
+
+    def back(self, vertices):
+        return self.client.run("mutual", frontier=vertices)["total"]
+
+    def back_of_all(self):
+        # Its values come, too, which the others have not to make.
+        return self.client.run("mutual")["total"]
+
+    def near(self, vertex):
+        return len(self.client.expand([vertex], 2, limit=1_000_000)["vertices"])
+
+
+class Lite:
+    """SQLite in this process: one table, whose key is the edge, and whose commits are synced."""
+
+    name = "SQLite in process"
+
+    def __init__(self, place):
+        self.db = sqlite3.connect(place / "peer.db", isolation_level=None)
+        for line in ("pragma journal_mode=wal", "pragma synchronous=full", "create table edges(u int, v int, primary key(u, v)) without rowid"):
+            self.db.execute(line)
+
+    def now(self):
+        return time.process_time()
+
+    def load(self, edges):
+        self.db.execute("begin")
+        self.db.executemany("insert or ignore into edges values(?, ?)", edges)
+        self.db.execute("commit")
+
+    def edit(self, batch):
+        self.db.execute("begin")
+        for u, v, out in batch:
+            self.db.execute("delete from edges where u = ? and v = ?" if out else "insert or ignore into edges values(?, ?)", (u, v))
+        self.db.execute("commit")
+
+    def back(self, vertices):
+        holes = ",".join("?" * len(vertices))
+        return self.db.execute(f"select count(*) from edges a join edges b on b.u = a.v and b.v = a.u where a.u in ({holes})", vertices).fetchone()[0]
+
+    def back_of_all(self):
+        return self.db.execute("select count(*) from edges a join edges b on b.u = a.v and b.v = a.u").fetchone()[0]
+
+    def near(self, vertex):
+        words = "select ?1 union select v from edges where u = ?1 union select b.v from edges a join edges b on b.u = a.v where a.u = ?1"
+        return self.db.execute(f"select count(*) from ({words})", (vertex,)).fetchone()[0]
+
+
+class Networkx:
+    """A graph of networkx in this process, which keeps nothing."""
+
+    name = "networkx in process, nothing kept"
+
+    def __init__(self, place):
+        self.graph = networkx.DiGraph()
+        self.graph.add_nodes_from(range(VERTICES))
+
+    def now(self):
+        return time.process_time()
+
+    def load(self, edges):
+        self.graph.add_edges_from(edges)
+
+    def edit(self, batch):
+        for u, v, out in batch:
+            if not out:
+                self.graph.add_edge(u, v)
+            elif self.graph.has_edge(u, v):
+                self.graph.remove_edge(u, v)
+
+    def back(self, vertices):
+        return sum(self.graph.has_edge(v, u) for u in vertices for v in self.graph.successors(u))
+
+    def back_of_all(self):
+        return self.back(range(VERTICES))
+
+    def near(self, vertex):
+        first = set(self.graph.successors(vertex))
+        return len({vertex} | first | {w for v in first for w in self.graph.successors(v)})
+
+
+def measured(peer, stream):
+    """CPU milliseconds of each kind of work, and the answers."""
+    spent, answers, begun = {}, [], peer.now()
+    peer.load(stream.edges)
+    spent["load all"] = peer.now() - begun
+    kinds = {"a batch": 0.0, "edges that lead back, of its sources": 0.0, "within two steps of a vertex": 0.0}
+    for batch, asked, start in zip(stream.batches, stream.asked, stream.starts):
+        marks = [peer.now()]
+        peer.edit(batch)
+        marks.append(peer.now())
+        answers.append(peer.back(asked))
+        marks.append(peer.now())
+        answers.append(peer.near(start))
+        marks.append(peer.now())
+        for name, first, last in zip(kinds, marks, marks[1:]):
+            kinds[name] += (last - first) / len(stream.batches)
+    begun = peer.now()
+    answers.append(peer.back_of_all())
+    spent |= kinds | {"edges that lead back, of all": peer.now() - begun}
+    return {name: 1e3 * seconds for name, seconds in spent.items()}, answers
+
+
+def main():
+    parser = argparse.ArgumentParser(description=__doc__, formatter_class=argparse.RawDescriptionHelpFormatter)
+    parser.add_argument("--edges", type=int, default=500_000)
+    parser.add_argument("--batches", type=int, default=200)
+    options = parser.parse_args()
+    stream, found, before = Stream(options.edges, options.batches), {}, os.getloadavg()[0]
+    with folder() as place:
+        with Forks() as forks, served(forks, data=str(place / "graph"), vertices=VERTICES) as client:
+            found[Served.name] = measured(Served(place, forks, client), stream)
+        for kind in (Lite, Networkx) if networkx else (Lite,):
+            found[kind.name] = measured(kind(place), stream)
+    answers = [told for _, told in found.values()]
+    if any(one != answers[0] for one in answers):
+        sys.exit("peers: the answers differ")
+    print(f"load {before:.0f} and {os.getloadavg()[0]:.0f}; {len(answers[0])} answers of each, all equal")
+    print(f"| CPU time, ms | {' | '.join(found)} |\n|---|{'---|' * len(found)}")
+    for name in next(iter(found.values()))[0]:
+        print(f"| {name} | {' | '.join(f'{spent[name]:,.1f}' for spent, _ in found.values())} |")
+
+
+if __name__ == "__main__":
+    main()

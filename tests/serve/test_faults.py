@@ -1,0 +1,226 @@
+"""What a service does when its disk fails a sync, and when its client breaks off in the midst of all kinds of requests."""
+import os
+import pathlib
+import shutil
+import socket
+import sqlite3
+import sys
+import threading
+import time
+import unittest
+
+HERE = pathlib.Path(__file__).resolve().parent
+sys.path.insert(0, str(HERE))
+
+from harness import Client, Error, Forks, NoAnswer, folder, missing, served  # noqa: E402
+from model import KINDS, Graph, random_edits, seeded  # noqa: E402
+from power_loss import environment  # noqa: E402
+
+MISSING = missing() or ("" if shutil.which("cc") else "cc")
+VERTICES = 60
+
+
+@unittest.skipIf(MISSING, f"not there: {MISSING}")
+class Syncs(unittest.TestCase):
+    def test_a_sync_that_fails_ends_the_service(self):
+        with folder() as place:
+            place, fail = pathlib.Path(os.path.realpath(place)), place / "fail"
+            data, graph, chance = place / "data" / "graph", Graph(VERTICES), seeded("syncs")
+            with Forks(RECORD_FAIL=str(fail), **environment(place)) as forks:
+                for _ in range(5):
+                    pid = forks.begin(data=str(data), vertices=VERTICES)
+                    client = forks.client(forks.port()[0])
+                    for _ in range(10):
+                        edits = random_edits(chance, VERTICES, 20)
+                        self.assertEqual(client.batch(edits)[0][1:3], graph.apply(edits))
+                    before = client.status()["version"]
+                    fail.touch()
+                    edits = random_edits(chance, VERTICES, 20)
+                    with self.assertRaises(NoAnswer):
+                        client.batch(edits, key=f"key{before}")
+                    self.assertEqual(forks.wait(pid), 70)
+                    fail.unlink()
+                    with served(forks, data=str(data), vertices=VERTICES) as client:
+                        # In doubt: it is there or not, and under its id it comes once.
+                        self.assertIn(client.status()["version"], (before, before + 1))
+                        outcome, = client.batch(edits, key=f"key{before}")
+                        self.assertEqual((outcome.version, *outcome[1:3]), (before + 1, *graph.apply(edits)))
+                        _, starts, targets = client.edges()
+                        self.assertEqual([(u, v) for u in range(VERTICES) for v in targets[starts[u]:starts[u + 1]]], graph.edges())
+
+    def test_a_snapshot_whose_sync_fails(self):
+        with folder() as place:
+            place, fail = pathlib.Path(os.path.realpath(place)), place / "fail"
+            with Forks(RECORD_FAIL=str(fail), **environment(place)) as forks, served(forks, data=str(place / "data" / "graph"), vertices=VERTICES) as client:
+                client.batch([(0, 1)])
+                fail.write_text("snapshot-")
+                with self.assertRaises(Error) as caught:
+                    client.snapshot()
+                self.assertEqual(caught.exception.status, 507)
+                fail.unlink()
+                self.assertEqual(client.batch([(0, 2)])[0].version, 2)
+                self.assertEqual(client.snapshot(), 2)
+
+
+@unittest.skipIf(MISSING, f"not there: {MISSING}")
+class Memory(unittest.TestCase):
+    def test_a_batch_that_is_refused_memory(self):
+        """Without memory for a batch the service makes room and tries once more; without any it ends, and the next start has the batch."""
+        with folder() as place:
+            options, graph, chance = {"data": str(place / "graph"), "vertices": VERTICES}, Graph(VERTICES), seeded("memory")
+            with Forks(SERVE_MISTAKE="memory_short") as forks, served(forks, **options) as client:
+                for _ in range(30):
+                    edits = random_edits(chance, VERTICES, 20)
+                    self.assertEqual(client.batch(edits)[0][1:3], graph.apply(edits))
+                self.assertEqual(client.neighbours(3), sorted(graph.out[3]))
+                version = client.snapshot()
+            with Forks(SERVE_MISTAKE="memory_gone") as forks:
+                pid = forks.begin(**options)
+                client, ended = forks.client(forks.port()[0]), False
+                while not ended:
+                    edits = random_edits(chance, VERTICES, 20)
+                    try:
+                        client.batch(edits, key=f"after{version}")
+                    except NoAnswer:
+                        ended = True
+                    graph.apply(edits)
+                    version += 1
+                self.assertEqual(forks.wait(pid), 70)
+            with Forks() as forks, served(forks, **options) as client:
+                again, = client.batch(edits, key=f"after{version - 1}")
+                self.assertEqual((again.version, again.new), (version, False))
+                self.assertEqual([client.neighbours(u) for u in range(VERTICES)], [sorted(targets) for targets in graph.out])
+
+
+@unittest.skipIf(MISSING, f"not there: {MISSING}")
+class Notices(unittest.TestCase):
+    """What systemd is told by its socket: here a test has it."""
+
+    def heard(self, notices, seconds):
+        """All notices of some seconds."""
+        found, until = [], time.monotonic() + seconds
+        while (left := until - time.monotonic()) > 0:
+            notices.settimeout(left)
+            try:
+                found.append(notices.recv(100).decode())
+            except TimeoutError:
+                pass
+        return found
+
+    def test_ready_the_watchdog_and_the_end(self):
+        with folder() as place, socket.socket(socket.AF_UNIX, socket.SOCK_DGRAM) as notices:
+            notices.bind(str(place / "notices"))
+            with Forks(NOTIFY_SOCKET=str(place / "notices"), WATCHDOG_USEC="4000000") as forks:
+                with served(forks, data=str(place / "graph"), vertices=VERTICES) as client:
+                    client.batch([(0, 1)])
+                    found = self.heard(notices, 4)
+                    self.assertEqual((found[0], set(found[1:])), ("READY=1", {"WATCHDOG=1"}))
+                    self.assertGreater(len(found), 2)
+                    # The writer waits for another process's lock: it is not the loop alone that feeds the watchdog.
+                    with sqlite3.connect(place / "graph" / "serve.db", isolation_level=None) as db:
+                        db.execute("begin immediate")
+                        waiting = threading.Thread(target=client.batch, args=([(0, 2)],))
+                        waiting.start()
+                        self.heard(notices, 3)
+                        self.assertEqual(self.heard(notices, 3), [])
+                        self.assertEqual(Client(client.url, tries=1).neighbours(0), [1])
+                        db.execute("rollback")
+                    waiting.join()
+                    self.assertIn("WATCHDOG=1", self.heard(notices, 3))
+                self.assertIn("STOPPING=1", self.heard(notices, 1))
+
+
+LIMITS = "connections.HEAD_SECONDS=0.5,connections.UNREAD_SECONDS=1,connections.SWEEP_SECONDS=0.2,service.BODY_SECONDS=0.5"
+
+
+@unittest.skipIf(MISSING, f"not there: {MISSING}")
+class Connections(unittest.TestCase):
+    """Limits of connections, with fewer seconds than a service has."""
+
+    def open(self, client, data):
+        host, port = client.url.removeprefix("http://").split(":")
+        connection = socket.create_connection((host, int(port)), timeout=20)
+        self.addCleanup(connection.close)
+        connection.setsockopt(socket.SOL_SOCKET, socket.SO_RCVBUF, 4_096)
+        connection.sendall(data)
+        return connection
+
+    def ends(self, connection):
+        """What comes until the service closes a connection."""
+        found = b""
+        try:
+            while data := connection.recv(65_536):
+                found += data
+        except ConnectionError:
+            pass
+        return found
+
+    def test_slow_heads_and_bodies_and_answers_that_nobody_reads(self):
+        with folder() as place, Forks(SERVE_LIMITS=LIMITS) as forks, served(forks, data=str(place / "graph"), vertices=1_000_000) as client:
+            client.batch([(0, 1)])
+            for head in (b"", b"GET / HT", b"GET / HTTP/1.1\r\nHost: x\r\n"):
+                self.assertEqual(self.ends(self.open(client, head)), b"")
+            slow = b"POST /batches HTTP/1.1\r\nHost: x\r\nContent-Type: application/json\r\nContent-Length: 20\r\n\r\n{"
+            self.assertTrue(self.ends(self.open(client, slow)).startswith(b"HTTP/1.1 408"))
+            # Its answer has 8 MB.
+            self.open(client, b"GET /edges HTTP/1.1\r\nHost: x\r\n\r\n")
+            time.sleep(4)
+            text = client.ask("GET", "/metrics")[1].decode()
+            for line in ('edgebpf_refused_total{limit="head"} 3.0', 'edgebpf_refused_total{limit="unread"} 1.0'):
+                self.assertIn(line, text.splitlines())
+            # A watcher without news is not one that does not read.
+            client.program("target", KINDS["target"].text)
+            events = client._events("/watch?program=target", None)
+            next(events)
+            time.sleep(2)
+            client.batch([(0, 2)])
+            self.assertEqual(next(events).rows, [(0, 3)])
+            events.close()
+
+    def test_too_many_connections(self):
+        with folder() as place, Forks() as forks, served(forks, data=str(place / "graph"), vertices=VERTICES, connections=5) as client:
+            client.status()
+            held = [self.open(client, b"GET / HTTP/1.1\r\n") for _ in range(4)]
+            self.assertTrue(self.ends(self.open(client, b"")).startswith(b"HTTP/1.1 503"))
+            self.assertEqual(client.status()["version"], 0)
+            held[0].close()
+            time.sleep(0.3)
+            with Client(client.url, tries=1) as other:
+                self.assertEqual(other.status()["version"], 0)
+
+
+@unittest.skipIf(MISSING, f"not there: {MISSING}")
+class Leaving(unittest.TestCase):
+    def test_clients_that_leave_take_nothing_with_them(self):
+        """Clients that break off use up none of what one token may have at once, and no thread."""
+        with folder() as place, Forks() as forks, served(forks, data=str(place / "graph"), vertices=VERTICES, seconds=30.0) as client:
+            client.batch([(u, v) for u in range(VERTICES) for v in range(VERTICES)])
+            client.program("target", KINDS["target"].text)
+            client.program("slow", "mov r0, 0\n" + "add r0, 1\n" * 4000 + "exit")
+            for place in range(60):
+                self.leave(client, place)
+            time.sleep(3)
+            text = client.ask("GET", "/metrics")[1].decode()
+            for line in ("edgebpf_watches 0.0", "edgebpf_waiting_calls 0.0"):
+                self.assertIn(line, text.splitlines())
+            threads = [threading.Thread(target=Client(client.url, tries=1).run, args=("slow",)) for _ in range(16)]
+            for thread in threads:
+                thread.start()
+            for thread in threads:
+                thread.join()
+
+    def leave(self, client, place):
+        body = b'{"program": "slow", "frontier": [' + b",".join([b"1"] * 30_000) + b"]}"
+        kinds = [
+            b"POST /runs HTTP/1.1\r\nHost: x\r\nContent-Type: application/json\r\nContent-Length: %d\r\n\r\n" % len(body) + body,
+            b"GET /watch?program=target HTTP/1.1\r\nHost: x\r\n\r\n",
+            b"POST /runs?format=lines HTTP/1.1\r\nHost: x\r\nContent-Type: application/json\r\nContent-Length: %d\r\n\r\n" % len(body) + body,
+        ]
+        host, port = client.url.removeprefix("http://").split(":")
+        with socket.create_connection((host, int(port))) as connection:
+            connection.sendall(kinds[place % len(kinds)])
+            time.sleep(0.02)
+
+
+if __name__ == "__main__":
+    unittest.main()

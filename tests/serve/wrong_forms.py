@@ -1,0 +1,58 @@
+"""Requests with a wrong form: (method, path, body, heads, status, a word of the answer)."""
+import struct
+
+VERTICES = 60
+TEXT = {"Content-Type": "text/plain"}
+
+
+def batch(edits, status=400, word="edit"):
+    return "POST", "/batches", {"edits": edits}, {}, status, word
+
+
+def run(fields, status=400, word="", path="/runs"):
+    return "POST", path, {"program": "target", **fields}, {}, status, word
+
+
+WRONG_FORMS = [
+    batch(5), batch([5]), batch([[0]]), batch([[0, 1, 2]]), batch([[0, 1, 1, 1]]), batch([[0.0, 1]]), batch([["0", 1]]), batch([[True, 1]]),
+    batch([[0, None]]), batch({}), batch(None), batch([[0, VERTICES]], 422), batch([[-1, 0]], 422), batch([[0, 2**70]], 422),
+    batch([[0, 1]] * 65_537, 422, "65536"),
+    ("POST", "/batches", {"edits": [], "feed": "A"}, {}, 400, "feed"), ("POST", "/batches", {}, {}, 400, "edits"),
+    ("POST", "/batches", b"\0" * 9, {}, 400, "8 bytes"), ("POST", "/batches", struct.pack("<2I", VERTICES, 0), {}, 422, "edits"),
+    ("POST", "/batches", b"{", {"Content-Type": "application/json"}, 400, "JSON"),
+    ("POST", "/batches", b"[" * 100_000, {"Content-Type": "application/json"}, 400, "JSON"),
+    ("POST", "/batches", b'{"edits": []}', TEXT, 415, "Content-Type"),
+    ("POST", "/batches", {"edits": []}, {"Idempotency-Key": "a b"}, 400, "Idempotency-Key"),
+    ("POST", "/batches", {"edits": []}, {"Idempotency-Key": "k" * 129}, 400, "Idempotency-Key"),
+    ("POST", "/batches", {"edits": []}, {"Content-Encoding": "gzip"}, 415, "Content-Encoding"),
+    ("POST", "/batches", {"edits": []}, {"Origin": "http://elsewhere.example"}, 403, "Origin"),
+    run({"reduction": "mean"}, 400, "reduction"), run({"frontier": 5}, 400, "frontier"), run({"frontier": [VERTICES]}, 422, "frontier"),
+    run({"frontier": [1.0]}, 400, "frontier"), run({"argument": "zz"}, 400, "argument"), run({"argument": "00"}, 422, "argument"),
+    run({"columns": "risk"}, 400, "columns"), run({"columns": ["risk"]}, 404, "risk"), run({"columns": ["-"]}, 400, "columns"),
+    run({"program": "none"}, 404, "none"), run({"program": 5}, 400, "program"), run({"program": ""}, 400, "program"), run({"vertices": []}, 400, "vertices"),
+    run({}, 400, "format", "/runs?format=xml"), run({"frontier": []}, 410, "version 99", "/runs?version=99"),
+    run({}, 400, "version", "/runs?version=-1"), run({}, 400, "frontier", "/numbers"), run({"pairs": [[0]]}, 400, "pairs", "/pairs"),
+    run({"pairs": [[0, VERTICES]]}, 422, "pairs", "/pairs"), run({"pairs": 1}, 400, "pairs", "/pairs"),
+    ("POST", "/runs?program=target", b"\0" * 3, {}, 400, "4 bytes"), ("POST", "/pairs?program=target", b"\0" * 4, {}, 400, "8 bytes"),
+    ("POST", "/programs", {"name": "x", "text": "exit", "code": ""}, {}, 400, "text or code"), ("POST", "/programs", {"name": "x"}, {}, 400, "text or code"),
+    ("POST", "/programs", {"name": "-", "text": "exit"}, {}, 400, "name"), ("POST", "/programs", {"name": "x", "text": 5}, {}, 400, "text"),
+    ("POST", "/programs", {"name": "x", "text": "exit", "record": 15}, {}, 400, "record"),
+    ("POST", "/programs", {"name": "x", "text": "exit", "record": "16"}, {}, 400, "record"),
+    ("POST", "/programs", {"name": "x", "text": "fly r0\nexit"}, {}, 422, "line 1"), ("POST", "/programs", {"name": "x", "text": "ä"}, {}, 400, "ASCII"),
+    ("POST", "/programs", {"name": "x", "code": "95"}, {}, 400, "code"), ("POST", "/programs", {"name": "x", "code": "zz"}, {}, 400, "code"),
+    ("POST", "/programs", {"name": "x", "text": "mov r0, 1\nexit", "table": "00" * 4097}, {}, 400, "table"),
+    ("DELETE", "/programs/none", None, {}, 404, "none"), ("GET", "/programs/none", None, {}, 404, "none"),
+    ("PUT", "/columns/risk", b"\0" * 8, {}, 422, "column"), ("PUT", "/columns/-", b"\0" * 8 * VERTICES, {}, 400, "name"),
+    ("PUT", "/columns/risk", {"numbers": [1]}, {}, 422, "numbers"), ("PUT", "/columns/risk", {"numbers": [2**64] * VERTICES}, {}, 400, "numbers"),
+    ("PUT", "/columns/risk", {"numbers": [-1] * VERTICES}, {}, 400, "numbers"), ("PUT", "/columns/risk", {}, {}, 400, "numbers"),
+    ("GET", "/columns/risk", None, {}, 404, "risk"), ("DELETE", "/columns/risk", None, {}, 404, "risk"),
+    ("GET", f"/neighbours/{VERTICES}", None, {}, 422, "vertex"), ("GET", "/neighbours/x", None, {}, 400, "vertex"),
+    ("GET", "/neighbours/" + "9" * 30, None, {}, 400, "vertex"), ("GET", "/neighbours/0?limit=x", None, {}, 400, "limit"),
+    ("GET", "/neighbours/0?direction=up", None, {}, 400, "direction"), ("GET", "/neighbours/0?direction=in", None, {}, 422, "--mirror"),
+    ("POST", "/expand", {}, {}, 400, "vertices"), ("POST", "/expand", {"vertices": [0], "steps": 65}, {}, 400, "steps"),
+    ("POST", "/expand", {"vertices": [0], "limit": -1}, {}, 400, "limit"), ("GET", "/edges?version=9", None, {}, 410, "version 9"),
+    ("GET", "/changes?after=x", None, {}, 400, "after"), ("GET", "/watch", None, {}, 400, "program"), ("GET", "/watch?program=none", None, {}, 404, "none"),
+    ("GET", "/watch?program=target&reduction=x", None, {}, 400, "reduction"), ("GET", "/watch?program=target&argument=00", None, {}, 422, "argument"),
+    ("GET", "/watch?program=target&columns=risk", None, {}, 404, "risk"), ("GET", "/watch?program=target", None, {"Last-Event-ID": "x"}, 400, "Last-Event-ID"),
+    ("POST", "/backups", {"name": "../x"}, {}, 400, "name"), ("GET", "/none", None, {}, 404, ""), ("PUT", "/batches", {}, {}, 405, ""),
+]

@@ -1,0 +1,438 @@
+"""A client of edgebpf-serve. It needs nothing but Python.
+
+    from edgebpf_client import Client
+
+    graph = Client("http://127.0.0.1:8080", token="..")
+    graph.batch([(0, 1), (0, 2)])                      # under an id of its own: it takes effect once, whatever happens
+    graph.program("target", "ldxw r0, [r1+4]\\nexit")
+    graph.run("target", frontier=[0, 1])               # {"version": 1, "edges": 2, "total": 3, "values": [3, 0]}
+    for event in graph.watch("target"):                # an Event for each group of batches
+        print(event.version, event.rows)
+"""
+import argparse
+import array
+import http.client
+import json
+import os
+import random
+import socket
+import sys
+import threading
+import time
+import typing
+import urllib.parse
+import uuid
+
+MOST_EDITS = 65_536
+REMOVE = 1 << 31
+JSON, BYTES = "application/json", "application/octet-stream"
+# Statuses that ask to come again.
+LATER = (429, 503, 507)
+FIRST_PAUSE, MOST_PAUSE = 0.1, 5.0
+
+
+class Error(Exception):
+    """The service refused a request: `status`, the `error`'s name, and `words`. Nothing was changed by it."""
+
+    def __init__(self, status, told):
+        self.status, self.error, self.words, self.told = status, told.get("error", ""), told.get("words", ""), told
+        place = f" at unit {told['unit']}" if "unit" in told else ""
+        super().__init__(f"{status} {self.error}{place}: {self.words}")
+
+
+class NoAnswer(Exception):
+    """The service could not be reached, or the connection was lost: whether a change was made is in doubt."""
+
+
+class Outcome(typing.NamedTuple):
+    """What a batch did. `new` is false if the service had it already under its id."""
+
+    version: int
+    added: int
+    removed: int
+    new: bool
+
+
+class Event(typing.NamedTuple):
+    """Rows (vertex, value) of a standing query. `kind` is "rows" for all but those of a vertex without edges, and "changes" for those that
+    are not as in version `before`. `id` is where `watch(after=id)` goes on."""
+
+    kind: str
+    id: str
+    before: int | None
+    version: int
+    rows: list
+
+
+class Unix(http.client.HTTPConnection):
+    """A connection to a socket of this machine."""
+
+    def __init__(self, path, timeout):
+        super().__init__("localhost", timeout=timeout)
+        self.path = path
+
+    def connect(self):
+        self.sock = socket.socket(socket.AF_UNIX, socket.SOCK_STREAM)
+        self.sock.settimeout(self.timeout)
+        self.sock.connect(self.path)
+
+
+class Client:
+    """A service at `http://HOST:PORT`, `https://HOST:PORT` or `unix:PATH`. Threads may use it at once: each has its own connection.
+
+    tries: how often a request is sent that got no answer, or 429, 503 or 507. Batches have ids, so that none takes effect twice.
+    """
+
+    def __init__(self, url, token=None, timeout=60.0, tries=8):
+        self.url, self.token, self.timeout, self.tries = url, token, timeout, tries
+        self.own = threading.local()
+        if not url.startswith("unix:") and urllib.parse.urlsplit(url).scheme not in ("http", "https"):
+            raise ValueError("url is http://HOST:PORT, https://HOST:PORT or unix:PATH")
+
+    # Changes
+
+    def batch(self, edits, key=None):
+        """Edits in their order: (source, target), or (source, target, 1) to take the edge out; or bytes as the service takes them. A long
+        list goes as several batches of 65,536. Returns the `Outcome` of each. key: the id, to which each further batch adds its number."""
+        if isinstance(edits, (bytes, bytearray, memoryview)):
+            data = bytes(edits)
+        else:
+            data = packed([number for edit in edits for number in (edit[0] | (REMOVE if len(edit) > 2 and edit[2] else 0), edit[1])])
+        key, size = key or uuid.uuid4().hex, 8 * MOST_EDITS
+        parts = [data[place:place + size] for place in range(0, len(data), size)] or [b""]
+        return [self._batch(part, key if number == 0 else f"{key}-{number}") for number, part in enumerate(parts)]
+
+    def _batch(self, data, key):
+        return Outcome(**self.json("POST", "/batches", data, {"Idempotency-Key": key}))
+
+    def program(self, name, text=None, *, code=None, record=16, table=b""):
+        """Keeps a program, as text (lines, or one text) or as code, and returns what the verifier says of it."""
+        form = {"text": text} if code is None else {"code": bytes(code).hex()}
+        return self.json("POST", "/programs", {"name": name, "record": record, "table": bytes(table).hex(), **form})
+
+    def drop_program(self, name):
+        return self.json("DELETE", f"/programs/{name}")
+
+    def column(self, name, numbers):
+        """Puts a number for each vertex: a list, or an array of numpy or `array` with 64-bit numbers."""
+        data = numbers.astype("<u8").tobytes() if hasattr(numbers, "astype") else packed(numbers, "Q")
+        return self.json("PUT", f"/columns/{name}", data)
+
+    def drop_column(self, name):
+        return self.json("DELETE", f"/columns/{name}")
+
+    def snapshot(self):
+        return self.json("POST", "/snapshots")["snapshot"]
+
+    # Reads
+
+    def run(self, program, reduction="sum", frontier=None, argument=b"", **more):
+        """A run over a frontier, or all vertices. more: columns (names), version."""
+        asked = {"program": program, "reduction": reduction, "frontier": listed(frontier), "argument": bytes(argument).hex()}
+        return self._ask("/runs", asked, **more)
+
+    def numbers(self, program, frontier, argument=b"", **more):
+        """The number of each edge of a frontier: `starts`, `targets` and `numbers`."""
+        return self._ask("/numbers", {"program": program, "frontier": listed(frontier), "argument": bytes(argument).hex()}, **more)
+
+    def pairs(self, program, pairs, argument=b"", **more):
+        """The number of each pair, which need not be an edge."""
+        return self._ask("/pairs", {"program": program, "pairs": [list(pair) for pair in pairs], "argument": bytes(argument).hex()}, **more)
+
+    def _ask(self, path, asked, columns=(), version=None):
+        return self.json("POST", path + ("" if version is None else f"?version={version}"), {**asked, "columns": list(columns)})
+
+    def neighbours(self, vertex, direction="out", version=None):
+        """All targets of a vertex, page by page; its sources by direction "in"."""
+        found, query = [], {"direction": direction} | ({} if version is None else {"version": version})
+        while True:
+            page = self.json("GET", f"/neighbours/{vertex}?{urllib.parse.urlencode(query)}")
+            found += page["neighbours"]
+            if "next" not in page:
+                return found
+            # All pages are of the first one's version.
+            query |= {"after": page["next"], "version": page["version"]}
+
+    def expand(self, vertices, steps=1, limit=10_000, version=None):
+        path = "/expand" + ("" if version is None else f"?version={version}")
+        return self.json("POST", path, {"vertices": listed(vertices), "steps": steps, "limit": limit})
+
+    def edges(self, version=None):
+        """All edges: (version, starts, targets), two arrays; those of vertex `u` are `targets[starts[u]:starts[u + 1]]`."""
+        heads, data = self.ask("GET", "/edges" + ("" if version is None else f"?version={version}"))
+        end = 8 * (int(heads["X-Vertices"]) + 1)
+        return int(heads["X-Version"]), unpacked(data[:end], "Q"), unpacked(data[end:], "I")
+
+    def changes(self, after):
+        """The batches after a version: (version, edits), each."""
+        _, data = self.ask("GET", f"/changes?after={after}")
+        lines = [json.loads(line) for line in data.splitlines()]
+        if not lines or "edits" in lines[-1]:
+            raise NoAnswer("the answer was cut off")
+        return [(line["version"], line["edits"]) for line in lines[:-1]]
+
+    def status(self):
+        return self.json("GET", "/healthz")
+
+    def watch(self, program, reduction="sum", argument=b"", columns=(), after=None):
+        """Events without end: all rows, then what batches changed. It connects again after a lost connection, and goes on where it was."""
+        query = {"program": program, "reduction": reduction, "argument": bytes(argument).hex(), "columns": ",".join(columns)}
+        pause = FIRST_PAUSE
+        while True:
+            try:
+                for event in self._events(f"/watch?{urllib.parse.urlencode(query)}", after):
+                    after, pause = event.id, FIRST_PAUSE
+                    yield event
+            except (OSError, http.client.HTTPException):
+                pass
+            except Error as error:
+                if error.status not in LATER:
+                    raise
+            time.sleep(pause * random.uniform(0.5, 1.0))
+            pause = min(2 * pause, MOST_PAUSE)
+
+    def _events(self, path, after):
+        """The events of one connection."""
+        connection = self._connection()
+        try:
+            heads = self._heads(None, {"Accept": "text/event-stream", **({"Last-Event-ID": after} if after else {})})
+            connection.request("GET", path, headers=heads)
+            answer = connection.getresponse()
+            if answer.status != 200:
+                raise Error(answer.status, told_by(answer.read()))
+            yield from events_of(answer)
+        finally:
+            connection.close()
+
+    # Requests
+
+    def json(self, method, path, body=None, heads={}):
+        return json.loads(self.ask(method, path, body, heads)[1])
+
+    def ask(self, method, path, body=None, heads={}):
+        """Sends a request until it is answered, as often as it may, and returns the answer's heads and body."""
+        pause = FIRST_PAUSE
+        for left in range(self.tries - 1, -1, -1):
+            try:
+                return self.once(method, path, body, heads)
+            except NoAnswer:
+                if not left:
+                    raise
+            except Error as error:
+                if not left or error.status not in LATER:
+                    raise
+            time.sleep(pause * random.uniform(0.5, 1.0))
+            pause = min(2 * pause, MOST_PAUSE)
+
+    def once(self, method, path, body=None, heads={}):
+        """Sends a request once."""
+        data = body if body is None or isinstance(body, bytes) else json.dumps(body).encode()
+        connection = getattr(self.own, "connection", None) or self._connection()
+        self.own.connection = connection
+        try:
+            connection.request(method, path, data, self._heads(body, heads))
+            answer = connection.getresponse()
+            content = answer.read()
+        except (OSError, http.client.HTTPException) as error:
+            connection.close()
+            self.own.connection = None
+            raise NoAnswer(f"{type(error).__name__}: {error}") from None
+        if answer.status >= 300:
+            raise Error(answer.status, told_by(content))
+        return answer.headers, content
+
+    def _heads(self, body, heads):
+        given = {} if body is None else {"Content-Type": BYTES if isinstance(body, bytes) else JSON}
+        return {**given, **({"Authorization": f"Bearer {self.token}"} if self.token else {}), **heads}
+
+    def _connection(self):
+        if self.url.startswith("unix:"):
+            return Unix(self.url.removeprefix("unix:"), self.timeout)
+        parts = urllib.parse.urlsplit(self.url)
+        kind = http.client.HTTPSConnection if parts.scheme == "https" else http.client.HTTPConnection
+        return kind(parts.hostname, parts.port, timeout=self.timeout)
+
+    def close(self):
+        """Closes this thread's connection."""
+        if getattr(self.own, "connection", None) is not None:
+            self.own.connection.close()
+            self.own.connection = None
+
+    def __enter__(self):
+        return self
+
+    def __exit__(self, *_):
+        self.close()
+
+
+def packed(numbers, kind="I"):
+    """Numbers as bytes, the lowest byte first."""
+    data = array.array(kind, numbers)
+    if sys.byteorder == "big":
+        data.byteswap()
+    return data.tobytes()
+
+
+def unpacked(data, kind):
+    numbers = array.array(kind)
+    numbers.frombytes(data)
+    if sys.byteorder == "big":
+        numbers.byteswap()
+    return numbers
+
+
+def listed(numbers):
+    """A list of whole numbers, also of an array."""
+    return numbers if numbers is None else [int(number) for number in numbers]
+
+
+def told_by(content):
+    """What an answer that is an error says."""
+    try:
+        told = json.loads(content)
+    except ValueError:
+        told = None
+    return told if isinstance(told, dict) else {"words": content[:300].decode(errors="replace")}
+
+
+def events_of(lines):
+    """The events of a stream, each of which ends with an empty line. One that was cut off is none."""
+    kind, number, data = "", "", []
+    for line in lines:
+        name, _, value = line.decode().rstrip("\r\n").partition(": ")
+        if name == "event":
+            kind = value
+        elif name == "id":
+            number = value
+        elif name == "data":
+            data.append(value)
+        elif not name:
+            if kind in ("rows", "changes"):
+                told = json.loads("\n".join(data))
+                yield Event(kind, number, told.get("from"), told["version"], [tuple(row) for row in told["rows"]])
+            elif kind == "error":
+                raise Error(422, json.loads("\n".join(data)))
+            elif kind == "end":
+                return
+            kind, data = "", []
+
+
+# The command `edgebpf-client`.
+
+HELP = """talks to edgebpf-serve
+
+  edgebpf-client status
+  edgebpf-client batch < EDITS          lines of `SOURCE TARGET`, or `- SOURCE TARGET` to take the edge out
+  edgebpf-client program NAME FILE      a text of the assembler
+  edgebpf-client run NAME [VERTEX ..]   lines of `VERTEX VALUE`
+  edgebpf-client numbers NAME VERTEX .. lines of `SOURCE TARGET NUMBER`
+  edgebpf-client pairs NAME < PAIRS     lines of `SOURCE TARGET NUMBER`
+  edgebpf-client neighbours VERTEX
+  edgebpf-client expand STEPS VERTEX ..
+  edgebpf-client column NAME < NUMBERS  a line for each vertex
+  edgebpf-client watch NAME             lines of `VERSION VERTEX VALUE`, without end
+  edgebpf-client snapshot; edgebpf-client backup NAME
+
+The service is --url, or EDGEBPF_URL; the token is EDGEBPF_TOKEN."""
+
+
+def lines_of_numbers(count, has_marks=False):
+    """The numbers of standard input's lines, each so many; an edit may begin with `-`."""
+    found = []
+    for number, line in enumerate(sys.stdin, 1):
+        words = line.split()
+        if not words or words[0].startswith("#"):
+            continue
+        is_out = has_marks and words[0] == "-"
+        words = words[1:] if is_out else words
+        if len(words) != count or not all(word.isascii() and word.isdigit() for word in words):
+            raise ValueError(f"line {number}: {count} whole numbers are wanted")
+        found.append([*map(int, words), 1] if is_out else [*map(int, words)])
+    return found
+
+
+def command_batch(client, given):
+    for outcome in client.batch(lines_of_numbers(2, has_marks=True)):
+        print(f"version {outcome.version} added {outcome.added} removed {outcome.removed}")
+
+
+def command_program(client, given):
+    with open(given.words[1], encoding="utf-8") as file:
+        told = client.program(given.words[0], file.read(), record=given.record)
+    print(f"program {told['name']} bound {told['bound']} frames {told['frames']} asks {told['asks']}")
+
+
+def asked_of(given):
+    return {"argument": bytes.fromhex(given.argument), "columns": given.column}
+
+
+def command_run(client, given):
+    name, *vertices = given.words
+    frontier = [int(word) for word in vertices] or None
+    told = client.run(name, given.reduction, frontier, **asked_of(given))
+    for vertex, value in zip(frontier or range(len(told["values"])), told["values"]):
+        print(vertex, value)
+    print(f"version {told['version']} edges {told['edges']} total {told['total']}")
+
+
+def command_numbers(client, given):
+    name, *vertices = given.words
+    told = client.numbers(name, [int(word) for word in vertices], **asked_of(given))
+    for place, vertex in enumerate(vertices):
+        for edge in range(told["starts"][place], told["starts"][place + 1]):
+            print(vertex, told["targets"][edge], told["numbers"][edge])
+
+
+def command_pairs(client, given):
+    pairs = lines_of_numbers(2)
+    for (source, target), number in zip(pairs, client.pairs(given.words[0], pairs, **asked_of(given))["numbers"]):
+        print(source, target, number)
+
+
+def command_column(client, given):
+    client.column(given.words[0], [number for number, in lines_of_numbers(1)])
+
+
+def command_watch(client, given):
+    for event in client.watch(given.words[0], given.reduction, **asked_of(given)):
+        for vertex, value in event.rows:
+            print(event.version, vertex, value, flush=True)
+
+
+COMMANDS = {
+    "status": (0, lambda client, given: print(*(f"{name} {value}" for name, value in client.status().items()))),
+    "batch": (0, command_batch), "program": (2, command_program), "run": (1, command_run), "numbers": (2, command_numbers), "pairs": (1, command_pairs),
+    "neighbours": (1, lambda client, given: print(*client.neighbours(int(given.words[0])))),
+    "expand": (2, lambda client, given: print(*client.expand([int(word) for word in given.words[1:]], int(given.words[0]))["vertices"])),
+    "column": (1, command_column), "watch": (1, command_watch), "snapshot": (0, lambda client, given: print(f"version {client.snapshot()}")),
+    "backup": (1, lambda client, given: print(f"version {client.json('POST', '/backups', {'name': given.words[0]})['version']}")),
+}
+
+
+def main():
+    parser = argparse.ArgumentParser("edgebpf-client", description=HELP, formatter_class=argparse.RawDescriptionHelpFormatter)
+    parser.add_argument("command", choices=COMMANDS)
+    parser.add_argument("words", nargs="*")
+    parser.add_argument("--url", default=os.environ.get("EDGEBPF_URL", "http://127.0.0.1:8080"))
+    parser.add_argument("--reduction", choices=("sum", "min", "max"), default="sum")
+    parser.add_argument("--argument", default="", metavar="HEX")
+    parser.add_argument("--column", action="append", default=[], metavar="NAME", help="a column of a run; may be said again")
+    parser.add_argument("--record", type=int, default=16, metavar="BYTES", help="the length of a program's record")
+    given = parser.parse_intermixed_args()
+    count, call = COMMANDS[given.command]
+    if len(given.words) < count:
+        parser.error(f"{given.command} wants {count} more words at least; see --help")
+    try:
+        with Client(given.url, os.environ.get("EDGEBPF_TOKEN")) as client:
+            call(client, given)
+        sys.stdout.flush()
+    except (Error, NoAnswer, ValueError, OSError) as error:
+        if isinstance(error, BrokenPipeError):
+            os._exit(1)
+        sys.exit(f"edgebpf-client: {error}")
+    except KeyboardInterrupt:
+        os._exit(130)
+
+
+if __name__ == "__main__":
+    main()

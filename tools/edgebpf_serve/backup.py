@@ -1,0 +1,97 @@
+"""Copies of a folder, while it is served, and folders made of them."""
+import contextlib
+import os
+import pathlib
+import shutil
+import sqlite3
+
+from edgebpf_serve import rows
+from edgebpf_serve.disk import NAME, Disk, Wrong, sync_folder
+from edgebpf_serve.limits import Options
+from edgebpf_serve.recovery import recover
+from edgebpf_serve.rows import Damaged
+
+# A file that the copied rows name may have been superseded meanwhile; then the copy begins again.
+TRIES = 5
+
+
+def back_up(folder, target):
+    """Makes a folder that is a copy of another as it is at this moment, and returns the version of it. It is there whole, or not at all."""
+    folder, target = pathlib.Path(folder), pathlib.Path(target)
+    if target.exists():
+        raise FileExistsError(f"{target} is there already")
+    target.parent.mkdir(parents=True, exist_ok=True)
+    draft = target.with_name(f".{target.name}.draft")
+    for left in range(TRIES - 1, -1, -1):
+        shutil.rmtree(draft, ignore_errors=True)
+        draft.mkdir(mode=0o700)
+        try:
+            version = _copy(folder, draft)
+            break
+        except FileNotFoundError:
+            if not left:
+                raise
+        except BaseException:
+            shutil.rmtree(draft, ignore_errors=True)
+            raise
+    os.rename(draft, target)
+    sync_folder(target.parent)
+    return version
+
+
+def _copy(folder, draft):
+    with contextlib.closing(sqlite3.connect(f"file:{folder / NAME}?mode=ro", uri=True)) as db:
+        with contextlib.closing(sqlite3.connect(draft / NAME, isolation_level=None)) as copy:
+            db.backup(copy)
+            copy.execute("pragma journal_mode=delete")
+            names = [row[1] for row in rows.read(copy, "snapshots")] + [row[2] for row in rows.read(copy, "columns")]
+            batches = copy.execute("select max(seq) from journal").fetchone()[0]
+            snapshots = copy.execute("select max(seq) from snapshots").fetchone()[0]
+    for name in names:
+        shutil.copyfile(folder / name, draft / name)
+    for path in (*(draft / name for name in (NAME, *names)), draft):
+        file = os.open(path, os.O_RDONLY)
+        try:
+            os.fsync(file)
+        finally:
+            os.close(file)
+    return max(batches or 0, snapshots or 0)
+
+
+def check(folder, log):
+    """Recovers a folder, and says what it has. Raises `Wrong` if it is damaged, or in use."""
+    if not (pathlib.Path(folder) / NAME).is_file():
+        raise Wrong(f"{folder}: it has no {NAME}")
+    disk = Disk(folder)
+    try:
+        state = recover(disk, Options(), log)
+        for name, seq, file, digest, _ in rows.read(disk.db, "columns"):
+            disk.read_column(name, file, digest)
+        told = {name: len(rows.read(disk.db, name)) for name in ("programs", "columns", "tokens")}
+        moment = state.graph.moment(state.seq)
+        return {"version": state.seq, "vertices": disk.vertices, "edges": moment.version.edges, "ids": len(state.ids), **told}
+    except (Damaged, OSError) as error:
+        raise Wrong(f"{folder}: {error}") from None
+    finally:
+        disk.close()
+
+
+def restore(copy, folder, log):
+    """Makes a folder of a backup, once that was recovered without an error, and returns what it has."""
+    folder = pathlib.Path(folder)
+    if folder.exists() and any(folder.iterdir()):
+        raise Wrong(f"{folder}: it is not empty")
+    draft = folder.with_name(f".{folder.name}.draft")
+    shutil.rmtree(draft, ignore_errors=True)
+    try:
+        back_up(copy, draft)
+        found = check(draft, log)
+        if folder.exists():
+            folder.rmdir()
+        os.rename(draft, folder)
+        sync_folder(folder.parent)
+        return found
+    except (sqlite3.Error, Damaged) as error:
+        raise Wrong(f"{copy}: {error}") from None
+    finally:
+        shutil.rmtree(draft, ignore_errors=True)

@@ -1,0 +1,182 @@
+"""Programs and columns by their names, kept on disk."""
+import threading
+import typing
+
+import edgebpf
+import numpy as np
+
+from edgebpf_serve import rows
+from edgebpf_serve.disk import Wrong
+from edgebpf_serve.engine import Busy, Task
+from edgebpf_serve.rows import Damaged
+from edgebpf_tools.own_source import asks_of
+
+
+class Conflict(Exception):
+    """Another thing has this name already."""
+
+
+class Missing(Exception):
+    """Nothing has this name."""
+
+
+class TooMany(Exception):
+    """This token has as many as it may, or the service has."""
+
+
+class Source(typing.NamedTuple):
+    """What a program is made of. `form` is "text" or "code", and `body` the bytes of that."""
+
+    record: int
+    form: str
+    body: bytes
+    table: bytes
+
+
+class Kept(typing.NamedTuple):
+    """A program under its name. `asks` is "own", "target" or "all": which vertices it asks the graph about."""
+
+    name: str
+    program: edgebpf.Program
+    asks: str
+    source: Source
+    owner: str
+
+    def row(self):
+        return self.name, *self.source, self.owner
+
+    def about(self):
+        program = self.program
+        return {"name": self.name, "record": program.record, "bound": program.bound, "frames": program.frames, "asks": self.asks, "owner": self.owner}
+
+
+def verified(name, source, owner=""):
+    """A program that the verifier has accepted. Raises what the package raises."""
+    record, form, body, table = source
+    program = edgebpf.assemble(body.decode("utf-8", "surrogatepass"), record, table) if form == "text" else edgebpf.Program(body, record, table)
+    return Kept(name, program, asks_of(program._bytes()), source, owner)
+
+
+class Programs:
+    """All programs of a service. What is read is read by any thread, and written by the writer's."""
+
+    def __init__(self, disk, most):
+        self.most, self.of = most, {}
+        try:
+            for name, *source, owner in rows.read(disk.db, "programs"):
+                self.of[name] = verified(name, Source(*source), owner)
+        except (Damaged, edgebpf.Error, ValueError) as error:
+            raise Wrong(f"{disk.folder}: programs: {error}") from None
+
+    def get(self, name):
+        found = self.of.get(name)
+        if found is None:
+            raise Missing(f"no program has the name {name}")
+        return found
+
+    def keep(self, kept, most_of_owner, done):
+        """A task that keeps a program. `done` is called with the program and whether it is new."""
+        def write(db):
+            old = self.of.get(kept.name)
+            if old is not None:
+                if old.source != kept.source:
+                    raise Conflict(f"another program has the name {kept.name}")
+                return old, False
+            refuse_more(self.of.values(), kept.owner, self.most, most_of_owner, "programs")
+            rows.put(db, "programs", kept.row())
+            return kept, True
+
+        def then(written):
+            self.of.setdefault(written[0].name, written[0])
+            return written
+
+        return Task(write, then, done)
+
+    def drop(self, name, done):
+        def write(db):
+            self.get(name)
+            rows.remove(db, "programs", name)
+
+        return Task(write, lambda _: self.of.pop(name), done)
+
+
+class Column(typing.NamedTuple):
+    """A number for each vertex. `seq` grows with each column that is put: an equal one is the same column."""
+
+    name: str
+    seq: int
+    numbers: np.ndarray
+    file: str
+    digest: bytes
+    owner: str
+
+
+class Columns:
+    """All columns of a service."""
+
+    def __init__(self, disk, most):
+        self.disk, self.most, self.of, self.lock = disk, most, {}, threading.Lock()
+        try:
+            for name, seq, file, digest, owner in rows.read(disk.db, "columns"):
+                self.of[name] = Column(name, seq, disk.read_column(name, file, digest), file, digest, owner)
+            self.seq = rows.read_meta(disk.db).get("column", 0)
+        except (Damaged, OSError) as error:
+            raise Wrong(f"{disk.folder}: columns: {error}") from None
+
+    def get(self, name):
+        found = self.of.get(name)
+        if found is None:
+            raise Missing(f"no column has the name {name}")
+        return found
+
+    def draft(self, name, numbers, owner):
+        """Writes the file of a new column, by any thread."""
+        with self.lock:
+            self.seq += 1
+            seq = self.seq
+        file, digest = self.disk.write_column(seq, numbers)
+        return Column(name, seq, numbers, file, digest, owner)
+
+    def keep(self, column, most_of_owner, done):
+        """A task that puts a column in the place of one with its name. `done` is called with the column."""
+        def write(db):
+            old = self.of.get(column.name)
+            if old is None:
+                refuse_more(self.of.values(), column.owner, self.most, most_of_owner, "columns")
+            elif old.seq > column.seq:
+                raise Busy(f"a newer column {column.name} came first")
+            rows.put(db, "columns", (column.name, column.seq, column.file, column.digest, column.owner))
+            if column.seq > rows.read_meta(db).get("column", 0):
+                rows.set_meta(db, "column", column.seq)
+            return old
+
+        def then(old):
+            self.of[column.name] = column
+            self._unlink(old)
+            return column
+
+        def told(result):
+            if isinstance(result, Exception):
+                self._unlink(column)
+            done(result)
+
+        return Task(write, then, told)
+
+    def drop(self, name, done):
+        def write(db):
+            self.get(name)
+            rows.remove(db, "columns", name)
+
+        return Task(write, lambda _: self._unlink(self.of.pop(name)), done)
+
+    def _unlink(self, column):
+        if column is not None:
+            (self.disk.folder / column.file).unlink(missing_ok=True)
+
+
+def refuse_more(others, owner, most, most_of_owner, what):
+    """Raises `TooMany` where one more would be too many."""
+    if len(others) >= most:
+        raise TooMany(f"the service keeps {most} {what}")
+    if sum(other.owner == owner for other in others) >= most_of_owner:
+        raise TooMany(f"this token keeps {most_of_owner} {what}")
