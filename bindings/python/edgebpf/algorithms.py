@@ -7,7 +7,8 @@
 
 Each call works in pieces. Between them `progress(done, of)` is called, if it is given, and a Ctrl-C is heard: what that call raises ends the
 algorithm, and the version is as it was. With `seconds=` it raises `TimedOut` after that time, whose `run` is a `Task` that goes on, and `begin` makes
-one of which nothing is done. The companion library in C that does the work is tested, and not proved.
+one of which nothing is done. The companion library in C that does the work is tested, and not proved. With `tested=True` a search and components
+are asked of the proved library before they are returned.
 """
 from __future__ import annotations
 
@@ -23,6 +24,7 @@ from edgebpf.companion import (
     F64, NO_VERTEX, PIECE, SHARED_PIECE, U8, U32, U64, AnyVersion, Copy, Lender, Pieces, Progress, Task, by_threads, call, cut, finished, foreign,
     pointer, version_of,
 )
+from edgebpf.errors import Error, NotHere
 from edgebpf.given import Numbers, Vertices, given_array, threads_of, vertex_of, vertices_of, whole
 from edgebpf.live_algorithms import LiveComponents, LiveRank, LiveTriangles, NotMirrored, mirrored
 
@@ -72,41 +74,76 @@ class Labels:
 
 
 def bfs(
-    version: AnyVersion, roots: npt.ArrayLike, most: int | None = None, *, progress: Progress | None = None, seconds: float | None = None,
+    version: AnyVersion, roots: npt.ArrayLike, most: int | None = None, *, tested: bool = False, progress: Progress | None = None,
+    seconds: float | None = None,
 ) -> Search:
     """Breadth first search along the edges' direction. roots: a vertex, or an array of some. most: the last level that is wanted; where it is
-    given, lists are read where they lie, and nothing is copied."""
-    return finished(_bfs(version, roots, most), progress, seconds)
+    given, lists are read where they lie, and nothing is copied.
+
+    tested: the library's proved test looks at the answer, and one that is wrong is an `Error`. It takes one root, no `most`, and a version of
+    `edgebpf.Store`.
+    """
+    return finished(_bfs(version, roots, most, tested), progress, seconds)
 
 
-def _bfs(version: AnyVersion, roots: npt.ArrayLike, most: int | None = None) -> Pieces[Search]:
+def _bfs(version: AnyVersion, roots: npt.ArrayLike, most: int | None = None, tested: bool = False) -> Pieces[Search]:
     count = version_of(version).vertices
     begins = np.unique(vertices_of(np.atleast_1d(given_array(roots, "roots")), count, "roots"))
     if len(begins) == 0:
         raise ValueError("roots has at least one vertex")
+    tester = _tester(version) if tested else None
+    if tester and (most is not None or len(begins) > 1):
+        raise ValueError("tested takes one root, and no most")
     last = count if most is None else min(at_least(most, 0, "most"), count)
     lists: Copy | Lender = Copy(version) if most is None or not isinstance(version, native.Version) else Lender(version)
-    name = "search_from" if isinstance(lists, Copy) else "search_lent"
+    levels, parents, reached = yield from _searched(lists, begins, last)
+    if tester and not tester.is_search(int(begins[0]), levels, parents):
+        raise Error("the search found other levels than the proved test: please report this")
+    return Search(levels, parents, reached)
+
+
+def _searched(lists: Copy | Lender, begins: Vertices, last: int) -> Pieces[tuple[npt.NDArray[np.int32], npt.NDArray[np.int32], int]]:
+    """Levels and parents of a search from some vertices at once, and how many it reached."""
+    name, count = "search_from" if isinstance(lists, Copy) else "search_lent", lists.count
     levels, parents, found = np.full(count, NO_VERTEX, U32), np.full(count, NO_VERTEX, U32), np.empty(count, U32)
     levels[begins], parents[begins], found[:len(begins)] = 0, begins, begins
     queue = foreign().new("edgebpf_queue *", (pointer(found), 0, len(begins)))
     while queue.at < queue.end:
         yield queue.at, count
         lists.call(name, queue, PIECE, last, levels, parents)
-    return Search(levels.view(np.int32), parents.view(np.int32), queue.end)
+    return levels.view(np.int32), parents.view(np.int32), queue.end
 
 
-def components(version: AnyVersion, *, progress: Progress | None = None, seconds: float | None = None) -> Vertices:
-    """The components, whatever the direction of edges: each vertex has the least vertex of its own."""
-    return finished(_components(version), progress, seconds)
+def _tester(version: AnyVersion) -> native.Version:
+    """The version, if the library in this process can test what is found in it."""
+    if not isinstance(version, native.Version):
+        raise NotHere("an edgebpf process tests no answers: use edgebpf.Store")
+    return version
 
 
-def _components(version: AnyVersion) -> Pieces[Vertices]:
+def components(
+    version: AnyVersion, *, tested: bool = False, progress: Progress | None = None, seconds: float | None = None,
+) -> Vertices:
+    """The components, whatever the direction of edges: each vertex has the least vertex of its own.
+
+    tested: the library's proved test looks at the answer, and one that is wrong is an `Error`. A search from all labels, over a copy with
+    both directions of each edge, finds the trees that the test asks for. It takes a version of `edgebpf.Store`.
+    """
+    return finished(_components(version, tested), progress, seconds)
+
+
+def _components(version: AnyVersion, tested: bool = False) -> Pieces[Vertices]:
+    tester = _tester(version) if tested else None
     graph = Copy(version)
     up = np.arange(graph.count, dtype=U32)
     yield 0, graph.count
     yield from graph.over("join_edges", up)
     call("name_parts", graph.count, up)
+    if tester:
+        labels = np.flatnonzero(up == np.arange(graph.count)).astype(U32)
+        steps, parents, _ = yield from _searched(graph.both_ways(), labels, graph.count)
+        if not tester.are_components(up, parents, steps):
+            raise Error("the components are others than those of the proved test: please report this")
     return up
 
 

@@ -181,6 +181,15 @@ class Copy:
         self.starts, self.targets, self.count = starts, targets, len(starts) - 1
         self._graph = foreign().new("edgebpf_graph *", (pointer(starts), pointer(targets), self.count))
 
+    def both_ways(self) -> Copy:
+        """The edges in both directions, some of them twice."""
+        degrees = np.diff(self.starts.view(np.int64))
+        sources = np.concatenate([np.repeat(np.arange(self.count, dtype=U32), degrees), self.targets])
+        targets = np.concatenate([self.targets, sources[:len(self.targets)]])
+        starts = np.zeros(self.count + 1, U64)
+        np.cumsum(np.bincount(sources, minlength=self.count), out=starts[1:].view(np.int64))
+        return Copy.of(starts, targets[np.argsort(sources, kind="stable")])
+
     def call(self, name: str, *given: Any) -> Any:
         return call(name, self._graph, *given)
 

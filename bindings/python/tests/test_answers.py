@@ -4,9 +4,13 @@ import pathlib
 import random
 import sys
 import unittest
+import unittest.mock
 
 sys.path.insert(0, str(pathlib.Path(__file__).resolve().parent))
 from test_package import edgebpf, np
+
+if np is not None:
+    from edgebpf import algorithms, companion
 
 
 def searched(count, edges, root):
@@ -77,6 +81,38 @@ class Answers(unittest.TestCase):
         version.close()
         with self.assertRaises(edgebpf.Closed):
             version.are_components([0, 0, 2], [0, 0, 0], [0, 1, 0])
+
+    @unittest.skipIf(np is None or companion.path() is None, "not there: libedgebpf_algorithms.so")
+    def test_algorithms_that_are_tested(self):
+        chance = random.Random(4)
+        for _ in range(100):
+            count = chance.choice([1, 2, 5, 12, 40])
+            edges = sorted({(chance.randrange(count), chance.randrange(count)) for _ in range(chance.choice([0, 1, count, 2 * count]))})
+            version, root = self.version_of(count, edges), chance.randrange(count)
+            self.assertEqual(algorithms.bfs(version, root, tested=True).levels.tolist(), searched(count, edges, root)[0])
+            self.assertEqual(algorithms.components(version, tested=True).tolist(), labelled(count, edges)[0])
+            task = algorithms.begin("bfs", version, root, tested=True)
+            while not task.done:
+                task.step()
+            self.assertEqual(task.result.reached, algorithms.bfs(version, root).reached)
+
+    @unittest.skipIf(np is None or companion.path() is None, "not there: libedgebpf_algorithms.so")
+    def test_algorithms_that_are_wrong(self):
+        version, search = self.version_of(4, [(0, 1), (1, 2)]), algorithms._searched
+
+        def wrong(*given):
+            levels, parents, reached = yield from search(*given)
+            levels[2] += 1
+            return levels, parents, reached
+
+        with unittest.mock.patch.object(algorithms, "_searched", wrong):
+            self.assertEqual(algorithms.bfs(version, 0).levels.tolist(), [0, 1, 3, -1])
+            for find in (lambda: algorithms.bfs(version, 0, tested=True), lambda: algorithms.components(version, tested=True)):
+                with self.assertRaisesRegex(edgebpf.Error, "proved test"):
+                    find()
+        for roots, most in (([0, 1], None), (0, 1)):
+            with self.assertRaisesRegex(ValueError, "tested"):
+                algorithms.bfs(version, roots, most, tested=True)
 
 
 if __name__ == "__main__":
