@@ -5,6 +5,8 @@ FORMAT = 1
 MOST_VERTICES = 1 << 24
 FIRST_VERTICES = 65_536
 MOST_EDITS = 65_536
+# A recovery applies so many edits together, of batches whose results are known.
+MOST_MERGED = 1 << 22
 # For so many batches their ids are known.
 MOST_IDS = 100_000
 EDIT_BYTES = 8

@@ -6,7 +6,7 @@ import numpy as np
 
 from edgebpf_serve.disk import Wrong
 from edgebpf_serve.graph import Graph
-from edgebpf_serve.limits import EDIT_BYTES, MOST_EDITS
+from edgebpf_serve.limits import EDIT_BYTES, MOST_EDITS, MOST_MERGED, REMOVE
 from edgebpf_serve.rows import Damaged, digest_of
 
 
@@ -66,7 +66,7 @@ def _newest(disk, log):
 
 def _replay(disk, graph, snapshot, known):
     """Applies the batches after a snapshot, and returns the last one's number, the results that the disk does not have, and how many batches
-    there were, with how many bytes. As the results of batches up to `known` are kept, many of them are applied as one."""
+    there were, with how many bytes. As the results of batches up to `known` are kept, these are applied together."""
     seq, results, since, merged = snapshot, [], [0, 0], Merged(graph)
     for seq, key, edits in disk.batches(snapshot):
         since = [since[0] + 1, since[1] + EDIT_BYTES * len(edits)]
@@ -80,18 +80,29 @@ def _replay(disk, graph, snapshot, known):
 
 
 class Merged:
-    """Batches that are applied as one, in their order."""
+    """Batches whose edits are applied together. Of the edits of an edge the last one decides, so the others are left out; the store takes far
+    less time for edits in the order of their sources than for as many batches with sources here and there."""
 
     def __init__(self, graph):
         self.graph, self.parts, self.count = graph, [], 0
 
     def add(self, edits):
-        if self.count + len(edits) > MOST_EDITS:
-            self.apply()
         self.parts.append(edits)
         self.count += len(edits)
+        if self.count >= MOST_MERGED:
+            self.apply()
 
     def apply(self):
         if self.count:
-            self.graph.apply(np.concatenate(self.parts))
+            edits = last_of_each(np.concatenate(self.parts))
+            for place in range(0, len(edits), MOST_EDITS):
+                self.graph.apply(edits[place:place + MOST_EDITS])
         self.parts, self.count = [], 0
+
+
+def last_of_each(edits):
+    """The last edit of each edge, in the order of their sources."""
+    keys = (edits[:, 0] & ~np.uint32(REMOVE)).astype(np.uint64) << np.uint64(32) | edits[:, 1]
+    order = np.argsort(keys, kind="stable")
+    keys = keys[order]
+    return edits[order[np.append(keys[1:] != keys[:-1], True)]]
