@@ -21,7 +21,7 @@ from test_package import edgebpf, np
 if np is not None:
     from edgebpf import algorithms, companion
 
-PEERS = ("igraph", "networkx", "scipy")
+MISSING = [name for name in ("igraph", "networkx", "scipy") if importlib.util.find_spec(name) is None]
 # Each 400th graph has a hub.
 GRAPHS, BATCHES = 400, 400
 # Both directions of these are the graph of eight vertices.
@@ -201,6 +201,8 @@ class ByHand(WithStores):
         blocks = test_package.python_blocks(test_package.TOP / "docs" / "ALGORITHMS.md")
         self.assertEqual(len(blocks), 4)
         for block in blocks:
+            if "scipy" in block and MISSING:
+                continue
             with contextlib.redirect_stdout(io.StringIO()), warnings.catch_warnings():
                 # Of what peers do themselves.
                 warnings.simplefilter("ignore")
@@ -467,7 +469,7 @@ class Pieces(WithStores):
             timer.join()
 
 
-@unittest.skipIf(missing := [name for name in PEERS if importlib.util.find_spec(name) is None], f"not there: {missing}")
+@unittest.skipIf(MISSING, f"not there: {MISSING}")
 class BesidePeers(WithStores):
     def test_random_graphs(self):
         from algorithm_peers import check_graph
