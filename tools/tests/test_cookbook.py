@@ -243,16 +243,21 @@ class FunctionsInPython(unittest.TestCase):
         """On mirrored graphs they give the same, ranks to the last bit."""
         from edgebpf import algorithms
 
-        chance, rounds = random.Random(9), load("rounds")
-        for _ in range(30):
-            vertices = chance.randint(1, 60)
-            edges = [(chance.randrange(vertices), chance.randrange(vertices)) for _ in range(chance.randrange(2 * vertices))]
+        chance, rounds, pushes = random.Random(9), load("rounds"), load("pushes")
+        for number in range(40):
+            vertices, has_loops = chance.randint(1, 60), bool(number % 2)
+            edges = [(chance.randrange(vertices), chance.randrange(vertices)) for _ in range(chance.randrange(4 * vertices))]
+            edges = [(source, target) for source, target in edges if has_loops or source != target]
             store = self.edgebpf.Store(vertices)
             store.batch("A", edges=edges + [(target, source) for source, target in edges])
             version, root, many = store.pin(), chance.randrange(vertices), chance.randrange(30)
             self.assertEqual(rounds.ranks(version, many).tolist(), algorithms.pagerank_fixed(version, many).tolist())
             self.assertEqual(rounds.components(version).tolist(), algorithms.components(version).tolist())
+            self.assertEqual(pushes.components(version).tolist(), algorithms.components(version).tolist())
             self.assertEqual(rounds.levels(version, root).tolist(), algorithms.bfs(version, root).levels.tolist())
+            self.assertEqual(pushes.hops(version, root).view("int64").tolist(), algorithms.bfs(version, root).levels.tolist())
+            if not has_loops:
+                self.assertEqual(pushes.cores(version).tolist(), algorithms.cores(version).tolist())
             store.close()
 
     @unittest.mock.patch.dict(os.environ, {"EDGEBPF": STORE})
