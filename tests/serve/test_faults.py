@@ -12,7 +12,7 @@ import unittest
 HERE = pathlib.Path(__file__).resolve().parent
 sys.path.insert(0, str(HERE))
 
-from harness import Client, Error, Forks, NoAnswer, folder, missing, served  # noqa: E402
+from harness import TOP, Client, Error, Forks, NoAnswer, folder, missing, served  # noqa: E402
 from model import KINDS, Graph, random_edits, seeded  # noqa: E402
 from power_loss import environment  # noqa: E402
 
@@ -187,6 +187,27 @@ class Connections(unittest.TestCase):
             time.sleep(0.3)
             with Client(client.url, tries=1) as other:
                 self.assertEqual(other.status()["version"], 0)
+
+
+@unittest.skipIf(MISSING, f"not there: {MISSING}")
+class Ids(unittest.TestCase):
+    def test_a_batch_that_comes_again_as_its_id_is_forgotten(self):
+        """In one group a new batch takes the place of the oldest id, and the batch with that id comes once more."""
+        sys.path[:0] = [str(TOP / "tools"), str(TOP / "bindings" / "python")]
+        import numpy as np
+        from edgebpf_serve.disk import Disk
+        from edgebpf_serve.engine import Engine
+        from edgebpf_serve.limits import Options
+        from edgebpf_serve.metrics import Meter
+
+        with folder() as place:
+            engine, told = Engine(Disk(place / "graph", 4, ids=1), Options(), Meter(), lambda *_, **__: None), []
+            for group in (("a",), ("b", "a"), ("b", "b")):
+                for key in group:
+                    engine.submit(key, np.array([(0, 1), (1, 2)] if key == "a" else [(2, 3)], "<u4"), told.append)
+                engine._write(engine.queue.take(0))
+            self.assertEqual(told, [(1, 2, 0, True), (2, 1, 0, True), (1, 2, 0, False), (2, 1, 0, False), (2, 1, 0, False)])
+            engine.disk.close()
 
 
 @unittest.skipIf(MISSING, f"not there: {MISSING}")

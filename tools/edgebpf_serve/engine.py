@@ -249,14 +249,14 @@ class Engine:
         synced = time.perf_counter()
         counts = self._apply(news)
         self._finish(tasks)
-        for batch, seq, is_new, is_same in told:
-            added_removed = counts.get(seq) or self.ids[batch.key][2:]
-            batch.done(Outcome(seq, *added_removed, is_new) if is_same else OtherBatch(f"another batch had the id {batch.key}"))
+        for batch, (seq, digest, *earlier), is_new in told:
+            is_same = digest == batch.digest
+            batch.done(Outcome(seq, *(earlier or counts[seq]), is_new) if is_same else OtherBatch(f"another batch had the id {batch.key}"))
         self.meter.group(len(news), synced - begun, time.perf_counter() - synced)
 
     def _sorted_out(self, group):
-        """The new batches of a group as (seq, batch); for each of its batches (batch, seq, is_new, is_same); and its tasks, with room for what
-        became of them."""
+        """The new batches of a group as (seq, batch); each of its batches with what is known of the one with its id, as in `ids`, and whether it
+        is new; and its tasks, with room for what became of them."""
         news, told, seen, tasks = [], [], {}, []
         for item in group:
             if isinstance(item, Task):
@@ -268,9 +268,9 @@ class Engine:
                 news.append((known[0], item))
                 if item.key is not None:
                     seen[item.key] = known
-                told.append((item, known[0], True, True))
+                told.append((item, known, True))
             else:
-                told.append((item, known[0], False, known[1] == item.digest))
+                told.append((item, known, False))
         return news, told, tasks
 
     def _write_rows(self, news, tasks):
