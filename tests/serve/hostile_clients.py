@@ -323,8 +323,8 @@ def main():
                 print(*what, count)
             server.send_signal(signal.SIGINT)
             ended = server.wait(30)
-    print(f"{len(test.batches)} batches, {len(test.reads)} reads compared, {edges} edges, {sum(test.counts.values())} requests")
-    print(f"MB of the server with its store: {early} after a third, {late} at the end")
+    print(f"hostile_clients: {len(test.batches)} batches, {len(test.reads)} reads compared, {edges} edges, {sum(test.counts.values())} requests,"
+          f" {early} MB after a third and {late} at the end")
     sys.exit(f"hostile_clients: the server ended with {ended}" if ended else 0)
 
 

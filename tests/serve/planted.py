@@ -27,7 +27,9 @@ def main():
         is_found = run.returncode == 1 and said.startswith(f"{loop}: seed")
         print(f"planted: {name}: {'found' if is_found else 'MISSED'} in {time.monotonic() - begun:.0f} s by {said}", flush=True)
         missed += [] if is_found else [name]
-    sys.exit(f"planted: not found: {', '.join(missed)}" if missed else 0)
+    if missed:
+        sys.exit(f"planted: not found: {', '.join(missed)}")
+    print(f"planted: all {len(names())} mistakes were found")
 
 
 if __name__ == "__main__":
