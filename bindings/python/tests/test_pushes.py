@@ -90,12 +90,15 @@ class Pushes(unittest.TestCase):
         self.assertEqual((other.values.tolist(), push.edges, into.tolist()), ([0, 1, 1011, 0], 1, [0, 1, 0, 0]))
 
     def test_ends_by_time(self):
-        into = np.zeros(4, np.uint64)
+        slow, into = edgebpf.assemble("mov r0, 0\n" + "add r0, 1\n" * 4000 + "exit"), np.zeros(8, np.uint64)
+        frontier = list(range(8)) * 200
         with self.assertRaises(edgebpf.TimedOut) as raised:
-            self.few.push(self.of_source, into=into, columns=[self.y], seconds=0)
+            self.version.push(slow, frontier=frontier, into=into, seconds=0)
+        self.assertLess(raised.exception.run.edges, len(EDGES) * 200)
         while not raised.exception.run.done:
             raised.exception.run.step()
-        self.assertEqual(into.tolist(), [0, 1, 1011, 0])
+        # So many edges lead to each vertex.
+        self.assertEqual(into.tolist(), [4000 * 200 * many for many in (2, 2, 3, 2, 1, 1, 1, 0)])
 
     def test_what_is_wrong(self):
         into = np.zeros(4, np.uint64)
