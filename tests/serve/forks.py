@@ -29,7 +29,7 @@ def child(options, out):
         status = 0
     except disk.Wrong as error:
         command.log("wrong", error=str(error))
-        status = limits.WRONG_FOLDER
+        status = limits.NO_ROOM_YET if isinstance(error, disk.Full) else limits.WRONG_FOLDER
     except BaseException as error:
         command.log("failed", error=f"{type(error).__name__}: {error}")
         status = 1

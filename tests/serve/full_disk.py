@@ -93,6 +93,14 @@ class Service:
         require(port is not None, f"the service ended with {status} before it listened")
         return Client(f"http://127.0.0.1:{port}", timeout=30, tries=1)
 
+    def start_or_refuse(self, writer):
+        """After a whole end SQLite's shared index is not there. Without room for it, and without a reserve, a start is refused by status 1."""
+        self.pid = self.forks.begin(data=str(self.data), **OPTIONS)
+        port, status = self.forks.port()
+        require(port is not None or status == 1, f"on a full disk the service ended with {status}")
+        writer.counts["starts after a whole end" if port else "of these refused"] += 1
+        return self.forks.client(port) if port else None
+
     def end(self, number):
         os.kill(self.pid, number)
         return self.forks.wait(self.pid)
@@ -111,12 +119,18 @@ def one_round(service, disk, writer, chance):
         refused = 0 if writer.write(client) else refused + 1
         # Reads go on.
         require(client.neighbours(0) == sorted(writer.graph.out[0]), "a list while the disk is full")
-    if chance.random() < 0.7:
+    how = chance.random()
+    if how < 0.5:
         service.end(signal.SIGKILL)
         client = service.start()
         writer.counts["starts on a full disk"] += 1
         writer.check(client)
+    elif how < 0.8:
+        require(service.end(signal.SIGTERM) == 0, "the service did not end whole on a full disk")
+        disk.fill(0)
+        client = service.start_or_refuse(writer)
     disk.empty()
+    client = client or service.start()
     for _ in range(10):
         require(writer.write(client), "a batch was refused with room on the disk")
     writer.check(client)

@@ -12,8 +12,8 @@ import time
 
 from edgebpf_serve.app import serve
 from edgebpf_serve.backup import back_up, check, restore
-from edgebpf_serve.disk import NAME, Disk, Wrong
-from edgebpf_serve.limits import HELP, ROLES, TOKEN_LIMITS, WRONG_FOLDER, Options
+from edgebpf_serve.disk import NAME, Disk, Full, Wrong
+from edgebpf_serve.limits import HELP, NO_ROOM_YET, ROLES, TOKEN_LIMITS, WRONG_FOLDER, Options
 from edgebpf_serve.rows import Damaged
 from edgebpf_serve.service import is_near
 from edgebpf_serve.tokens import add, change, drop, read
@@ -118,7 +118,7 @@ def main_serve(words):
             stop(f"{options.listen} is reached by other machines, and {options.data} has no tokens: make one by edgebpf-serve token, or say --open")
         asyncio.run(serve(disk, options, log))
     except Wrong as error:
-        stop(str(error))
+        stop(str(error), NO_ROOM_YET if isinstance(error, Full) else WRONG_FOLDER)
     except (Damaged, sqlite3.Error) as error:
         stop(f"{options.data}: {error}")
     except OSError as error:

@@ -3,6 +3,7 @@
 Nothing here is written by a recovery. All writes to `serve.db` are of one connection, by one thread, but for those of other processes (tokens).
 """
 import contextlib
+import errno
 import fcntl
 import os
 import pathlib
@@ -25,6 +26,17 @@ class Wrong(Exception):
     """The folder cannot be served: it is in use, of another format, or damaged."""
 
 
+class Full(Wrong):
+    """The disk has no room for the file by which SQLite's processes share their index. With room the folder can be served."""
+
+
+NO_ROOM = (errno.ENOSPC, errno.EDQUOT, "SQLITE_FULL", "SQLITE_IOERR_SHMSIZE")
+
+
+def is_full(error):
+    return getattr(error, "errno", None) in NO_ROOM or getattr(error, "sqlite_errorname", None) in NO_ROOM
+
+
 class Disk:
     """A folder that this process has for itself, and makes if it is not there. `ids`: for how many batches a new folder knows their ids."""
 
@@ -36,7 +48,8 @@ class Disk:
             self.db = self._first_connection()
             self._begin(vertices)
         except (OSError, sqlite3.Error, OverflowError) as error:
-            raise Wrong(f"{folder}: {error}") from None
+            kind = Full if is_full(error) else Wrong
+            raise kind(f"{folder}: {'the disk is full: ' if kind is Full else ''}{error}") from None
         except Damaged as error:
             raise Wrong(f"{folder}: {error}") from None
 

@@ -47,7 +47,7 @@ MOST_PAGE, PAGE = 100_000, 10_000
 MOST_TEXT = 1 << 18
 # Files that are open beside connections.
 OTHER_FILES = 64
-WRONG_FOLDER, WRONG_DISK = 2, 70
+WRONG_FOLDER, NO_ROOM_YET, WRONG_DISK = 2, 1, 70
 ROLES = ("read", "write", "program", "admin")
 
 
