@@ -1,5 +1,5 @@
 #!/usr/bin/python3
-"""The same stream by a service, by SQLite in process, and by networkx in process, with equal answers: CPU time of each.
+"""The same stream by a service, by SQLite in process, by PostgreSQL, and by networkx in process, with equal answers: CPU time of each.
 
     tests/serve/peers.py --edges 500000
 
@@ -7,9 +7,13 @@
 batch's sources, those of all vertices, and the vertices within two steps.
 """
 import argparse
+import io
 import os
+import pathlib
 import random
+import shutil
 import sqlite3
+import subprocess
 import sys
 import time
 
@@ -21,6 +25,10 @@ try:
     import networkx
 except ImportError:
     networkx = None
+try:
+    import psycopg2
+except ImportError:
+    psycopg2 = None
 
 
 class Stream:
@@ -100,6 +108,63 @@ class Lite:
         return self.db.execute(f"select count(*) from ({words})", (vertex,)).fetchone()[0]
 
 
+class Postgres:
+    """A cluster of its own in a temporary folder, by one connection. Its CPU time is that of both sides: the backend does the work."""
+
+    name = "PostgreSQL 15"
+    programs = pathlib.Path("/usr/lib/postgresql/15/bin")
+
+    def __init__(self, place):
+        self.place = place / "postgres"
+        self.place.mkdir()
+        os.chmod(place, 0o755)
+        shutil.chown(self.place, "postgres")
+        self.run("initdb", "-D", self.place, "-A", "trust")
+        self.run("pg_ctl", "-D", self.place, "-w", "-o", f"-k {self.place} -h ''", "start")
+        self.db = psycopg2.connect(host=str(self.place), user="postgres", dbname="postgres")
+        self.at = self.db.cursor()
+        self.at.execute("create table edges(u int, v int, primary key(u, v)); create index back on edges(v, u); select pg_backend_pid()")
+        self.pid = self.at.fetchone()[0]
+        self.db.commit()
+
+    def run(self, name, *words):
+        subprocess.run(["runuser", "-u", "postgres", "--", self.programs / name, *words], check=True, stdout=subprocess.DEVNULL)
+
+    def end(self):
+        self.db.close()
+        self.run("pg_ctl", "-D", self.place, "-m", "fast", "stop")
+
+    def now(self):
+        return cpu(self.pid) + time.process_time()
+
+    def load(self, edges):
+        rows = io.StringIO("".join(f"{u}\t{v}\n" for u, v in dict.fromkeys(edges)))
+        self.at.copy_from(rows, "edges")
+        self.db.commit()
+        self.at.execute("analyze edges")
+        self.db.commit()
+
+    def edit(self, batch):
+        for u, v, out in batch:
+            words = "delete from edges where u = %s and v = %s" if out else "insert into edges values(%s, %s) on conflict do nothing"
+            self.at.execute(words, (u, v))
+        self.db.commit()
+
+    def asked(self, words, *given):
+        self.at.execute(words, given)
+        return self.at.fetchone()[0]
+
+    def back(self, vertices):
+        return self.asked("select count(*) from edges a join edges b on b.u = a.v and b.v = a.u where a.u = any(%s)", vertices)
+
+    def back_of_all(self):
+        return self.asked("select count(*) from edges a join edges b on b.u = a.v and b.v = a.u")
+
+    def near(self, vertex):
+        words = "select %s union select v from edges where u = %s union select b.v from edges a join edges b on b.u = a.v where a.u = %s"
+        return self.asked(f"select count(*) from ({words}) as near", vertex, vertex, vertex)
+
+
 class Networkx:
     """A graph of networkx in this process, which keeps nothing."""
 
@@ -164,8 +229,11 @@ def main():
     with folder() as place:
         with Forks() as forks, served(forks, data=str(place / "graph"), vertices=VERTICES) as client:
             found[Served.name] = measured(Served(place, forks, client), stream)
-        for kind in (Lite, Networkx) if networkx else (Lite,):
-            found[kind.name] = measured(kind(place), stream)
+        kinds = [Lite] + ([Postgres] if psycopg2 and Postgres.programs.is_dir() and os.getuid() == 0 else []) + ([Networkx] if networkx else [])
+        for kind in kinds:
+            peer = kind(place)
+            found[kind.name] = measured(peer, stream)
+            getattr(peer, "end", lambda: None)()
     answers = [told for _, told in found.values()]
     if any(one != answers[0] for one in answers):
         sys.exit("peers: the answers differ")
