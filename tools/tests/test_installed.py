@@ -371,5 +371,5 @@ class Package(unittest.TestCase):
             code += f"; print(edgebpf.compile_c(text={SCORE!r}, function='score').bound)"
         room = {"PATH": f"{unpacked}/usr/bin:/usr/bin:/bin", "PYTHONPATH": f"{unpacked}/usr/lib/python3/dist-packages", "PYTHONDONTWRITEBYTECODE": "1"}
         run = subprocess.run([PYTHON, "-c", code], env=room, cwd="/", capture_output=True, text=True)
-        wanted = f"{unpacked}/usr/lib/libedgebpf.so.1\n1\n{unpacked}/usr/lib/libedgebpf_algorithms.so [0 0 2 3]\n" + ("" if MISSING else "2\n")
+        wanted = f"{unpacked}/usr/lib/libedgebpf.so.1\n1\n{unpacked}/usr/lib/libedgebpf_algorithms.so [0 0 2 3]\n2\n" + ("" if MISSING else "2\n")
         self.assertEqual((run.stdout, run.stderr), (wanted, ""))
