@@ -274,7 +274,7 @@ def random_batch(chance, edges, vertices, is_mirrored):
 
 
 def check_stream(chance, batches):
-    """The live forms beside what is made anew, after each batch or after some at once. Returns how many batches there were."""
+    """The live forms beside answers that are computed again, after each batch or after some at once. Returns how many batches there were."""
     is_mirrored, vertices = chance.random() < 0.8, chance.choice((1, 2, 5, 20, 60, 200))
     edges = random_edges(chance, is_mirrored, vertices)
     store, version = stored(edges, vertices)

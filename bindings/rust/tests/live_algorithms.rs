@@ -1,4 +1,4 @@
-//! Answers that are kept while batches come, on rows that were found by hand and beside what is made anew after random batches.
+//! Answers that are kept while batches come, on rows that were found by hand and beside answers that are computed again after random batches.
 use edgebpf::algorithms::{to_the_end, Failure, Graph, LiveComponents, LiveRank, LiveTriangles, RankOptions};
 use edgebpf::{Batch, Error, Feed, Store};
 
