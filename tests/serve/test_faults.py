@@ -1,6 +1,8 @@
 """What a service does when its disk fails a sync, and when its client breaks off in the midst of all kinds of requests."""
+import functools
 import os
 import pathlib
+import random
 import shutil
 import socket
 import sqlite3
@@ -158,12 +160,12 @@ class Connections(unittest.TestCase):
     def test_slow_heads_and_bodies_and_answers_that_nobody_reads(self):
         with folder() as place, Forks(SERVE_LIMITS=LIMITS) as forks, served(forks, data=str(place / "graph"), vertices=1_000_000) as client:
             client.batch([(0, 1)])
-            for head in (b"", b"GET / HT", b"GET / HTTP/1.1\r\nHost: x\r\n"):
+            for head in (b"", b"GET / HT", b"GET / HTTP/1.1\r\nHost: localhost\r\n"):
                 self.assertEqual(self.ends(self.open(client, head)), b"")
-            slow = b"POST /batches HTTP/1.1\r\nHost: x\r\nContent-Type: application/json\r\nContent-Length: 20\r\n\r\n{"
+            slow = b"POST /batches HTTP/1.1\r\nHost: localhost\r\nContent-Type: application/json\r\nContent-Length: 20\r\n\r\n{"
             self.assertTrue(self.ends(self.open(client, slow)).startswith(b"HTTP/1.1 408"))
             # Its answer has 8 MB.
-            self.open(client, b"GET /edges HTTP/1.1\r\nHost: x\r\n\r\n")
+            self.open(client, b"GET /edges HTTP/1.1\r\nHost: localhost\r\n\r\n")
             time.sleep(4)
             text = client.ask("GET", "/metrics")[1].decode()
             for line in ('edgebpf_refused_total{limit="head"} 3.0', 'edgebpf_refused_total{limit="unread"} 1.0'):
@@ -211,6 +213,82 @@ class Ids(unittest.TestCase):
 
 
 @unittest.skipIf(MISSING, f"not there: {MISSING}")
+class Names(unittest.TestCase):
+    """Programs and columns that come and go in one group of the writer, against dicts that are changed one after another."""
+
+    def setUp(self):
+        sys.path[:0] = [str(TOP / "tools"), str(TOP / "bindings" / "python")]
+        from edgebpf_serve import disk, engine, limits, metrics, named
+        self.named, place = named, folder()
+        self.data = place.__enter__() / "graph"
+        self.addCleanup(place.__exit__, None, None, None)
+        self.disk = disk.Disk(self.data, 4)
+        self.engine = engine.Engine(self.disk, limits.Options(), metrics.Meter(), lambda *_, **__: None)
+        self.addCleanup(self.disk.close)
+        self.programs, self.columns = named.Programs(self.disk, 5), named.Columns(self.disk, 5)
+
+    def written(self, tasks):
+        """What the tasks of one group are answered. Each is a function that is given what is to be called with the answer."""
+        told = [None] * len(tasks)
+        for place, task in enumerate(tasks):
+            self.engine.do(task(functools.partial(told.__setitem__, place)))
+        self.engine._write(self.engine.queue.take(0))
+        return told
+
+    def program(self, name, number, most=5):
+        source = self.named.Source(16, "text", f"mov r0, {number}\nexit".encode(), b"")
+        return functools.partial(self.programs.keep, self.named.verified(name, source, "me"), most)
+
+    def column(self, name, number, most=5):
+        import numpy as np
+        return functools.partial(self.columns.keep, self.columns.draft(name, np.full(4, number, "<u8"), "me"), most)
+
+    def test_two_that_drop_the_same(self):
+        for names, put in ((self.programs, self.program), (self.columns, self.column)):
+            self.written([put("a", 1)])
+            drop = functools.partial(names.drop, "a")
+            told = self.written([drop, drop])
+            self.assertNotIsInstance(told[0], Exception)
+            self.assertIsInstance(told[1], self.named.Missing)
+            self.assertEqual(names.of, {})
+
+    def test_one_more_than_a_token_keeps(self):
+        for put in (self.program, self.column):
+            told = self.written([put("a", 1, most=1), put("b", 1, most=1)])
+            self.assertNotIsInstance(told[0], Exception)
+            self.assertIsInstance(told[1], self.named.TooMany)
+
+    def test_groups_of_all_kinds(self):
+        chance, programs, columns = random.Random("names"), {}, {}
+        for _ in range(300):
+            tasks, wanted = [], []
+            for _ in range(chance.randrange(1, 7)):
+                one = chance.choice(("program", "column", "drop program", "drop column"))
+                name, number = chance.choice("ab"), chance.randrange(2)
+                if one == "program":
+                    kept = programs.setdefault(name, number)
+                    tasks.append(self.program(name, number))
+                    wanted.append(self.named.Conflict if kept != number else tuple)
+                elif one == "column":
+                    columns[name] = number
+                    tasks.append(self.column(name, number))
+                    wanted.append(self.named.Column)
+                else:
+                    of, names = (programs, self.programs) if one == "drop program" else (columns, self.columns)
+                    tasks.append(functools.partial(names.drop, name))
+                    wanted.append(object if of.pop(name, None) is not None else self.named.Missing)
+            for answer, kind in zip(self.written(tasks), wanted):
+                self.assertIsInstance(answer, kind)
+                self.assertEqual(isinstance(answer, Exception), issubclass(kind, Exception))
+            for found in ((self.programs, self.columns), (self.named.Programs(self.disk, 5), self.named.Columns(self.disk, 5))):
+                self.assertEqual({name: kept.source.body for name, kept in found[0].of.items()},
+                                 {name: f"mov r0, {number}\nexit".encode() for name, number in programs.items()})
+                self.assertEqual({name: column.numbers.tolist() for name, column in found[1].of.items()},
+                                 {name: [number] * 4 for name, number in columns.items()})
+            self.assertEqual({path.name for path in self.data.glob("column-*")}, {column.file for column in self.columns.of.values()})
+
+
+@unittest.skipIf(MISSING, f"not there: {MISSING}")
 class Leaving(unittest.TestCase):
     def test_clients_that_leave_take_nothing_with_them(self):
         """Clients that break off use up none of what one token may have at once, and no thread."""
@@ -233,9 +311,9 @@ class Leaving(unittest.TestCase):
     def leave(self, client, place):
         body = b'{"program": "slow", "frontier": [' + b",".join([b"1"] * 30_000) + b"]}"
         kinds = [
-            b"POST /runs HTTP/1.1\r\nHost: x\r\nContent-Type: application/json\r\nContent-Length: %d\r\n\r\n" % len(body) + body,
-            b"GET /watch?program=target HTTP/1.1\r\nHost: x\r\n\r\n",
-            b"POST /runs?format=lines HTTP/1.1\r\nHost: x\r\nContent-Type: application/json\r\nContent-Length: %d\r\n\r\n" % len(body) + body,
+            b"POST /runs HTTP/1.1\r\nHost: localhost\r\nContent-Type: application/json\r\nContent-Length: %d\r\n\r\n" % len(body) + body,
+            b"GET /watch?program=target HTTP/1.1\r\nHost: localhost\r\n\r\n",
+            b"POST /runs?format=lines HTTP/1.1\r\nHost: localhost\r\nContent-Type: application/json\r\nContent-Length: %d\r\n\r\n" % len(body) + body,
         ]
         host, port = client.url.removeprefix("http://").split(":")
         with socket.create_connection((host, int(port))) as connection:

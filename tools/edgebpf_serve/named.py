@@ -1,4 +1,8 @@
-"""Programs and columns by their names, kept on disk."""
+"""Programs and columns by their names, kept on disk.
+
+Some tasks for one name may be written with one group, before readers see what any of them did. So each looks at the rows, which have what the
+tasks before it wrote.
+"""
 import threading
 import typing
 
@@ -54,7 +58,7 @@ def verified(name, source, owner=""):
     """A program that the verifier has accepted. Raises what the package raises."""
     record, form, body, table = source
     program = edgebpf.assemble(body.decode("utf-8", "surrogatepass"), record, table) if form == "text" else edgebpf.Program(body, record, table)
-    return Kept(name, program, asks_of(program._bytes()), source, owner)
+    return Kept(name, program, asks_of(program.assembled()), source, owner)
 
 
 class Programs:
@@ -77,25 +81,24 @@ class Programs:
     def keep(self, kept, most_of_owner, done):
         """A task that keeps a program. `done` is called with the program and whether it is new."""
         def write(db):
-            old = self.of.get(kept.name)
-            if old is not None:
-                if old.source != kept.source:
+            row = rows.find(db, "programs", kept.name)
+            if row is not None:
+                if Source(*row[1:-1]) != kept.source:
                     raise Conflict(f"another program has the name {kept.name}")
-                return old, False
-            refuse_more(self.of.values(), kept.owner, self.most, most_of_owner, "programs")
+                return False
+            refuse_more(db, "programs", kept.owner, (self.most, most_of_owner))
             rows.put(db, "programs", kept.row())
-            return kept, True
+            return True
 
-        def then(written):
-            self.of.setdefault(written[0].name, written[0])
-            return written
+        def then(is_new):
+            return self.of.setdefault(kept.name, kept), is_new
 
         return Task(write, then, done)
 
     def drop(self, name, done):
         def write(db):
-            self.get(name)
-            rows.remove(db, "programs", name)
+            if not rows.remove(db, "programs", name):
+                raise Missing(f"no program has the name {name}")
 
         return Task(write, lambda _: self.of.pop(name), done)
 
@@ -140,43 +143,45 @@ class Columns:
     def keep(self, column, most_of_owner, done):
         """A task that puts a column in the place of one with its name. `done` is called with the column."""
         def write(db):
-            old = self.of.get(column.name)
+            old = rows.find(db, "columns", column.name)
             if old is None:
-                refuse_more(self.of.values(), column.owner, self.most, most_of_owner, "columns")
-            elif old.seq > column.seq:
+                refuse_more(db, "columns", column.owner, (self.most, most_of_owner))
+            elif old[1] > column.seq:
                 raise Busy(f"a newer column {column.name} came first")
             rows.put(db, "columns", (column.name, column.seq, column.file, column.digest, column.owner))
             if column.seq > rows.read_meta(db).get("column", 0):
                 rows.set_meta(db, "column", column.seq)
-            return old
+            return old and old[2]
 
-        def then(old):
+        def then(old_file):
             self.of[column.name] = column
-            self._unlink(old)
+            self._unlink(old_file)
             return column
 
         def told(result):
             if isinstance(result, Exception):
-                self._unlink(column)
+                self._unlink(column.file)
             done(result)
 
         return Task(write, then, told)
 
     def drop(self, name, done):
         def write(db):
-            self.get(name)
-            rows.remove(db, "columns", name)
+            if not rows.remove(db, "columns", name):
+                raise Missing(f"no column has the name {name}")
 
-        return Task(write, lambda _: self._unlink(self.of.pop(name)), done)
+        return Task(write, lambda _: self._unlink(self.of.pop(name).file), done)
 
-    def _unlink(self, column):
-        if column is not None:
-            (self.disk.folder / column.file).unlink(missing_ok=True)
+    def _unlink(self, file):
+        if file is not None:
+            (self.disk.folder / file).unlink(missing_ok=True)
 
 
-def refuse_more(others, owner, most, most_of_owner, what):
-    """Raises `TooMany` where one more would be too many."""
-    if len(others) >= most:
+def refuse_more(db, what, owner, limits):
+    """Raises `TooMany` if one more row would be too many in all, or for its owner."""
+    most, most_of_owner = limits
+    owners = rows.owners(db, what)
+    if len(owners) >= most:
         raise TooMany(f"the service keeps {most} {what}")
-    if sum(other.owner == owner for other in others) >= most_of_owner:
+    if owners.count(owner) >= most_of_owner:
         raise TooMany(f"this token keeps {most_of_owner} {what}")

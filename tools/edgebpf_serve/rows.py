@@ -85,6 +85,17 @@ def put(db, table, row):
     turn(db, table, sum_of(*row))
 
 
+def find(db, table, key):
+    """The row of a key, without its sum; None if there is none. Within a transaction that is the row as the transaction has it."""
+    row = db.execute(f"select * from {table} where {SUMMED[table]} = ?", (key,)).fetchone()
+    return row and checked(table, row)
+
+
+def owners(db, table):
+    """The owner of each row."""
+    return [owner for owner, in db.execute(f"select owner from {table}")]
+
+
 def remove(db, table, key):
     """Takes the row of a key out, and returns whether there was one."""
     old = db.execute(f"select sum from {table} where {SUMMED[table]} = ?", (key,)).fetchone()
