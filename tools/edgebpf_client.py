@@ -111,15 +111,15 @@ class Client:
         return self.json("POST", "/programs", {"name": name, "record": record, "table": bytes(table).hex(), **form})
 
     def drop_program(self, name):
-        return self.json("DELETE", f"/programs/{name}")
+        return self.json("DELETE", f"/programs/{quoted(name)}")
 
     def column(self, name, numbers):
         """Puts a number for each vertex: a list, or an array of numpy or `array` with 64-bit numbers."""
         data = numbers.astype("<u8").tobytes() if hasattr(numbers, "astype") else packed(numbers, "Q")
-        return self.json("PUT", f"/columns/{name}", data)
+        return self.json("PUT", f"/columns/{quoted(name)}", data)
 
     def drop_column(self, name):
-        return self.json("DELETE", f"/columns/{name}")
+        return self.json("DELETE", f"/columns/{quoted(name)}")
 
     def snapshot(self):
         return self.json("POST", "/snapshots")["snapshot"]
@@ -146,7 +146,7 @@ class Client:
         """All targets of a vertex, page by page; its sources by direction "in"."""
         found, query = [], {"direction": direction} | ({} if version is None else {"version": version})
         while True:
-            page = self.json("GET", f"/neighbours/{vertex}?{urllib.parse.urlencode(query)}")
+            page = self.json("GET", f"/neighbours/{int(vertex)}?{urllib.parse.urlencode(query)}")
             found += page["neighbours"]
             if "next" not in page:
                 return found
@@ -263,6 +263,10 @@ class Client:
 
     def __exit__(self, *_):
         self.close()
+
+
+def quoted(name):
+    return urllib.parse.quote(str(name), safe="")
 
 
 def packed(numbers, kind="I"):

@@ -167,7 +167,7 @@ def methods(chance, _):
 
 def lengths(chance, _):
     length = chance.choice(["-5", "x", "9" * 25, "2\r\nContent-Length: 5", "0x10", "1 2", "+3", ""])
-    return raw(f"POST /batches HTTP/1.1\r\nHost: x\r\nContent-Length: {length}\r\n\r\n{{}}".encode(), 400, CLOSED)
+    return raw(f"POST /batches HTTP/1.1\r\nHost: localhost\r\nContent-Length: {length}\r\n\r\n{{}}".encode(), 400, CLOSED)
 
 
 def short_length(chance, _):
@@ -180,8 +180,8 @@ def wire(chance, _):
     data = chance.choice([
         b"\x16\x03\x01\x02\x00\x01\x00\x01\xfc\x03\x03\r\n\r\n", b"\r\n\r\n\x00\r\n\r\n", b"GET\r\n\r\n",
         b"GET / HTTP/1.1\r\nA: " + b"a" * 20_000 + b"\r\n\r\n",
-        b"POST /batches HTTP/1.1\r\nHost: x\r\nTransfer-Encoding: chunked\r\n\r\nzz\r\n{}",
-        b"POST /batches HTTP/1.1\r\nHost: x\r\nTransfer-Encoding: chunked\r\nContent-Length: 3\r\n\r\n2\r\n{}\r\n0\r\n\r\n",
+        b"POST /batches HTTP/1.1\r\nHost: localhost\r\nTransfer-Encoding: chunked\r\n\r\nzz\r\n{}",
+        b"POST /batches HTTP/1.1\r\nHost: localhost\r\nTransfer-Encoding: chunked\r\nContent-Length: 3\r\n\r\n2\r\n{}\r\n0\r\n\r\n",
         b"GET / HTTP/1.1\r\n" + b"".join(b"A%d: x\r\n" % number for number in range(40_000)) + b"\r\n"])
     return raw(data, 400, CLOSED)
 

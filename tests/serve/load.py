@@ -72,7 +72,7 @@ def drive(connections, seconds):
 
 
 def request(method, path, body=b"", media="application/octet-stream", heads=""):
-    return f"{method} {path} HTTP/1.1\r\nHost: x\r\nContent-Type: {media}\r\n{heads}Content-Length: {len(body)}\r\n\r\n".encode() + body
+    return f"{method} {path} HTTP/1.1\r\nHost: localhost\r\nContent-Type: {media}\r\n{heads}Content-Length: {len(body)}\r\n\r\n".encode() + body
 
 
 def share(took, part):

@@ -1,5 +1,6 @@
 #!/usr/bin/python3
-"""The same stream by a service, by SQLite in process, by PostgreSQL, and by networkx in process, with equal answers: CPU time of each.
+"""The same stream by a service, by SQLite in process, by PostgreSQL, and by networkx in process and in Flask, with equal answers: CPU time of
+each.
 
     tests/serve/peers.py --edges 500000
 
@@ -7,7 +8,11 @@
 batch's sources, those of all vertices, and the vertices within two steps.
 """
 import argparse
+import http.client
 import io
+import json
+import logging
+import multiprocessing
 import os
 import pathlib
 import random
@@ -25,6 +30,11 @@ try:
     import networkx
 except ImportError:
     networkx = None
+try:
+    import flask
+    import werkzeug.serving
+except ImportError:
+    flask = None
 try:
     import psycopg2
 except ImportError:
@@ -198,6 +208,66 @@ class Networkx:
         return len({vertex} | first | {w for v in first for w in self.graph.successors(v)})
 
 
+def serve_networkx(told):
+    """A service of one thread, by the server that Flask brings."""
+    app, graph = flask.Flask("peer"), Networkx(None)
+    app.add_url_rule("/load", "load", lambda: done(graph.load(flask.request.get_json())), methods=["POST"])
+    app.add_url_rule("/edit", "edit", lambda: done(graph.edit(flask.request.get_json())), methods=["POST"])
+    app.add_url_rule("/back", "back", lambda: done(graph.back(flask.request.get_json())), methods=["POST"])
+    app.add_url_rule("/back_of_all", "back_of_all", lambda: done(graph.back_of_all()))
+    app.add_url_rule("/near/<int:vertex>", "near", lambda vertex: done(graph.near(vertex)))
+    logging.getLogger("werkzeug").setLevel(logging.ERROR)
+    # As its default closes a connection after each answer, a client would have to connect anew.
+    werkzeug.serving.WSGIRequestHandler.protocol_version = "HTTP/1.1"
+    server = werkzeug.serving.make_server("127.0.0.1", 0, app)
+    told.send(server.server_port)
+    server.serve_forever()
+
+
+def done(answer):
+    return flask.jsonify(answer=answer)
+
+
+class Flasked:
+    """The same over HTTP: a process with networkx in Flask, by one connection. Its CPU time is that of both processes."""
+
+    name = "networkx in Flask, nothing kept"
+
+    def __init__(self, place):
+        mine, its = multiprocessing.Pipe()
+        self.process = multiprocessing.get_context("fork").Process(target=serve_networkx, args=(its,), daemon=True)
+        self.process.start()
+        self.connection = http.client.HTTPConnection("127.0.0.1", mine.recv())
+
+    def now(self):
+        return cpu(self.process.pid) + time.process_time()
+
+    def ask(self, path, body=None):
+        data = None if body is None else json.dumps(body)
+        self.connection.request("GET" if data is None else "POST", path, data, {"Content-Type": "application/json"} if data else {})
+        return json.loads(self.connection.getresponse().read())["answer"]
+
+    def load(self, edges):
+        self.ask("/load", edges)
+
+    def edit(self, batch):
+        self.ask("/edit", batch)
+
+    def back(self, vertices):
+        return self.ask("/back", vertices)
+
+    def back_of_all(self):
+        return self.ask("/back_of_all")
+
+    def near(self, vertex):
+        return self.ask(f"/near/{vertex}")
+
+    def end(self):
+        self.connection.close()
+        self.process.terminate()
+        self.process.join()
+
+
 def measured(peer, stream):
     """CPU milliseconds of each kind of work, and the answers."""
     spent, answers, begun = {}, [], peer.now()
@@ -229,7 +299,8 @@ def main():
     with folder() as place:
         with Forks() as forks, served(forks, data=str(place / "graph"), vertices=VERTICES) as client:
             found[Served.name] = measured(Served(place, forks, client), stream)
-        kinds = [Lite] + ([Postgres] if psycopg2 and Postgres.programs.is_dir() and os.getuid() == 0 else []) + ([Networkx] if networkx else [])
+        kinds = [Lite] + ([Postgres] if psycopg2 and Postgres.programs.is_dir() and os.getuid() == 0 else [])
+        kinds += ([Networkx] if networkx else []) + ([Flasked] if networkx and flask else [])
         for kind in kinds:
             peer = kind(place)
             found[kind.name] = measured(peer, stream)

@@ -375,7 +375,7 @@ class Limits(WithService):
             body = json.dumps({"program": "endless", "frontier": list(range(VERTICES)) * 5_000}).encode()
             host, port = client.url.removeprefix("http://").split(":")
             with socket.create_connection((host, int(port))) as connection:
-                connection.sendall(b"POST /runs HTTP/1.1\r\nHost: x\r\nContent-Type: application/json\r\nContent-Length: %d\r\n\r\n" % len(body) + body)
+                connection.sendall(b"POST /runs HTTP/1.1\r\nHost: localhost\r\nContent-Type: application/json\r\nContent-Length: %d\r\n\r\n" % len(body) + body)
                 time.sleep(0.5)
             self.wait_for(client, 'edgebpf_runs_ended_total{by="client"} 1.0')
 
@@ -468,6 +468,28 @@ class Tokens(WithService):
             self.refused(401, client.batch, [(0, 1)])
         with self.served(listen="0.0.0.0:0", open=True) as client:
             self.assertEqual(client.batch([(0, 1)])[0].version, 1)
+            self.assertEqual(json.loads(client.ask("GET", "/healthz", None, {"Host": "elsewhere.example"})[1])["version"], 1)
+
+    def test_names_of_this_machine(self):
+        """A service without tokens answers no other host, and one with tokens any."""
+        with self.served() as client:
+            for host in ("localhost", "localhost:8080", "127.0.0.1:1", "[::1]:8080"):
+                self.assertEqual(client.ask("GET", "/edges", None, {"Host": host})[0]["X-Edges"], "0")
+            for host in ("elsewhere.example", "localhost.elsewhere.example", "192.0.2.1:8080"):
+                self.refused(403, client.once, "GET", "/edges", None, {"Host": host})
+        secret = self.token("--name", "one")
+        with self.served() as client:
+            mine = Client(client.url, token=secret, tries=1)
+            self.assertEqual(mine.ask("GET", "/edges", None, {"Host": "elsewhere.example"})[0]["X-Edges"], "0")
+
+    def test_tokens_that_cannot_be(self):
+        with self.served():
+            pass
+        for words in (["--name", ""], ["--name", "a b"], ["--name", "a", "--runs", "-1"], ["--name", "a", "--runs", "x"], ["--name", "a", "--roles", "all"]):
+            run = subprocess.run([TOOLS / "edgebpf-serve", "token", self.data, *words], capture_output=True, text=True)
+            self.assertEqual((run.returncode, run.stdout), (2, ""), words)
+            self.assertIn(f"{words[-2]}", run.stderr)
+        self.assertEqual(self.token(), "")
 
     def wait_until(self, condition):
         for _ in range(50):

@@ -19,7 +19,7 @@ from edgebpf_serve.limits import IDLE_SECONDS, PAUSE_SECONDS
 from edgebpf_serve.named import Conflict, Missing, TooMany
 from edgebpf_serve.routes import ROUTES, Route, description
 from edgebpf_serve.runs import Gone, TookTooLong
-from edgebpf_serve.service import Service, answer
+from edgebpf_serve.service import Service, answer, is_this_machine
 from edgebpf_serve.tokens import TooFast
 
 PAGE = pathlib.Path(__file__).resolve().parent / "page.html"
@@ -64,9 +64,12 @@ def answer_of(service, error):
 def allow(service, request, route):
     """The token of a request, if that may make it."""
     # Browsers let the page of another site post here, and name it.
-    origin = request.headers.get("Origin")
-    if origin is not None and urllib.parse.urlsplit(origin).netloc != request.headers.get("Host", ""):
+    origin, host = request.headers.get("Origin"), request.headers.get("Host", "")
+    if origin is not None and urllib.parse.urlsplit(origin).netloc != host:
         raise web.HTTPForbidden(text="Origin: this page is not of this service")
+    # Who owns a site may have its name lead here, and then its page is of this host to a browser. It has no token.
+    if service.is_private and not service.tokens.of and host and not is_this_machine(urllib.parse.urlsplit(f"//{host}").hostname or ""):
+        raise web.HTTPForbidden(text="Host: a service without tokens is asked as localhost, or by an address of this machine")
     if route.role is None:
         return None
     token = service.tokens.of_request(request)

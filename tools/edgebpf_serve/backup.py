@@ -22,21 +22,25 @@ def back_up(folder, target):
         raise FileExistsError(f"{target} is there already")
     target.parent.mkdir(parents=True, exist_ok=True)
     draft = target.with_name(f".{target.name}.draft")
+    try:
+        version = _copy_again(folder, draft)
+        os.rename(draft, target)
+    finally:
+        shutil.rmtree(draft, ignore_errors=True)
+    sync_folder(target.parent)
+    return version
+
+
+def _copy_again(folder, draft):
+    """Copies a folder, again if a file of it went meanwhile."""
     for left in range(TRIES - 1, -1, -1):
         shutil.rmtree(draft, ignore_errors=True)
         draft.mkdir(mode=0o700)
         try:
-            version = _copy(folder, draft)
-            break
+            return _copy(folder, draft)
         except FileNotFoundError:
             if not left:
                 raise
-        except BaseException:
-            shutil.rmtree(draft, ignore_errors=True)
-            raise
-    os.rename(draft, target)
-    sync_folder(target.parent)
-    return version
 
 
 def _copy(folder, draft):

@@ -11,6 +11,7 @@ import sys
 import time
 
 from edgebpf_serve.app import serve
+from edgebpf_serve.asked import name_of
 from edgebpf_serve.backup import back_up, check, restore
 from edgebpf_serve.disk import NAME, Disk, Full, Wrong
 from edgebpf_serve.limits import HELP, NO_ROOM_YET, ROLES, TOKEN_LIMITS, WRONG_FOLDER, Options
@@ -28,6 +29,7 @@ USAGE = """a graph over HTTP that keeps on disk what it acknowledged
   edgebpf-serve restore COPY DIR                      check a copy, and make a folder of it
   edgebpf-serve check DIR                             recover a folder that is not served, and say what it has"""
 VARIABLE = "EDGEBPF_SERVE_"
+MOST_LIMIT = 1_000_000_000
 
 
 def log(what, **fields):
@@ -125,14 +127,27 @@ def main_serve(words):
         stop(f"{options.listen}: {error.strerror or error}", 1)
 
 
+def limit_of(text):
+    if not text.isascii() or not text.isdigit() or int(text) > MOST_LIMIT:
+        raise argparse.ArgumentTypeError(f"a whole number up to {MOST_LIMIT}, not {text!r}")
+    return int(text)
+
+
+def token_name(text):
+    try:
+        return name_of(text, "it")
+    except ValueError as error:
+        raise argparse.ArgumentTypeError(str(error)) from None
+
+
 def main_token(words):
     parser = argparse.ArgumentParser("edgebpf-serve token", description="make, list and take back tokens")
     parser.add_argument("folder", type=pathlib.Path)
-    parser.add_argument("--name", help="the name of a new token")
+    parser.add_argument("--name", type=token_name, help="the name of a new token")
     parser.add_argument("--roles", default="read", help=f"some of {','.join(ROLES)}")
     parser.add_argument("--drop", metavar="NAME", help="take this token back")
     for name, most in TOKEN_LIMITS.items():
-        parser.add_argument(f"--{name}", type=int, help=f"{LIMIT_WORDS[name]}; {most} if this is not said")
+        parser.add_argument(f"--{name}", type=limit_of, metavar="NUMBER", help=f"{LIMIT_WORDS[name]}; {most} if this is not said")
     given = parser.parse_args(words)
     roles = given.roles.split(",")
     for role in roles:

@@ -342,7 +342,7 @@ def change_line(seq, edits):
 
 
 async def all_programs(service, request, token):
-    return answer({"programs": [kept.about() for kept in service.programs.of.values()]})
+    return answer({"programs": [kept.about() for kept in list(service.programs.of.values())]})
 
 
 async def one_program(service, request, token):
@@ -353,7 +353,8 @@ async def one_program(service, request, token):
 
 
 async def all_columns(service, request, token):
-    return answer({"columns": [{"name": column.name, "column": column.seq, "owner": column.owner} for column in service.columns.of.values()]})
+    columns = list(service.columns.of.values())
+    return answer({"columns": [{"name": column.name, "column": column.seq, "owner": column.owner} for column in columns]})
 
 
 async def one_column(service, request, token):

@@ -3,6 +3,7 @@ import asyncio
 import errno
 import ipaddress
 import json
+import resource
 import threading
 import time
 
@@ -56,6 +57,8 @@ class Service:
         self.programs, self.columns = Programs(disk, options.programs), Columns(disk, options.columns)
         self.engine = Engine(disk, options, self.meter, log, lambda: self.loop.call_soon_threadsafe(self.published))
         self.tokens, self.turns, self.standing = Tokens(disk, is_near(options.listen) or options.open), Turns(options.readers, self.meter), {}
+        # Whether browsers of this machine alone reach it, which do not know a page of this service from one whose site's name leads here.
+        self.is_private = is_near(options.listen) and not options.listen.startswith("unix:") and not options.open
         # Requests under way, with when they began, by their connection; and the connections of which nothing is read meanwhile.
         self.under_way, self.paused, self.body_bytes = {}, set(), 0
         self.meter.gauges(self._gauges())
@@ -168,9 +171,12 @@ def answer(told, status=200, heads=None):
 
 def is_near(listen):
     """Whether only this machine reaches an address."""
-    if listen.startswith("unix:"):
-        return True
-    host = listen.rpartition(":")[0].strip("[]")
+    return listen.startswith("unix:") or is_this_machine(listen.rpartition(":")[0])
+
+
+def is_this_machine(host):
+    """Whether a host is one by which a machine names itself."""
+    host = host.strip("[]")
     try:
         return host == "localhost" or ipaddress.ip_address(host).is_loopback
     except ValueError:
@@ -179,4 +185,4 @@ def is_near(listen):
 
 def resident_bytes():
     with open("/proc/self/statm") as file:
-        return 4096 * int(file.read().split()[1])
+        return resource.getpagesize() * int(file.read().split()[1])

@@ -162,7 +162,7 @@ class Program:
 
     def _verified(self) -> library.Handle:
         """Verifies the program by the library."""
-        code, verdict = self._bytes(), library.new("verdict *")
+        code, verdict = self.assembled(), library.new("verdict *")
         handle = library.Handle()
         given = code, len(code), self.table, len(self.table)
         status = stacks.call(library.load().edgebpf_program_new, self.record, *given, verdict, handle.at)
@@ -173,8 +173,8 @@ class Program:
         self._has_helpers = calls_helpers(code)
         return handle
 
-    def _bytes(self) -> bytes:
-        """The code, by the library's assembler where the program is a text."""
+    def assembled(self) -> bytes:
+        """The code of the program, in units of 8 bytes; the library assembles it if the program was made of a text."""
         if self.code is not None:
             return self.code
         assembled, text = library.new("assembled *"), (self.text or "").encode()
@@ -188,7 +188,7 @@ class Program:
     def _lines(self, name: str) -> bytes:
         """The lines of a script that load the program under a name. They have the code of a text that the library assembled: some of its
         lines may be too long for a script, and a process ends at such a line."""
-        code = self._bytes() if self._shared else self.code
+        code = self.assembled() if self._shared else self.code
         if code is not None and self.table:
             front = IMAGE.pack(IMAGE_BEGINS, self.record, len(code) // UNIT, len(self.table))
             return f"image {name} {(front + code + self.table).hex()}\n".encode()
