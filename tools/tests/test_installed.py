@@ -44,7 +44,8 @@ gives to the edges of a graph with two vertices and one edge:
   cat graph.script run.script | edgebpf --workers 2
 
 The status is 0 once the whole script was executed, and 1 after a fault, which
-is the last line of the output.
+is the last line of the output. Help goes to standard error, with status 2, so
+that standard output has only the answers of a script.
 """
 
 NEEDS_MAKE = unittest.skipUnless((TOP / "dist" / "edgebpf.s").exists() and shutil.which("make"), "there is no dist/, or no make")
