@@ -302,18 +302,26 @@ static inline uint32_t edgebpf_pull_range(edgebpf_version *version, edgebpf_prog
     return EDGEBPF_DONE;
 }
 
-/* Whether what somebody computed of a version, by whatever means, is right: `answer` is 1, or else 0. Both are proved to be exact, take no
+/* Whether what somebody computed of a version, by whatever means, is right: `answer` is 1, or else 0. All four are proved to be exact, take no
    memory, and go once over the edges.
    Of a search from `root`: for each vertex a level, UINT32_MAX where it was not found, and a parent, from which an edge leads to it one level
    further. A 1 says that each level is the length of a shortest way from the root, and that there is none to the others. What the root and
    vertices that were not found have as parents does not matter.
    Of components, whatever the direction of edges: for each vertex a label, and for one that is not its own label a parent, to which an edge
    joins it in any direction, and one step more than the parent has. A 1 says that each label is the least vertex of a component.
+   Of cores: for each vertex its core number, and its place in an order in which all can be taken out, so that each then has no more edges to
+   others than its number. A 1 says that each vertex belongs to a set of vertices, of which each has at least so many edges to others of it as
+   the number says, and to no such set for more. In a graph with an edge back for each edge these are its cores.
+   Of an independent set: a mark for each vertex, 0 for those outside. A 1 says that no edge joins two of the set, and that an edge leads from
+   each vertex outside to one of it, so that none can be added. Edges from a vertex to itself do not matter, to cores neither.
    Arrays of another length than the graph has vertices are no answer: 0. */
 uint32_t edgebpf_is_search(edgebpf_version *version, uint32_t root, const uint32_t *levels, size_t level_count, const uint32_t *parents,
                            size_t parent_count, uint32_t *answer);
 uint32_t edgebpf_are_components(edgebpf_version *version, const uint32_t *labels, size_t label_count, const uint32_t *parents,
                                 size_t parent_count, const uint32_t *steps, size_t step_count, uint32_t *answer);
+uint32_t edgebpf_are_cores(edgebpf_version *version, const uint32_t *numbers, size_t number_count, const uint32_t *places, size_t place_count,
+                           uint32_t *answer);
+uint32_t edgebpf_is_independent_set(edgebpf_version *version, const uint8_t *marks, size_t mark_count, uint32_t *answer);
 
 /* Drops what a handle holds, and leaves it empty. An empty one may be closed. */
 void edgebpf_close(edgebpf_handle *handle);

@@ -1,5 +1,5 @@
-/* Asks whether answers of a search and of components are right, on a graph of eight vertices: those that were found by hand, and each of
-   them with one entry changed. */
+/* Asks whether answers of a search, of components, of cores and of an independent set are right, on a graph of eight vertices: those that were
+   found by hand, and each of them with one entry changed. */
 #include "check.h"
 
 enum { VERTICES = 8 };
@@ -75,7 +75,49 @@ static void tests_components(void) {
     CHECK(are_components(&graph, labels, parents, no_steps) == 0);
 }
 
+static uint32_t are_cores(edgebpf_version *version, const uint32_t *numbers, const uint32_t *places) {
+    uint32_t answer = 77;
+    CHECK(edgebpf_are_cores(version, numbers, VERTICES, places, VERTICES, &answer) == EDGEBPF_DONE);
+    return answer;
+}
+
+static void tests_cores(void) {
+    const uint32_t numbers[VERTICES] = {2, 2, 2, 1, 1, 1, 1, 0}, places[VERTICES] = {5, 6, 7, 2, 1, 3, 4, 0};
+    const uint32_t from_the_middle[VERTICES] = {5, 6, 7, 1, 2, 3, 4, 0}, none[VERTICES] = {0};
+    CHECK(are_cores(&graph, numbers, places) == 1 && are_cores(&turned, numbers, places) == 0);
+    /* If 3 is taken out before 4, it still has two edges: to 4, and to 2, whose core is higher. */
+    CHECK(are_cores(&graph, numbers, from_the_middle) == 0);
+    /* If all edges lead to greater vertices, each set has one without an edge to another of it, its greatest, which is taken out first. */
+    const uint32_t greatest_first[VERTICES] = {7, 6, 5, 4, 3, 2, 1, 0};
+    CHECK(are_cores(&turned, none, greatest_first) == 1 && are_cores(&turned, none, none) == 0);
+    for (size_t vertex = 0; vertex < VERTICES; vertex++)
+        for (uint32_t other = 0; other < VERTICES; other++) {
+            uint32_t changed[VERTICES];
+            memcpy(changed, numbers, sizeof changed), changed[vertex] = other;
+            CHECK(are_cores(&graph, changed, places) == (other == numbers[vertex]));
+        }
+}
+
+static uint32_t is_independent(edgebpf_version *version, const uint8_t *marks) {
+    uint32_t answer = 77;
+    CHECK(edgebpf_is_independent_set(version, marks, VERTICES, &answer) == EDGEBPF_DONE);
+    return answer;
+}
+
+static void tests_independent_sets(void) {
+    const uint8_t marks[VERTICES] = {1, 0, 0, 1, 0, 255, 0, 1}, greatest[VERTICES] = {0, 0, 1, 0, 1, 0, 1, 1};
+    CHECK(is_independent(&graph, marks) == 1 && is_independent(&graph, greatest) == 1);
+    /* Where all edges lead to greater vertices, none leads from 1 to 0 or 3. */
+    CHECK(is_independent(&turned, marks) == 0 && is_independent(&turned, greatest) == 1);
+    for (size_t vertex = 0; vertex < VERTICES; vertex++) {
+        uint8_t changed[VERTICES];
+        memcpy(changed, marks, sizeof changed), changed[vertex] = !changed[vertex];
+        CHECK(is_independent(&graph, changed) == 0);
+    }
+}
+
 static void refuses_handles_and_lengths(void) {
+    const uint8_t marks[VERTICES + 1] = {0};
     const uint32_t entries[VERTICES + 1] = {0};
     uint32_t answer = 77;
     edgebpf_version empty = {{0}}, *other = (edgebpf_version *)&store;
@@ -83,6 +125,11 @@ static void refuses_handles_and_lengths(void) {
     CHECK(edgebpf_are_components(&empty, entries, VERTICES, entries, VERTICES, entries, VERTICES, &answer) == EDGEBPF_EMPTY && answer == 77);
     CHECK(edgebpf_is_search(other, 0, entries, VERTICES, entries, VERTICES, &answer) == EDGEBPF_OTHER_KIND && answer == 77);
     CHECK(edgebpf_are_components(other, entries, VERTICES, entries, VERTICES, entries, VERTICES, &answer) == EDGEBPF_OTHER_KIND && answer == 77);
+    CHECK(edgebpf_are_cores(&empty, entries, VERTICES, entries, VERTICES, &answer) == EDGEBPF_EMPTY && answer == 77);
+    CHECK(edgebpf_are_cores(other, entries, VERTICES, entries, VERTICES, &answer) == EDGEBPF_OTHER_KIND && answer == 77);
+    CHECK(edgebpf_is_independent_set(&empty, marks, VERTICES, &answer) == EDGEBPF_EMPTY && answer == 77);
+    CHECK(edgebpf_is_independent_set(other, marks, VERTICES, &answer) == EDGEBPF_OTHER_KIND && answer == 77);
+    CHECK(edgebpf_is_independent_set(&graph, marks, VERTICES + 1, &answer) == EDGEBPF_DONE && answer == 0);
     for (size_t wrong = 0; wrong < 3; wrong++) {
         size_t counts[3] = {VERTICES, VERTICES, VERTICES};
         counts[wrong] += wrong == 1 ? 1 : -1;
@@ -90,6 +137,8 @@ static void refuses_handles_and_lengths(void) {
         CHECK(edgebpf_are_components(&graph, entries, counts[0], entries, counts[1], entries, counts[2], &answer) == EDGEBPF_DONE && answer == 0);
         answer = 77;
         if (wrong < 2) CHECK(edgebpf_is_search(&graph, 0, entries, counts[0], entries, counts[1], &answer) == EDGEBPF_DONE && answer == 0);
+        answer = 77;
+        if (wrong < 2) CHECK(edgebpf_are_cores(&graph, entries, counts[0], entries, counts[1], &answer) == EDGEBPF_DONE && answer == 0);
     }
 }
 
@@ -97,6 +146,8 @@ int main(void) {
     builds_the_graphs();
     tests_searches();
     tests_components();
+    tests_cores();
+    tests_independent_sets();
     refuses_handles_and_lengths();
     edgebpf_close_version(&graph);
     edgebpf_close_version(&turned);

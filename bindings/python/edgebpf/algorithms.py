@@ -217,19 +217,28 @@ def _mirrored(version: AnyVersion, assume_mirrored: bool, passes: int) -> Pieces
     return graph, of
 
 
-def cores(version: AnyVersion, *, assume_mirrored: bool = False, progress: Progress | None = None, seconds: float | None = None) -> Vertices:
+def cores(
+    version: AnyVersion, *, assume_mirrored: bool = False, tested: bool = False, progress: Progress | None = None, seconds: float | None = None,
+) -> Vertices:
     """The greatest k for which each vertex is in the k-core, the largest part of the graph in which each vertex has k neighbours. Loops do not
-    count. The graph is mirrored (`NotMirrored`); assume_mirrored leaves out the test."""
-    return finished(_cores(version, assume_mirrored), progress, seconds)
+    count. The graph is mirrored (`NotMirrored`); assume_mirrored leaves out the test.
+
+    tested: the library's proved test looks at the numbers and at the order in which vertices were taken out, and an answer that is wrong is an
+    `Error`. It takes a version of `edgebpf.Store`.
+    """
+    return finished(_cores(version, assume_mirrored, tested), progress, seconds)
 
 
-def _cores(version: AnyVersion, assume_mirrored: bool = False) -> Pieces[Vertices]:
+def _cores(version: AnyVersion, assume_mirrored: bool = False, tested: bool = False) -> Pieces[Vertices]:
+    tester = _tester(version) if tested else None
     graph, of = yield from _mirrored(version, assume_mirrored, 3)
     count, found = graph.count, np.empty(graph.count, U32)
     most = max((yield from graph.over("degrees", found, done=count, of=of)))
     order, place, bins = np.empty(count, U32), np.empty(count, U32), np.empty(most + 2, U32)
     call("order_by_degree", count, found, most, order, place, bins)
     yield from graph.over("cores", found, order, place, bins, done=2 * count, of=of)
+    if tester and not tester.are_cores(found, place):
+        raise Error("the core numbers are others than those of the proved test: please report this")
     return found
 
 
@@ -284,14 +293,22 @@ def _clustering(version: AnyVersion, assume_mirrored: bool = False, threads: int
 
 
 def independent_set(
-    version: AnyVersion, seed: int = 0, *, assume_mirrored: bool = False, progress: Progress | None = None, seconds: float | None = None,
+    version: AnyVersion, seed: int = 0, *, assume_mirrored: bool = False, tested: bool = False, progress: Progress | None = None,
+    seconds: float | None = None,
 ) -> npt.NDArray[np.bool_]:
     """A maximal independent set: whether each vertex is in it. Vertices are taken in an order that `seed`, 0 to 2^32 - 1, gives, each of which no
-    neighbour was taken before. Loops do not count. The graph is mirrored (`NotMirrored`)."""
-    return finished(_independent_set(version, seed, assume_mirrored), progress, seconds)
+    neighbour was taken before. Loops do not count. The graph is mirrored (`NotMirrored`).
+
+    tested: the library's proved test looks at the set, and one that is not independent, or to which a vertex could be added, is an `Error`. It
+    takes a version of `edgebpf.Store`.
+    """
+    return finished(_independent_set(version, seed, assume_mirrored, tested), progress, seconds)
 
 
-def _independent_set(version: AnyVersion, seed: int = 0, assume_mirrored: bool = False) -> Pieces[npt.NDArray[np.bool_]]:
+def _independent_set(
+    version: AnyVersion, seed: int = 0, assume_mirrored: bool = False, tested: bool = False,
+) -> Pieces[npt.NDArray[np.bool_]]:
+    tester = _tester(version) if tested else None
     first = at_least(seed, 0, "seed")
     if first >= MOST_SEED:
         raise ValueError(f"seed is below 2^32, and not {first}")
@@ -302,6 +319,8 @@ def _independent_set(version: AnyVersion, seed: int = 0, assume_mirrored: bool =
         graph.call("take_independent", order[begin:end], end - begin, states)
         yield count + end, of
     chosen: npt.NDArray[np.bool_] = states == 1
+    if tester and not tester.is_independent_set(chosen):
+        raise Error("the set is not what the proved test asks for: please report this")
     return chosen
 
 

@@ -237,6 +237,16 @@ def found_of(entries: npt.ArrayLike, name: str) -> Vertices:
     return np.ascontiguousarray(array.astype(np.int64) & 0xFFFFFFFF, np.uint32)
 
 
+def marks_of(marks: npt.ArrayLike, name: str) -> npt.NDArray[np.uint8]:
+    """A mark for each vertex, 1 where it is true or not 0."""
+    array = np.asarray(marks)
+    if array.ndim != 1:
+        raise ValueError(f"{name} has one dimension, not {array.ndim}")
+    if array.size and array.dtype.kind not in "biu":
+        raise TypeError(f"{name} are true and false, or whole numbers, not {array.dtype}")
+    return np.ascontiguousarray(array != 0).view(np.uint8)
+
+
 def values_into(into: Numbers, count: int, columns: list[Numbers]) -> Numbers:
     """The array that a push writes: a value for each of `count` vertices, none of which is a column's."""
     if not isinstance(into, np.ndarray) or into.dtype != np.uint64 or into.ndim != 1 or not into.flags.c_contiguous:

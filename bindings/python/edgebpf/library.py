@@ -28,7 +28,7 @@ DONE, NO_MEMORY, EMPTY = 0, 1, 2
 VERTEX_RANGE, TOO_MANY_EDITS, LOG_FULL, LENGTHS, REFUSED, RECORD_LENGTH, CODE_LENGTH, ARGUMENT_LENGTH, WRONG_TEXT = 5, 6, 7, 9, 10, 11, 12, 13, 15
 NO_NEIGHBOUR, EPOCHS_FULL, TABLE_LENGTH, COLUMNS, PROGRESS, NOT_SORTED = 16, 17, 18, 19, 20, 21
 # The last call that was added to the interface: a library without it is of an older release.
-NEWEST = "edgebpf_are_components"
+NEWEST = "edgebpf_is_independent_set"
 ERRORS: dict[int, tuple[type[Exception], str]] = {
     NO_MEMORY: (NoMemory, "there is no memory; nothing was changed"),
     EMPTY: (Closed, "it is closed"),
@@ -73,6 +73,8 @@ uint32_t edgebpf_version_degrees(handle *, const uint32_t *, size_t, uint32_t *,
 uint32_t edgebpf_version_lists(handle *, const uint32_t *, size_t, uint64_t *, size_t, uint32_t *, size_t, size_t *);
 uint32_t edgebpf_is_search(handle *, uint32_t, const uint32_t *, size_t, const uint32_t *, size_t, uint32_t *);
 uint32_t edgebpf_are_components(handle *, const uint32_t *, size_t, const uint32_t *, size_t, const uint32_t *, size_t, uint32_t *);
+uint32_t edgebpf_are_cores(handle *, const uint32_t *, size_t, const uint32_t *, size_t, uint32_t *);
+uint32_t edgebpf_is_independent_set(handle *, const uint8_t *, size_t, uint32_t *);
 uint32_t edgebpf_program_new(uint16_t, const uint8_t *, size_t, const uint8_t *, size_t, verdict *, handle *);
 uint32_t edgebpf_program_share(handle *, handle *);
 uint32_t edgebpf_assemble(const uint8_t *, size_t, uint8_t *, size_t, assembled *);

@@ -13,7 +13,7 @@ from edgebpf import adapters, library
 from edgebpf.errors import Closed, TooManyEdits, VertexRange
 from edgebpf.given import (
     MOST_VERTICES, NO_COLUMNS, REDUCTIONS, Columns, Edges, Numbers, Pairs, Vertices, columns_of, edits_of, edits_of_batch, ends_of_pairs,
-    feed_of, found_of, frozen, reduction_of, starts_of, threads_of, values_into, vertex_count, vertex_of, vertices_of, whole,
+    feed_of, found_of, frozen, marks_of, reduction_of, starts_of, threads_of, values_into, vertex_count, vertex_of, vertices_of, whole,
 )
 from edgebpf.parts import Parts
 from edgebpf.programs import Program, argument_of, handle_of
@@ -442,6 +442,28 @@ class Version:
         arrays = [found_of(array, name) for array, name in ((labels, "labels"), (parents, "parents"), (steps, "steps"))]
         asked = [given for array in arrays for given in (calls.buffer(calls.words, array), len(array))]
         library.check(library.load().edgebpf_are_components(self._at(), *asked, answer))
+        return bool(answer[0])
+
+    def are_cores(self, numbers: npt.ArrayLike, places: npt.ArrayLike) -> bool:
+        """Whether numbers are the core numbers of the graph, whoever computed them; the test is proved.
+
+        numbers: for each vertex the greatest k for which it belongs to a set of vertices, of which each has edges to at least k others of it.
+        places: for each vertex a place in an order in which all can be taken out, so that each then has no more edges to others than its number.
+        """
+        calls, answer = self._calls, library.new("uint32_t *")
+        arrays = [found_of(array, name) for array, name in ((numbers, "numbers"), (places, "places"))]
+        asked = [given for array in arrays for given in (calls.buffer(calls.words, array), len(array))]
+        library.check(library.load().edgebpf_are_cores(self._at(), *asked, answer))
+        return bool(answer[0])
+
+    def is_independent_set(self, marks: npt.ArrayLike) -> bool:
+        """Whether some vertices are an independent set to which none can be added, whoever found them; the test is proved.
+
+        marks: for each vertex whether it is in the set. No edge joins two of the set, and from each vertex outside an edge leads to one of it.
+        """
+        answer, chosen = library.new("uint32_t *"), marks_of(marks, "marks")
+        at = library.foreign().from_buffer("uint8_t[]", chosen.data) if len(chosen) else library.foreign().NULL
+        library.check(library.load().edgebpf_is_independent_set(self._at(), at, len(chosen), answer))
         return bool(answer[0])
 
     def has_edge(self, source: int, target: int) -> bool:

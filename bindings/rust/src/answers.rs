@@ -1,5 +1,5 @@
 //! Tests of answers, whoever computed them.
-use crate::calls::{edgebpf_are_components, edgebpf_is_search};
+use crate::calls::{edgebpf_are_components, edgebpf_are_cores, edgebpf_is_independent_set, edgebpf_is_search};
 use crate::error::done;
 use crate::version::Version;
 
@@ -37,6 +37,29 @@ impl Version {
                 &mut answer,
             )
         };
+        assert!(done(status).is_ok(), "edgebpf answered {status} to a test");
+        answer == 1
+    }
+
+    /// Whether numbers are the core numbers of the graph: for each vertex the greatest k for which it belongs to a set of vertices, of which each
+    /// has edges to at least k others of it. `places` has the place of each vertex in an order in which all can be taken out, so that each then has
+    /// no more edges to others than its number. The test is proved to be exact.
+    pub fn are_cores(&self, numbers: &[u32], places: &[u32]) -> bool {
+        let mut answer = 0;
+        // SAFETY: the handle holds a version, and the arrays are as long as said.
+        let status = unsafe {
+            edgebpf_are_cores(self.0.at(), numbers.as_ptr(), numbers.len(), places.as_ptr(), places.len(), &mut answer)
+        };
+        assert!(done(status).is_ok(), "edgebpf answered {status} to a test");
+        answer == 1
+    }
+
+    /// Whether the marked vertices are an independent set to which none can be added: no edge joins two of them, and from each other vertex an
+    /// edge leads to one of them. The test is proved to be exact.
+    pub fn is_independent_set(&self, marks: &[bool]) -> bool {
+        let mut answer = 0;
+        // SAFETY: the handle holds a version, and a `bool` is a byte of 0 or 1.
+        let status = unsafe { edgebpf_is_independent_set(self.0.at(), marks.as_ptr().cast(), marks.len(), &mut answer) };
         assert!(done(status).is_ok(), "edgebpf answered {status} to a test");
         answer == 1
     }

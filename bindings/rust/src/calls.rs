@@ -164,6 +164,15 @@ extern "C" {
         step_count: usize,
         answer: *mut u32,
     ) -> u32;
+    pub(crate) fn edgebpf_are_cores(
+        version: *mut RawHandle,
+        numbers: *const u32,
+        number_count: usize,
+        places: *const u32,
+        place_count: usize,
+        answer: *mut u32,
+    ) -> u32;
+    pub(crate) fn edgebpf_is_independent_set(version: *mut RawHandle, marks: *const u8, mark_count: usize, answer: *mut u32) -> u32;
     pub(crate) fn edgebpf_program_share(program: *mut RawHandle, out: *mut RawHandle) -> u32;
     pub(crate) fn edgebpf_assemble(
         text: *const u8,

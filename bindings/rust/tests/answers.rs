@@ -32,3 +32,25 @@ fn tells_components() {
     assert!(!version.are_components(&[0, 0, 0, 3, 3, 5, 5, 7], &parents, &steps));
     assert!(!version.are_components(&labels, &parents[..7], &steps));
 }
+
+#[test]
+fn tells_cores() {
+    let (version, numbers, places) = (graph(), [2, 2, 2, 1, 1, 1, 1, 0], [5, 6, 7, 2, 1, 3, 4, 0]);
+    assert!(version.are_cores(&numbers, &places));
+    assert!(!version.are_cores(&[2, 2, 2, 2, 1, 1, 1, 0], &places));
+    assert!(!version.are_cores(&[1, 2, 2, 1, 1, 1, 1, 0], &places));
+    assert!(!version.are_cores(&numbers, &[5, 6, 7, 1, 2, 3, 4, 0]));
+    assert!(!version.are_cores(&numbers, &places[..7]));
+}
+
+#[test]
+fn tells_independent_sets() {
+    let (version, marks) = (graph(), [true, false, false, true, false, true, false, true]);
+    assert!(version.is_independent_set(&marks));
+    assert!(!version.is_independent_set(&marks[..7]));
+    for vertex in 0..8 {
+        let mut changed = marks;
+        changed[vertex] = !changed[vertex];
+        assert!(!version.is_independent_set(&changed));
+    }
+}

@@ -1,3 +1,6 @@
 pub mod Ways
 pub mod Walks
 pub mod Places
+pub mod Orders
+pub mod Sets
+pub mod Counts

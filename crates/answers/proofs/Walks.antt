@@ -7,7 +7,7 @@ use Rattle.graph_model.specs.Views.{is_edge}
 use Rattle.answers.specs.Components.{Touch, Walk, AreJoined, AreComponents, LabelsAreComponents}
 
 -- both ends of an edge are vertices
-ends : (g : Graph) (u v : ℕ) → is_edge g u v ≡ true → (u < g.vertex_count) × (v < g.vertex_count)
+pub ends : (g : Graph) (u v : ℕ) → is_edge g u v ≡ true → (u < g.vertex_count) × (v < g.vertex_count)
 ends g u v edge =
     let first = and_parts _ _ edge in
     let rest = and_parts _ _ first.1 in

@@ -17,7 +17,7 @@ pub struct Components<'a> {
 }
 
 /// What an array has for a vertex; 0 past its end.
-fn entry_at(entries: &[u32], vertex: u32) -> u32
+pub(crate) fn entry_at(entries: &[u32], vertex: u32) -> u32
     ensures { result ≡ slice_index entries.now vertex }
 {
     let place = vertex as usize;

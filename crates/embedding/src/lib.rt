@@ -26,7 +26,7 @@ mod store;
 mod tested;
 mod texts;
 
-pub use answers::{Components, Search};
+pub use answers::{Components, Cores, Search};
 pub use branches::store_of_held;
 pub use changes::{apply_held, new_store, pin_held, rebase_held};
 pub use copies::copy_held;
@@ -52,5 +52,5 @@ pub use statuses::{
     TABLE_LENGTH, TOO_MANY_EDITS, VERTEX_COUNT, VERTEX_RANGE, WRONG_TEXT,
 };
 pub use store::{Change, Store};
-pub use tested::{are_components_held, is_search_held};
+pub use tested::{are_components_held, are_cores_held, is_independent_set_held, is_search_held};
 pub use texts::{Assembled, assemble_into, explain_into};

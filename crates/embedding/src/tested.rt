@@ -1,6 +1,8 @@
 //! Whether what a host computed of a version, by whatever means, is right.
 ghost use Rattle.std.specs.Prelude.{◌≡◌, Some};
 ghost use Rattle.answers.specs.Components.{AreComponents};
+ghost use Rattle.answers.specs.Cores.{AreCores};
+ghost use Rattle.answers.specs.Independent.{IsIndependentSet};
 ghost use Rattle.answers.specs.Search.{IsSearch};
 ghost use Rattle.past_model.specs.Past.{graph_of};
 ghost use Rattle.embedding.specs.Answers.{Tells};
@@ -9,7 +11,7 @@ ghost use Rattle.embedding.specs.declared.statuses.TheConstants.{DONE};
 
 use crate::held::Held;
 use crate::statuses::{DONE, OTHER_KIND};
-use answers::{Components, Search, are_components, is_search};
+use answers::{Components, Cores, Search, are_components, are_cores, is_independent_set, is_search};
 
 /// Writes 1 if levels and parents are the answer of a search of the version from its root, and else 0: also where one of the arrays has
 /// not an entry for each vertex. A 1 says that the levels are distances (`answers::laws::levels_are_distances`). It takes no memory.
@@ -37,6 +39,43 @@ pub fn are_components_held(held: &Held, components: &Components<'_>, answer: &mu
     match held {
         Held::Version(version) => {
             *answer = if are_components(&**version, components) {
+                1
+            } else {
+                0
+            };
+            DONE
+        }
+        Held::Store(_) => OTHER_KIND,
+        Held::Program(_) => OTHER_KIND,
+    }
+}
+
+/// Writes 1 if core numbers and places in an order are an answer of the version's cores, and else 0: also where one of the arrays has not an
+/// entry for each vertex. A 1 says that each vertex belongs to a core of its number, and to none of a greater one
+/// (`answers::laws::numbers_are_cores`). It takes no memory.
+pub fn are_cores_held(held: &Held, cores: &Cores<'_>, answer: &mut u32) -> u32
+    ensures { let c = cores.now in OnVersion (Some held.now) result (answer.new ≡ answer.old)
+        (λ p. (result ≡ DONE) × Tells answer.new (AreCores (graph_of p) c.numbers.now c.places.now)) }
+{
+    match held {
+        Held::Version(version) => {
+            *answer = if are_cores(&**version, cores) { 1 } else { 0 };
+            DONE
+        }
+        Held::Store(_) => OTHER_KIND,
+        Held::Program(_) => OTHER_KIND,
+    }
+}
+
+/// Writes 1 if the vertices whose marks are not 0 are an independent set of the version, to which no vertex can be added, and else 0: also
+/// where there is not a mark for each vertex. `answers::laws::sets_are_independent` says what a 1 means. It takes no memory.
+pub fn is_independent_set_held(held: &Held, marks: &[u8], answer: &mut u32) -> u32
+    ensures { OnVersion (Some held.now) result (answer.new ≡ answer.old)
+        (λ p. (result ≡ DONE) × Tells answer.new (IsIndependentSet (graph_of p) marks.now)) }
+{
+    match held {
+        Held::Version(version) => {
+            *answer = if is_independent_set(&**version, marks) {
                 1
             } else {
                 0

@@ -1,0 +1,8 @@
+use Rattle.std.proofs.Common.{◌≡◌, false, ℕ, ◌<◌, Some}
+use Rattle.graph_model.specs.Views.{neighbour_at}
+use Rattle.answers.specs.Independent.{is_in}
+use Rattle.answers.proofs.independent.is_beside.Given as goal
+
+abbrev pub invariant-loop-place : goal.invariant-loop-place
+invariant-loop-place g l = (place u : ℕ) → place < l.place → neighbour_at (g.G.GraphView.graph l.graph) l.vertex place ≡ Some u
+    → is_in l.marks u ≡ false
