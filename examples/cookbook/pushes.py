@@ -1,6 +1,7 @@
 import numpy as np
 
 import edgebpf
+from edgebpf.algorithms import hashed
 
 NONE = 2**64 - 1    # of a vertex that was not reached, or has no core yet
 FIRST = "ldxdw r0, [r1+16]\nexit"
@@ -32,3 +33,17 @@ def cores(version):
             left -= lost.astype(np.int64)
         k += 1
     return core
+
+
+def independent(version, seed=0):
+    """In the order of a hash: a vertex whose turn comes before those of all its neighbours that are not decided is in the set."""
+    count, first, one = version.vertices, edgebpf.assemble(FIRST, record=32), edgebpf.assemble("mov r0, 1\nexit")
+    turn, chosen, is_open = np.empty(count, np.uint64), np.zeros(count, bool), np.ones(count, bool)
+    turn[np.argsort(hashed(np.arange(count, dtype=np.uint64) + np.uint64(seed << 32)), kind="stable")] = np.arange(count)
+    while is_open.any():
+        least, near = np.full(count, NONE, np.uint64), np.zeros(count, np.uint64)
+        version.push(first, "min", np.flatnonzero(is_open), into=least, columns=[turn])
+        joins = is_open & (turn < least)
+        version.push(one, "max", np.flatnonzero(joins), into=near)
+        chosen, is_open = chosen | joins, is_open & ~joins & (near == 0)
+    return chosen

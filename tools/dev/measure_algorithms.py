@@ -16,6 +16,7 @@ import re
 import subprocess
 import sys
 import time
+import unittest.mock
 
 import numpy as np
 
@@ -93,8 +94,6 @@ class Forms:
         self.hub = int(np.argmax(np.diff(starts)))
 
     def rows(self):
-        import rounds
-
         a, v, matrix, peer = self.algorithms, self.version, self.matrix, self.peer
         def mine(name, *given, **options):
             return lambda: getattr(a, name)(v, *given, **options)
@@ -113,9 +112,6 @@ class Forms:
             (f"PageRank, {ROUNDS_OF_RANKS} rounds; scipy: products alone",
              {ours: mine("pagerank", within=0, most=ROUNDS_OF_RANKS), scipy: self.products}, None),
             ("the same in whole numbers", {ours: mine("pagerank_fixed", ROUNDS_OF_RANKS)}, None),
-            ("the same by rounds of a program, as in the cookbook", {ours: lambda: rounds.ranks(v, ROUNDS_OF_RANKS)}, self.programs),
-            ("components by rounds of a program", {ours: lambda: rounds.components(v)}, None),
-            ("levels by rounds of a program", {ours: lambda: rounds.levels(v, self.hub)}, None),
             ("PageRank within 10^-10; igraph: to its end", {ours: mine("pagerank", within=1e-10, most=1_000), igraph: peer.pagerank}, self.ranks),
             ("test that mirrored", {ours: mine("is_mirrored")}, None),
             ("cores, assumed mirrored", {ours: mine("cores", **assumed), igraph: peer.coreness}, self.cores),
@@ -145,8 +141,21 @@ class Forms:
             ranks = self.matrix @ ranks
         return ranks
 
-    def programs(self, found):
-        agree("rounds of programs", found["edgebpf"], self.algorithms.pagerank_fixed(self.version, ROUNDS_OF_RANKS))
+    def by_rounds(self):
+        """What is ready made, and the same by rounds of programs, as the cookbook has them."""
+        import pushes
+        import rounds
+
+        a, v = self.algorithms, self.version
+        return [
+            (f"PageRank in whole numbers, {ROUNDS_OF_RANKS} rounds", lambda: a.pagerank_fixed(v, ROUNDS_OF_RANKS), lambda: rounds.ranks(v, ROUNDS_OF_RANKS)),
+            ("search, by runs", lambda: a.bfs(v, self.hub).levels, lambda: rounds.levels(v, self.hub)),
+            ("search, by pushes", lambda: a.bfs(v, self.hub).levels, lambda: pushes.hops(v, self.hub).astype(np.int64)),
+            ("components, by runs", lambda: a.components(v), lambda: rounds.components(v)),
+            ("components, by pushes", lambda: a.components(v), lambda: pushes.components(v)),
+            ("cores, by pushes", lambda: a.cores(v, assume_mirrored=True), lambda: pushes.cores(v)),
+            ("independent set, by pushes", lambda: a.independent_set(v, assume_mirrored=True), lambda: pushes.independent(v)),
+        ]
 
     def searches(self, found):
         agree("reached", found["edgebpf"].reached, len(found["scipy"][0]))
@@ -179,6 +188,36 @@ def measure(forms, rounds, only):
             compare(found)
         print(f"  {title}: " + ", ".join(f"{name} {spent:.4f}" for name, spent in least.items()), file=sys.stderr, flush=True)
         yield title, least
+
+
+def counted(version, call):
+    """How many runs and pushes of a version a call makes."""
+    kind, calls = type(version), []
+    def counting(method):
+        return lambda *given, **options: (calls.append(method), method(*given, **options))[1]
+
+    with unittest.mock.patch.multiple(kind, run=counting(kind.run), push=counting(kind.push)):
+        call()
+    return len(calls)
+
+
+def beside_rounds(forms, rounds):
+    """For each algorithm the least times of both forms, and of how many runs or pushes the second is."""
+    for title, ready, by_rounds in forms.by_rounds():
+        agree(title, ready(), by_rounds())
+        least = [min(timed(call)[0] for _ in range(rounds)) for call in (ready, by_rounds)]
+        yield title, (*least, counted(forms.version, by_rounds))
+
+
+def rounds_table(found):
+    lines = ["", "The same by rounds of programs, as the cookbook has them, with equal answers; a round is a run or a push:", "",
+             "| CPU seconds | ready made | by rounds | rounds | a round, milliseconds |", "|---|---|---|---|---|"]
+    for title, graphs in found.items():
+        cells = [
+            "; ".join(two_digits(ready) for ready, _, _ in graphs), "; ".join(two_digits(by_rounds) for _, by_rounds, _ in graphs),
+            "; ".join(str(count) for *_, count in graphs), "; ".join(two_digits(1_000 * by_rounds / count) for _, by_rounds, count in graphs)]
+        lines.append(f"| {title} | {' | '.join(cells)} |")
+    return lines
 
 
 def batch_of(chance, version, count):
@@ -230,7 +269,7 @@ def two_digits(number):
 
 
 def tables(scales, rounds, only):
-    columns, sizes, updates = {}, [], {}
+    columns, beside, sizes, updates = {}, {}, [], {}
     # The companion is loaded before the clock starts.
     import edgebpf
 
@@ -242,14 +281,19 @@ def tables(scales, rounds, only):
         sizes.append(f"{version.vertices:,} vertices, {version.edges:,} edges, at most {degrees.max():,} of a vertex, "
                      f"{int((degrees == 0).sum()):,} without one")
         print(sizes[-1], file=sys.stderr, flush=True)
-        for title, least in measure(Forms(version), rounds, only):
+        forms = Forms(version)
+        for title, least in measure(forms, rounds, only):
             columns.setdefault(title, []).append(least)
+        if not only or only == "rounds of programs":
+            for title, figures in beside_rounds(forms, rounds):
+                beside.setdefault(title, []).append(figures)
         if not only or only == "update":
             updates[scale] = after_batches(store, version, 2 * rounds + 1, 1e-4)
     lines = [f"On {'; '.join(sizes)}:", "", "| CPU seconds | edgebpf | scipy | igraph |", "|---|---|---|---|"]
     for title, least in columns.items():
         cells = ["; ".join(two_digits(one[name]) if name in one else "" for one in least).strip("; ") for name in ("edgebpf", "scipy", "igraph")]
         lines.append(f"| {title} | {' | '.join(cells)} |")
+    lines += rounds_table(beside) if beside else []
     for scale, spent in updates.items():
         heads = " | ".join(f"{count:,}" for count in EDITS)
         lines += ["", f"After a batch on the graph of {1 << scale:,} vertices, the middle of some:", ""]

@@ -225,6 +225,8 @@ class FunctionsInPython(unittest.TestCase):
         self.assertEqual(pushes.hops(version, 0).tolist(), [0, 1, 1, 2, 3, *[pushes.NONE] * 3])
         self.assertEqual(pushes.components(version).tolist(), [0, 0, 0, 0, 0, 5, 5, 7])
         self.assertEqual(pushes.cores(version).tolist(), [2, 2, 2, 1, 1, 1, 1, 0])
+        for seed, wanted in ((0, [0, 3, 5, 7]), (1, [2, 4, 5, 7])):
+            self.assertEqual(pushes.independent(version, seed).nonzero()[0].tolist(), wanted)
         self.assertEqual(load("rounds").levels(version, 4).tolist(), [3, 3, 2, 1, 0, -1, -1, -1])
 
     def test_algorithms(self):
@@ -258,6 +260,7 @@ class FunctionsInPython(unittest.TestCase):
             self.assertEqual(pushes.hops(version, root).view("int64").tolist(), algorithms.bfs(version, root).levels.tolist())
             if not has_loops:
                 self.assertEqual(pushes.cores(version).tolist(), algorithms.cores(version).tolist())
+                self.assertEqual(pushes.independent(version, many).tolist(), algorithms.independent_set(version, many).tolist())
             store.close()
 
     @unittest.mock.patch.dict(os.environ, {"EDGEBPF": STORE})
