@@ -6,12 +6,12 @@ import re
 import sys
 import tempfile
 
-from edgebpf_tools import clang, ends, explain, owned, tables
+from edgebpf_tools import clang, columns, ends, explain, owned, tables
 from edgebpf_tools.c_words import CWords
 from edgebpf_tools.language import LEAST_LENGTH, MOST_LENGTH
 from edgebpf_tools.link import ObjectFile, link
 from edgebpf_tools.refusal import Refusal
-from edgebpf_tools.run_c import Run, argument_words, run_on
+from edgebpf_tools.run_c import asked, run_on
 
 NAME = re.compile(r"[A-Za-z0-9_-]{1,32}")
 HEADERS = pathlib.Path(__file__).resolve().parent.parent
@@ -37,6 +37,8 @@ def arguments(words):
     parser.add_argument("--script", action="store_true", help="with --on: print the script in place of running it")
     parser.add_argument("--reduce", default="sum", choices=["min", "max", "sum"], help="with --on; else sum")
     parser.add_argument("--argument", default=None, metavar="HEX", help="with --on: the record's end; else zeros")
+    parser.add_argument("--column", action="append", default=[], metavar="NAME=FILE", help="with --on: a number for each vertex, of numpy's "
+                        "file or one on each line, of which the record has those of the source and the target; may be said again")
     parser.add_argument("--vertices", nargs="*", default=[], metavar="U", help="with --on: the sources; else all")
     parser.add_argument("--workers", type=int, metavar="N", help="with --on: how many threads of edgebpf share the work")
     parser.add_argument("--explain", action="store_true", help="print the source with the verifier's state before each line, and "
@@ -182,8 +184,9 @@ def finish(options, objects, function, program):
     if options.on is None:
         print(line)
         return 0
-    run = Run(name, line, argument_words(options))
+    run = asked(options, name, line)
     graph = read_graph(options.on)
+    columns.refuse_other_lengths(run.columns, options.on, graph)
     if options.script:
         print("\n".join([graph, *run.lines]))
         return 0

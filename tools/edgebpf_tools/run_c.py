@@ -2,9 +2,9 @@
 import re
 import subprocess
 import sys
-from dataclasses import dataclass
+from dataclasses import dataclass, field
 
-from edgebpf_tools import decimals, store
+from edgebpf_tools import columns, decimals, store
 from edgebpf_tools.refusal import Refusal
 from edgebpf_tools.words import in_words
 
@@ -30,25 +30,35 @@ OWN_FAULTS = {
     ("pin", 5): "it has a pin named " + PIN + " already, which edgebpf-c would make",
     ("pin", 8): "it has as many pins as there may be",
     ("run", 4): "one of --vertices is no vertex of it",
+    ("pull", 4): "one of --vertices is no vertex of it",
+    ("column", 8): "it has as many columns as there may be",
 }
 
 
 @dataclass
 class Run:
-    """What is run: the name, the code line, and the words of the command `run` behind the pin."""
+    """What is run: the name, the code line, how numbers are reduced, the argument, the vertices, and the columns."""
 
     name: str
     line: str
-    words: str
+    reduction: str
+    argument: str
+    vertices: list = field(default_factory=list)
+    columns: dict = field(default_factory=dict)
 
     @property
     def lines(self):
-        return [self.line, f"pin {PIN}", f"run {self.name} {PIN} {self.words}"]
+        first, more = ("pull", f" {','.join(self.columns)} -") if self.columns else ("run", "")
+        run = " ".join([f"{first} {self.name} {PIN} {self.reduction} {self.argument}{more}", *map(str, self.vertices)])
+        return [self.line, f"pin {PIN}", *columns.lines_of(self.columns), run]
 
 
-def argument_words(options):
-    """The words of `run` behind the pin, from the options; refuses what would be a fault."""
-    room = options.length - 16
+def asked(options, name, line):
+    """The run that options ask for; refuses what would be a fault."""
+    lent = columns.named(options.column)
+    room = options.length - 16 - columns.BYTES * len(lent)
+    if room < 0:
+        raise Refusal(f"records of {options.length} bytes have no room for {len(lent)} columns of {columns.BYTES} bytes")
     argument = options.argument
     if argument is None:
         argument = "00" * room or "-"
@@ -56,13 +66,14 @@ def argument_words(options):
         raise Refusal("--argument is pairs of hexadecimal digits, or - for none")
     given = 0 if argument == "-" else len(argument) // 2
     if given != room:
-        raise Refusal(f"--argument has {given} bytes; records of {options.length} bytes have an argument of {room}")
+        beside = f" and {len(lent)} columns" if lent else ""
+        raise Refusal(f"--argument has {given} bytes; records of {options.length} bytes{beside} have an argument of {room}")
     if not all(map(decimals.is_number, options.vertices)):
         raise Refusal("--vertices are numbers in decimal digits")
     numbers = [decimals.value(vertex) for vertex in options.vertices]
     if any(one >= other for one, other in zip(numbers, numbers[1:])):
         raise Refusal("--vertices ascend, and none stands twice")
-    return " ".join([options.reduce, argument, *map(str, numbers)])
+    return Run(name, line, options.reduce, argument, numbers, lent)
 
 
 def _fault(graph_file, graph, run, said):
@@ -106,6 +117,8 @@ def run_on(graph_file, graph, run, workers, explain):
         # What follows is a fault alone: a program that is not kept cannot be run.
         print(verdict, flush=True)
         raise Refusal(explain(verdict, meaning))
+    # What the lines of columns wrote is nothing to read.
+    said = re.sub(r"^column .*\n", "", said, flags=re.MULTILINE)
     last = text.rstrip("\n").rpartition("\n")[2]
     if last.startswith("fault "):
         raise _fault(graph_file, graph, run, last)

@@ -115,7 +115,8 @@ class Trial:
         self.same("numbers in pieces", in_pieces.numbers.tolist(), flat)
         ends = lambda: [self.chance.choice([self.chance.randrange(self.vertices), self.vertices, WORD >> 33]) for _ in range(6)]
         sources, targets = ends() + [u for u, _ in self.edges[:20]], ends() + [v for _, v in self.edges[:20]]
-        place = lambda u, v: sum(neighbour < v for neighbour in self.targets.get(u, ()))
+        # Of a pair that is no edge the record has the source's degree for a place.
+        place = lambda u, v: self.targets[u].index(v) if v in self.targets.get(u, ()) else len(self.targets.get(u, ()))
         of_pairs = [self.number(u, v, place(u, v)) for u, v in zip(sources, targets)]
         self.same("pairs", self.version.pairs(self.program, sources, targets, self.argument, **lent).tolist(), of_pairs)
 
