@@ -186,7 +186,9 @@ def finish(options, objects, function, program):
         return 0
     run = asked(options, name, line)
     graph = read_graph(options.on)
-    columns.refuse_other_lengths(run.columns, options.on, graph)
+    vertices = columns.vertices_of(graph)
+    if vertices is not None:
+        columns.refuse_other_lengths(run.columns, options.on, vertices)
     if options.script:
         print("\n".join([graph, *run.lines]))
         return 0

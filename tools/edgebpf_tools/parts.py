@@ -29,7 +29,7 @@ class Cutter:
         self.numpy = packages.numpy()
         self.count, self.outs = count, outs
         self.is_source = self.numpy.zeros(MOST_VERTICES, dtype=bool)
-        self.line, self.is_made = 0, False
+        self.line, self.vertices = 0, None
         # The line that began the last batch.
         self.begun = 0
 
@@ -41,7 +41,7 @@ class Cutter:
             self._cut_block(whole + end)
         if rest:
             self._cut_block(rest + b"\n")
-        if not self.is_made:
+        if self.vertices is None:
             raise Refusal("no line makes a graph")
 
     def sources(self):
@@ -87,7 +87,9 @@ class Cutter:
             raise Refusal(f"line {at}: a batch has at most {MOST_EDITS} edits")
         if words[:1] == ["batch"]:
             self.begun = at
-        self.is_made = self.is_made or words[:1] == ["graph"]
+        if words[:1] == ["graph"] and self.vertices is None:
+            # A graph without a number, or with one that is out of range, has edgebpf's fault.
+            self.vertices = decimals.value(words[1]) if len(words) == 2 and decimals.is_number(words[1]) else 0
         return EVERY
 
     def _write(self, block, part_of_line, starts, ends):
@@ -109,15 +111,25 @@ class Result:
     rows: memoryview
 
 
-def read_results(text):
-    """The results of the runs in what a script wrote."""
-    results, at = [], text.find(b"\nrun ")
+def read_results(text, command="run"):
+    """The results of the runs, pulls or pushes in what a script wrote."""
+    first = f"\n{command} ".encode()
+    results, at = [], text.find(first)
     while at >= 0:
         end = text.index(b"\n", at + 1) + 1
         words = text[at + 1 : end].split()
-        at = text.find(b"\nrun ", end - 1)
+        at = text.find(first, end - 1)
         results.append(Result(int(words[4]), int(words[6]), memoryview(text)[end : at + 1 if at >= 0 else len(text)]))
     return results
+
+
+def join_values(values, text, reduction):
+    """Reduces the numbers that a part shows of its column, lines `value V X` for those that are not 0, into those of all parts."""
+    shown, at = [0] * len(values), text.find(b"\nvalue ")
+    for line in text[at + 1 :].splitlines() if at >= 0 else ():
+        _, vertex, number = line.split()
+        shown[int(vertex)] = int(number)
+    return list(map(JOIN[reduction], values, shown))
 
 
 def joined(results, reduction):

@@ -8,7 +8,7 @@ import sys
 import time
 from dataclasses import dataclass
 
-from edgebpf_tools import decimals, ends, owned, parts, store, tables, workers
+from edgebpf_tools import columns, decimals, ends, owned, parts, store, tables, workers
 from edgebpf_tools.language import HEX, LEAST_LENGTH, MOST_LENGTH
 from edgebpf_tools.own_source import asks_of_others
 from edgebpf_tools.refusal import Refusal
@@ -36,6 +36,10 @@ def arguments(words):
     parser.add_argument("--processes", type=int, default=2, metavar="K", help="how many parts, 1 to 64; else 2")
     parser.add_argument("--reduce", default="sum", choices=sorted(parts.JOIN), help="else sum")
     parser.add_argument("--argument", default=None, metavar="HEX", help="the record's end; else zeros")
+    parser.add_argument("--column", action="append", default=[], metavar="NAME=FILE", help="a number for each vertex, of numpy's file or one on "
+                        "each line, of which the record has those of the source and the target; may be said again")
+    parser.add_argument("--push", metavar="NAME[=FILE]", help="reduce the number of each edge into that of its target in this column, and print "
+                        "it; it begins with the numbers of the file, else with what no number reduces to")
     asked = parser.add_mutually_exclusive_group()
     asked.add_argument("--whole", action="store_true", help="each process has the whole graph, and runs over its part's vertices")
     asked.add_argument("--own-source-only", action="store_true", help="the program asks about no vertex but its edge's source: "
@@ -71,12 +75,65 @@ def takes_whole(options, name, code):
 
 
 def cut_graph(options, is_whole, folder):
-    """The files of a graph's parts, and the sources of each. For whole graphs there are no files."""
+    """The files of a graph's parts, the sources of each, and how many vertices there are. For whole graphs there are no files."""
     files = [] if is_whole else [f"{folder}/part{part}.script" for part in range(options.processes)]
     with contextlib.ExitStack() as stack:
         cutter = parts.Cutter(options.processes, [stack.enter_context(open(file, "wb")) for file in files])
         cutter.cut(stack.enter_context(open(options.graph, "rb")))
-    return files, cutter.sources()
+    return files, cutter.sources(), cutter.vertices
+
+
+@dataclass
+class Asked:
+    """What each part is asked: the program's name and line, its run, the columns that it is lent, and the one that it pushes into."""
+
+    name: str
+    program: str
+    reduction: str
+    argument: str
+    lent: dict
+    into: str | None
+    begins: list | None
+
+    @classmethod
+    def of(cls, options, name, length, line):
+        lent = columns.named(options.column)
+        into, _, file = (options.push or "").partition("=")
+        if options.push is not None and not columns.is_name(into):
+            raise Refusal(f"--push is NAME or NAME=FILE, where a name has 1 to 32 of A-Z a-z 0-9 _ -, not {options.push!r}")
+        begins = columns.named([options.push])[into] if file else None
+        if into in lent:
+            raise Refusal(f"--push {into} is a column that the run reads; give this one another name")
+        room = length - LEAST_LENGTH - columns.BYTES * len(lent)
+        if room < 0:
+            raise Refusal(f"records of {length} bytes have no room for {len(lent)} columns of {columns.BYTES} bytes")
+        return cls(name, line, options.reduce, options.argument or "00" * room or "-", lent, into or None, begins)
+
+    @property
+    def command(self):
+        return "push" if self.into else "pull" if self.lent else "run"
+
+    @property
+    def run(self):
+        """The words of the run, without its vertices."""
+        more = f" {','.join(self.lent) or '-'} {self.into or '-'}" if self.command != "run" else ""
+        return f"{self.command} {self.name} last {self.reduction} {self.argument}{more}"
+
+    def before(self, vertices):
+        """The lines before the run, for a graph of so many vertices. A part's column begins with what no number reduces to."""
+        neutral = {self.into: [parts.IDENTITY[self.reduction]] * vertices} if self.into else {}
+        return "".join(f"{line}\n" for line in [self.program, "pin last", *columns.lines_of(self.lent | neutral)])
+
+    def after(self):
+        return f"values {self.into}\n" if self.into else ""
+
+    def for_a_graph_of_one(self):
+        """The same over a graph of one vertex, by which the program and the words are tested."""
+        return Asked(self.name, self.program, self.reduction, self.argument, dict.fromkeys(self.lent, [0]), self.into, None)
+
+    def test(self, graph_file, vertices):
+        """Refuses columns that have not a number for each vertex."""
+        columns.refuse_other_lengths(self.lent | ({self.into: self.begins} if self.begins is not None else {}), graph_file, vertices)
 
 
 def runs_over(run, sources):
@@ -85,26 +142,25 @@ def runs_over(run, sources):
     return "".join(f"{run} {' '.join(map(str, sources[start : start + VERTICES_OF_A_LINE]))}\n" for start in starts)
 
 
-def test_program(name, line, run):
+def test_program(asked):
     """Refuses a program that cannot be run, before anything is cut. A program that is not built yet is built here."""
-    said, status = store.serve(f"graph 1\n{line}\npin last\n{run}\n")
+    tried = asked.for_a_graph_of_one()
+    said, status = store.serve(f"graph 1\n{tried.before(1)}{tried.run}\n")
     answers = said.splitlines()[1:]
     meaning = in_words(answers[0]) if answers else None
     if meaning:
-        raise Refusal(f"{name} is {meaning}")
+        raise Refusal(f"{asked.name} is {meaning}")
     if status:
-        raise Refusal(f"edgebpf cannot run {name}: {answers[-1] if answers else f'status {status}'}")
+        raise Refusal(f"edgebpf cannot run {asked.name}: {answers[-1] if answers else f'status {status}'}")
 
 
-def results_of(served):
-    """The results of all parts; refuses one that was not served to its end."""
-    results = []
+def texts_of(served):
+    """What all parts wrote; refuses one that was not served to its end."""
     for status, text, said in served:
         if status != 0:
             last = (said.strip() or text.strip() or b"nothing was written").decode("utf-8", "replace").splitlines()[-1]
             raise Refusal(f"a part was not served; edgebpf ended with status {status}: {last}")
-        results += parts.read_results(text)
-    return results
+    return [text for _, text, _ in served]
 
 
 @dataclass
@@ -127,12 +183,11 @@ class Times:
             )
 
 
-def served_results(options, folder):
-    """The name of the program, its results over all parts, and the times."""
+def served_texts(options, folder):
+    """What each part was asked, what all parts wrote, how many vertices there are, and the times."""
     name, length, code, line = program_line(options.program)
-    argument = options.argument or "00" * (length - LEAST_LENGTH) or "-"
-    run = f"run {name} last {options.reduce} {argument}"
-    test_program(name, line, run)
+    asked = Asked.of(options, name, length, line)
+    test_program(asked)
     is_whole = takes_whole(options, name, code)
     # Workers have folders and standard files of their own.
     graph = os.path.abspath(options.graph)
@@ -141,14 +196,26 @@ def served_results(options, folder):
     if is_whole and os.path.exists(options.graph) and not os.path.isfile(graph):
         raise Refusal(f"{options.graph} is no file, and each process has to read the whole graph from it")
     begun = time.monotonic()
-    files, sources = cut_graph(options, is_whole, folder)
+    files, sources, vertices = cut_graph(options, is_whole, folder)
+    asked.test(options.graph, vertices)
     cut_in = time.monotonic() - begun
-    each = [(file, f"\n{line}\npin last\n{run}\n".encode()) for file in files]
+    before, once = f"\n{asked.before(vertices)}", f"{asked.run}\n"
+    each = [(file, f"{before}{once}{asked.after()}".encode()) for file in files]
     if is_whole:
-        each = [(graph, f"\n{line}\npin last\n{runs_over(run, part)}".encode()) for part in sources if part]
-        each = each or [(graph, f"\n{line}\npin last\n{run}\n".encode())]
+        each = [(graph, f"{before}{runs_over(asked.run, part)}{asked.after()}".encode()) for part in sources if part]
+        each = each or [(graph, f"{before}{once}{asked.after()}".encode())]
     served, started_in, served_in = workers.serve_parts(store.command(), each, options, folder)
-    return name, results_of(served), Times(cut_in, started_in, served_in)
+    return asked, texts_of(served), vertices, Times(cut_in, started_in, served_in)
+
+
+def tell_pushed(asked, texts, vertices, head):
+    """Prints what a push over all parts left, as one process writes it."""
+    before = asked.begins if asked.begins is not None else [parts.IDENTITY[asked.reduction]] * vertices
+    values = before
+    for text in texts:
+        values = parts.join_values(values, text, asked.reduction)
+    print(f"{head} changed {sum(one != other for one, other in zip(values, before))}")
+    sys.stdout.write("".join(f"value {vertex} {number}\n" for vertex, number in enumerate(values) if number))
 
 
 def perform(words):
@@ -158,12 +225,17 @@ def perform(words):
     if options.argument is not None and not HEX.fullmatch(options.argument):
         raise Refusal("--argument is pairs of hexadecimal digits, or - for none")
     with owned.folder() as folder:
-        name, results, times = served_results(options, folder)
+        asked, texts, vertices, times = served_texts(options, folder)
+    results = [result for text in texts for result in parts.read_results(text, asked.command)]
     edges, total = parts.joined(results, options.reduce)
-    print(f"run {name} last edges {edges} total {total}")
-    sys.stdout.flush()
-    for piece in parts.rows_in_order(results):
-        sys.stdout.buffer.write(piece)
+    head = f"{asked.command} {asked.name} last edges {edges} total {total}"
+    if asked.into:
+        tell_pushed(asked, texts, vertices, head)
+    else:
+        print(head)
+        sys.stdout.flush()
+        for piece in parts.rows_in_order(results):
+            sys.stdout.buffer.write(piece)
     sys.stdout.flush()
     times.tell(options)
     return 0

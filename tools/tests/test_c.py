@@ -2,6 +2,7 @@
 import os
 import pathlib
 import random
+import struct
 import subprocess
 import tempfile
 import unittest
@@ -25,6 +26,14 @@ u64 score(struct edge *edge, u64 length, const u32 table[4]) {
     for (int i = 0; i < 4; i++) if (edge->target > (u32)i) sum += table[i] * has_edge(edge->target, i);
     return sum > 0x100000000ULL ? twice(sum, edge->place) : twice(edge->source, sum); }
 """
+
+
+def array_file(numbers, form):
+    """The bytes of numpy's file with an array of one dimension, as its format says."""
+    head = f"{{'descr': '{form}', 'fortran_order': False, 'shape': ({len(numbers)},), }}"
+    head += " " * (-(len(head) + 11) % 64) + "\n"
+    letter = {"<u8": "Q", "<i8": "q", "<f8": "d", "|i1": "b"}[form]
+    return b"\x93NUMPY\x01\x00" + struct.pack("<H", len(head)) + head.encode() + struct.pack(f"<{len(numbers)}{letter}", *numbers)
 
 
 def damaged(whole, chance):
@@ -234,6 +243,47 @@ class WordsAtTheLine(unittest.TestCase):
         run = self.run_on(GRAPH, "target", "16", "--workers", "2")
         self.assertEqual((run.stdout, run.stderr, run.returncode), (RUNS["target"][1], "", 0))
         self.assertEqual(self.store.starts(), ["--workers 2"])
+
+    def of_columns(self, *words):
+        """Runs a program that answers the target's number of its first column, over the edges 0-1 and 1-2."""
+        path = pathlib.Path(self.folder, "risk.c")
+        path.write_text("#include <edgebpf.h>\nstruct scored { struct edge_start edge; struct edge_ends risk; };\n"
+                        "u64 risk(struct scored *it, u64 length) { return it->risk.target; }\n")
+        graph = pathlib.Path(self.folder, "graph.script")
+        graph.write_text("graph 3\nbatch A\n+ 0 1\n+ 1 2\nend\n")
+        return run_tool("edgebpf-c", path, "risk", "32", "--on", graph, *words)
+
+    def column(self, text, name="risk"):
+        path = pathlib.Path(self.folder, f"{name}.txt")
+        path.write_bytes(text if isinstance(text, bytes) else text.encode())
+        return ["--column", f"{name}={path}"]
+
+    def test_columns(self):
+        for text in ("5\n6\n7\n", " 05\r\n6\r\n7", array_file([5, 6, 7], "<u8"), array_file([5, 6, 7], "|i1")):
+            run = self.of_columns(*self.column(text))
+            self.assertEqual((run.stderr, run.returncode), ("", 0))
+            self.assertTrue(run.stdout.startswith("program risk bound "), run.stdout)
+            self.assertTrue(run.stdout.endswith("\npull risk last edges 2 total 13\nrow 0 6\nrow 1 7\n"), run.stdout)
+            self.assertNotIn("column", run.stdout)
+        lines = self.of_columns(*self.column("5\n6\n7\n"), "--vertices", "1", "--reduce", "max", "--script").stdout.splitlines()
+        self.assertEqual(lines[-3:], ["pin last", "column risk 0 5 6 7", "pull risk last max - risk - 1"])
+
+    def test_columns_that_are_wrong(self):
+        right = self.column("5\n6\n7\n")
+        for words, said in (
+            ([*right, "--vertices", "3"], "one of --vertices is no vertex of it"), ([*right, *right], "--column risk is given twice"),
+            (self.column("5\n6\n"), "--column risk has 2 numbers, and "), (self.column("5\n-6\n7\n"), "risk.txt:2: '-6' is no number from 0 to 2^64 - 1"),
+            (self.column("5\n\n7\n"), "risk.txt:2: '' is no number"), (self.column(f"5\n6\n{1 << 64}"), "risk.txt:3: "), (self.column("5\n" * 2 + "9" * 5_000), "risk.txt:3: "),
+            (self.column(b"\xff"), "it is no text, and no file of numpy"), (self.column(array_file([5, 6, -7], "<i8")), "has -7"),
+            (self.column(array_file([5, 6, 7], "<f8")), "is an array of float64 in 1 dimensions"), (self.column(b"\x93NUMPY"), "risk.txt: "),
+            (["--column", "risk"], "--column is NAME=FILE"), (["--column", f"risk={self.folder}"], "Is a directory"),
+            ([*right, *self.column("1\n2\n3\n", "other")], "records of 32 bytes have no room for 2 columns of 16 bytes"),
+            ([*right, "--argument", "00"], "--argument has 1 bytes; records of 32 bytes and 1 columns have an argument of 0"),
+        ):
+            run = self.of_columns(*words)
+            self.assertEqual((run.stdout, run.returncode), ("", 1), run)
+            self.assertIn(said, run.stderr)
+            self.assertEqual(len(run.stderr.splitlines()), 1)
 
     def test_faults_of_the_graph_and_of_the_lines_that_are_added(self):
         for graph, words, said in (

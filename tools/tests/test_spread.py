@@ -24,6 +24,8 @@ WEIGHED = ("image w 42504532100006001000" "6112040000000000570200000300000067020
 EDITS = ["batch A", "+ 0 1", "+ 299 4", "+ 256 0", "end", "batch B", "# more", "- 256 0", "+ 70 2", "+ 299 3", "end"]
 GRAPH = "\n".join(["graph 300", *EDITS[:6], *EDITS[7:], ""])
 SUM = "run t last edges 4 total 10\nrow 0 1\nrow 70 2\nrow 299 7\n"
+# Of the first column the target's number, and the source's.
+OF_TARGET, OF_SOURCE = "code r 32 79101800000000009500000000000000\n", "code s 32 79101000000000009500000000000000\n"
 
 
 @unittest.skipIf(importlib.util.find_spec("distributed") is None, "not there: python3-distributed")
@@ -87,6 +89,50 @@ class EdgebpfSpread(unittest.TestCase):
             run = self.spread(program=program)
             self.assertEqual((run.stdout, run.returncode), ("", 1))
             self.assertRegex(run.stderr, words)
+
+    def column(self, name, numbers):
+        """The file of a column, as an option names it."""
+        (self.folder / name).write_text("".join(f"{number}\n" for number in numbers))
+        return f"{name}={self.folder / name}"
+
+    def test_columns(self):
+        risk = ["--column", self.column("risk", [10 * vertex for vertex in range(300)])]
+        for words in ([], ["--whole"], ["--processes", "3"]):
+            run = self.spread(*risk, *words, program=OF_TARGET)
+            self.assertEqual((run.stdout, run.stderr), ("pull r last edges 4 total 100\nrow 0 10\nrow 70 20\nrow 299 70\n", ""))
+        wide = OF_TARGET.replace("32", "48")
+        other = ["--column", self.column("other", [7] * 300)]
+        self.assertEqual(self.spread(*other, *risk, "--reduce", "max", program=wide).stdout, "pull r last edges 4 total 7\nrow 0 7\nrow 70 7\nrow 299 7\n")
+
+    def test_pushes(self):
+        """Vertices 3 and 4 get the number of 299, 2 that of 70, and 1 the 0 of vertex 0."""
+        risk = ["--column", self.column("risk", [10 * vertex for vertex in range(300)])]
+        wanted = "push s last edges 4 total 6680 changed 3\nvalue 2 700\nvalue 3 2990\nvalue 4 2990\n"
+        for words in ([], ["--whole"], ["--processes", "3"]):
+            run = self.spread(*risk, "--push", "sums", *words, program=OF_SOURCE)
+            self.assertEqual((run.stdout, run.stderr), (wanted, ""))
+        for words in ([], ["--whole"]):
+            least = self.spread(*risk, "--reduce", "min", "--push", self.column("least", [5] * 300), *words, program=OF_SOURCE).stdout
+            self.assertEqual(least, "".join(["push s last edges 4 total 0 changed 1\n", *(f"value {vertex} 5\n" for vertex in range(300) if vertex != 1)]))
+        # Of two parts each has an edge to vertex 1, and a sum goes past 2^64.
+        graph = "graph 600\nbatch A\n+ 0 1\n+ 256 1\nend\n"
+        begins = self.column("begins", [2**64 - 1] * 600)
+        many = self.spread("--column", self.column("one", [3] * 600), "--push", begins, graph=graph, program=OF_SOURCE).stdout.splitlines()
+        self.assertEqual((many[0], many[2], len(many)), ("push s last edges 2 total 6 changed 1", "value 1 5", 601))
+
+    def test_wrong_columns(self):
+        short = ["--column", self.column("short", [1] * 299)]
+        for words, told in (
+                (short, "--column short has 299 numbers, and "), (["--column", "x"], "--column is NAME=FILE"), (["--column", "-=x"], "--column is NAME=FILE"),
+                (["--column", f"x={self.folder}/none"], "No such file"), (["--column", self.column("text", ["a"])], "is no number from 0 to 2^64 - 1"),
+                (["--column", self.column("large", [2**64])], "is no number"), (2 * short, "--column short is given twice"),
+                (["--push", "-"], "--push is NAME or NAME=FILE"), ([*short, "--push", "short"], "is a column that the run reads"),
+                (["--push", self.column("begins", [1] * 7)], "--column begins has 7 numbers"),
+                ([*short, "--column", self.column("more", [1] * 300)], "no room for 2 columns"), (["--argument", "00", *short], "cannot run r: fault 6")):
+            run = self.spread(*words, program=OF_TARGET)
+            self.assertEqual((run.stdout, run.returncode), ("", 1), run)
+            self.assertIn(told, run.stderr)
+            self.assertEqual(len(run.stderr.splitlines()), 1)
 
     def test_reductions(self):
         least = "run t last edges 4 total 1\nrow 0 1\nrow 70 2\nrow 299 3\n"
