@@ -21,5 +21,6 @@ pub mod HousedLemmas
 pub mod FilledLemmas
 pub mod MadeLemmas
 pub mod ArrayLemmas
+pub mod SlotLemmas
 mod SeenLemmas
 mod NearbyLemmas

@@ -1,5 +1,5 @@
-//! Shards of neighbouring ranges, after one owner.
-ghost use Rattle.std.specs.Prelude.{◌≡◌, ◌+◌, ◌^◌, ◌<◌, ◌≤◌, length, IfOk};
+//! Neighbouring ranges, after one owner.
+ghost use Rattle.std.specs.Prelude.{◌≡◌, ◌+◌, ◌^◌, ◌<◌, ◌≤◌, length, map, IfOk, IfSome, MatchOption};
 ghost use Rattle.past_model.specs.declared.limits.TheConstants.{MOST_RANGES};
 ghost use Rattle.graph_model.specs.Graph.{Graph};
 ghost use Rattle.past_model.specs.Edits.{AreEditsBelow};
@@ -7,58 +7,100 @@ ghost use Rattle.migration.specs.declared.groups.Grouping.TheVariants.{ByRange};
 ghost use Rattle.migration.specs.Blocks.{ArePartsFrom, AreEditable, AreEdited, AreHoused, AreRehoused};
 ghost use Rattle.migration.specs.Groups.{filled_below};
 ghost use Rattle.migration.specs.Made.{AreMade};
-ghost use Rattle.migration.specs.Table.{parts_of};
+ghost use Rattle.migration.specs.Slots.{part_of, part_seen};
+ghost use Rattle.migration.specs.Table.{part_at};
 
 use crate::counts::Counts;
 use crate::edited_shard::EditedShard;
+use crate::empty::EmptyRanges;
 use crate::groups::Groups;
-use crate::shard::Shard;
+use crate::slots::{Seen, Slot, Slots};
 use std::alloc::{AllocError, Global};
 use std::marker::Model;
-use std::sync::Arc;
 
-/// The shards of ranges one after another.
+/// What a block has: no slot before its first edit.
+#[derive(Drop)]
+pub(crate) enum Kind {
+    Empty(EmptyRanges),
+    Kept(Slots),
+}
+
+/// Ranges one after another. As long as none of them has had an edit, they take no memory of their own.
 #[derive(Drop)]
 pub(crate) struct Block {
-    shards: Vec<Arc<Shard>>,
+    kind: Kind,
 }
 
 impl Model for Block {
     ghost use Rattle.std.specs.Prelude.{List};
     ghost use Rattle.migration.specs.Part.{Part};
-    ghost use Rattle.migration.specs.Table.{parts_of};
+    ghost use Rattle.migration.specs.Kinds.{parts_by};
 
     ghost Value = { List Part };
 
-    ghost view = { λ b. parts_of b.shards.items };
+    ghost view = { λ b. parts_by b.kind };
 }
 
 impl Block {
-    /// These shards.
-    pub(crate) fn of(shards: Vec<Arc<Shard>>) -> Block
-        ensures { result ≡ parts_of shards.items }
+    /// These slots.
+    pub(crate) fn of(slots: Slots) -> Block
+        ensures { result ≡ slots }
     {
-        Block { shards }
+        Block {
+            kind: Kind::Kept(slots),
+        }
     }
 
-    /// The shards, in order.
-    pub(crate) fn shards(&self) -> &[Arc<Shard>]
-        ensures { parts_of result.now ≡ self.now }
+    /// Ranges without an edge.
+    pub(crate) fn empty(ranges: EmptyRanges) -> Block
+        ensures { result ≡ ranges }
     {
-        &self.shards
+        Block {
+            kind: Kind::Empty(ranges),
+        }
     }
 
-    /// The shards, in order, which are no block any more.
-    pub(crate) fn into_shards(self) -> Vec<Arc<Shard>>
-        ensures { parts_of result.items ≡ self }
+    /// How many ranges it has.
+    pub(crate) fn len(&self) -> usize
+        ensures { result ≡ length self.now }
     {
-        self.shards
+        match &self.kind {
+            Kind::Empty(ranges) => ranges.len(),
+            Kind::Kept(slots) => slots.len(),
+        }
     }
 
-    /// The block with edited shards put in, where its first shard is of this range, and what the edits did to its
-    /// shards. A shard that no edit is of is shared. `next` counts the edited shards that were put in.
-    // A function of its own: as part of the long function that makes a version each shard takes half as much again.
-    #[inline(never)]
+    /// The range at a place.
+    #[inline(always)]
+    pub(crate) fn at(&self, place: usize) -> Option<Seen<'_>>
+        ensures { MatchOption result (length self.now ≤ place)
+            (λ seen. (place < length self.now) × (part_seen seen ≡ part_at self.now place)) }
+    {
+        match &self.kind {
+            Kind::Kept(slots) => slots.at(place),
+            Kind::Empty(ranges) => {
+                if place < ranges.len() {
+                    Some(Seen::Empty(ranges.at(place)))
+                } else {
+                    None
+                }
+            }
+        }
+    }
+
+    /// The slots, in order, which are no block any more. A block without an edit has none.
+    pub(crate) fn into_slots(self) -> Option<Vec<Slot>>
+        ensures { IfSome result (λ slots. map part_of slots.items ≡ self) }
+    {
+        let Block { kind } = self;
+        match kind {
+            Kind::Empty(_) => None,
+            Kind::Kept(slots) => Some(slots.into_slots()),
+        }
+    }
+
+    /// The block with edited shards put in, where its first range is this one, and what the edits did to its
+    /// ranges. A shard that no edit is of is shared. `next` counts the edited shards that were put in.
     pub(crate) fn with(
         &self,
         alloc: Global,
@@ -80,22 +122,13 @@ impl Block {
         ensures homes { IfOk result (λ new. AreHoused self.now → AreRehoused self.now new.0) }
         ensures next { IfOk result (λ _. next.new ≡ length (filled_below groups.now (first + length self.now))) }
     {
-        let mut shards = Vec::with_capacity(alloc, self.shards.len())?;
-        let mut counts = Counts::NONE;
-        let end = first + self.shards.len();
-        let mut filled = groups.next_filled(first, end);
-        for (place, shard) in self.shards.iter().enumerate() {
-            if first + place < filled {
-                shards.push(Arc::try_clone(shard)?)?;
-                continue;
+        let (slots, counts) = match &self.kind {
+            Kind::Kept(slots) => slots.with(alloc, first, groups, made, next)?,
+            Kind::Empty(ranges) => {
+                Slots::empty(alloc, ranges)?.with(alloc, first, groups, made, next)?
             }
-            let edited: &EditedShard = made[*next];
-            shards.push(Arc::try_clone(&edited.shard)?)?;
-            counts = counts.plus(edited.counts);
-            *next += 1;
-            filled = groups.next_filled(filled + 1, end);
-        }
-        let block = Block { shards };
+        };
+        let block = Block::of(slots);
         Ok((block, counts))
     }
 }

@@ -13,6 +13,7 @@ mod edited_run;
 mod edited_shard;
 mod edited_tree;
 mod edited_vertex;
+mod empty;
 mod groups;
 mod in_place;
 mod letting_go;
@@ -27,6 +28,7 @@ mod scratch;
 mod shard;
 mod shards;
 mod short_blocks;
+mod slots;
 mod table;
 mod width;
 
