@@ -65,7 +65,10 @@ static inline const char *edgebpf_words(uint32_t status) {
     return status < sizeof words / sizeof *words ? words[status] : "there is no such status";
 }
 
-/* An array is a pointer that is not NULL, and a count. This is one without a byte. */
+/* Pointers. None is NULL, neither a handle's, nor an output's, nor that of an array without a place: such a call is undefined. Each is aligned
+   as its type, and what a call writes to lies apart from all else that it is given. A call asks first whether each handle holds something
+   (EMPTY), then whether that is of its kind (OTHER_KIND), and then what its own line says.
+   An array is a pointer and a count. This is one without a byte. */
 #define EDGEBPF_NO_BYTES ((const uint8_t *)"")
 
 /* Limits. */
