@@ -237,7 +237,7 @@ def found_of(entries: npt.ArrayLike, name: str) -> Vertices:
     return np.ascontiguousarray(array.astype(np.int64) & 0xFFFFFFFF, np.uint32)
 
 
-def marks_of(marks: npt.ArrayLike, name: str) -> npt.NDArray[np.uint8]:
+def members_of(marks: npt.ArrayLike, name: str) -> npt.NDArray[np.uint8]:
     """A mark for each vertex, 1 where it is true or not 0."""
     array = np.asarray(marks)
     if array.ndim != 1:

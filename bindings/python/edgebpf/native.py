@@ -13,7 +13,7 @@ from edgebpf import adapters, library
 from edgebpf.errors import Closed, TooManyEdits, VertexRange
 from edgebpf.given import (
     MOST_VERTICES, NO_COLUMNS, REDUCTIONS, Columns, Edges, Numbers, Pairs, Vertices, columns_of, edits_of, edits_of_batch, ends_of_pairs,
-    feed_of, found_of, frozen, marks_of, reduction_of, starts_of, threads_of, values_into, vertex_count, vertex_of, vertices_of, whole,
+    feed_of, found_of, frozen, members_of, reduction_of, starts_of, threads_of, values_into, vertex_count, vertex_of, vertices_of, whole,
 )
 from edgebpf.parts import Parts
 from edgebpf.programs import Program, argument_of, handle_of
@@ -461,7 +461,7 @@ class Version:
 
         marks: for each vertex whether it is in the set. No edge joins two of the set, and from each vertex outside an edge leads to one of it.
         """
-        answer, chosen = library.new("uint32_t *"), marks_of(marks, "marks")
+        answer, chosen = library.new("uint32_t *"), members_of(marks, "marks")
         at = library.foreign().from_buffer("uint8_t[]", chosen.data) if len(chosen) else library.foreign().NULL
         library.check(library.load().edgebpf_is_independent_set(self._at(), at, len(chosen), answer))
         return bool(answer[0])
