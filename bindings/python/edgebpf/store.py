@@ -1,6 +1,7 @@
 """A store in a process of its own, its versions, and what runs give."""
 from __future__ import annotations
 
+import contextlib
 import copy
 import dataclasses
 import functools
@@ -9,7 +10,7 @@ import itertools
 import signal
 import subprocess
 import threading
-from collections.abc import Iterator, Sequence
+from collections.abc import Iterable, Iterator, Sequence
 from typing import IO, Any, NamedTuple, NoReturn, cast
 
 import numpy as np
@@ -18,8 +19,8 @@ import numpy.typing as npt
 from edgebpf import adapters
 from edgebpf.errors import Closed, EpochsFull, Error, LogFull, NoMemory, NotHere, TooManyEdits, TooManyNames
 from edgebpf.given import (
-    FEEDS, NO_COLUMNS, SERVED_VERTICES, Columns, Edges, Numbers, Pairs, Vertices, edits_of, edits_of_batch, feed_of, frozen, reduction_of, threads_of,
-    vertex_count, vertex_of, vertices_of, whole,
+    FEEDS, NO_COLUMNS, SERVED_VERTICES, Columns, Edges, Numbers, Pairs, Vertices, columns_of, edits_of, edits_of_batch, feed_of, frozen, reduction_of,
+    threads_of, values_into, vertex_count, vertex_of, vertices_of, whole,
 )
 from edgebpf.programs import Program, argument_of, command, said_lines
 
@@ -29,6 +30,8 @@ MOST_EPOCHS = 1_024
 MOST_NAMES = 256
 # A line of a script has at most 80,000 bytes; the vertices of a run get what its other words leave.
 FRONTIER_BYTES = 78_000
+# So many numbers of a column, each of up to 20 digits, fit into a line.
+NUMBERS_OF_LINE = 3_500
 REDUCTIONS: dict[str, tuple[int, Any]] = {"sum": (0, np.add), "min": (2**64 - 1, np.minimum), "max": (0, np.maximum)}
 CHUNK = 1 << 20
 NO_MEMORY_LINES = ("edgebpf: memory", "edgebpf: worker")
@@ -153,6 +156,8 @@ class Store:
         self._process, self.vertices = process, vertices
         # Held while something is published, pinned or loaded, so that what is kept here is what the process has.
         self._turn = threading.Lock()
+        # Held while a run is lent columns, which have the same names each time.
+        self._lending = threading.Lock()
         # How many rebases there were, and how many batches since the last one.
         self._epoch, self._batches = 0, 0
         self._pins, self._names = 0, itertools.count()
@@ -221,6 +226,20 @@ class Store:
                 self._last = last = name, self._epoch, int(words[3]), int(words[5])
             return Version(self, *last)
 
+    @contextlib.contextmanager
+    def _lent(self, columns: list[Numbers]) -> Iterator[list[str]]:
+        """The names under which the process has columns meanwhile. Each has the numbers that it has now."""
+        if not columns:
+            yield []
+            return
+        with self._lending:
+            names = [f"c{place}" for place in range(len(columns))]
+            for name, numbers in zip(names, columns):
+                for first in range(0, len(numbers), NUMBERS_OF_LINE):
+                    words = " ".join(map(str, numbers[first:first + NUMBERS_OF_LINE].tolist()))
+                    self._process.ask(f"column {name} {first} {words}\n".encode())
+            yield names
+
     def _name_of(self, program: Program) -> str:
         """The name under which the process has a program; it is loaded at its first use."""
         if not isinstance(program, Program):
@@ -264,27 +283,32 @@ class Version:
         """Runs a program for each edge of some vertices, and reduces the numbers.
 
         reduction: "sum" (modulo 2^64), "min" or "max". frontier: an ascending array of vertices, or None for all.
-        argument: as many bytes as the program's record has beyond 16. `columns`, a limit by `seconds` and `threads` of this process are
-        `NotHere`.
+        argument: as many bytes as the program's record has beyond 16, and beyond 16 for each column. columns: arrays of uint64 with a number
+        for each vertex, which are sent to the process each time. A limit by `seconds` and `threads` of this process are `NotHere`.
         """
-        if columns is not NO_COLUMNS:
-            raise NotHere("an edgebpf process is lent no columns: use edgebpf.Store")
         if seconds is not None or threads_of(threads) > 1:
             raise NotHere("an edgebpf process has no limit of time, and workers of its own: pass them to connect, or use edgebpf.Store")
         start, combine = REDUCTIONS[reduction_of(reduction)]
-        digits = self._argument(program, argument)
-        if frontier is None:
-            values, edges, total = self._part(program, reduction, digits, "")
-            return Result(self._filled(np.arange(self.vertices, dtype=np.uint32), values, start), edges, total)
+        lent = columns_of(columns, self.vertices)
+        digits = self._argument(program, argument, len(lent))
+        found, edges, total = [np.empty((0, 2), np.uint64)], 0, start
+        with self._store._lent(lent) as names:
+            for words in self._parts(frontier):
+                rows, some, part = self._part(program, reduction, digits, names, words)
+                found.append(rows)
+                edges, total = edges + some, int(combine(np.uint64(total), np.uint64(part)))
+        chosen = np.arange(self.vertices, dtype=np.uint32) if frontier is None else self._ascending(frontier)
+        return Result(self._filled(chosen, np.concatenate(found), start), edges, total)
+
+    def _parts(self, frontier: npt.ArrayLike | None) -> Iterable[str]:
+        """The vertices of a frontier as words of lines; no word stands for all vertices."""
+        return [""] if frontier is None else frontier_parts(self._ascending(frontier))
+
+    def _ascending(self, frontier: npt.ArrayLike) -> Vertices:
         chosen = vertices_of(frontier, self.vertices, "frontier")
         if np.any(chosen[1:] <= chosen[:-1]):
             raise ValueError("a frontier ascends, and has no vertex twice")
-        found, edges, total = [np.empty((0, 2), np.uint64)], 0, start
-        for words in frontier_parts(chosen):
-            rows, some, part = self._part(program, reduction, digits, words)
-            found.append(rows)
-            edges, total = edges + some, int(combine(np.uint64(total), np.uint64(part)))
-        return Result(self._filled(chosen, np.concatenate(found), start), edges, total)
+        return chosen
 
     def numbers(
         self, program: Program, argument: bytes = b"", frontier: npt.ArrayLike | None = None, *, columns: Columns = NO_COLUMNS,
@@ -301,9 +325,36 @@ class Version:
 
     begin_numbers = begin_pairs = begin_push = begin
 
-    def push(self, *_: Any, **__: Any) -> NoReturn:
-        """Raises `NotHere`."""
-        raise NotHere("an edgebpf process makes no pushes: use edgebpf.Store")
+    def push(
+        self, program: Program, reduction: str = "sum", frontier: npt.ArrayLike | None = None, argument: bytes = b"", *, into: Numbers,
+        columns: Columns = NO_COLUMNS, changed: bool = False, seconds: float | None = None,
+    ) -> Pushed:
+        """Runs a program for each edge of some vertices, and reduces the number of each edge into the value of its target.
+
+        into: an array of uint64 with a value for each vertex of the graph, which is written in place; a vertex to which none of the edges
+        leads keeps its value. It is sent to the process and back, as the columns are sent. changed: tells which vertices have another value
+        than before. The others are as for `run`.
+        """
+        if seconds is not None:
+            raise NotHere("an edgebpf process has no limit of time: use edgebpf.Store")
+        start, combine = REDUCTIONS[reduction_of(reduction)]
+        lent = columns_of(columns, self.vertices)
+        values, digits, edges, total = values_into(into, self.vertices, lent), self._argument(program, argument, len(lent)), 0, start
+        name, parts, before = self._store._name_of(program), list(self._parts(frontier)), values.copy()
+        with self._store._lent([*lent, values]) as names:
+            *read, written = names
+            run = f"push {name} {self._name} {reduction} {digits} {','.join(read) or '-'} {written}"
+            for number, words in enumerate(parts, 1):
+                # The last of them is asked for the values, too.
+                is_last = number == len(parts)
+                text = f"{run}{words}\n" + (f"values {written}\n" if is_last else "")
+                head, rows = self._store._process.ask(text.encode(), has_rows=is_last)
+                edges, total = edges + int(head[4]), int(combine(np.uint64(total), np.uint64(int(head[6]))))
+                if is_last:
+                    shown = numbers_in(rows, b"value ", 2)
+                    values.fill(0)
+                    values[shown[:, 0].astype(np.int64)] = shown[:, 1]
+        return Pushed(edges, total, np.flatnonzero(before != values).astype(np.uint32) if changed else None)
 
     def pairs(self, *_: Any, **__: Any) -> NoReturn:
         """Raises `NotHere`."""
@@ -396,15 +447,17 @@ class Version:
     def __exit__(self, *_: object) -> None:
         self.close()
 
-    def _argument(self, program: Program, argument: bytes) -> str:
+    def _argument(self, program: Program, argument: bytes, columns: int = 0) -> str:
         self._open()
         if not isinstance(program, Program):
             raise TypeError("a program is made by Program, assemble or compile_c")
-        return argument_of(program, argument).hex() or "-"
+        return argument_of(program, argument, columns).hex() or "-"
 
-    def _part(self, program: Program, reduction: str, argument: str, vertices: str) -> tuple[Numbers, int, int]:
+    def _part(self, program: Program, reduction: str, argument: str, columns: list[str], vertices: str) -> tuple[Numbers, int, int]:
         name = self._store._name_of(program)
-        words, rows = self._store._process.ask(f"run {name} {self._name} {reduction} {argument}{vertices}\n".encode(), has_rows=True)
+        command, lent = ("pull", f" {','.join(columns)} -") if columns else ("run", "")
+        text = f"{command} {name} {self._name} {reduction} {argument}{lent}{vertices}\n"
+        words, rows = self._store._process.ask(text.encode(), has_rows=True)
         return numbers_in(rows, b"row ", 2), int(words[4]), int(words[6])
 
     def _list(self, program: Program, argument: bytes) -> Numbers:

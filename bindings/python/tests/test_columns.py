@@ -145,12 +145,42 @@ class Columns(unittest.TestCase):
         self.assertEqual(self.version.run(self.target, argument=bytes(8) + (5).to_bytes(8, "little")).total, 60)
 
     def test_process(self):
-        """A process is lent no columns."""
-        with edgebpf.connect(8) as store:
-            version = store.pin()
-            for call in (lambda: version.run(self.target, columns=[self.x]), lambda: version.numbers(self.target, columns=[self.x])):
-                with self.assertRaisesRegex(edgebpf.NotHere, "columns"):
+        """A process is sent columns for runs and pushes, and gives what this process gives; numbers of edges with columns it does not."""
+        chance, count = np.random.default_rng(5), 300
+        source = edgebpf.assemble("ldxdw r0, [r1+24]\nexit", record=40)
+        edges = chance.integers(0, count, (2_000, 2))
+        with edgebpf.connect(count) as store, edgebpf.Store(count) as own:
+            versions = []
+            for one in (store, own):
+                one.batch("A", edges=edges)
+                versions.append(one.pin())
+            for reduction in ("sum", "min", "max"):
+                columns = [chance.integers(0, 1 << 64, count, np.uint64), chance.integers(0, 9, count).astype(np.uint64)]
+                for frontier in (None, [], [7], np.unique(chance.integers(0, count, 80))):
+                    for given in ((self.target, columns[:1], b""), (source, columns[1:], bytes(8))):
+                        found = [version.run(given[0], reduction, frontier, given[2], columns=given[1]) for version in versions]
+                        self.assertEqual(found[0].values.tolist(), found[1].values.tolist())
+                        self.assertEqual((found[0].edges, found[0].total), (found[1].edges, found[1].total))
+                        into = [chance.integers(0, 1 << 64, count, np.uint64)] * 2
+                        into = [array.copy() for array in into]
+                        pushed = [version.push(given[0], reduction, frontier, given[2], into=array, columns=given[1], changed=True)
+                                  for version, array in zip(versions, into)]
+                        self.assertEqual(into[0].tolist(), into[1].tolist())
+                        self.assertEqual(pushed[0][:2], pushed[1][:2])
+                        self.assertEqual(pushed[0].changed.tolist(), pushed[1].changed.tolist())
+            # Without a column a push needs a record for the argument alone.
+            into = np.zeros(count, np.uint64)
+            self.assertEqual(versions[0].push(edgebpf.assemble("mov r0, 1\nexit"), into=into).edges, versions[0].edges)
+            self.assertEqual(into.tolist(), np.bincount(versions[0].csr()[1], minlength=count).tolist())
+            for error, call in (
+                    (edgebpf.NotHere, lambda: versions[0].numbers(self.target, columns=[self.x])), (ValueError, lambda: versions[0].run(self.target, columns=[self.x])),
+                    (edgebpf.NotHere, lambda: versions[0].push(self.target, into=into, columns=columns[:1], seconds=1)),
+                    (TypeError, lambda: versions[0].push(self.target, into=into.astype(float), columns=columns[:1])),
+                    (edgebpf.ArgumentLength, lambda: versions[0].run(self.target, argument=bytes(1), columns=columns[:1])),
+                    (ValueError, lambda: versions[0].run(self.target, frontier=[3, 2], columns=columns[:1]))):
+                with self.assertRaises(error):
                     call()
+            self.assertEqual(versions[0].run(self.target, columns=columns[:1]).edges, versions[0].edges)
 
     def test_random(self):
         """Some of what `random_columns.py` compares by hand."""
