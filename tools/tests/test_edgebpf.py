@@ -35,7 +35,7 @@ for crate in $(sed '/^#/d; s/[ :].*//' crates.txt); do
 done
 """
 PROGRAM = "#include <stdio.h>\nint main(void) { int c; fputs(\"of dist: \", stdout); while ((c = getchar()) != EOF) putchar(c); return 0; }\n"
-LIBRARY = "#!/bin/sh\nout=$1/crates/edgebpf_c/out\nmkdir -p $out\necho archive >$out/libedgebpf_c.a\necho object >$out/libedgebpf_c.o\n"
+COMPILER = "#!/bin/sh\nmkdir -p ${2%/*}\necho object >$2\n"
 BESIDE = "dist/, whose sources are these and were proved elsewhere"
 
 
@@ -188,8 +188,8 @@ class Proving(Checkout):
         (self.top / "crates.txt").write_text("edgebpf:\nedgebpf_explain:\nedgebpf_c staticlib:\n")
         (self.top / "crates/edgebpf_c/src").mkdir(parents=True)
         (self.top / "crates/edgebpf_c/src/lib.rt").write_text("//! for C\n")
-        (self.top / "tools/build_library").write_text(LIBRARY)
-        (self.top / "tools/build_library").chmod(0o755)
+        (self.top / "tools/compile").write_text(COMPILER)
+        (self.top / "tools/compile").chmod(0o755)
         (self.top / "crates/edgebpf_explain/src").mkdir(parents=True)
         (self.top / "crates/edgebpf_explain/src/main.rt").write_text("//! explains\n")
 
@@ -200,7 +200,7 @@ class Proving(Checkout):
     def test_object_files_are_made_where_none_are_kept(self):
         self.have_both_programs()
         objects = [self.top / f"crates/{name}/out/{name}.o" for name in ("edgebpf", "edgebpf_explain")]
-        objects.append(self.top / "crates/edgebpf_c/out/libedgebpf_c.o")
+        objects.append(self.top / "crates/edgebpf_c/out/libedgebpf.o")
         self.assertEqual(self.prove("edgebpf", KEPT="yes")[0], 0)
         self.assertFalse(objects[0].exists())
         status, said = self.prove("--objects", KEPT="yes", ANOTHER="yes")
