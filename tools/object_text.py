@@ -1,5 +1,5 @@
 #!/usr/bin/python3
-"""A relocatable x86-64 object file as assembly text: each loaded section's bytes, the symbols in it, and its relocations. Nothing
+"""A relocatable object file for x86-64 or aarch64 as assembly text: each loaded section's bytes, the symbols in it, and its relocations. Nothing
 is added, moved or left out, so that an assembler makes the same sections of it, and the text of what it made is this text again.
 
     object_text.py FILE.o                        prints the text of an object file
@@ -7,16 +7,26 @@ is added, moved or left out, so that an assembler makes the same sections of it,
 """
 import collections
 import functools
+import re
+import struct
 import sys
 
 from elftools.common.exceptions import ELFError
 from elftools.elf.constants import SH_FLAGS
 from elftools.elf.elffile import ELFFile
-from elftools.elf.enums import ENUM_RELOC_TYPE_x64
+from elftools.elf.enums import ENUM_RELOC_TYPE_AARCH64, ENUM_RELOC_TYPE_x64
 from elftools.elf.relocation import RelocationSection
 from elftools.elf.sections import SymbolTableSection
 
-RELOCATIONS = {number: name for name, number in ENUM_RELOC_TYPE_x64.items()}
+# Some versions of pyelftools lack this one.
+ENUM_RELOC_TYPE_AARCH64.setdefault("R_AARCH64_LDST128_ABS_LO12_NC", 299)
+RELOCATIONS = {
+    "EM_X86_64": {number: name for name, number in ENUM_RELOC_TYPE_x64.items()},
+    "EM_AARCH64": {number: name for name, number in ENUM_RELOC_TYPE_AARCH64.items()},
+}
+# Of aarch64: where code begins in a section, and where data. An assembler makes them itself, of the words by which both are written.
+MARKS = re.compile(r"\$([dx])(\..*)?")
+INSTRUCTION_BYTES, INSTRUCTIONS_A_LINE = 4, 12
 FLAGS = {
     SH_FLAGS.SHF_ALLOC: "a",
     SH_FLAGS.SHF_WRITE: "w",
@@ -85,17 +95,28 @@ def data_lines(data):
         yield '\t.ascii "{}"'.format("".join(map(BYTE_TEXTS.__getitem__, data[start : start + BYTES_A_LINE])))
 
 
+def code_lines(data):
+    """Instructions of aarch64 in their order, as numbers."""
+    if len(data) % INSTRUCTION_BYTES:
+        raise Unknown("an instruction is cut")
+    words = [f"0x{word:x}" for (word,) in struct.iter_unpack("<I", data)]
+    for start in range(0, len(words), INSTRUCTIONS_A_LINE):
+        yield f"\t.inst {','.join(words[start : start + INSTRUCTIONS_A_LINE])}"
+
+
 class Object:
     """The loaded sections of an object file, with the symbols and the relocations of each."""
 
     def __init__(self, stream):
         self.elf = ELFFile(stream)
-        if self.elf["e_machine"] != "EM_X86_64" or self.elf["e_type"] != "ET_REL":
-            raise Unknown("this is no relocatable object file for x86-64")
+        self.machine = self.elf["e_machine"]
+        if self.machine not in RELOCATIONS or self.elf["e_type"] != "ET_REL":
+            raise Unknown("this is no relocatable object file for x86-64 or aarch64")
         numbered = list(enumerate(self.elf.iter_sections()))
         self.table = next(section for _, section in numbered if isinstance(section, SymbolTableSection))
         self.relocations = {section["sh_info"]: section for _, section in numbered if isinstance(section, RelocationSection)}
         self.symbols = collections.defaultdict(list)
+        self.marks = collections.defaultdict(dict)
         self.weak = []
         self._read_symbols()
         self.sections = [(at, section) for at, section in numbered if self._is_kept(at, section)]
@@ -118,6 +139,10 @@ class Object:
         for symbol in self.table.iter_symbols():
             kind, section = symbol["st_info"]["type"], symbol["st_shndx"]
             if kind in ("STT_SECTION", "STT_FILE") or not symbol.name:
+                continue
+            mark = MARKS.fullmatch(symbol.name) if self.machine == "EM_AARCH64" else None
+            if mark:
+                self.marks[section][symbol["st_value"]] = mark[1] == "x"
                 continue
             if section == "SHN_UNDEF":
                 if symbol["st_info"]["bind"] == "STB_WEAK":
@@ -146,9 +171,17 @@ class Object:
         if at not in self.relocations:
             return
         for relocation in self.relocations[at].iter_relocations():
-            kind = known(RELOCATIONS, relocation["r_info_type"], "relocation")
+            kind = known(RELOCATIONS[self.machine], relocation["r_info_type"], "relocation")
             target = self.reference(relocation["r_info_sym"])
             yield f"\t.reloc {start}+{relocation['r_offset']},{kind},{target}{relocation['r_addend']:+d}"
+
+    def changes(self, at):
+        """Where code begins in a section after data, and data after code."""
+        changes, was_code = {}, False
+        for place, is_code in sorted(self.marks[at].items()):
+            if is_code != was_code:
+                changes[place] = was_code = is_code
+        return changes
 
     def section_lines(self, number, at, section):
         start = f".Lsection_{number}"
@@ -161,14 +194,16 @@ class Object:
             symbols[symbol["st_value"]].append(symbol)
         data = None if section["sh_type"] == "SHT_NOBITS" else section.data()
         size = section["sh_size"]
-        cuts = sorted({0, size, *symbols})
+        changes, is_code = self.changes(at), False
+        cuts = sorted({0, size, *symbols, *changes})
         if cuts[-1] > size:
             raise Unknown(f"a symbol stands after the end of {section.name}")
         for begin, end in zip(cuts, [*cuts[1:], size]):
             for symbol in sorted(symbols[begin], key=lambda symbol: symbol.name):
                 yield from symbol_lines(symbol)
+            is_code = changes.get(begin, is_code)
             if data is not None:
-                yield from data_lines(data[begin:end])
+                yield from (code_lines if is_code else data_lines)(data[begin:end])
             elif begin < end:
                 yield f"\t.zero {end - begin}"
         yield from self.relocation_lines(at, start)

@@ -3,6 +3,7 @@ installs: the library, the programs, and the compiler of programs; where there a
 import base64
 import hashlib
 import os
+import platform
 import re
 import subprocess
 import sys
@@ -15,6 +16,8 @@ PACKAGE = Path(__file__).resolve().parent / NAME
 VERSION = re.search(r'^__version__ = "(.*)"', (PACKAGE / "__init__.py").read_text(), re.M)[1]
 LIBRARIES = ("libedgebpf.so", "libedgebpf_algorithms.so")
 DIST = PACKAGE.parents[2] / "dist"
+# What dist/ builds for: x86_64 or aarch64.
+MACHINE = os.environ.get("MACHINE") or platform.machine()
 # The folder of the package that has the programs, as `make install` lays them out.
 INSTALLED = "installed"
 INFO = f"{NAME}-{VERSION}.dist-info"
@@ -79,7 +82,7 @@ def build_wheel(wheel_directory, config_settings=None, metadata_directory=None):
     files = {f"{NAME}/{path.name}": path.read_bytes() for path in sorted(PACKAGE.iterdir()) if path.suffix in (".py", ".typed")}
     files |= {name: content for name, (content, _) in built.items()}
     files |= {f"{NAME}-{VERSION}.data/scripts/{command}": text.encode() for command, text in commands(built)}
-    tag = "py3-none-linux_x86_64" if built else "py3-none-any"
+    tag = f"py3-none-linux_{MACHINE}" if built else "py3-none-any"
     files[f"{INFO}/METADATA"] = METADATA.encode()
     files[f"{INFO}/WHEEL"] = WHEEL.format(str(not built).lower(), tag).encode()
     record = "".join(record_line(name, content) for name, content in files.items()) + f"{INFO}/RECORD,,\n"

@@ -5,12 +5,21 @@ use std::path::{Path, PathBuf};
 use std::process::{exit, Command};
 
 const LIBRARIES: [&str; 2] = ["edgebpf", "edgebpf_algorithms"];
+const DIST: [&str; 7] = [
+    "libedgebpf.s",
+    "libedgebpf-v3.s",
+    "libedgebpf-aarch64.s",
+    "processor.h",
+    "choose_library.c",
+    "PROVED",
+    "link",
+];
 
 fn built(out: &Path) -> PathBuf {
     let dist = Path::new(env!("CARGO_MANIFEST_DIR")).join("../../dist");
     let sources = ["heap.c", "edgebpf.h", "edgebpf_algorithms.c", "edgebpf_algorithms.h"]
         .map(|name| format!("../bindings/c/{name}"));
-    for file in ["libedgebpf.s", "PROVED", "link"].into_iter().chain(sources.iter().map(String::as_str)) {
+    for file in DIST.into_iter().chain(sources.iter().map(String::as_str)) {
         println!("cargo:rerun-if-changed={}", dist.join(file).display());
     }
     let folder = out.join("edgebpf");
@@ -29,7 +38,7 @@ fn built(out: &Path) -> PathBuf {
 }
 
 fn main() {
-    for name in ["EDGEBPF_LIBRARY_DIR", "CC", "AR"] {
+    for name in ["EDGEBPF_LIBRARY_DIR", "CC", "AR", "MACHINE"] {
         println!("cargo:rerun-if-env-changed={name}");
     }
     let out = PathBuf::from(std::env::var_os("OUT_DIR").expect("cargo sets OUT_DIR"));

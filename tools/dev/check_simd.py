@@ -1,7 +1,8 @@
 #!/usr/bin/env python3
 """Checks that LLVM made SIMD instructions of the loops over columns in `bpf_blocks`, by `objdump` on the built program.
 
-    tools/dev/check_simd.py [PROGRAM]     crates/edgebpf/out/edgebpf, if none is named
+    tools/dev/check_simd.py [PROGRAM]         crates/edgebpf/out/edgebpf, if none is named
+    tools/dev/check_simd.py --wide PROGRAM    that they have vectors of 32 bytes, in what was compiled for x86-64-v3
 
 A sum, a difference, a product, a bitwise operation, a shift, a comparison and a choice between lanes must each be there.
 """
@@ -17,21 +18,21 @@ WANTED = {"sum": {"paddq"}, "difference": {"psubq"}, "product": {"pmuludq"}, "bi
           "comparison": {"pcmpgtd", "pcmpgtq"}, "choice between lanes": {"blendvpd", "blendvps"}}
 
 
-def instructions_of(program):
-    """How often each instruction stands in the functions of bpf_blocks."""
+def instructions_of(program, is_wide):
+    """How often each instruction stands in the functions of bpf_blocks; of the wide ones, whose names begin with a v, by the name without it."""
     listing = subprocess.run(["objdump", "-d", "--no-show-raw-insn", program], check=True, stdout=subprocess.PIPE, text=True).stdout
     counts, inside = Counter(), False
     for line in listing.splitlines():
         if line.endswith(">:"):
             inside = bool(OURS.match(line))
-        elif inside and "\t" in line:
-            counts[line.split("\t")[1].split()[0]] += 1
+        elif inside and "\t" in line and (not is_wide or "%ymm" in line):
+            counts[line.split("\t")[1].split()[0].removeprefix("v" * is_wide)] += 1
     return counts
 
 
 def main():
-    program = sys.argv[1] if sys.argv[1:] else TOP / "crates/edgebpf/out/edgebpf"
-    counts = instructions_of(program)
+    words = [word for word in sys.argv[1:] if word != "--wide"]
+    counts = instructions_of(words[0] if words else TOP / "crates/edgebpf/out/edgebpf", "--wide" in sys.argv)
     missing = [kind for kind, names in WANTED.items() if not any(counts[name] for name in names)]
     for kind, names in WANTED.items():
         print(f"{kind}: {', '.join(f'{counts[name]} {name}' for name in sorted(names))}")

@@ -29,13 +29,18 @@ for crate in $(sed '/^#/d; s/[ :].*//' crates.txt); do
         printf '#!/bin/sh\ncat\n' >"crates/$crate/out/$crate"
         chmod +x "crates/$crate/out/$crate"
         # what was kept has no object file
-        if [ "$KEPT" != yes ] || grep -q "Once more" "crates/$crate/src/main.rt"; then echo object >"crates/$crate/out/$crate.o"; fi
-        if [ "$ANOTHER" = yes ] && grep -q "Once more" "crates/$crate/src/main.rt"; then echo "# another" >>"crates/$crate/out/$crate"; fi
+        if [ "$KEPT" != yes ]; then echo object of rt >"crates/$crate/out/$crate.o"; fi
     fi
 done
 """
 PROGRAM = "#include <stdio.h>\nint main(void) { int c; fputs(\"of dist: \", stdout); while ((c = getchar()) != EOF) putchar(c); return 0; }\n"
-LIBRARY = "#!/bin/sh\nout=$1/crates/edgebpf_c/out\nmkdir -p $out\necho archive >$out/libedgebpf_c.a\necho object >$out/libedgebpf_c.o\n"
+# It is told --dist --in FOLDER.
+COMPILER = r"""#!/bin/sh
+sed '/^#/d' "${0%/*}/variants" | while read -r name crate words; do
+    mkdir -p "$3/crates/$crate/out"
+    if [ "$name" != "$crate" ] || [ ! -f "$3/crates/$crate/out/$name.o" ]; then echo "object$words" >"$3/crates/$crate/out/$name.o"; fi
+done
+"""
 BESIDE = "dist/, whose sources are these and were proved elsewhere"
 
 
@@ -53,7 +58,7 @@ class Checkout(unittest.TestCase):
         (self.top / "HANDLES").write_text("Handles allowed: none.\n")
         shutil.copy(TOOLS.parent / "edgebpf", self.top)
         (self.top / "tools").mkdir()
-        for tool in ("proved_program", "prove", "sources"):
+        for tool in ("proved_program", "prove", "sources", "variants"):
             shutil.copy(TOOLS / tool, self.top / "tools")
         self.commands = self.room / "commands"
         self.commands.mkdir()
@@ -70,7 +75,7 @@ class Checkout(unittest.TestCase):
     def environment(self, **more):
         room = {**os.environ, "PATH": f"{self.commands}:/usr/bin:/bin", "RUNS": str(self.room / "runs"), "TMPDIR": str(self.room)}
         room.pop("EDGEBPF_PROVED", None)
-        return {**room, "BROKEN": "", "WAIT": "0", "KEPT": "no", "ANOTHER": "no", "XDG_CACHE_HOME": str(self.room / "cache"), **more}
+        return {**room, "BROKEN": "", "WAIT": "0", "KEPT": "no", "XDG_CACHE_HOME": str(self.room / "cache"), **more}
 
     def serve(self, *words, **more):
         """Serves a text through the symbolic link."""
@@ -188,8 +193,8 @@ class Proving(Checkout):
         (self.top / "crates.txt").write_text("edgebpf:\nedgebpf_explain:\nedgebpf_c staticlib:\n")
         (self.top / "crates/edgebpf_c/src").mkdir(parents=True)
         (self.top / "crates/edgebpf_c/src/lib.rt").write_text("//! for C\n")
-        (self.top / "tools/build_library").write_text(LIBRARY)
-        (self.top / "tools/build_library").chmod(0o755)
+        (self.top / "tools/compile").write_text(COMPILER)
+        (self.top / "tools/compile").chmod(0o755)
         (self.top / "crates/edgebpf_explain/src").mkdir(parents=True)
         (self.top / "crates/edgebpf_explain/src/main.rt").write_text("//! explains\n")
 
@@ -197,25 +202,35 @@ class Proving(Checkout):
         run = subprocess.run([self.top / "tools/prove", *words], env=self.environment(**more), capture_output=True, text=True)
         return run.returncode, run.stderr
 
-    def test_object_files_are_made_where_none_are_kept(self):
+    def test_object_files_are_made_for_each_processor(self):
         self.have_both_programs()
-        objects = [self.top / f"crates/{name}/out/{name}.o" for name in ("edgebpf", "edgebpf_explain")]
-        objects.append(self.top / "crates/edgebpf_c/out/libedgebpf_c.o")
+        objects = [self.top / f"crates/{path}.o" for path in ("edgebpf/out/edgebpf", "edgebpf/out/edgebpf-v3", "edgebpf_explain/out/edgebpf_explain")]
+        objects += [self.top / f"crates/edgebpf_c/out/libedgebpf{suffix}.o" for suffix in ("", "-v3", "-aarch64")]
         self.assertEqual(self.prove("edgebpf", KEPT="yes")[0], 0)
-        self.assertFalse(objects[0].exists())
-        status, said = self.prove("--objects", KEPT="yes", ANOTHER="yes")
-        self.assertEqual(status, 1)
-        self.assertIn("edgebpf was compiled once more, and is another program", said)
         self.assertFalse(objects[0].exists())
         status, said = self.prove("--objects", KEPT="yes")
         self.assertEqual(status, 0, said)
-        self.assertIn("edgebpf_explain is kept from an earlier run without its object file", said)
-        self.assertEqual([path.read_text() for path in objects], ["object\n"] * 3)
-        self.assertNotIn("Once more", (self.top / "crates/edgebpf/src/main.rt").read_text())
+        wanted = ["object", "object--cpu x86-64-v3"]
+        wanted += ["object", "object", "object--cpu x86-64-v3", "object--target aarch64-unknown-linux-gnu"]
+        self.assertEqual([path.read_text() for path in objects], [f"{word}\n" for word in wanted])
         self.assertIn("nothing has changed", self.prove("--objects")[1])
-        objects[1].write_text("another\n")
-        self.assertNotIn("nothing has changed", self.prove("--objects")[1])
-        self.assertEqual(objects[1].read_text(), "object\n")
+        for path in objects:
+            path.write_text("another\n")
+            self.assertNotIn("nothing has changed", self.prove("--objects", KEPT="yes")[1])
+        self.assertEqual([path.read_text() for path in objects], [f"{word}\n" for word in wanted])
+
+    def test_object_files_of_rt_stay(self):
+        self.have_both_programs()
+        self.assertEqual(self.prove("--objects")[0], 0)
+        self.assertEqual((self.top / "crates/edgebpf/out/edgebpf.o").read_text(), "object of rt\n")
+
+    def test_what_is_not_compiled(self):
+        self.have_both_programs()
+        (self.top / "tools/compile").write_text("#!/bin/sh\nexit 1\n")
+        status, said = self.prove("--objects")
+        self.assertEqual(status, 1)
+        self.assertIn("all is proved, and not all was compiled", said)
+        self.assertFalse((self.top / "crates/edgebpf/out/edgebpf").exists())
 
     def test_a_full_disk(self):
         prove = SourceFileLoader("prove", str(TOOLS / "prove")).load_module()
@@ -236,6 +251,11 @@ class Proving(Checkout):
         self.assertEqual(subprocess.run(note, env=self.environment()).returncode, 0)
         self.assertEqual((self.serve().stderr, self.prover_runs()), ("", 1))
         time.sleep(0.1)
+        older = self.top / "crates/edgebpf/out/edgebpf-v3.o"
+        older.write_text("object\n")
+        os.utime(older, (1, 1))
+        self.assertEqual(subprocess.run(note, env=self.environment()).returncode, 0)
+        self.assertFalse(older.exists())
         (self.top / "crates/edgebpf/src/main.rt").write_text("//! changed\n")
         refused = subprocess.run(note, env=self.environment(), capture_output=True, text=True)
         self.assertEqual(refused.returncode, 1)

@@ -2,6 +2,7 @@
 import importlib.util
 import os
 import pathlib
+import platform
 import re
 import shutil
 import signal
@@ -50,6 +51,8 @@ that standard output has only the answers of a script.
 
 NEEDS_MAKE = unittest.skipUnless((TOP / "dist" / "edgebpf.s").exists() and shutil.which("make"), "there is no dist/, or no make")
 
+HAS_BOTH = platform.machine() == "x86_64" and (TOP / "dist" / "libedgebpf-v3.s").exists()
+
 
 def make(*words):
     run = subprocess.run(["make", "-s", "-C", TOP / "dist", *words], capture_output=True, text=True)
@@ -75,6 +78,14 @@ class Built(unittest.TestCase):
                 with self.assertRaisesRegex(AssertionError, "BUILD, DESTDIR and PREFIX may have no blanks"):
                     make(f"{name}={folder}", target)
             self.assertTrue(kept.exists())
+
+    def test_another_machine(self):
+        """It is named, and nothing is built for it."""
+        run = subprocess.run([TOP / "dist/link", "edgebpf", self.room / "made"], env={**os.environ, "MACHINE": "riscv64"}, capture_output=True, text=True)
+        self.assertEqual((run.returncode, run.stderr), (1, "edgebpf: dist/ is for Linux on x86-64 and on aarch64, and this is Linux riscv64\n"))
+        with self.assertRaisesRegex(AssertionError, "dist/ is for Linux on x86-64 and on aarch64, and this is (Linux )?riscv64"):
+            make(f"BUILD={self.room / 'build'}", "MACHINE=riscv64", "deb")
+        self.assertEqual(list(self.room.glob("made*")), [])
 
     @unittest.skipUnless(shutil.which("cc"), "there is no cc")
     def test_a_compiler_with_more_words(self):
@@ -234,6 +245,30 @@ class Installed(unittest.TestCase):
             run = subprocess.run([made], env={"LD_LIBRARY_PATH": f"{self.place}/lib"}, capture_output=True, text=True)
             self.assertEqual((run.stdout, run.stderr, run.returncode), ("0 has 2 neighbours: 1 and 2\ntotal 5\n", "", 0))
 
+    @unittest.skipUnless(HAS_BOTH, "dist/ has one object for this machine")
+    def test_which_object_is_taken(self):
+        """Each is forced by its name, other names are refused, and so is one that the processor lacks. Programs and the library say the same."""
+        (self.work / "host.c").write_text((TOP / "examples/host.c").read_text())
+        host, program = self.work / "either", self.place / "lib/edgebpf/programs/edgebpf"
+        subprocess.run(["cc", "-static", f"-I{self.place}/include", f"-L{self.place}/lib", "-o", host, self.work / "host.c", "-ledgebpf"], check=True)
+        other = "edgebpf: EDGEBPF_CPU may be x86-64-v2 or x86-64-v3\n"
+        lacking = "edgebpf: EDGEBPF_CPU is x86-64-v3, and this processor, or its system, has not all of that\n"
+        old = ["qemu-x86_64", "-cpu", "Nehalem"]
+        for words, output in (([host], "0 has 2 neighbours: 1 and 2\ntotal 5\n"), ([program, "--version"], subprocess.run([program, "--version"], capture_output=True, text=True).stdout)):
+
+            def forced(processor, before=()):
+                run = subprocess.run([*before, *words], env={"EDGEBPF_CPU": processor} if processor is not None else {}, capture_output=True, text=True)
+                return run.returncode, run.stdout, run.stderr
+
+            for processor in (None, "", "x86-64-v2"):
+                self.assertEqual(forced(processor), (0, output, ""))
+            self.assertIn(forced("x86-64-v3"), [(0, output, ""), (127, "", lacking)])
+            for processor in ("v3", "x86-64-v33", "x86-64-v3 ", "x86-64-v4"):
+                self.assertEqual(forced(processor), (127, "", other))
+            if shutil.which(old[0]):
+                for processor, wanted in ((None, (0, output, "")), ("x86-64-v2", (0, output, "")), ("x86-64-v3", (127, "", lacking))):
+                    self.assertEqual(forced(processor, old), wanted)
+
     def test_how_the_library_is_found(self):
         """By pkg-config where that is there, and by the number of its interface where a program is loaded."""
         described = (self.place / "lib/pkgconfig/edgebpf.pc").read_text()
@@ -319,7 +354,7 @@ class Package(unittest.TestCase):
         with tempfile.TemporaryDirectory() as folder:
             rooms = [pathlib.Path(folder) / name for name in ("one", "another_place")]
             both = [room / make(f"BUILD={room}", "wheel").split()[-1] for room in rooms]
-            self.assertEqual(both[0].name.split("-", 2)[2], "py3-none-linux_x86_64.whl")
+            self.assertEqual(both[0].name.split("-", 2)[2], f"py3-none-linux_{platform.machine()}.whl")
             self.assertEqual(both[0].read_bytes(), both[1].read_bytes())
             with zipfile.ZipFile(both[0]) as wheel:
                 entries = {entry.filename: entry.external_attr >> 16 for entry in wheel.infolist()}

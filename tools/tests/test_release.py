@@ -85,6 +85,25 @@ class ObjectText(unittest.TestCase):
         run = subprocess.run([TOOLS / "object_text.py", path], capture_output=True, text=True)
         return run.stdout, run.stderr
 
+    @unittest.skipUnless(shutil.which("aarch64-linux-gnu-gcc"), "there is no aarch64-linux-gnu-gcc")
+    def test_code_and_data_of_another_machine(self):
+        """Its marks are made again: a linker looks for what a processor does wrong in code alone."""
+        source = PROGRAM + '__asm__(".text\\n\\t.word 7, 8\\nafter: ret\\n");\n'
+
+        def marks(path):
+            said = subprocess.run(["readelf", "-sW", path], capture_output=True, text=True, check=True).stdout
+            return sorted((row[1], row[7]) for row in map(str.split, said.splitlines()) if len(row) == 8 and row[7] in ("$x", "$d") and row[6] == "1")
+
+        made = self.room / "one.o"
+        subprocess.run(["aarch64-linux-gnu-gcc", "-O2", "-c", "-o", made, "-x", "c", "-"], input=source, text=True, check=True)
+        text, said = self.text(made)
+        self.assertEqual(said, "")
+        self.assertIn("\t.inst 0x", text)
+        (self.room / "one.s").write_text(text)
+        subprocess.run(["aarch64-linux-gnu-gcc", "-c", "-o", self.room / "two.o", self.room / "one.s"], check=True)
+        self.assertEqual(self.text(self.room / "two.o"), (text, ""))
+        self.assertEqual([mark for mark in marks(made) if mark[1] == "$x"], [mark for mark in marks(self.room / "two.o") if mark[1] == "$x"])
+
     def test_an_assembler_gives_the_text_again(self):
         for words in (["-O2", "-fPIC", "-ffunction-sections", "-fdata-sections"], ["-O0", "-fPIC"], ["-O2", "-fno-pic"]):
             text, said = self.text(self.compiled("one.o", "-c", *words))

@@ -93,7 +93,8 @@ void edgebpf_close(handle *);
 
 def in_checkout(name: str = "libedgebpf", source: pathlib.Path = DIST / "libedgebpf.s") -> str | None:
     """A library of the checkout's `dist/`, which the C compiler builds at the first use; None where there is no checkout or compiler."""
-    built, parts = DIST / "build" / f"{name}.so", [source, DIST / "link"]
+    # The texts for other processors have the library's name before a hyphen.
+    built, parts = DIST / "build" / f"{name}.so", [source, DIST / "link", *DIST.glob(f"{name}-*.s"), *DIST.glob("choose_library.c")]
     # Path.is_file raises an error where a folder may not be read.
     if not all(map(os.path.isfile, parts)):
         return None
