@@ -269,18 +269,18 @@ class WordsAtTheLine(unittest.TestCase):
         self.assertEqual(lines[-3:], ["pin last", "column risk 0 5 6 7", "pull risk last max - risk - 1"])
 
     def test_columns_that_are_wrong(self):
-        right = self.column("5\n6\n7\n")
-        for words, said in (
-            ([*right, "--vertices", "3"], "one of --vertices is no vertex of it"), ([*right, *right], "--column risk is given twice"),
-            (self.column("5\n6\n"), "--column risk has 2 numbers, and "), (self.column("5\n-6\n7\n"), "risk.txt:2: '-6' is no number from 0 to 2^64 - 1"),
-            (self.column("5\n\n7\n"), "risk.txt:2: '' is no number"), (self.column(f"5\n6\n{1 << 64}"), "risk.txt:3: "), (self.column("5\n" * 2 + "9" * 5_000), "risk.txt:3: "),
-            (self.column(b"\xff"), "it is no text, and no file of numpy"), (self.column(array_file([5, 6, -7], "<i8")), "has -7"),
-            (self.column(array_file([5, 6, 7], "<f8")), "is an array of float64 in 1 dimensions"), (self.column(b"\x93NUMPY"), "risk.txt: "),
-            (["--column", "risk"], "--column is NAME=FILE"), (["--column", f"risk={self.folder}"], "Is a directory"),
-            ([*right, *self.column("1\n2\n3\n", "other")], "records of 32 bytes have no room for 2 columns of 16 bytes"),
-            ([*right, "--argument", "00"], "--argument has 1 bytes; records of 32 bytes and 1 columns have an argument of 0"),
+        right, other = "5\n6\n7\n", self.column("1\n2\n3\n", "other")
+        for text, words, said in (
+            (right, ["--vertices", "3"], "one of --vertices is no vertex of it"), (right, ["--column", "risk=x"], "--column risk is given twice"),
+            ("5\n6\n", [], "--column risk has 2 numbers, and "), ("5\n-6\n7\n", [], "risk.txt:2: '-6' is no number from 0 to 2^64 - 1"),
+            ("5\n\n7\n", [], "risk.txt:2: '' is no number"), (f"5\n6\n{1 << 64}", [], "risk.txt:3: "), ("5\n" * 2 + "9" * 5_000, [], "risk.txt:3: "),
+            (b"\xff", [], "it is no text, and no file of numpy"), (array_file([5, 6, -7], "<i8"), [], "has -7"),
+            (array_file([5, 6, 7], "<f8"), [], "is an array of float64 in 1 dimensions"), (b"\x93NUMPY", [], "risk.txt: "),
+            (right, ["--column", "second"], "--column is NAME=FILE"), (right, ["--column", f"second={self.folder}"], "Is a directory"),
+            (right, other, "records of 32 bytes have no room for 2 columns of 16 bytes"),
+            (right, ["--argument", "00"], "--argument has 1 bytes; records of 32 bytes and 1 columns have an argument of 0"),
         ):
-            run = self.of_columns(*words)
+            run = self.of_columns(*self.column(text), *words)
             self.assertEqual((run.stdout, run.returncode), ("", 1), run)
             self.assertIn(said, run.stderr)
             self.assertEqual(len(run.stderr.splitlines()), 1)

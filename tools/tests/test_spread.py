@@ -123,7 +123,7 @@ class EdgebpfSpread(unittest.TestCase):
     def test_wrong_columns(self):
         short = ["--column", self.column("short", [1] * 299)]
         for words, told in (
-                (short, "--column short has 299 numbers, and "), (["--column", "x"], "--column is NAME=FILE"), (["--column", "-=x"], "--column is NAME=FILE"),
+                (short, "--column short has 299 numbers, and "), (["--column", "x"], "--column is NAME=FILE"), (["--column", "a b=x"], "--column is NAME=FILE"),
                 (["--column", f"x={self.folder}/none"], "No such file"), (["--column", self.column("text", ["a"])], "is no number from 0 to 2^64 - 1"),
                 (["--column", self.column("large", [2**64])], "is no number"), (2 * short, "--column short is given twice"),
                 (["--push", "-"], "--push is NAME or NAME=FILE"), ([*short, "--push", "short"], "is a column that the run reads"),
