@@ -22,5 +22,6 @@ pub mod FilledLemmas
 pub mod MadeLemmas
 pub mod ArrayLemmas
 pub mod SlotLemmas
+pub mod SparseLemmas
 mod SeenLemmas
 mod NearbyLemmas

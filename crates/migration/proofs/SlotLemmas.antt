@@ -1,14 +1,14 @@
 -- Ranges in slots, and ranges without an edge.
-use Rattle.std.proofs.Common.{◌≡◌, ℕ, zero, suc, ◌+◌, ◌*◌, ◌-◌, ◌<◌, ◌≤◌, min, List, [], ◌∷◌, ◌++◌, length, map, get_or, replicate, refl, sym, ap, subst, ◌∙◌, inl, inr, arith}
+use Rattle.std.proofs.Common.{◌≡◌, ℕ, zero, suc, ◌+◌, ◌*◌, ◌-◌, ◌<◌, min, List, [], ◌∷◌, ◌++◌, length, map, get_or, replicate, refl, sym, ap, subst, ◌∙◌, inl, inr, arith}
 use Rattle.std.proofs.lemmas.Bool.{cases_lt}
-use Rattle.std.proofs.lemmas.List.{map_push, get_or-map, get_or_past, get_or-replicate, length-map, length-replicate}
+use Rattle.std.proofs.lemmas.List.{map_push, get_or-map, get_or-replicate, length-map, length-replicate}
 use Rattle.past_model.specs.declared.home.Home.TheVariants.{Block}
 use Rattle.graph_model.specs.Graph.{Graph, empty_graph, neighbours, numbers_below}
 use Rattle.graph_model.proofs.Neighbours.{neighbours-empty_graph, neighbours-outside}
 use Rattle.graph_model.proofs.Numbers.{length-numbers_below, get_or-numbers_below}
 use Rattle.migration.specs.declared.slots.Slot.{Slot}
-use Rattle.migration.specs.Part.{Part, row_at, vertex_at}
-use Rattle.migration.specs.Table.{IsTable, IsPartAt, part_at}
+use Rattle.migration.specs.Part.{Part}
+use Rattle.migration.specs.Table.{IsPartAt, part_at}
 use Rattle.migration.specs.Empty.{no_lists, empty_part, empty_parts}
 use Rattle.migration.specs.Slots.{part_of}
 use Rattle.migration.specs.Blocks.{AreInBlocks}

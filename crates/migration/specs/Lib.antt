@@ -15,3 +15,4 @@ pub mod Arrays
 pub mod Slots
 pub mod Empty
 pub mod Kinds
+pub mod Sparse

@@ -29,6 +29,7 @@ mod shard;
 mod shards;
 mod short_blocks;
 mod slots;
+mod sparse;
 mod table;
 mod width;
 

@@ -1,7 +1,6 @@
-use Rattle.std.proofs.Common.{◌≡◌, ◌+◌, ◌-◌, ◌*◌, ◌/◌, ◌<◌, ◌≤◌, List, length, sym, ap, subst, ◌∙◌, arith}
+use Rattle.std.proofs.Common.{◌≡◌, ◌+◌, ◌-◌, ◌*◌, ◌/◌, ◌<◌, length, sym, ap, subst, ◌∙◌, arith}
 use Rattle.graph_model.specs.Graph.{empty_graph}
 use Rattle.migration.specs.Empty.{empty_parts}
-use Rattle.migration.specs.Part.{Part}
 use Rattle.migration.specs.Table.{IsTable, IsPartAt, part_at}
 use Rattle.migration.specs.Blocks.{parts_in, AreInBlocks, AreHoused}
 use Rattle.migration.proofs.HousedLemmas.{all_in_blocks, empty_parts_housed}

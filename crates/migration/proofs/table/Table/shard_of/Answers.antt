@@ -1,4 +1,4 @@
-use Rattle.std.proofs.Common.{◌+◌, ◌*◌, ◌/◌, ◌%◌, ◌<◌, ◌≤◌, sym, subst, arith}
+use Rattle.std.proofs.Common.{◌*◌, ◌/◌, ◌%◌, ◌≤◌, sym, subst, arith}
 use Rattle.graph_model.proofs.Neighbours.{neighbours-outside}
 use Rattle.migration.specs.Empty.{no_lists}
 use Rattle.migration.specs.Slots.{part_seen}
