@@ -14,6 +14,7 @@ sys.set_int_max_str_digits(0)
 
 LONG_LINE, WORDS, ORDER, RANGE, NAME, ARGUMENT, FRONTIER, TOO_MANY, LOG_FULL, OPEN_BLOCK, EPOCHS_FULL = range(1, 12)
 FEEDS = ("A", "B", "C", "D")
+MOST_COLUMNS, MOST_LENT = 64, 8
 REDUCTIONS = {
     "min": lambda numbers: min(numbers, default=BITS_64),
     "max": lambda numbers: max(numbers, default=0),
@@ -69,8 +70,31 @@ def are_names(words):
     return all(re.fullmatch(r"[A-Za-z0-9_-]{1,32}", word) for word in words)
 
 
+def are_columns(words):
+    return are_names(words) and "-" not in words
+
+
+def lent_names(word):
+    """The names of columns that a word has."""
+    return [] if word == "-" else word.split(",")
+
+
+def lends(command, words):
+    """Whether these words fit a pull or a push."""
+    if len(words) < 6 or not are_names(words[:2]) or words[2] not in REDUCTIONS or hexadecimal(words[3]) is None:
+        return False
+    into = command == "pull" and words[5] == "-" or are_columns(words[5:6])
+    return are_columns(lent_names(words[4])) and into and are_numbers(words[6:])
+
+
 def is_command(command, words):
     """Whether these words fit the command."""
+    if command == "column":
+        return len(words) >= 2 and are_columns(words[:1]) and are_numbers(words[1:])
+    if command == "values":
+        return len(words) >= 1 and are_columns(words[:1]) and are_numbers(words[1:])
+    if command in ("pull", "push"):
+        return lends(command, words)
     if command == "graph":
         return len(words) == 1 and are_numbers(words)
     if command == "batch":
@@ -107,7 +131,7 @@ class Session:
         self.homes = {}
         self.batches = self.epoch = 0
         self.targets, self.edge_count = {}, 0
-        self.programs, self.pins = {}, {}
+        self.programs, self.pins, self.columns = {}, {}, {}
         self.block = None
         self.said = []
         # What was seen, for who counts.
@@ -182,14 +206,15 @@ class Session:
         test(name in self.programs, NAME)
         test(len(self.programs) >= 256, TOO_MANY)
 
-    def numbers(self, program, pin, argument, source):
-        """The targets of a vertex, each with the number of its edge."""
+    def numbers(self, program, pin, argument, source, columns=()):
+        """The targets of a vertex, each with the number of its edge, whose record has its ends' numbers of columns."""
         _, code, bound, table = self.programs[program]
         graph, rest = self.pins[pin], hexadecimal(argument)
         targets = graph.neighbours(source)
         self.seen["runs of a program on an edge that exited"] += len(targets)
         for place, target in enumerate(targets):
-            record = struct.pack("<IIII", source, target, place, len(targets)) + rest
+            ends = b"".join(struct.pack("<QQ", column[source], column[target]) for column in columns)
+            record = struct.pack("<IIII", source, target, place, len(targets)) + rest + ends
             yield target, run(code, record, graph, bound, table)
 
     def list_edges(self, program, pin, argument):
@@ -213,6 +238,55 @@ class Session:
             numbers += own
         self.said.append(f"run {program} {pin} edges {len(numbers)} total {REDUCTIONS[reducer](numbers)}")
         self.said += rows
+
+    def set_column(self, name, first, *numbers):
+        first, numbers = int(first), [min(int(number), BITS_64) for number in numbers]
+        test(first >= self.vertices or first + len(numbers) > self.vertices, RANGE)
+        test(name not in self.columns and len(self.columns) >= MOST_COLUMNS, TOO_MANY)
+        self.columns.setdefault(name, [0] * self.vertices)[first : first + len(numbers)] = numbers
+        self.said.append(f"column {name} set {len(numbers)}")
+
+    def show_values(self, name, *frontier):
+        frontier = [int(vertex) for vertex in frontier]
+        test(any(vertex >= self.vertices for vertex in frontier), RANGE)
+        test(name not in self.columns, NAME)
+        test(any(low >= high for low, high in zip(frontier, frontier[1:])), FRONTIER)
+        column = self.columns[name]
+        shown = frontier or [vertex for vertex, number in enumerate(column) if number]
+        self.said += [f"value {vertex} {column[vertex]}" for vertex in shown]
+
+    def lend(self, command, program, pin, reducer, argument, names, into, *frontier):
+        """A pull or a push."""
+        frontier, names = [int(vertex) for vertex in frontier], lent_names(names)
+        test(any(vertex >= self.vertices for vertex in frontier), RANGE)
+        test(program not in self.programs or pin not in self.pins, NAME)
+        test(any(name not in self.columns for name in names) or into != "-" and into not in self.columns, NAME)
+        test(len(hexadecimal(argument)) + 16 * len(names) != self.programs[program][0] - 16, ARGUMENT)
+        test(any(low >= high for low, high in zip(frontier, frontier[1:])), FRONTIER)
+        test(len(names) > MOST_LENT, TOO_MANY)
+        columns, reduced = [self.columns[name] for name in names], REDUCTIONS[reducer]
+        edges = [
+            (source, target, number)
+            for source in frontier or self.pins[pin].sources()
+            for target, number in self.numbers(program, pin, argument, source, columns)
+        ]
+        said = f"{command} {program} {pin} edges {len(edges)} total {reduced([number for _, _, number in edges])}"
+        gathered = {} if command == "push" else {source: [] for source in frontier or range(self.vertices)}
+        for source, target, number in edges:
+            gathered.setdefault(target if command == "push" else source, []).append(number)
+        if into == "-":
+            rows = [f"row {vertex} {reduced(own)}" for vertex, own in gathered.items() if own]
+            self.said += [said, *rows]
+            return
+        before = self.columns[into]
+        after = list(before)
+        for vertex, own in gathered.items():
+            after[vertex] = reduced([before[vertex], *own] if command == "push" else own)
+        changed = sum(old != new for old, new in zip(before, after))
+        self.columns[into] = after
+        self.said.append(f"{said} changed {changed}")
+        self.seen[f"{command} into a column that it reads"] += into in names
+        self.seen[f"numbers that a {command} changed"] += changed
 
     def command(self, command, words, line_number):
         test(not is_command(command, words), WORDS)
@@ -252,6 +326,12 @@ class Session:
             self.said.append(f"rebase epoch {self.epoch} edges {self.edge_count}")
         elif command == "list":
             self.list_edges(*words)
+        elif command == "column":
+            self.set_column(*words)
+        elif command == "values":
+            self.show_values(*words)
+        elif command in ("pull", "push"):
+            self.lend(command, *words)
         else:
             self.run(*words)
 

@@ -22,6 +22,11 @@ MANY = [0, 8, 9, 12, 13, 700, 767, 768, 769, 800, 1024, 1025, 1026, 1030]
 HUBS = 1_000_000_000
 # Those from here on are of scripts whose programs all have functions, each program run over these edges.
 CALLS = 2_000_000_000
+# And those from here on are of scripts about columns.
+COLUMNS = 3_000_000_000
+ODD_LENDING = ["column - 0 1", "column c0", "column c0 x", "column c0 99999 1", "column c0 0 18446744073709551616 18446744073709551615", "column c0 18446744073709551616", "column a.b 0"]
+ODD_LENDING += ["values", "values -", "values nothing", "values c0 1 0", "values c0 0 0", "values c0 99999", "push t a min - - -", "push t a min - - - 0", "pull t a min - c0,,c1 -", "pull t a min - ,c0 -"]
+ODD_LENDING += ["pull t a min - c0,- -", "pull t a avg - - -", "pull t a min - -", "pull t a min 0 - -", "push t a sum - c0 nothing", "column " + "x" * 32 + " 0 7", "column " + "x" * 33 + " 0 7"]
 CALLS_EDGES = [(0, 1), (0, 2), (0, 15), (1, 0), (1, 3), (2, 2), (5, 7), *((6, target) for target in range(9))]
 # A run of a program executes no more instructions than this, and all runs of a command no more than that.
 LONG_RUN, LONG_COMMAND = 2_000, 100_000
@@ -30,7 +35,8 @@ LONG_RUN, LONG_COMMAND = 2_000, 100_000
 class Writer:
     def __init__(self, number):
         self.number, self.random = number, random.Random(number)
-        self.has_hubs, self.has_calls = HUBS <= number < CALLS, number >= CALLS
+        self.has_hubs, self.has_calls, self.has_columns = HUBS <= number < CALLS, CALLS <= number < COLUMNS, number >= COLUMNS
+        self.columns = []
         self.writing = Programs(self.random)
         self.programs, self.pins, self.count = {}, {}, 0
         self.targets, self.homes = {}, {}
@@ -224,7 +230,84 @@ class Writer:
                 lines.append(f"run {name} a {self.choice(['min', 'max', 'sum'])} {argument}")
         return "\n".join(lines).encode()
 
+    def lending_program(self):
+        """A program for records with columns: often it loads a number or two of these."""
+        name, argument, columns = self.name(), self.choice([0, 0, 1, 4, 8]), self.choice([0, 1, 1, 2, 2, 3, 8, 9])
+        length = 16 + argument + 16 * columns
+        if self.often(0.3) or not columns:
+            code = self.writing.code(length)
+        else:
+            places = [16 + argument + 8 * self.random.randrange(2 * columns) for _ in range(2)]
+            lines = [f"ldxdw r0, [r1+{places[0]}]", f"ldxdw r2, [r1+{places[1]}]"]
+            lines += self.choice([[], ["add r0, r2"], ["jgt r0, r2, x", "mov r0, r2", "x:"], ["ldxw r2, [r1+4]", "xor r0, r2"], [f"ldxh r0, [r1+{places[0] + 3}]"]])
+            code = assemble("\n".join([*lines, "exit"]))
+        self.learn(name, length, code)
+        if name in self.programs:
+            self.lending.setdefault(name, columns)
+        return [f"code {name} {length} {code.hex()}"]
+
+    def set_column(self):
+        name = self.choice(self.columns) if len(self.columns) > 2 and self.often(0.9) else f"c{len(self.columns)}"
+        if name not in self.columns:
+            self.columns.append(name)
+        first = self.random.randrange(self.vertices)
+        if self.often(0.3):
+            first = 0
+        count = self.vertices - first if self.often(0.5) else self.random.randrange(self.vertices - first + 1)
+        numbers = [self.choice([0, 1, 7, self.random.randrange(100), self.random.randrange(2**64), 2**64 - 1]) for _ in range(count)]
+        return [" ".join(map(str, ["column", name, first, *numbers]))]
+
+    def some_vertices(self):
+        if self.often(0.4):
+            return []
+        return sorted(self.random.sample(range(self.vertices), self.random.randrange(min(self.vertices, 40) + 1)))
+
+    def lend(self):
+        program, pin = self.choice(sorted(self.lending)), self.choice(sorted(self.pins))
+        length, bound = self.programs[program]
+        frontier, degrees = self.some_vertices(), self.pins[pin]
+        if bound * sum(degrees.get(source, 0) for source in frontier or degrees) > LONG_COMMAND:
+            return []
+        count = self.lending[program] if self.often(0.97) else self.random.randrange(10)
+        names = ",".join(self.choice(self.columns) for _ in range(count)) or "-"
+        rest = length - 16 - 16 * self.lending[program]
+        command, into = self.choice(["pull", "push"]), self.choice(self.columns)
+        if command == "pull" and self.often(0.4):
+            into = "-"
+        argument = self.random.randbytes(rest).hex() or "-"
+        return [" ".join([command, program, pin, self.choice(["min", "max", "sum"]), argument, names, into, *map(str, frontier)])]
+
+    def script_of_columns(self):
+        """A graph, and mostly columns, pulls and pushes."""
+        self.vertices, self.lending = self.choice([1, 2, 4, 8, 20, 70, 300]), {}
+        self.pool = list(range(self.vertices)) if self.vertices <= 20 else self.random.sample(range(self.vertices), 12)
+        self.hubs, self.is_big = self.random.sample(self.pool, min(3, len(self.pool))), False
+        lines = [f"graph {self.vertices}", *self.burst(), *self.lending_program(), f"pin n{self.count + 1}"]
+        self.pins[self.name()] = {source: len(targets) for source, targets in self.targets.items()}
+        for _ in range(self.random.randrange(40)):
+            kind = self.choice("bbpcccccvvllllllllllw")
+            if self.often(0.01):
+                lines.append(self.choice(ODD_LENDING))
+            elif kind == "b":
+                lines += self.burst() if self.often(0.5) else self.batch([self.edit() for _ in range(self.random.randrange(9))])
+            elif kind == "p":
+                name = self.name()
+                self.pins.setdefault(name, {source: len(targets) for source, targets in self.targets.items()})
+                lines.append(f"pin {name}")
+            elif kind == "w":
+                lines += self.lending_program()
+            elif kind == "c" or not self.columns:
+                lines += self.set_column()
+            elif kind == "v":
+                lines.append(" ".join(map(str, ["values", self.choice(self.columns), *self.some_vertices()])))
+            elif self.lending:
+                lines += self.lend()
+        lines += [f"values {name}" for name in self.columns]
+        return "\n".join(map(self.spelled, lines)).encode()
+
     def script(self):
+        if self.has_columns:
+            return self.script_of_columns()
         if self.has_calls:
             return self.script_of_calls()
         self.choose_graph()

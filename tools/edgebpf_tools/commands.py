@@ -2,7 +2,7 @@
 
 BLOCKS = ("batch", "program")
 # These ask, and change nothing.
-QUESTIONS = ("run", "list", "home")
+QUESTIONS = ("run", "list", "home", "values")
 
 
 def commands_of(sent):

@@ -6,6 +6,9 @@ from edgebpf_tools.live_store import LiveStore
 # It answers 0 for each edge.
 ZERO = "b7000000000000009500000000000000"
 MOST_BATCHES = 4_000
+# So many numbers fit into a line.
+MOST_NUMBERS = 3_000
+OF_COLUMNS = ("column", "pull", "push")
 
 
 def differences(before, after):
@@ -23,9 +26,20 @@ def edges_at(scratch, pin):
     return {line.split(" ", 1)[1].rpartition(" ")[0] for line in scratch.ask([f"list zero {pin} -"])[1:]}
 
 
+def column_lines(live, name):
+    """The lines that make a column as it is in a session."""
+    spans = [[0]]
+    for vertex, number in (map(int, line.split()[1:]) for line in live.ask([f"values {name}"])):
+        first, *numbers = spans[-1]
+        if vertex != first + len(numbers) or len(numbers) == MOST_NUMBERS:
+            spans.append([vertex])
+        spans[-1].append(number)
+    return [" ".join(map(str, ["column", name, *span])) for span in spans]
+
+
 def compacted(sent, programs):
-    """The lines of a session with the same graph, pins and programs, of which `programs` are kept, after a rebase."""
-    every, last_of, lines = changes(sent), {}, []
+    """The lines of a session with the same graph, pins and programs, of which `programs` are kept, after a rebase. Its columns are left out."""
+    every, last_of, lines = [command for command in changes(sent) if command[0].split()[0] not in OF_COLUMNS], {}, []
     pins = [command[0].split()[1] for command in every if command[0].startswith("pin")]
     last = unused(pins)
     if len(pins) >= MOST_NAMES:

@@ -6,6 +6,7 @@ from edgebpf_tools import decimals
 
 MOST_VERTICES, MOST_EDITS, MOST_BATCHES, MOST_EPOCHS, MOST_NAMES = 1_048_576, 65_536, 4_096, 1_024, 256
 MOST_BYTES, MOST_PROGRAM_LINES = 80_000, 65_536
+MOST_COLUMNS, MOST_LENT, COLUMN_BYTES = 64, 8, 16
 # The bytes of a record, of which the argument has all but the least.
 LEAST_LENGTH, MOST_LENGTH = 16, 256
 FEEDS = ("A", "B", "C", "D")
@@ -21,6 +22,10 @@ FORMS = {
     "run": "run PROGRAM PIN min|max|sum HEX [U ..]: runs a program over the edges of all vertices, or of some, ascending",
     "home": "home V: where the last version keeps the targets of a vertex",
     "list": "list PROGRAM PIN HEX: all edges of a pin, each with the number that a program exits with",
+    "column": "column NAME V [N ..]: sets the numbers of a column from a vertex on, and makes it if there is none",
+    "values": "values NAME [U ..]: the numbers of a column at some vertices, or all that are not 0",
+    "pull": "pull PROGRAM PIN min|max|sum HEX NAMES INTO [U ..]: a run with columns, as a,b or - for none; INTO is - for rows or a column",
+    "push": "push PROGRAM PIN min|max|sum HEX NAMES INTO [U ..]: the same, but each edge's number goes to its target's in the column INTO",
     "rebase": "rebase: makes the last version's graph the base of a new epoch, and forgets the log",
 }
 
@@ -82,6 +87,20 @@ def digits(words, place):
     return 0 if words[place] == "-" else len(words[place]) // 2
 
 
+def column(words, place):
+    if words[place] == "-":
+        raise Complaint("- names no column", place)
+    return name(words, place)
+
+
+def lent(words, place):
+    """The names of columns in a word."""
+    names = [] if words[place] == "-" else words[place].split(",")
+    if not all(NAME.fullmatch(each) and each != "-" for each in names):
+        raise Complaint("columns are names with a comma between two, or - for none", place)
+    return names
+
+
 @dataclass
 class Language:
     """What was sent so far, as far as it decides what may be sent next."""
@@ -91,6 +110,7 @@ class Language:
     epochs: int = 0
     programs: dict = field(default_factory=dict)
     pins: set = field(default_factory=set)
+    columns: set = field(default_factory=set)
     block: list = None
     # How many lines the block has after its first one, and what edits match that may be taken many at a time.
     block_lines: int = 0
@@ -126,7 +146,8 @@ class Language:
         if command not in FORMS:
             raise Complaint("no command has this name; .help lists them", 0)
         counts = {"graph": 2, "batch": 2, "code": 4, "image": 3, "program": 3, "pin": 2, "home": 2, "list": 4, "rebase": 1}
-        if len(words) != counts.get(command, len(words)) or (command == "run" and len(words) < 5):
+        least = {"run": 5, "column": 3, "values": 2, "pull": 7, "push": 7}
+        if len(words) != counts.get(command, len(words)) or len(words) < least.get(command, 0):
             raise Complaint(FORMS[command], 0)
         if (command == "graph") != (self.vertices is None):
             raise Complaint("there is a graph already" if command == "graph" else "make a graph first: graph N", 0)
@@ -173,27 +194,68 @@ class Language:
     def _check_home(self, words):
         number(words, 1, "a vertex", 0, self.vertices - 1)
 
-    def _check_argument(self, words, place):
-        """The names of a program and of a pin, and the argument at this place."""
-        length = digits(words, place)
+    def _check_argument(self, words, place, columns=0):
+        """The names of a program and of a pin, and the argument at this place, beside so many columns."""
+        length, rest = digits(words, place), LEAST_LENGTH + COLUMN_BYTES * columns
         if words[1] not in self.programs:
             raise Complaint("no program has this name", 1)
         if words[2] not in self.pins:
             raise Complaint("no pin has this name", 2)
-        if length != self.programs[words[1]] - LEAST_LENGTH:
-            raise Complaint(f"this program's argument has {self.programs[words[1]] - LEAST_LENGTH} bytes", place)
+        if length + rest != self.programs[words[1]]:
+            beside = f" with {columns} columns" if columns else ""
+            raise Complaint(f"this program's argument has {self.programs[words[1]] - rest} bytes{beside}", place)
 
     def _check_list(self, words):
         self._check_argument(words, 3)
 
-    def _check_run(self, words):
-        if words[3] not in ("min", "max", "sum"):
-            raise Complaint("numbers are reduced by min, max or sum", 3)
-        frontier = [number(words, place, "a vertex", 0, self.vertices - 1) for place in range(5, len(words))]
-        self._check_argument(words, 4)
+    def _check_frontier(self, words, first):
+        frontier = [number(words, place, "a vertex", 0, self.vertices - 1) for place in range(first, len(words))]
         for place, (one, next_one) in enumerate(zip(frontier, frontier[1:])):
             if one >= next_one:
-                raise Complaint("vertices ascend", place + 6)
+                raise Complaint("vertices ascend", place + first + 1)
+
+    def _check_reducer(self, words):
+        if words[3] not in ("min", "max", "sum"):
+            raise Complaint("numbers are reduced by min, max or sum", 3)
+
+    def _check_run(self, words):
+        self._check_reducer(words)
+        self._check_argument(words, 4)
+        self._check_frontier(words, 5)
+
+    def _check_known(self, names, place):
+        for each in names:
+            if each not in self.columns:
+                raise Complaint(f"no column has the name {each}", place)
+
+    def _check_column(self, words):
+        column(words, 1)
+        first = number(words, 2, "a vertex", 0, self.vertices - 1)
+        for place in range(3, len(words)):
+            if not decimals.is_number(words[place]):
+                raise Complaint("a number is in decimal digits", place)
+        if first + len(words) - 3 > self.vertices:
+            raise Complaint(f"there are {self.vertices - first} vertices from there on", 2)
+        if words[1] not in self.columns and len(self.columns) >= MOST_COLUMNS:
+            raise Complaint(f"there are {MOST_COLUMNS} columns", 1)
+
+    def _check_values(self, words):
+        column(words, 1)
+        self._check_known(words[1:2], 1)
+        self._check_frontier(words, 2)
+
+    def _check_lending(self, words):
+        self._check_reducer(words)
+        names = lent(words, 5)
+        if words[0] == "push" or words[6] != "-":
+            self._check_known([column(words, 6)], 6)
+        self._check_known(names, 5)
+        if len(names) > MOST_LENT:
+            raise Complaint(f"a record has at most {MOST_LENT} columns", 5)
+        self._check_argument(words, 4, len(names))
+        self._check_frontier(words, 7)
+
+    _check_pull = _check_push = _check_lending
 
     def take(self, line):
         """Takes note of a line that was looked at. Answers the lines that are to be sent now, once a block has ended."""
@@ -239,6 +301,8 @@ class Language:
             self.batches += 1
         elif words[0] == "rebase":
             self.batches, self.epochs = 0, self.epochs + 1
+        elif words[0] == "column":
+            self.columns.add(words[1])
         elif words[0] == "pin":
             self.pins.add(words[1])
         elif words[0] in ("code", "program") and said[0] == "program":

@@ -56,7 +56,7 @@ class LiveStore:
     def ask(self, lines):
         """What is written for the lines of one command. If a Ctrl-C comes meanwhile, the rest of it is owed."""
         # A run ends with as many rows as it has, and a list with its edges: the answer to one question more says that they have ended.
-        self.end = b"home " if lines[0].split()[0] in ("run", "list") else b""
+        self.end = b"home " if lines[0].split()[0] in ("run", "list", "pull", "values") else b""
         with ends.Signals.held(INTERRUPT):
             self._write("\n".join(lines + ["home 0"] if self.end else lines) + "\n")
             self.said, self.is_owed = bytearray(), True

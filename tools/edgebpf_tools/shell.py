@@ -11,7 +11,7 @@ import time
 
 from edgebpf_tools import decimals, ends, explain, owned, tables
 from edgebpf_tools.commands import QUESTIONS, changes, whole_length
-from edgebpf_tools.compact import compacted
+from edgebpf_tools.compact import column_lines, compacted
 from edgebpf_tools.journal import Journal
 from edgebpf_tools.language import FORMS, MOST_BYTES, Complaint, Language
 from edgebpf_tools.live_store import LiveStore
@@ -25,7 +25,7 @@ DOTS = {
     ".import": ".import FILE: makes the graph of a file of edges, by edgebpf-import",
     ".load": ".load FILE.c [FUNCTION] LENGTH: compiles a function, by edgebpf-c, and sends its line",
     ".image": ".image NAME FILE: sends the image in a file, which begins with BPE1 or BPE2",
-    ".compact": ".compact: forgets all batches, by a rebase; the graph and pins stay, and a journal has no more lines than these need",
+    ".compact": ".compact: forgets all batches, by a rebase; the graph, pins and columns stay, and a journal has no more lines than these need",
     ".explain": ".explain NAME: what is known at each place of a program that was sent, and why it is refused, by edgebpf-explain",
     ".read": ".read FILE: takes the lines of a script",
     ".script": ".script: all lines that were sent",
@@ -106,19 +106,19 @@ class Shell:
                 self.sent += lines
                 return
             said = None if is_question and self.is_typed else self.store.ask(lines)
-            if said:
-                self.note(lines, said[0])
-        if not said:
+            if said is not None:
+                self.note(lines, said)
+        if said is None:
             said = self.asked(lines)
             with ends.Signals.held({signal.SIGINT}):
-                self.note(lines, said[0])
+                self.note(lines, said)
         self.show(said)
         if self.has_timer:
             self.say(f"({time.monotonic() - begun:.3f} s)")
 
-    def note(self, lines, reply):
-        """Takes note of what was sent, and what it was answered."""
-        self.language.heard(lines, reply)
+    def note(self, lines, said):
+        """Takes note of what was sent, and what it was answered, which may be nothing."""
+        self.language.heard(lines, said[0] if said else "")
         self.sent += lines
         self.keep(lines)
 
@@ -149,6 +149,8 @@ class Shell:
             self.journal = None
 
     def show(self, said):
+        if not said:
+            return
         rows = [line for line in said if line.startswith("row ")]
         if self.top and len(rows) > self.top:
             rows = sorted(rows, key=lambda row: -int(row.split()[2]))[: self.top]
@@ -232,6 +234,7 @@ class Shell:
             try:
                 with ends.Signals.held({signal.SIGINT}):
                     lines = compacted(self.sent, self.language.programs)
+                    lines += [line for name in sorted(self.language.columns) for line in column_lines(self.store, name)]
                     self.journal, self.sent = self.journal.replace(lines), lines
             except (Refusal, OSError) as error:
                 raise Complaint(f"the journal stays as it is: {ends.in_words(error) if isinstance(error, OSError) else error}") from None

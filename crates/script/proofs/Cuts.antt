@@ -8,14 +8,16 @@ use Rattle.past_model.specs.Edits.{is_edit_below}
 use Rattle.past_model.specs.Past.{Past}
 use Rattle.past_model.specs.declared.edit.Edit.{Edit}
 use Rattle.past_model.specs.declared.edit.Edit.TheVariants.{Insert, Remove}
+use Rattle.bpf_image.specs.Program.{Program}
+use Rattle.session_model.specs.declared.fault.Fault.TheVariants as faults
 use Rattle.session_model.specs.Session.{Session}
-use Rattle.session_model.specs.Commands.{Command, MakeGraph, PublishBatch, LoadProgram, LoadImage, TakePin, RunProgram, ReportHome, Rebase, ListEdges}
+use Rattle.session_model.specs.Commands.{Asked, Command, MakeGraph, PublishBatch, LoadProgram, LoadImage, TakePin, RunProgram, ReportHome, Rebase, ListEdges, SetColumn, ShowValues, PullRows, PullInto, PushInto}
 use Rattle.session_model.specs.Faults.{is_vertex_count, is_record_length, AreFewVertices, HasFewVertices}
-use Rattle.session_model.specs.Responses.{response, graph_response, load_response, run_response, home_response}
+use Rattle.session_model.specs.Responses.{Response, Fails, response, graph_response, load_response, run_response, home_response, column_response, values_response, lent_response}
 use Rattle.script_model.specs.State.{OpenBatch, Script}
 use Rattle.script_model.specs.Parsing.{Statement, Asks, BeginBatch, BeginProgram, statement, BatchLine, OneEdit, EndBatch, batch_line}
 use Rattle.script_model.specs.Execution.{one_edit, inside_batch, begin_program, statement_execution, execution_of, is_comment, with_words, outside}
-use Rattle.script.specs.Said.{cut_number, cut_edit, cut_batch_line, cut_command, cut_statement, Saying, Nothing, NoStatement, Makes, found_statement, saying_of, cut_saying}
+use Rattle.script.specs.Said.{cut_number, cut_asked, cut_edit, cut_batch_line, cut_command, cut_statement, Saying, Nothing, NoStatement, Makes, found_statement, saying_of, cut_saying}
 use Rattle.script.specs.Executes.{line_of}
 
 -- ---- numbers
@@ -108,6 +110,51 @@ home_at v s (Some p) past-is small =
           rw (past-is, first, second) refl
     ]
 
+column_at : (name : List ℕ) (first : ℕ) (numbers : List ℕ) (s : Session) (past : Option Past) → s.past ≡ past → AreFewVertices past → column_response name (cut_number first) numbers s ≡ column_response name first numbers s
+column_at name first numbers s None past-is small = rw past-is refl
+column_at name first numbers s (Some p) past-is small =
+    elim (cases_lt first p.vertex_count) [
+      | inl inside ↦ rw (cut_below first p.vertex_count small inside) refl
+      | inr outside ↦
+          let second : ltb first p.vertex_count ≡ false = le-ltb _ _ outside in
+          let same : ltb (cut_number first) p.vertex_count ≡ false = ltb-cut first p.vertex_count small ∙ second in
+          rw (past-is, same, second) refl
+    ]
+
+values_at : (name : List ℕ) (frontier : List ℕ) (s : Session) (past : Option Past) → s.past ≡ past → AreFewVertices past → values_response name (map cut_number frontier) s ≡ values_response name frontier s
+values_at name frontier s None past-is small = rw past-is refl
+values_at name frontier s (Some p) past-is small =
+    elim (cases_Bool (list_all (λ v. nat_lt v p.vertex_count) frontier)) [
+      | inl all ↦ rw (same-cut p.vertex_count frontier small all) refl
+      | inr not_all ↦
+          let other : list_all (λ v. nat_lt v p.vertex_count) (map cut_number frontier) ≡ false = below-cut p.vertex_count frontier small ∙ not_all in
+          rw (past-is, other, not_all) refl
+    ]
+
+-- of a command that lends columns, whatever it does with them
+same_asked : (limit : ℕ) (asked : Asked) → limit ≤ 1048576 → list_all (λ v. nat_lt v limit) asked.frontier ≡ true → cut_asked asked ≡ asked
+same_asked limit asked small all = rw (same-cut limit asked.frontier small all) refl
+
+lent_outside : (asked : Asked) (s : Session) (p : Past) (go : Program → Past → List (List ℕ) → Response) → s.past ≡ Some p → list_all (λ v. nat_lt v p.vertex_count) asked.frontier ≡ false → lent_response asked s go ≡ Fails faults.Range
+lent_outside asked s p go past-is below = rw (past-is, below) refl
+
+-- what a response of such a command is, if its frontier is in the graph or there is none
+lent_at : (R : Asked → Response) (asked : Asked) (s : Session) (past : Option Past) → s.past ≡ past → AreFewVertices past
+    → ((a : Asked) → (go : Program → Past → List (List ℕ) → Response) × (R a ≡ lent_response a s go)) → R (cut_asked asked) ≡ R asked
+lent_at R asked s None past-is small is =
+    let cut = is (cut_asked asked) in
+    let whole = is asked in
+    cut.1 ∙ (rw past-is refl) ∙ sym whole.1
+lent_at R asked s (Some p) past-is small is =
+    elim (cases_Bool (list_all (λ v. nat_lt v p.vertex_count) asked.frontier)) [
+      | inl all ↦ ap R (same_asked p.vertex_count asked small all)
+      | inr not_all ↦
+          let other : list_all (λ v. nat_lt v p.vertex_count) (map cut_number asked.frontier) ≡ false = below-cut p.vertex_count asked.frontier small ∙ not_all in
+          let cut = is (cut_asked asked) in
+          let whole = is asked in
+          cut.1 ∙ lent_outside (cut_asked asked) s p cut.0 past-is other ∙ sym (lent_outside asked s p whole.0 past-is not_all) ∙ sym whole.1
+    ]
+
 response-cut : (c : Command) (s : Session) → HasFewVertices s → response (cut_command c) s ≡ response c s
 response-cut (MakeGraph n) s few = graph-cut n s
 response-cut (PublishBatch feed edits) s few = refl
@@ -119,6 +166,11 @@ response-cut (RunProgram program pin reduction argument frontier) s few =
 response-cut (ReportHome v) s few = home_at v s s.past refl few
 response-cut Rebase s few = refl
 response-cut (ListEdges program pin argument) s few = refl
+response-cut (SetColumn name first numbers) s few = column_at name first numbers s s.past refl few
+response-cut (ShowValues name frontier) s few = values_at name frontier s s.past refl few
+response-cut (PullRows asked) s few = lent_at (λ a. response (PullRows a) s) asked s s.past refl few (λ a. (_, refl))
+response-cut (PullInto asked into) s few = lent_at (λ a. response (PullInto a into) s) asked s s.past refl few (λ a. (_, refl))
+response-cut (PushInto asked into) s few = lent_at (λ a. response (PushInto a into) s) asked s s.past refl few (λ a. (_, refl))
 
 begin_program-cut : (name : List ℕ) (n : ℕ) (s : Script) → begin_program name (cut_number n) s ≡ begin_program name n s
 begin_program-cut name n s =

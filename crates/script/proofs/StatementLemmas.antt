@@ -1,16 +1,16 @@
 -- Lines outside blocks.
 use Rattle.std.proofs.Common.{◌≡◌, ◌≢◌, ℕ, true, false, List, [], ◌∷◌, refl, sym, ◌∙◌, ap, inl, inr}
-use Rattle.std.specs.Prelude.{Option, Some, None, option_map}
-use Rattle.std.proofs.lemmas.Bool.{cases_Bool}
+use Rattle.std.specs.Prelude.{map, Option, Some, None, option_map}
+use Rattle.std.proofs.lemmas.Bool.{cases_Bool, and_parts, and_from}
 use Rattle.std.proofs.lemmas.Option.{same_Some}
 use Rattle.bpf_image.specs.Program.{without_table}
-use Rattle.script_model.specs.Lexing.{number, hex, is_name}
-use Rattle.session_model.specs.Commands.{LoadProgram}
-use Rattle.script_model.specs.Parsing.{Statement, Asks, option_then, code_statement, image_statement, list_statement, statement}
+use Rattle.script_model.specs.Lexing.{number, hex, is_dash, is_name, is_column_name}
+use Rattle.session_model.specs.Commands.{Asked, LoadProgram, SetColumn, PullRows, PullInto, PushInto}
+use Rattle.script_model.specs.Parsing.{Statement, Asks, option_then, numbers, column_number, code_statement, image_statement, list_statement, column_statement, pull_to, push_to, statement}
 use Rattle.script_model.specs.Execution.{is_comment}
 use Rattle.script.specs.declared.reading.line.Statement.{Statement as CodeStatement}
-use Rattle.script.specs.Said.{NoStatement, Makes, cut_number, cut_statement, cut_saying, said_statement, saying_of, found_statement}
-use Rattle.script.specs.Reading.{first_number, load_of}
+use Rattle.script.specs.Said.{NoStatement, Makes, cut_asked, cut_number, cut_statement, cut_saying, said_statement, saying_of, found_statement}
+use Rattle.script.specs.Reading.{cut_before, first_number, load_of, column_of}
 use Rattle.script.proofs.NumberLemmas.{first_of}
 
 -- ---- `code`
@@ -72,6 +72,65 @@ list_statement-unnamed_pin program pin (a ∷ b ∷ line) unnamed = refl
 pub list_statement-long : (program pin digits : List ℕ) (others : List (List ℕ)) → others ≢ [] → list_statement (program ∷ pin ∷ digits ∷ others) ≡ None
 list_statement-long program pin digits [] some = absurd (some refl)
 list_statement-long program pin digits (a ∷ others) some = refl
+
+-- ---- `column`
+
+column_cut : (name : List ℕ) (value n : ℕ) (given : Option (List ℕ)) → cut_number value ≡ n → option_map cut_statement (option_then given (λ ns. Some (Asks (SetColumn name value (map column_number ns))))) ≡ option_then given (λ ns. Some (Asks (SetColumn name n (map column_number ns))))
+column_cut name value n None is = refl
+column_cut name value n (Some ns) is = ap (λ m. Some (Asks (SetColumn name m (map column_number ns)))) is
+
+column_at : (name word : List ℕ) (given : List (List ℕ)) (value n : ℕ) → is_column_name name ≡ true → number word ≡ Some value → cut_number value ≡ n → option_map cut_statement (column_statement (name ∷ word ∷ given)) ≡ column_of name n given
+column_at name word given value n named spells is = simp (named, spells) (column_cut name value n (numbers given) is)
+
+pub column_statement-named : (name : List ℕ) (line : List (List ℕ)) (n : ℕ) (given : List (List ℕ)) → first_number line ≡ Some (n, given) → is_column_name name ≡ true → option_map cut_statement (column_statement (name ∷ line)) ≡ column_of name n given
+column_statement-named name line n given first named =
+    let f = first_of line n given first in
+    rw f.begins (column_at name f.word given f.value n named f.spells f.is_cut)
+
+pub column_statement-unnamed : (name : List ℕ) (line : List (List ℕ)) → is_column_name name ≡ false → column_statement (name ∷ line) ≡ None
+column_statement-unnamed name [] unnamed = refl
+column_statement-unnamed name (a ∷ line) unnamed = simp unnamed
+
+column_numberless_at : (name word : List ℕ) (given : List (List ℕ)) (value : Option ℕ) → number word ≡ value → option_map (cut_before given) value ≡ None → column_statement (name ∷ word ∷ given) ≡ None
+column_numberless_at name word given None is none = elim (cases_Bool (is_column_name name)) [
+  | inl named ↦ simp (named, is)
+  | inr unnamed ↦ simp unnamed
+]
+column_numberless_at name word given (Some n) is none = absurd (cc)
+
+pub column_statement-numberless : (name : List ℕ) (line : List (List ℕ)) → first_number line ≡ None → column_statement (name ∷ line) ≡ None
+column_statement-numberless name [] none = refl
+column_statement-numberless name (word ∷ given) none = column_numberless_at name word given (number word) refl none
+
+-- ---- `pull` and `push`
+
+pub lend_none : (asked : Option Asked) (to : Asked → Option Statement) → None ≡ option_map cut_asked asked → None ≡ option_map cut_statement (option_then asked to)
+lend_none None to none = refl
+lend_none (Some a) to none = absurd (cc)
+
+pub lend_some : (asked : Option Asked) (to : Asked → Option Statement) (said : Asked) (means : Option Statement) → Some said ≡ option_map cut_asked asked → ((a : Asked) → cut_asked a ≡ said → means ≡ option_map cut_statement (to a)) → means ≡ option_map cut_statement (option_then asked to)
+lend_some None to said means some same = absurd (cc)
+lend_some (Some a) to said means some same = same a (sym (same_Some said (cut_asked a) some))
+
+pub pull_rows : (into : List ℕ) (said a : Asked) → is_dash into ≡ true → cut_asked a ≡ said → Some (Asks (PullRows said)) ≡ option_map cut_statement (pull_to into a)
+pull_rows into said a dash same = rw dash (ap (λ (b : Asked). Some (Asks (PullRows b))) (sym same))
+
+pub pull_into : (into : List ℕ) (said a : Asked) → is_dash into ≡ false → is_column_name into ≡ true → cut_asked a ≡ said → Some (Asks (PullInto said into)) ≡ option_map cut_statement (pull_to into a)
+pull_into into said a word named same =
+    let name : is_name into ≡ true = (and_parts _ _ named).0 in
+    rw (word, name) (ap (λ (b : Asked). Some (Asks (PullInto b into))) (sym same))
+
+pub pull_unnamed : (into : List ℕ) (a : Asked) → is_dash into ≡ false → is_column_name into ≡ false → None ≡ option_map cut_statement (pull_to into a)
+pull_unnamed into a word unnamed = elim (cases_Bool (is_name into)) [
+  | inl name ↦ (let named : is_column_name into ≡ true = and_from _ _ name (rw word refl) in absurd (cc))
+  | inr other ↦ rw (word, other) refl
+]
+
+pub push_into : (into : List ℕ) (said a : Asked) → is_column_name into ≡ true → cut_asked a ≡ said → Some (Asks (PushInto said into)) ≡ option_map cut_statement (push_to into a)
+push_into into said a named same = rw named (ap (λ (b : Asked). Some (Asks (PushInto b into))) (sym same))
+
+pub push_unnamed : (into : List ℕ) (a : Asked) → is_column_name into ≡ false → None ≡ option_map cut_statement (push_to into a)
+push_unnamed into a unnamed = rw unnamed refl
 
 -- ---- what a line says
 

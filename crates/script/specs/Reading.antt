@@ -1,10 +1,10 @@
 -- What is read from the front of a line.
-use Rattle.std.specs.Prelude.{ℕ, List, [], ◌∷◌, Option, Some, None, option_map}
+use Rattle.std.specs.Prelude.{ℕ, List, [], ◌∷◌, map, Option, Some, None, option_map}
 use Rattle.bpf_image.specs.Program.{without_table}
 use Rattle.map_model.specs.declared.reduction.Reduction.{Reduction}
 use Rattle.script_model.specs.Lexing.{number, hex}
-use Rattle.session_model.specs.Commands.{LoadProgram, LoadImage, RunProgram, ListEdges}
-use Rattle.script_model.specs.Parsing.{pair_of, Statement, Asks, option_then, numbers}
+use Rattle.session_model.specs.Commands.{LoadProgram, LoadImage, RunProgram, ListEdges, SetColumn}
+use Rattle.script_model.specs.Parsing.{pair_of, Statement, Asks, option_then, numbers, column_number}
 use Rattle.script.specs.Said.{cut_number}
 
 abbrev pub cut_before : List (List ℕ) → ℕ → ℕ × List (List ℕ)
@@ -39,3 +39,7 @@ run_of program pin reduction digits frontier =
 -- the statement to list the edges of a pin with the argument that these digits spell
 abbrev pub list_of : List ℕ → List ℕ → List ℕ → Option Statement
 list_of program pin digits = option_then (hex digits) (λ argument. Some (Asks (ListEdges program pin argument)))
+
+-- the statement to set these numbers of a column from a vertex on
+abbrev pub column_of : List ℕ → ℕ → List (List ℕ) → Option Statement
+column_of name first given = option_then (numbers given) (λ ns. Some (Asks (SetColumn name first (map column_number ns))))

@@ -3,11 +3,13 @@ use Rattle.std.specs.Prelude.{ℕ, ◌-◌, ◌^◌, min, if◌then◌else◌, L
 use Rattle.bpf_image.specs.Program.{Program, without_table}
 use Rattle.past_model.specs.declared.edit.Edit.{Edit}
 use Rattle.past_model.specs.declared.edit.Edit.TheVariants.{Insert, Remove}
-use Rattle.session_model.specs.Commands.{Command, MakeGraph, PublishBatch, LoadProgram, LoadImage, TakePin, RunProgram, ReportHome, Rebase, ListEdges}
+use Rattle.session_model.specs.Commands.{Asked, Command, MakeGraph, PublishBatch, LoadProgram, LoadImage, TakePin, RunProgram, ReportHome, Rebase, ListEdges, SetColumn, ShowValues, PullRows, PullInto, PushInto}
+use Rattle.session.specs.Kept.{each_now}
 use Rattle.script_model.specs.Parsing.{Statement, Asks, BeginBatch, BeginProgram, statement, BatchLine, OneEdit, EndBatch}
 use Rattle.script_model.specs.Execution.{is_comment}
 use Rattle.script.specs.declared.reading.line.BatchLine.{BatchLine as CodeBatchLine}
 use Rattle.script.specs.declared.reading.line.BatchLine.TheVariants as batch_lines
+use Rattle.script.specs.declared.reading.line.Asking.{Asking}
 use Rattle.script.specs.declared.reading.line.Statement.{Statement as CodeStatement}
 use Rattle.script.specs.declared.reading.line.Statement.TheVariants as statements
 use Rattle.script.specs.declared.reading.line.Line.{Line}
@@ -27,6 +29,9 @@ cut_batch_line EndBatch = EndBatch
 abbrev pub cut_program : Program → Program
 cut_program p = record { code = p.code; record_length = cut_number p.record_length; table = p.table }
 
+abbrev pub cut_asked : Asked → Asked
+cut_asked a = record { program = a.program; pin = a.pin; reduction = a.reduction; argument = a.argument; columns = a.columns; frontier = map cut_number a.frontier }
+
 -- the numbers of a command that stand on its line
 abbrev pub cut_command : Command → Command
 cut_command (MakeGraph n) = MakeGraph (cut_number n)
@@ -39,6 +44,11 @@ cut_command (RunProgram program pin reduction argument frontier) =
 cut_command (ReportHome v) = ReportHome (cut_number v)
 cut_command Rebase = Rebase
 cut_command (ListEdges program pin argument) = ListEdges program pin argument
+cut_command (SetColumn name first numbers) = SetColumn name (cut_number first) numbers
+cut_command (ShowValues name frontier) = ShowValues name (map cut_number frontier)
+cut_command (PullRows asked) = PullRows (cut_asked asked)
+cut_command (PullInto asked into) = PullInto (cut_asked asked) into
+cut_command (PushInto asked into) = PushInto (cut_asked asked) into
 
 abbrev pub cut_statement : Statement → Statement
 cut_statement (Asks c) = Asks (cut_command c)
@@ -50,6 +60,9 @@ abbrev pub said_batch_line : CodeBatchLine → BatchLine
 said_batch_line (batch_lines.Insert u v) = OneEdit (Insert u v)
 said_batch_line (batch_lines.Remove u v) = OneEdit (Remove u v)
 said_batch_line batch_lines.End = EndBatch
+
+abbrev pub said_asked : Asking → Asked
+said_asked a = record { program = a.program.now; pin = a.pin.now; reduction = a.reduction; argument = a.argument.items; columns = each_now a.columns.items; frontier = a.frontier.items }
 
 abbrev pub said_statement : CodeStatement → Statement
 said_statement (statements.Graph n) = Asks (MakeGraph n)
@@ -64,6 +77,11 @@ said_statement (statements.Run program pin reduction argument frontier) =
 said_statement (statements.Home v) = Asks (ReportHome v)
 said_statement statements.Rebase = Asks Rebase
 said_statement (statements.List program pin argument) = Asks (ListEdges program.now pin.now argument.items)
+said_statement (statements.Column name first numbers) = Asks (SetColumn name.now first numbers.items)
+said_statement (statements.Values name frontier) = Asks (ShowValues name.now frontier.items)
+said_statement (statements.PullRows asking) = Asks (PullRows (said_asked asking))
+said_statement (statements.PullInto asking into) = Asks (PullInto (said_asked asking) into.now)
+said_statement (statements.PushInto asking into) = Asks (PushInto (said_asked asking) into.now)
 
 -- what a line outside blocks says
 pub data Saying : Type 0 where

@@ -5,8 +5,8 @@ ghost use Rattle.session.specs.Kept.{answer_of};
 ghost use Rattle.script.specs.Listed.{first_text};
 
 use crate::texts::{
-    put_batch, put_graph, put_home, put_image, put_list, put_pin, put_program, put_rebase,
-    put_refused, put_rows, put_run,
+    put, put_batch, put_column, put_graph, put_home, put_image, put_into, put_list, put_pin,
+    put_program, put_pull, put_rebase, put_refused, put_rows, put_run, put_values,
 };
 use session::Answer;
 use std::alloc::AllocError;
@@ -57,5 +57,37 @@ pub(crate) fn put_answer(text: &mut Vec<u8>, answer: &Answer) -> Result<(), Allo
             edges,
             listing: _,
         } => put_list(text, program, pin, *edges),
+        Answer::ColumnSet { name, count } => put_column(text, name, *count),
+        Answer::ValuesShown { rows } => put_values(text, rows),
+        Answer::RowsPulled {
+            program,
+            pin,
+            edges,
+            total,
+            rows,
+        } => {
+            put_pull(text, program, pin, *edges, *total)?;
+            put_rows(text, rows)
+        }
+        Answer::ColumnPulled {
+            program,
+            pin,
+            edges,
+            total,
+            changed,
+        } => {
+            put(text, b"pull ")?;
+            put_into(text, program, pin, *edges, *total, *changed)
+        }
+        Answer::ColumnPushed {
+            program,
+            pin,
+            edges,
+            total,
+            changed,
+        } => {
+            put(text, b"push ")?;
+            put_into(text, program, pin, *edges, *total, *changed)
+        }
     }
 }

@@ -3,6 +3,7 @@
 mod batches;
 mod block_end;
 mod hex;
+mod lending;
 mod line;
 mod names;
 mod numbers;
@@ -11,6 +12,6 @@ mod words;
 
 pub(crate) use batches::batch_line;
 pub(crate) use block_end::is_end;
-pub(crate) use line::{BatchLine, Line, Statement};
+pub(crate) use line::{Asking, BatchLine, Line, Statement};
 pub(crate) use statements::statement_line;
 pub(crate) use words::is_plain_line;

@@ -3,17 +3,17 @@
 ghost use Rattle.std.specs.Prelude.{◌≡◌, None};
 ghost use Rattle.session_model.specs.Responses.{response};
 ghost use Rattle.session_model.specs.Faults.{HasFewVertices};
-ghost use Rattle.session.specs.Kept.{command_of};
+ghost use Rattle.session.specs.Kept.{asked_of, command_of};
 ghost use Rattle.script_model.specs.Execution.{execution_of, statement_execution};
-ghost use Rattle.script.specs.Said.{said_statement, said_line};
+ghost use Rattle.script.specs.Said.{said_asked, said_statement, said_line};
 ghost use Rattle.script.specs.Executes.{Prints, whole_of, line_of};
 
 use crate::answers::put_answer;
 use crate::error::LineError;
-use crate::reading::{Line, Statement};
+use crate::reading::{Asking, Line, Statement};
 use crate::script::Script;
 use script_model::LineFault;
-use session::{Command, Crew, Gate, Listing};
+use session::{Asked, Command, Crew, Gate, Listing};
 use std::sync::Wait;
 use std::thread::Threads;
 
@@ -24,6 +24,20 @@ pub(crate) fn whole(done: Result<(), LineError>) -> Result<Option<Listing>, Line
     match done {
         Ok(()) => Ok(None),
         Err(error) => Err(error),
+    }
+}
+
+/// What a line asks for, lent.
+fn asked<'a>(asking: &'a Asking<'a>) -> Asked<'a>
+    ensures { asked_of result ≡ said_asked asking.now }
+{
+    Asked {
+        program: asking.program,
+        pin: asking.pin,
+        reduction: asking.reduction,
+        argument: &asking.argument,
+        columns: &asking.columns,
+        frontier: &asking.frontier,
     }
 }
 
@@ -117,6 +131,50 @@ impl Script {
                     program,
                     pin,
                     argument,
+                },
+            ),
+            Statement::Column {
+                name,
+                first,
+                numbers,
+            } => self.perform(
+                crew,
+                text,
+                Command::SetColumn {
+                    name,
+                    first,
+                    numbers: &numbers,
+                },
+            ),
+            Statement::Values { name, frontier } => self.perform(
+                crew,
+                text,
+                Command::ShowValues {
+                    name,
+                    frontier: &frontier,
+                },
+            ),
+            Statement::PullRows { asking } => self.perform(
+                crew,
+                text,
+                Command::PullRows {
+                    asked: asked(&asking),
+                },
+            ),
+            Statement::PullInto { asking, into } => self.perform(
+                crew,
+                text,
+                Command::PullInto {
+                    asked: asked(&asking),
+                    into,
+                },
+            ),
+            Statement::PushInto { asking, into } => self.perform(
+                crew,
+                text,
+                Command::PushInto {
+                    asked: asked(&asking),
+                    into,
                 },
             ),
         }

@@ -19,6 +19,10 @@ ghost use Rattle.script_model.specs.Texts.{
   rebase_text,
   list_text,
   edge_text,
+  column_text,
+  value_text,
+  pull_text,
+  into_text,
   feed_text,
   fault_text,
 };
@@ -35,7 +39,7 @@ use verifier::Refusal;
 
 /// Writes bytes at the end of a text. It is inlined, so that a label costs no call.
 #[inline(always)]
-fn put(text: &mut Vec<u8>, bytes: &[u8]) -> Result<(), AllocError>
+pub(crate) fn put(text: &mut Vec<u8>, bytes: &[u8]) -> Result<(), AllocError>
     ensures { OnOk result (text.new.items ≡ text.old.items ++ bytes.now) }
 {
     text.extend_from_slice(bytes)?;
@@ -304,6 +308,70 @@ pub(crate) fn put_edges(text: &mut Vec<u8>, edges: &[ListedEdge]) -> Result<(), 
         put_edge(text, *edge)?;
     }
     Ok(())
+}
+
+/// The line of a column whose numbers are set.
+pub(crate) fn put_column(text: &mut Vec<u8>, name: &[u8], count: u64) -> Result<(), AllocError>
+    ensures { OnOk result (text.new.items ≡ text.old.items ++ column_text name.now count) }
+{
+    put_name(text, b"column ", name)?;
+    put_field(text, b" set ", count)?;
+    put(text, b"\n")
+}
+
+/// The line of a vertex's number.
+fn put_value(text: &mut Vec<u8>, row: Row) -> Result<(), AllocError>
+    ensures { OnOk result (text.new.items ≡ text.old.items ++ value_text row) }
+{
+    put_field(text, b"value ", u64::from(row.vertex))?;
+    put_field(text, b" ", row.value)?;
+    put(text, b"\n")
+}
+
+/// The lines of some vertices' numbers.
+pub(crate) fn put_values(text: &mut Vec<u8>, rows: &[Row]) -> Result<(), AllocError>
+    ensures { OnOk result (text.new.items ≡ text.old.items ++ flat_map value_text rows.now) }
+{
+    for row in rows {
+        put_value(text, *row)?;
+    }
+    Ok(())
+}
+
+/// The first line of a pull.
+pub(crate) fn put_pull(
+    text: &mut Vec<u8>,
+    program: &[u8],
+    pin: &[u8],
+    edges: u64,
+    total: u64,
+) -> Result<(), AllocError>
+    ensures { OnOk result (text.new.items ≡ text.old.items ++ pull_text program.now pin.now edges total) }
+{
+    put_name(text, b"pull ", program)?;
+    put_name(text, b" ", pin)?;
+    put_field(text, b" edges ", edges)?;
+    put_field(text, b" total ", total)?;
+    put(text, b"\n")
+}
+
+/// The line of a pull or a push into a column, after its first word.
+pub(crate) fn put_into(
+    text: &mut Vec<u8>,
+    program: &[u8],
+    pin: &[u8],
+    edges: u64,
+    total: u64,
+    changed: u64,
+) -> Result<(), AllocError>
+    ensures { OnOk result (text.new.items ≡ text.old.items ++ into_text program.now pin.now edges total changed) }
+{
+    put(text, program)?;
+    put_name(text, b" ", pin)?;
+    put_field(text, b" edges ", edges)?;
+    put_field(text, b" total ", total)?;
+    put_field(text, b" changed ", changed)?;
+    put(text, b"\n")
 }
 
 /// The line of a fault, the last of a script.

@@ -73,3 +73,16 @@ is_dash (b ∷ c ∷ bytes) = false
 
 abbrev pub hex : List ℕ → Option (List ℕ)
 hex word = if is_dash word then Some [] else hex_pairs word
+
+abbrev pub is_comma : ℕ → Bool
+is_comma b = b == 44
+
+-- `-` names no column
+abbrev pub is_column_name : List ℕ → Bool
+is_column_name word = is_name word && not (is_dash word)
+
+-- the names that commas separate
+abbrev pub column_names : List ℕ → Option (List (List ℕ))
+column_names word =
+    if is_dash word then Some []
+    else (if list_all is_column_name (slice_split is_comma word) then Some (slice_split is_comma word) else None)

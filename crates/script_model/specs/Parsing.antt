@@ -1,12 +1,12 @@
 -- What the words of a line say, before anything is known of names and graphs.
-use Rattle.std.specs.Prelude.{ℕ, if◌then◌else◌, Bool, false, List, [], ◌∷◌, Option, Some, None, option_map, codes}
+use Rattle.std.specs.Prelude.{ℕ, ◌-◌, ◌^◌, min, if◌then◌else◌, Bool, false, List, [], ◌∷◌, map, Option, Some, None, option_map, codes}
 use Rattle.bpf_image.specs.Program.{without_table}
 use Rattle.past_model.specs.declared.edit.Edit.{Edit}
 use Rattle.past_model.specs.declared.edit.Edit.TheVariants.{Insert, Remove}
 use Rattle.map_model.specs.declared.reduction.Reduction.{Reduction}
 use Rattle.map_model.specs.declared.reduction.Reduction.TheVariants.{Min, Max, Sum}
-use Rattle.session_model.specs.Commands.{Command, MakeGraph, LoadProgram, LoadImage, TakePin, RunProgram, ReportHome, Rebase, ListEdges}
-use Rattle.script_model.specs.Lexing.{number, is_name, hex, same_bytes}
+use Rattle.session_model.specs.Commands.{Asked, Command, MakeGraph, LoadProgram, LoadImage, TakePin, RunProgram, ReportHome, Rebase, ListEdges, SetColumn, ShowValues, PullRows, PullInto, PushInto}
+use Rattle.script_model.specs.Lexing.{number, is_name, hex, same_bytes, is_dash, is_column_name, column_names}
 
 pub data Statement : Type 0 where
   -- a command of a session, on a line of its own
@@ -92,6 +92,48 @@ list_statement (program ∷ pin ∷ digits ∷ []) =
     under_name program (under_name pin (option_then (hex digits) (λ argument. Some (Asks (ListEdges program pin argument)))))
 list_statement _ = None
 
+abbrev pub under_column_name : List ℕ → Option Statement → Option Statement
+under_column_name name statement = if is_column_name name then statement else None
+
+-- a column's numbers have 64 bits: one above them stands as the greatest
+abbrev pub column_number : ℕ → ℕ
+column_number n = min n (2 ^ 64 - 1)
+
+abbrev pub column_statement : List (List ℕ) → Option Statement
+column_statement (name ∷ first ∷ given) =
+    under_column_name name (option_then (number first) (λ vertex. option_then (numbers given) (λ ns. Some (Asks (SetColumn name vertex (map column_number ns))))))
+column_statement _ = None
+
+abbrev pub values_statement : List (List ℕ) → Option Statement
+values_statement (name ∷ frontier) =
+    under_column_name name (option_then (numbers frontier) (λ vertices. Some (Asks (ShowValues name vertices))))
+values_statement _ = None
+
+-- what a command that lends columns asks for, by its words
+abbrev pub asked_of : (program pin : List ℕ) → Reduction → (digits names : List ℕ) → (frontier : List (List ℕ)) → Option Asked
+asked_of program pin reduction digits names frontier =
+    option_then (hex digits) (λ argument. option_then (column_names names) (λ columns. option_then (numbers frontier) (λ vertices. Some (record { program = program; pin = pin; reduction = reduction; argument = argument; columns = columns; frontier = vertices }))))
+
+-- the words of such a command, and what it does with the word for a column that it writes
+abbrev pub lending_statement : (List ℕ → Asked → Option Statement) → List (List ℕ) → Option Statement
+lending_statement to (program ∷ pin ∷ reducer ∷ digits ∷ names ∷ into ∷ frontier) =
+    under_name program (under_name pin (option_then (reduction_of reducer) (λ reduction. option_then (asked_of program pin reduction digits names frontier) (to into))))
+lending_statement to _ = None
+
+-- rows where no column is named, and else that column
+abbrev pub pull_to : List ℕ → Asked → Option Statement
+pull_to into asked =
+    if is_dash into then Some (Asks (PullRows asked)) else under_column_name into (Some (Asks (PullInto asked into)))
+
+abbrev pub push_to : List ℕ → Asked → Option Statement
+push_to into asked = under_column_name into (Some (Asks (PushInto asked into)))
+
+abbrev pub pull_statement : List (List ℕ) → Option Statement
+pull_statement operands = lending_statement pull_to operands
+
+abbrev pub push_statement : List (List ℕ) → Option Statement
+push_statement operands = lending_statement push_to operands
+
 -- the statement that a line's first word names, with the words after it
 abbrev pub statement : List ℕ → List (List ℕ) → Option Statement
 statement word operands =
@@ -104,7 +146,11 @@ statement word operands =
     else (if same_bytes word (codes "home") then home_statement operands
     else (if same_bytes word (codes "list") then list_statement operands
     else (if same_bytes word (codes "image") then image_statement operands
-    else (if same_bytes word (codes "rebase") then rebase_statement operands else None)))))))))
+    else (if same_bytes word (codes "rebase") then rebase_statement operands
+    else (if same_bytes word (codes "column") then column_statement operands
+    else (if same_bytes word (codes "values") then values_statement operands
+    else (if same_bytes word (codes "pull") then pull_statement operands
+    else (if same_bytes word (codes "push") then push_statement operands else None)))))))))))))
 
 -- a block ends at a line whose only word is `end`
 abbrev pub is_end : List (List ℕ) → Bool

@@ -16,7 +16,7 @@ use Rattle.past_model.specs.declared.home.Home.{Home}
 use Rattle.past_model.specs.declared.home.Home.TheVariants.{Block, Gapped, Tree}
 use Rattle.session_model.specs.declared.fault.Fault.{Fault}
 use Rattle.session_model.specs.declared.fault.Fault.TheVariants as faults
-use Rattle.session_model.specs.Commands.{Answer, GraphMade, BatchPublished, ProgramAccepted, ProgramRefused, NoImage, PinTaken, EdgesMapped, HomeReported, Rebased, EdgesListed}
+use Rattle.session_model.specs.Commands.{Answer, GraphMade, BatchPublished, ProgramAccepted, ProgramRefused, NoImage, PinTaken, EdgesMapped, HomeReported, Rebased, EdgesListed, ColumnSet, ValuesShown, RowsPulled, ColumnPulled, ColumnPushed}
 use Rattle.script_model.specs.declared.line_fault.LineFault.{LineFault}
 use Rattle.script_model.specs.declared.line_fault.LineFault.TheVariants as line_faults
 
@@ -141,6 +141,22 @@ abbrev pub edge_text : ListedEdge → List ℕ
 edge_text e =
     codes "edge " ++ decimal e.source ++ codes " " ++ decimal e.target ++ codes " " ++ decimal e.number ++ newline
 
+abbrev pub column_text : List ℕ → ℕ → List ℕ
+column_text name count = codes "column " ++ name ++ codes " set " ++ decimal count ++ newline
+
+abbrev pub value_text : Row → List ℕ
+value_text row = codes "value " ++ decimal row.vertex ++ codes " " ++ decimal row.value ++ newline
+
+-- the first line of a pull
+abbrev pub pull_text : List ℕ → List ℕ → ℕ → ℕ → List ℕ
+pull_text program pin edges total =
+    codes "pull " ++ program ++ codes " " ++ pin ++ codes " edges " ++ decimal edges ++ codes " total " ++ decimal total ++ newline
+
+-- the line of a pull or a push into a column, after its first word
+abbrev pub into_text : (program pin : List ℕ) → (edges total changed : ℕ) → List ℕ
+into_text program pin edges total changed =
+    program ++ codes " " ++ pin ++ codes " edges " ++ decimal edges ++ codes " total " ++ decimal total ++ codes " changed " ++ decimal changed ++ newline
+
 -- what is written for an answer
 abbrev pub answer_text : Answer → List ℕ
 answer_text (GraphMade vertices) = graph_text vertices
@@ -153,6 +169,11 @@ answer_text (EdgesMapped program pin edges total rows) = run_text program pin ed
 answer_text (HomeReported v home degree) = home_text v home degree
 answer_text (Rebased epoch edges) = rebase_text epoch edges
 answer_text (EdgesListed program pin edges listed) = list_text program pin edges ++ flat_map edge_text listed
+answer_text (ColumnSet name count) = column_text name count
+answer_text (ValuesShown rows) = flat_map value_text rows
+answer_text (RowsPulled program pin edges total rows) = pull_text program pin edges total ++ flat_map row_text rows
+answer_text (ColumnPulled program pin edges total changed) = codes "pull " ++ into_text program pin edges total changed
+answer_text (ColumnPushed program pin edges total changed) = codes "push " ++ into_text program pin edges total changed
 
 abbrev pub fault_text : LineFault → ℕ → List ℕ
 fault_text fault line = codes "fault " ++ decimal (line_fault_number fault) ++ codes " line " ++ decimal line ++ newline

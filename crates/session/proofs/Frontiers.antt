@@ -1,13 +1,13 @@
 -- Strictly ascending vertices, and frontiers.
-use Rattle.std.proofs.Common.{◌≡◌, ℕ, zero, suc, ◌+◌, ◌<◌, true, List, [], ◌∷◌, length, slice_index, All, refl, arith}
+use Rattle.std.proofs.Common.{◌≡◌, ℕ, zero, suc, ◌+◌, ◌<◌, ◌≤◌, true, List, [], ◌∷◌, length, slice_index, All, refl, ap, inl, inr, arith}
 use Rattle.std.specs.Prelude.{nat_lt}
 use Rattle.std.specs.List.{list_all}
 use Rattle.std.specs.List.Sorted.{IsStrictlyIncreasing}
-use Rattle.std.proofs.lemmas.Bool.{and_parts, and_from, ltb-true, lt-ltb}
+use Rattle.std.proofs.lemmas.Bool.{and_parts, and_from, cases_lt, ltb-true, lt-ltb}
 use Rattle.std.proofs.lemmas.List.Sums.{AllPass-from_list_all}
 use Rattle.graph_model.specs.Graph.{Graph, numbers_below}
 use Rattle.graph_model.proofs.Numbers.{numbers_below-ascend, numbers_below-are_below}
-use Rattle.session_model.specs.Faults.{is_ascending}
+use Rattle.session_model.specs.Faults.{is_ascending, is_frontier}
 use Rattle.session_model.specs.Responses.{frontier_of}
 
 pub increasing : (vs : List ℕ) → is_ascending vs ≡ true → IsStrictlyIncreasing vs
@@ -53,3 +53,27 @@ below_back (v ∷ vs) g below = all_below (v ∷ vs) below
 pub empty_frontier : (vs : List ℕ) (g : Graph) → length vs ≡ 0 → frontier_of vs g ≡ numbers_below g.vertex_count
 empty_frontier [] g h = refl
 empty_frontier (v ∷ vs) g h = absurd (omega arith)
+
+at_least : (f : List ℕ) → IsStrictlyIncreasing f → (k : ℕ) → k < length f → k ≤ slice_index f k
+at_least f up zero inside = omega arith
+at_least f up (suc k) inside =
+    let before = at_least f up k (omega arith) in
+    let next : slice_index f k < slice_index f (k + 1) = up k (omega arith) in
+    let same : slice_index f (k + 1) ≡ slice_index f (suc k) = ap (slice_index f) (omega arith) in
+    omega (arith, before, next, same)
+
+-- a frontier has no more vertices than its graph
+pub frontier_few : (vs : List ℕ) (g : Graph) → is_frontier g.vertex_count vs ≡ true → length (frontier_of vs g) ≤ g.vertex_count
+frontier_few vs g is =
+    let parts = and_parts _ _ is in
+    let n : ℕ = g.vertex_count in
+    let f : List ℕ = frontier_of vs g in
+    let up : IsStrictlyIncreasing f = frontier_ascends vs g parts.0 in
+    let below : All (λ v. v < n) f = frontier_is_below vs g parts.1 in
+    elim (cases_lt n (length f)) [
+      | inr few ↦ few
+      | inl many ↦ (
+          let at : n ≤ slice_index f n = at_least f up n (omega arith) in
+          let less : slice_index f n < n = below n 0 (omega arith) in
+          absurd (omega (arith, at, less)))
+    ]

@@ -73,6 +73,40 @@ pub enum Answer<'a> {
         edges: u64,
         listing: Listing,
     },
+    /// So many numbers of a column are set.
+    ColumnSet {
+        name: &'a [u8],
+        count: u64,
+    },
+    /// The numbers of a column at vertices.
+    ValuesShown {
+        rows: Vec<Row>,
+    },
+    /// As `EdgesMapped`, with columns.
+    RowsPulled {
+        program: &'a [u8],
+        pin: &'a [u8],
+        edges: u64,
+        total: u64,
+        rows: Vec<Row>,
+    },
+    /// A column has what each vertex of the frontier has: how many edges there were, what their numbers reduce to, and at
+    /// how many vertices the column has another number than before.
+    ColumnPulled {
+        program: &'a [u8],
+        pin: &'a [u8],
+        edges: u64,
+        total: u64,
+        changed: u64,
+    },
+    /// The same, where each edge's number was reduced into that of its target.
+    ColumnPushed {
+        program: &'a [u8],
+        pin: &'a [u8],
+        edges: u64,
+        total: u64,
+        changed: u64,
+    },
 }
 
 impl<'a> Answer<'a> {

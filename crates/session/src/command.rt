@@ -3,6 +3,18 @@
 use map_model::Reduction;
 use past_model::Edit;
 
+/// What a command that lends columns asks for: a program and a pin by their names, how numbers are reduced, the argument's
+/// bytes, the columns that records have numbers of, by their names, and the frontier (none for all vertices).
+#[derive(Clone, Copy, Debug)]
+pub struct Asked<'a> {
+    pub program: &'a [u8],
+    pub pin: &'a [u8],
+    pub reduction: Reduction,
+    pub argument: &'a [u8],
+    pub columns: &'a [&'a [u8]],
+    pub frontier: &'a [u64],
+}
+
 /// A command. Numbers are tested when it is performed.
 #[derive(Debug, Drop)]
 pub enum Command<'a> {
@@ -51,5 +63,30 @@ pub enum Command<'a> {
         program: &'a [u8],
         pin: &'a [u8],
         argument: Vec<u8>,
+    },
+    /// Numbers of a column from a vertex on. If no column has the name, it is made, with 0 at all other vertices.
+    SetColumn {
+        name: &'a [u8],
+        first: u64,
+        numbers: &'a [u64],
+    },
+    /// The numbers of a column at vertices. No vertex stands for all whose number is not 0.
+    ShowValues {
+        name: &'a [u8],
+        frontier: &'a [u64],
+    },
+    /// A program mapped over the edges of a pin with columns, a row for each vertex with a neighbour.
+    PullRows {
+        asked: Asked<'a>,
+    },
+    /// The same, and a column gets what each vertex of the frontier has.
+    PullInto {
+        asked: Asked<'a>,
+        into: &'a [u8],
+    },
+    /// The same, and each edge's number is reduced into that of its target in a column.
+    PushInto {
+        asked: Asked<'a>,
+        into: &'a [u8],
     },
 }

@@ -1,6 +1,7 @@
 //! The frontier of a run: the vertices whose edges are mapped.
 
 ghost use Rattle.std.specs.Prelude.{◌≡◌, IfOk, nat_lt, true};
+ghost use Rattle.session_model.specs.Faults.{is_ascending};
 ghost use Rattle.std.specs.List.{list_all};
 ghost use Rattle.graph_model.specs.Graph.{numbers_below};
 
@@ -11,6 +12,23 @@ pub(crate) fn are_below(frontier: &[u64], vertices: u32) -> bool
     ensures { result ≡ list_all (λ v. nat_lt v vertices) frontier.now }
 {
     frontier.iter().all(|v| *v < u64::from(vertices))
+}
+
+/// Whether each vertex is below the next one.
+pub(crate) fn ascends(frontier: &[u64]) -> bool
+    ensures { result ≡ is_ascending frontier.now }
+{
+    let Some((first, rest)) = frontier.split_first() else {
+        return true;
+    };
+    let mut before = *first;
+    for vertex in rest {
+        if before >= *vertex {
+            return false;
+        }
+        before = *vertex;
+    }
+    true
 }
 
 /// All vertices of a graph, ascending.

@@ -1,9 +1,10 @@
-//! A session: it performs commands on a graph that is edited by batches, on programs and on pins, and
+//! A session: it performs commands on a graph that is edited by batches, on programs, on pins and on columns, and
 //! answers with data. It knows nothing of a script's bytes, lines and text.
 #![tactic(auto)]
 
 mod answer;
 mod batches;
+mod columns;
 mod command;
 mod error;
 mod frontier;
@@ -11,6 +12,7 @@ mod graphs;
 mod handles;
 mod homes;
 mod kept;
+mod lending;
 mod listing;
 mod lists;
 mod pins;
@@ -21,7 +23,7 @@ mod session;
 
 pub use answer::Answer;
 pub use batches::GivenEdit;
-pub use command::Command;
+pub use command::{Asked, Command};
 pub use edge_map::{EdgeList, ListedEdge};
 pub use error::CommandError;
 pub use listing::Listing;

@@ -37,7 +37,7 @@ pub(crate) struct Run<'a> {
 
 /// The vertices whose edges are mapped: those of the frontier, which lie below a number of vertices, or
 /// all of the version.
-fn vertices_of(
+pub(crate) fn vertices_of(
     alloc: Global,
     version: &Version,
     frontier: &[u64],

@@ -10,7 +10,8 @@ use crate::answer::Answer;
 use crate::command::Command;
 use crate::error::CommandError;
 use crate::handles::Handles;
-use crate::kept::{NamedPin, NamedProgram};
+use crate::kept::{NamedColumn, NamedPin, NamedProgram};
+use crate::lending::Way;
 use crate::lists::Names;
 use crate::runs::Run;
 use std::alloc::Global;
@@ -25,6 +26,7 @@ pub struct Session {
     pub(crate) store: Option<Handles>,
     pub(crate) programs: Vec<NamedProgram>,
     pub(crate) pins: Vec<NamedPin>,
+    pub(crate) columns: Vec<NamedColumn>,
 }
 
 impl Model for Session {
@@ -33,11 +35,11 @@ impl Model for Session {
 
     ghost Value = { SessionState };
 
-    ghost view = { λ s. session_of s.store s.programs.items s.pins.items };
+    ghost view = { λ s. session_of s.store s.programs.items s.pins.items s.columns.items };
 }
 
 impl Session {
-    /// The session without a graph, a program or a pin. It takes no memory.
+    /// The session without a graph, a program, a pin or a column. It takes no memory.
     pub fn new(alloc: Global) -> Session
         ensures { result ≡ new_session }
     {
@@ -46,6 +48,7 @@ impl Session {
             store: None,
             programs: Vec::new(alloc),
             pins: Vec::new(alloc),
+            columns: Vec::new(alloc),
         }
     }
 
@@ -99,16 +102,26 @@ impl Session {
                 pin,
                 argument,
             } => self.list_program(&Names { program, pin }, argument),
+            Command::SetColumn {
+                name,
+                first,
+                numbers,
+            } => self.set_column(name, first, numbers),
+            Command::ShowValues { name, frontier } => self.show_values(name, frontier),
+            Command::PullRows { asked } => self.pull_rows(&asked),
+            Command::PullInto { asked, into } => self.write_column(Way::Pull, &asked, into),
+            Command::PushInto { asked, into } => self.write_column(Way::Push, &asked, into),
         }
     }
 
-    /// Ends the session: its graph, programs and pins are dropped.
+    /// Ends the session: its graph, programs, pins and columns are dropped.
     pub fn close<R: Wait>(self, rt: &R) {
         let Session {
             alloc: _,
             store,
             programs: _,
             pins: _,
+            columns: _,
         } = self;
         if let Some(store) = store {
             store.close(rt);

@@ -9,6 +9,16 @@ use Rattle.past_model.specs.declared.edit.Edit.{Edit}
 use Rattle.past_model.specs.declared.home.Home.{Home}
 use Rattle.verifier.specs.declared.refusal.Refusal.{Refusal}
 
+-- what a command that lends columns asks for: a program, a pin and columns by their names, how numbers are reduced, the
+-- argument, and the frontier; an empty one stands for all vertices
+pub record Asked : Type 0 where
+  pub program : List ℕ
+  pub pin : List ℕ
+  pub reduction : Reduction
+  pub argument : List ℕ
+  pub columns : List (List ℕ)
+  pub frontier : List ℕ
+
 pub data Command : Type 0 where
   -- a graph of so many vertices
   MakeGraph : (vertices : ℕ) → Command
@@ -28,6 +38,16 @@ pub data Command : Type 0 where
   Rebase : Command
   -- all edges of a pin, each with the number that a program exits with for it
   ListEdges : (program pin argument : List ℕ) → Command
+  -- numbers of a column from a vertex on; the column is made if there is none
+  SetColumn : (name : List ℕ) (first : ℕ) (numbers : List ℕ) → Command
+  -- the numbers of a column at vertices; no vertex stands for all whose number is not 0
+  ShowValues : (name frontier : List ℕ) → Command
+  -- a program mapped over the edges of a pin with columns, a row for each vertex
+  PullRows : Asked → Command
+  -- the same, where a column gets each vertex's number
+  PullInto : Asked → (into : List ℕ) → Command
+  -- the same, where each edge's number is reduced into that of its target in a column
+  PushInto : Asked → (into : List ℕ) → Command
 
 pub data Answer : Type 0 where
   GraphMade : (vertices : ℕ) → Answer
@@ -42,3 +62,10 @@ pub data Answer : Type 0 where
   Rebased : (epoch edges : ℕ) → Answer
   -- how many edges there are, and then each with its number
   EdgesListed : (program pin : List ℕ) (edges : ℕ) → List ListedEdge → Answer
+  -- how many numbers were given
+  ColumnSet : (name : List ℕ) (count : ℕ) → Answer
+  ValuesShown : List Row → Answer
+  RowsPulled : (program pin : List ℕ) (edges total : ℕ) → List Row → Answer
+  -- at how many vertices the column has another number than before
+  ColumnPulled : (program pin : List ℕ) (edges total changed : ℕ) → Answer
+  ColumnPushed : (program pin : List ℕ) (edges total changed : ℕ) → Answer

@@ -1,5 +1,5 @@
 -- What is wrong with a command: the first test that holds.
-use Rattle.std.specs.Prelude.{ℕ, ◌≤◌, ◌+◌, ◌==◌, ◌&&◌, not, nat_le, nat_lt, if◌then◌else◌, Bool, true, List, [], ◌∷◌, length, Option, Some, None, is_some}
+use Rattle.std.specs.Prelude.{ℕ, ◌≤◌, ◌+◌, ◌*◌, ◌==◌, ◌&&◌, not, nat_le, nat_lt, if◌then◌else◌, Bool, true, List, [], ◌∷◌, length, Option, Some, None, is_some}
 use Rattle.std.specs.List.{list_all}
 use Rattle.bpf_image.specs.declared.limits.TheConstants.{LEAST_RECORD_LENGTH, MOST_RECORD_LENGTH}
 use Rattle.past_model.specs.declared.edit.Edit.{Edit}
@@ -8,9 +8,11 @@ use Rattle.past_model.specs.Past.{Past, number_of, epoch_of}
 use Rattle.session_model.specs.declared.fault.Fault.{Fault}
 use Rattle.session_model.specs.declared.fault.Fault.TheVariants as faults
 use Rattle.past_model.specs.declared.limits.TheConstants.{SERVED_VERTICES, MOST_EDITS, MOST_BATCHES, SERVED_EPOCHS, FEEDS}
-use Rattle.map_model.specs.declared.limits.TheConstants.{EDGE_BYTES}
-use Rattle.session_model.specs.declared.limits.TheConstants.{MOST_KEPT}
-use Rattle.session_model.specs.Session.{Session, program_named, pin_named}
+use Rattle.map_model.specs.declared.limits.TheConstants.{COLUMN_BYTES, EDGE_BYTES, MOST_COLUMNS}
+use Rattle.session_model.specs.declared.limits.TheConstants.{MOST_KEPT, MOST_KEPT_COLUMNS}
+use Rattle.bpf_image.specs.Program.{Program}
+use Rattle.session_model.specs.Commands.{Asked}
+use Rattle.session_model.specs.Session.{Session, program_named, pin_named, column_named}
 
 -- tests in their order: the first that holds gives the fault
 abbrev pub first_fault : List (Bool × Fault) → Option Fault
@@ -94,3 +96,30 @@ argument_fault argument record_length vertices frontier =
 abbrev pub length_fault : List ℕ → ℕ → Option Fault
 length_fault argument record_length =
     first_fault ((not (length argument + EDGE_BYTES == record_length), faults.ArgumentLength) ∷ [])
+
+-- so many numbers from a vertex on are of vertices
+abbrev pub is_span : (vertices first count : ℕ) → Bool
+is_span vertices first count = nat_lt first vertices && nat_le (first + count) vertices
+
+-- numbers of a column from a vertex on
+abbrev pub column_fault : List ℕ → ℕ → List ℕ → Past → Session → Option Fault
+column_fault name first numbers past s =
+    first_fault ((not (is_span past.vertex_count first (length numbers)), faults.Range) ∷ (not (is_some (column_named name s.columns)) && nat_le MOST_KEPT_COLUMNS (length s.columns), faults.TooMany) ∷ [])
+
+-- vertices whose numbers are shown
+abbrev pub shown_fault : List ℕ → Option Fault
+shown_fault frontier = first_fault ((not (is_ascending frontier), faults.Frontier) ∷ [])
+
+-- a number for each of so many vertices
+abbrev pub is_column : ℕ → List ℕ → Bool
+is_column vertices numbers = length numbers == vertices
+
+-- Columns for the records of a graph's edges, and those that are written: there are few enough for a record, and each has a
+-- number for each vertex, as all columns of a session have.
+abbrev pub are_lent : (vertices : ℕ) → (columns into : List (List ℕ)) → Bool
+are_lent vertices columns into = nat_le (length columns) MOST_COLUMNS && list_all (is_column vertices) columns && list_all (is_column vertices) into
+
+-- an argument and columns for a program's records, a frontier of a graph with so many vertices, and the columns that are written
+abbrev pub lent_fault : Asked → Program → (vertices : ℕ) → (columns into : List (List ℕ)) → Option Fault
+lent_fault asked p vertices columns into =
+    first_fault ((not (length asked.argument + EDGE_BYTES + COLUMN_BYTES * length columns == p.record_length), faults.ArgumentLength) ∷ (not (is_frontier vertices asked.frontier), faults.Frontier) ∷ (not (are_lent vertices columns into), faults.TooMany) ∷ [])

@@ -1,5 +1,5 @@
 -- What a session answers to a command, and the session after it.
-use Rattle.std.specs.Prelude.{ℕ, ◌+◌, ◌*◌, ◌==◌, ◌&&◌, nat_le, nat_lt, Bool, if◌then◌else◌, List, [], ◌∷◌, ◌++◌, length, filter, Option, Some, None, Result, Ok, Err}
+use Rattle.std.specs.Prelude.{ℕ, ◌+◌, ◌*◌, ◌==◌, ◌&&◌, nat_le, nat_lt, Bool, if◌then◌else◌, not, List, [], ◌∷◌, ◌++◌, length, map, filter, take, drop, replicate, slice_index, slice_set, Option, Some, None, Result, Ok, Err}
 use Rattle.bpf_isa.specs.declared.limits.TheConstants.{MOST_UNITS}
 use Rattle.past_model.specs.declared.edit.Edit.{Edit}
 use Rattle.past_model.specs.declared.entry.Entry.{Entry}
@@ -13,15 +13,18 @@ use Rattle.bpf_image.specs.declared.image_error.ImageError.{ImageError}
 use Rattle.bpf_image.specs.declared.image_error.ImageError.TheVariants.{CodeLength}
 use Rattle.map_model.specs.declared.reduction.Reduction.{Reduction}
 use Rattle.map_model.specs.declared.row.Row.{Row}
-use Rattle.map_model.specs.EdgeMap.{all_numbers, rows_of, reduction_of_numbers, listed_edges}
+use Rattle.map_model.specs.EdgeMap.{Inputs, all_numbers, all_with, rows_of, rows_with, reduction_of_numbers, listed_edges}
+use Rattle.map_model.specs.Parts.{values_for}
+use Rattle.map_model.specs.Pushes.{changed}
+use Rattle.map_model.specs.PushParts.{pushed_edges}
 use Rattle.verifier.specs.Walks.{longest}
 use Rattle.verifier.specs.Verdict.{Verdict, Accepted, Refused, verdict}
 use Rattle.session_model.specs.declared.fault.Fault.{Fault}
 use Rattle.session_model.specs.declared.fault.Fault.TheVariants as faults
-use Rattle.session_model.specs.Session.{Session, program_named, pin_named}
+use Rattle.session_model.specs.Session.{Session, program_named, pin_named, column_named, columns_named, stored}
 use Rattle.session_model.specs.Images.{loaded}
-use Rattle.session_model.specs.Commands.{Command, MakeGraph, PublishBatch, LoadProgram, LoadImage, TakePin, RunProgram, ReportHome, Rebase, ListEdges, Answer, GraphMade, BatchPublished, ProgramAccepted, ProgramRefused, NoImage, PinTaken, EdgesMapped, HomeReported, Rebased, EdgesListed}
-use Rattle.session_model.specs.Faults.{graph_fault, batch_fault, program_fault, image_fault, pin_fault, vertices_fault, home_fault, rebase_fault, argument_fault, length_fault}
+use Rattle.session_model.specs.Commands.{Asked, Command, MakeGraph, PublishBatch, LoadProgram, LoadImage, TakePin, RunProgram, ReportHome, Rebase, ListEdges, SetColumn, ShowValues, PullRows, PullInto, PushInto, Answer, GraphMade, BatchPublished, ProgramAccepted, ProgramRefused, NoImage, PinTaken, EdgesMapped, HomeReported, Rebased, EdgesListed, ColumnSet, ValuesShown, RowsPulled, ColumnPulled, ColumnPushed}
+use Rattle.session_model.specs.Faults.{graph_fault, batch_fault, program_fault, image_fault, pin_fault, vertices_fault, home_fault, rebase_fault, argument_fault, length_fault, column_fault, shown_fault, lent_fault}
 
 -- an answer with the session after it, or a fault
 pub data Response : Type 0 where
@@ -155,6 +158,110 @@ list_response program pin argument s =
     response_with s.past faults.Order (λ last.
     listed_response program pin argument (program_named program s.programs) (pin_named pin s.pins) s)
 
+-- ---- columns
+
+-- a column's numbers, or a 0 for each of so many vertices where there is none
+abbrev pub numbers_or_zeros : ℕ → Option (List ℕ) → List ℕ
+numbers_or_zeros vertices None = replicate vertices 0
+numbers_or_zeros vertices (Some numbers) = numbers
+
+-- a column with these numbers from a vertex on
+abbrev pub with_numbers : (first : ℕ) → (numbers column : List ℕ) → List ℕ
+with_numbers first numbers column = take first column ++ (numbers ++ drop (first + length numbers) column)
+
+abbrev pub column_response : List ℕ → ℕ → List ℕ → Session → Response
+column_response name first numbers s =
+    response_with s.past faults.Order (λ past.
+    unless_fault (column_fault name first numbers past s)
+    (Answers (ColumnSet name (length numbers))
+    (record s { columns = stored name (with_numbers first numbers (numbers_or_zeros past.vertex_count (column_named name s.columns))) s.columns })))
+
+-- a vertex with its number
+abbrev pub value_at : List ℕ → ℕ → Row
+value_at numbers v = record { vertex = v; value = slice_index numbers v }
+
+abbrev pub is_some_value : Row → Bool
+is_some_value row = not (row.value == 0)
+
+-- the numbers of vertices; where none is named, those of all vertices that are not 0
+abbrev pub values_of : (vertices : ℕ) → (numbers frontier : List ℕ) → List Row
+values_of vertices numbers [] = filter is_some_value (map (value_at numbers) (numbers_below vertices))
+values_of vertices numbers (v ∷ vs) = map (value_at numbers) (v ∷ vs)
+
+abbrev pub values_response : List ℕ → List ℕ → Session → Response
+values_response name frontier s =
+    response_with s.past faults.Order (λ last.
+    unless_fault (vertices_fault frontier last)
+    (response_with (column_named name s.columns) faults.Name (λ numbers.
+    unless_fault (shown_fault frontier) (Answers (ValuesShown (values_of last.vertex_count numbers frontier)) s))))
+
+-- a command that lends columns goes on with its program, the version of its pin, and the numbers of its columns
+abbrev pub lent_response : Asked → Session → (Program → Past → List (List ℕ) → Response) → Response
+lent_response asked s go =
+    response_with s.past faults.Order (λ last.
+    unless_fault (vertices_fault asked.frontier last)
+    (response_with (program_named asked.program s.programs) faults.Name (λ p.
+    response_with (pin_named asked.pin s.pins) faults.Name (λ past.
+    response_with (columns_named asked.columns s.columns) faults.Name (λ columns. go p past columns)))))
+
+abbrev pub inputs_of : List ℕ → List (List ℕ) → Inputs
+inputs_of argument columns = record { argument = argument; columns = columns }
+
+-- the numbers of the edges of a frontier, whose records have columns
+abbrev pub lent_numbers : Asked → Program → Graph → List (List ℕ) → List ℕ
+lent_numbers asked p g columns = all_with p (longest p) g (inputs_of asked.argument columns) (frontier_of asked.frontier g)
+
+-- as of a run, with columns
+abbrev pub rows_answer : Asked → Program → Graph → List (List ℕ) → Answer
+rows_answer asked p g columns =
+    let numbers = lent_numbers asked p g columns in
+    RowsPulled asked.program asked.pin (length numbers) (reduction_of_numbers asked.reduction numbers)
+    (filter (has_neighbour g) (rows_with p (longest p) g asked.reduction (inputs_of asked.argument columns) (frontier_of asked.frontier g)))
+
+abbrev pub pull_response : Asked → Session → Response
+pull_response asked s =
+    lent_response asked s (λ p past columns.
+    unless_fault (lent_fault asked p past.vertex_count columns [])
+    (Answers (rows_answer asked p (graph_of past) columns) s))
+
+-- a column after each vertex of a frontier has got its value
+abbrev pub placed : (frontier values numbers : List ℕ) → List ℕ
+placed [] values numbers = numbers
+placed (v ∷ vs) [] numbers = numbers
+placed (v ∷ vs) (x ∷ xs) numbers = placed vs xs (slice_set numbers v x)
+
+-- what a command that writes a column leaves of it
+abbrev pub Leaves : Type 0
+Leaves = Asked → Program → Graph → (columns : List (List ℕ)) → (numbers : List ℕ) → List ℕ
+
+-- what a pull leaves: at each vertex of the frontier what the numbers of its edges reduce to
+abbrev pub pulled : Leaves
+pulled asked p g columns numbers =
+    let frontier = frontier_of asked.frontier g in
+    placed frontier (values_for p (longest p) g asked.reduction (inputs_of asked.argument columns) frontier) numbers
+
+-- what a push leaves: the number of each edge of the frontier has gone to that of its target
+abbrev pub pushed_column : Leaves
+pushed_column asked p g columns numbers =
+    pushed_edges p (longest p) g asked.reduction (inputs_of asked.argument columns) (frontier_of asked.frontier g) numbers
+
+-- all numbers that are read are those before the command, of the column that is written, too
+abbrev pub into_response : Leaves → ((edges total changed : ℕ) → Answer) → Asked → List ℕ → Session → Response
+into_response leaves answer asked into s =
+    lent_response asked s (λ p past columns.
+    response_with (column_named into s.columns) faults.Name (λ numbers.
+    unless_fault (lent_fault asked p past.vertex_count columns (numbers ∷ []))
+    (let all = lent_numbers asked p (graph_of past) columns in
+    let after = leaves asked p (graph_of past) columns numbers in
+    Answers (answer (length all) (reduction_of_numbers asked.reduction all) (changed numbers after))
+    (record s { columns = stored into after s.columns }))))
+
+abbrev pub pull_into_response : Asked → List ℕ → Session → Response
+pull_into_response asked into s = into_response pulled (ColumnPulled asked.program asked.pin) asked into s
+
+abbrev pub push_response : Asked → List ℕ → Session → Response
+push_response asked into s = into_response pushed_column (ColumnPushed asked.program asked.pin) asked into s
+
 abbrev pub response : Command → Session → Response
 response (MakeGraph n) s = graph_response n s
 response (PublishBatch feed edits) s = publish_response feed edits s
@@ -166,3 +273,8 @@ response (RunProgram program pin reduction argument frontier) s =
 response (ReportHome v) s = home_response v s
 response Rebase s = rebase_response s
 response (ListEdges program pin argument) s = list_response program pin argument s
+response (SetColumn name first numbers) s = column_response name first numbers s
+response (ShowValues name frontier) s = values_response name frontier s
+response (PullRows asked) s = pull_response asked s
+response (PullInto asked into) s = pull_into_response asked into s
+response (PushInto asked into) s = push_response asked into s

@@ -15,13 +15,13 @@ pub enum Fault {
     /// A name that is already used, or that is unknown.
     #[error("a name is used already, or unknown")]
     Name = 5,
-    /// An argument that does not have the record length less 16 bytes.
+    /// An argument that does not have the record length less 16 bytes, and less 16 for each column.
     #[error("the argument does not have the record's length less 16 bytes")]
     ArgumentLength = 6,
     /// A frontier that is not strictly ascending.
     #[error("the frontier does not ascend")]
     Frontier = 7,
-    /// The 65,537th edit of a batch or line of a program, or a 257th program or pin.
+    /// The 65,537th edit of a batch or line of a program, a 257th program or pin, a 65th column, or a 9th one for a record.
     #[error("there are as many as there may be")]
     TooMany = 8,
     /// A batch where 4,096 are published already since the last rebase.

@@ -1,9 +1,9 @@
-//! What the commands of a session mean: a graph that is edited by batches, programs that are kept, and
-//! pins. Definitions (in `specs/`) and the types that they name; nothing here knows of a script's bytes.
+//! What the commands of a session mean: a graph that is edited by batches, programs that are kept, pins,
+//! and columns. Definitions (in `specs/`) and the types that they name; nothing here knows of a script's bytes.
 #![tactic(auto)]
 
 mod fault;
 mod limits;
 
 pub use fault::Fault;
-pub use limits::MOST_KEPT;
+pub use limits::{MOST_KEPT, MOST_KEPT_COLUMNS};

@@ -63,7 +63,7 @@ fn hex_pairs(alloc: Global, digits: &[u8]) -> Result<Option<Vec<u8>>, AllocError
 }
 
 /// Whether a word stands for no byte.
-fn is_dash(word: &[u8]) -> bool
+pub(crate) fn is_dash(word: &[u8]) -> bool
     ensures { result ≡ is_dash_word word.now }
 {
     matches!(word, [b'-'])

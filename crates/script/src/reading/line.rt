@@ -13,6 +13,17 @@ pub(crate) enum BatchLine {
     End,
 }
 
+/// What a command that lends columns asks for. Numbers stand as in a `BatchLine`.
+#[derive(Drop)]
+pub(crate) struct Asking<'a> {
+    pub program: &'a [u8],
+    pub pin: &'a [u8],
+    pub reduction: Reduction,
+    pub argument: Vec<u8>,
+    pub columns: Vec<&'a [u8]>,
+    pub frontier: Vec<u64>,
+}
+
 /// A line outside blocks that has words. Numbers stand as in a `BatchLine`.
 #[derive(Drop)]
 pub(crate) enum Statement<'a> {
@@ -63,6 +74,31 @@ pub(crate) enum Statement<'a> {
         program: &'a [u8],
         pin: &'a [u8],
         argument: Vec<u8>,
+    },
+    /// Numbers of a column from a vertex on.
+    Column {
+        name: &'a [u8],
+        first: u64,
+        numbers: Vec<u64>,
+    },
+    /// The numbers of a column at vertices.
+    Values {
+        name: &'a [u8],
+        frontier: Vec<u64>,
+    },
+    /// A program mapped over the edges of a pin with columns.
+    PullRows {
+        asking: Asking<'a>,
+    },
+    /// The same, into a column.
+    PullInto {
+        asking: Asking<'a>,
+        into: &'a [u8],
+    },
+    /// The same, into the targets' numbers of a column.
+    PushInto {
+        asking: Asking<'a>,
+        into: &'a [u8],
     },
 }
 

@@ -8,6 +8,7 @@ ghost use Rattle.script.specs.Said.{said_statement, cut_statement, saying_of, sa
 ghost use Rattle.script.specs.Reading.{load_of, image_of, run_of, list_of};
 
 use crate::reading::hex::hex;
+use crate::reading::lending::{column, pull, push, values};
 use crate::reading::line::{Line, Statement};
 use crate::reading::names::is_name;
 use crate::reading::numbers::{all_numbers, next_number};
@@ -176,7 +177,7 @@ fn image(alloc: Global, operands: &[u8]) -> Result<Option<Statement<'_>>, AllocE
 }
 
 /// How a run's numbers are put together.
-fn reduction(word: &[u8]) -> Option<Reduction>
+pub(crate) fn reduction(word: &[u8]) -> Option<Reduction>
     ensures { result ≡ reduction_word word.now }
 {
     if is_word(word, "min") {
@@ -326,6 +327,18 @@ fn statement<'a>(
     }
     if is_word(word, "rebase") {
         return Ok(rebase(operands));
+    }
+    if is_word(word, "column") {
+        return column(alloc, operands);
+    }
+    if is_word(word, "values") {
+        return values(alloc, operands);
+    }
+    if is_word(word, "pull") {
+        return pull(alloc, operands);
+    }
+    if is_word(word, "push") {
+        return push(alloc, operands);
     }
     Ok(None)
 }

@@ -1,0 +1,361 @@
+//! The pulls and pushes of a session: a program mapped over the edges of a pin with columns. One thread runs them.
+
+ghost use Rattle.std.specs.Prelude.{◌≡◌, ◌+◌, ◌*◌, ◌≤◌, ◌↔◌, [], length, map, IfOk, IfNone, IfSome, IfErr, true};
+ghost use Rattle.past_model.specs.declared.limits.TheConstants.{MOST_VERTICES};
+ghost use Rattle.past_model.specs.Past.{graph_of};
+ghost use Rattle.map_model.specs.declared.limits.TheConstants.{COLUMN_BYTES, EDGE_BYTES, MOST_COLUMNS};
+ghost use Rattle.session_model.specs.Session.{Session as SessionState};
+ghost use Rattle.session_model.specs.Faults.{is_frontier as is_frontier_of, lent_fault as lent_fault_of};
+ghost use Rattle.session_model.specs.Responses.{Answers, unless_fault, rows_answer, pull_response, into_response, frontier_of, lent_response, placed};
+ghost use Rattle.edge_fold.specs.Inputs.{inputs_of};
+ghost use Rattle.edge_fold.specs.Kept.{IsFor};
+ghost use Rattle.map_model.specs.EdgeMap.{all_with, reduction_of_numbers};
+ghost use Rattle.map_model.specs.Parts.{values_for};
+ghost use Rattle.verifier.specs.Walks.{longest};
+ghost use Rattle.session.specs.Kept.{asked_of, each_now, kept_column, program_of, past_of};
+ghost use Rattle.session.specs.Lending.{AreRows, IsLeft, IsLent, lends, Writes, WritesInto, leaves_of, answer_to, into_list};
+ghost use Rattle.session.specs.Performs.{Performs};
+
+use crate::answer::Answer;
+use crate::command::Asked;
+use crate::error::CommandError;
+use crate::frontier::{are_below, ascends};
+use crate::kept::{NamedColumn, find_column, find_columns, find_pin, find_program, store_column};
+use crate::runs::vertices_of;
+use crate::session::Session;
+use edge_fold::{
+    MapOutcome, Mapped, Memory, Progress, Request, Rows, columns_fit, map_frontier, map_whole,
+    push_whole,
+};
+use map_model::{COLUMN_BYTES, EDGE_BYTES, count_changed};
+use session_model::Fault;
+use std::alloc::{AllocError, Global};
+use std::sync::Arc;
+use store::{Pin, Version};
+use verifier::Verified;
+
+/// What a command that lends columns names.
+#[derive(Drop)]
+pub(crate) struct Lent<'a> {
+    pub program: &'a Verified,
+    pub pin: &'a Pin,
+    pub columns: Vec<&'a [u64]>,
+}
+
+/// How a column is written.
+#[derive(Clone, Copy)]
+pub(crate) enum Way {
+    /// Each vertex of the frontier gets what the numbers of its edges reduce to.
+    Pull,
+    /// The number of each edge is reduced into that of its target.
+    Push,
+}
+
+/// What is written in place of a column.
+#[derive(Drop)]
+pub(crate) struct Written {
+    pub edges: u64,
+    pub total: u64,
+    /// At how many vertices there is another number.
+    pub changed: u64,
+    pub numbers: Vec<u64>,
+}
+
+/// What a command that lends columns names, where all are there.
+fn lent_of<'a>(
+    alloc: Global,
+    asked: &Asked<'_>,
+    columns: &'a [NamedColumn],
+    program: Option<&'a Arc<Verified>>,
+    pin: Option<&'a Pin>,
+) -> Result<Lent<'a>, CommandError>
+    ensures { IsLent (lends (asked_of asked.now) (program_of program.entry) (past_of pin.entry)
+        (map kept_column columns.now)) result }
+{
+    let (Some(program), Some(pin)) = (program, pin) else {
+        return Err(CommandError::Fault(Fault::Name));
+    };
+    let Some(columns) = find_columns(alloc, columns, asked.columns)? else {
+        return Err(CommandError::Fault(Fault::Name));
+    };
+    Ok(Lent {
+        program,
+        pin,
+        columns,
+    })
+}
+
+/// Whether an argument and columns fill a program's record.
+fn fills_record(asked: &Asked<'_>, lent: &Lent<'_>) -> bool
+    ensures { (result ≡ true) ↔ (length asked.now.argument.now + EDGE_BYTES + COLUMN_BYTES * length lent.now.columns.items
+        ≡ lent.now.program.now.record_length) }
+{
+    let columns = lent.columns.len().saturating_mul(COLUMN_BYTES);
+    let length = asked
+        .argument
+        .len()
+        .saturating_add(EDGE_BYTES)
+        .saturating_add(columns);
+    length == usize::from(lent.program.image().record_length())
+}
+
+/// What is wrong with the argument, the frontier and the columns of a command, and with the column that it writes, if it does.
+fn lent_fault(asked: &Asked<'_>, lent: &Lent<'_>, into: Option<&[u64]>) -> Option<Fault>
+    ensures fault { result ≡ lent_fault_of (asked_of asked.now) lent.now.program.now lent.now.pin.now.past.vertex_count
+        (each_now lent.now.columns.items) (into_list into.entry) }
+    ensures fits { IfNone result (length asked.now.argument.now + EDGE_BYTES + COLUMN_BYTES * length lent.now.columns.items
+        ≡ lent.now.program.now.record_length) }
+    ensures few { IfNone result (length lent.now.columns.items ≤ MOST_COLUMNS) }
+    ensures frontier { IfNone result (is_frontier_of lent.now.pin.now.past.vertex_count asked.now.frontier.now ≡ true) }
+    ensures long { IfNone result (IfSome into.entry (λ numbers. length numbers.now ≡ lent.now.pin.now.past.vertex_count)) }
+{
+    if !fills_record(asked, lent) {
+        return Some(Fault::ArgumentLength);
+    }
+    let vertices = lent.pin.version().vertex_count();
+    if !ascends(asked.frontier) || !are_below(asked.frontier, vertices) {
+        return Some(Fault::Frontier);
+    }
+    if !columns_fit(&lent.columns, vertices) {
+        return Some(Fault::TooMany);
+    }
+    match into {
+        Some(numbers) if numbers.len() != vertices as usize => Some(Fault::TooMany),
+        _ => None,
+    }
+}
+
+/// The vertices of a frontier, or all.
+fn frontier_for(alloc: Global, version: &Version, frontier: &[u64]) -> Result<Vec<u32>, AllocError>
+    requires { is_frontier_of version.now.vertex_count frontier.now ≡ true }
+    ensures all { IfOk result (λ all. all.items ≡ frontier_of frontier.now (graph_of version.now)) }
+    ensures few { IfOk result (λ all. length all.items ≤ MOST_VERTICES) }
+{
+    let all = vertices_of(alloc, version, frontier, version.vertex_count())?;
+    Ok(all)
+}
+
+/// Gives each vertex of a frontier its value.
+fn place(frontier: &[u32], values: &[u64], numbers: &mut [u64])
+    requires { length values.now ≡ length frontier.now }
+    ensures placed { numbers.new ≡ placed frontier.now values.now numbers.old }
+{
+    for at in 0..frontier.len() {
+        let vertex = frontier[at] as usize;
+        if vertex < numbers.len() {
+            numbers[vertex] = values[at];
+        }
+    }
+}
+
+/// Pulls a column's next numbers.
+fn pull(
+    alloc: Global,
+    memory: &mut Memory,
+    mapped: &Mapped<'_>,
+    request: &Request<'_>,
+    numbers: &mut [u64],
+) -> Result<Progress, AllocError>
+    requires few { length request.now.frontier.now ≤ MOST_VERTICES }
+    requires memory { IsFor mapped.now.program.now memory.old }
+    ensures numbers { IfOk result (λ _. let m = mapped.now in let p = m.program.now in let r = request.now in
+        numbers.new ≡ placed r.frontier.now
+        (values_for p (longest p) (graph_of m.version.now) r.reduction (inputs_of m) r.frontier.now) numbers.old) }
+    ensures edges { IfOk result (λ end. let m = mapped.now in let p = m.program.now in
+        end.edges ≡ length (all_with p (longest p) (graph_of m.version.now) (inputs_of m) request.now.frontier.now)) }
+    ensures total { IfOk result (λ end. let m = mapped.now in let p = m.program.now in let r = request.now in end.total
+        ≡ reduction_of_numbers r.reduction (all_with p (longest p) (graph_of m.version.now) (inputs_of m) r.frontier.now)) }
+{
+    let mut values = vec![in alloc; 0u64; request.frontier.len()]?;
+    let end = map_whole(memory, mapped, request, &mut values);
+    place(request.frontier, &values, numbers);
+    Ok(end)
+}
+
+/// What a pull or a push over edges writes in place of a column.
+fn mapped_numbers(
+    alloc: Global,
+    way: Way,
+    mapped: &Mapped<'_>,
+    request: &Request<'_>,
+    numbers: &[u64],
+) -> Result<Written, AllocError>
+    requires few { length request.now.frontier.now ≤ MOST_VERTICES }
+    requires long { length numbers.now ≡ (graph_of mapped.now.version.now).vertex_count }
+    ensures { IfOk result (λ w. let m = mapped.now in let r = request.now in IsLeft way m.program.now
+        (graph_of m.version.now) r.reduction (inputs_of m) r.frontier.now numbers.now w) }
+{
+    let mut after = Vec::from_slice(alloc, numbers)?;
+    let mut memory = Memory::for_program(mapped.program);
+    let end = match way {
+        Way::Pull => pull(alloc, &mut memory, mapped, request, &mut after)?,
+        Way::Push => push_whole(&mut memory, mapped, request, &mut after),
+    };
+    Ok(Written {
+        edges: end.edges,
+        total: end.total,
+        changed: count_changed(numbers, &after) as u64,
+        numbers: after,
+    })
+}
+
+/// The rows of a map over edges, of vertices with a neighbour.
+fn mapped_rows(
+    alloc: Global,
+    mapped: &Mapped<'_>,
+    request: &Request<'_>,
+) -> Result<MapOutcome, AllocError>
+    requires { length request.now.frontier.now ≤ MOST_VERTICES }
+    ensures { IfOk result (λ out. let m = mapped.now in let r = request.now in AreRows m.program.now (graph_of m.version.now)
+        r.reduction (inputs_of m) r.frontier.now out) }
+{
+    let mut memory = Memory::for_program(mapped.program);
+    map_frontier(alloc, &mut memory, mapped, request, Rows::OfSources)
+}
+
+/// What a pull or a push writes in place of a column.
+fn write_numbers(
+    alloc: Global,
+    way: Way,
+    asked: &Asked<'_>,
+    lent: &Lent<'_>,
+    numbers: &[u64],
+) -> Result<Written, CommandError>
+    ensures { Writes (leaves_of way) (asked_of asked.now) lent.now.program.now lent.now.pin.now.past
+        (each_now lent.now.columns.items) numbers.now result }
+{
+    if let Some(fault) = lent_fault(asked, lent, Some(numbers)) {
+        return Err(CommandError::Fault(fault));
+    }
+    let version = lent.pin.version();
+    let frontier = frontier_for(alloc, version, asked.frontier)?;
+    let mapped = Mapped {
+        version,
+        program: lent.program,
+        argument: asked.argument,
+        columns: &lent.columns,
+    };
+    let request = Request {
+        frontier: &frontier,
+        reduction: asked.reduction,
+    };
+    let written = mapped_numbers(alloc, way, &mapped, &request, numbers)?;
+    Ok(written)
+}
+
+/// The rows of a pull.
+fn pulled_rows<'a>(
+    alloc: Global,
+    asked: &Asked<'a>,
+    lent: &Lent<'_>,
+) -> Result<Answer<'a>, CommandError>
+    ensures { (s : SessionState) → let p = lent.now.program.now in let past = lent.now.pin.now.past in
+        let columns = each_now lent.now.columns.items in Performs
+        (unless_fault (lent_fault_of (asked_of asked.now) p past.vertex_count columns [])
+        (Answers (rows_answer (asked_of asked.now) p (graph_of past) columns) s)) result s s }
+{
+    if let Some(fault) = lent_fault(asked, lent, None) {
+        return Err(CommandError::Fault(fault));
+    }
+    let version = lent.pin.version();
+    let frontier = frontier_for(alloc, version, asked.frontier)?;
+    let mapped = Mapped {
+        version,
+        program: lent.program,
+        argument: asked.argument,
+        columns: &lent.columns,
+    };
+    let request = Request {
+        frontier: &frontier,
+        reduction: asked.reduction,
+    };
+    let out = mapped_rows(alloc, &mapped, &request)?;
+    Ok(Answer::RowsPulled {
+        program: asked.program,
+        pin: asked.pin,
+        edges: out.edges,
+        total: out.total,
+        rows: out.rows,
+    })
+}
+
+impl Session {
+    /// Finds what a command that lends columns names.
+    fn find_lent(&self, asked: &Asked<'_>) -> Result<Lent<'_>, CommandError>
+        ensures { IsLent (lent_response (asked_of asked.now) self.now) result }
+    {
+        let Some(store) = &self.store else {
+            return Err(CommandError::Fault(Fault::Order));
+        };
+        if !are_below(asked.frontier, store.vertex_count()) {
+            return Err(CommandError::Fault(Fault::Range));
+        }
+        let program = find_program(&self.programs, asked.program);
+        let pin = find_pin(&self.pins, asked.pin);
+        lent_of(self.alloc, asked, &self.columns, program, pin)
+    }
+
+    /// Maps a program over the edges of a pin with columns.
+    pub(crate) fn pull_rows<'a>(&self, asked: &Asked<'a>) -> Result<Answer<'a>, CommandError>
+        ensures { Performs (pull_response (asked_of asked.now) self.now) result self.now self.now }
+    {
+        match self.find_lent(asked) {
+            Ok(lent) => pulled_rows(self.alloc, asked, &lent),
+            Err(error) => Err(error),
+        }
+    }
+
+    /// What a command writes in place of a column.
+    fn write(&self, way: Way, asked: &Asked<'_>, into: &[u8]) -> Result<Written, CommandError>
+        ensures { WritesInto way (asked_of asked.now) into.now self.now result }
+    {
+        match self.find_lent(asked) {
+            Ok(lent) => {
+                let Some(numbers) = find_column(&self.columns, into) else {
+                    return Err(CommandError::Fault(Fault::Name));
+                };
+                write_numbers(self.alloc, way, asked, &lent, numbers)
+            }
+            Err(error) => Err(error),
+        }
+    }
+
+    /// Maps a program over the edges of a pin with columns, and writes a column.
+    pub(crate) fn write_column<'a>(
+        &mut self,
+        way: Way,
+        asked: &Asked<'a>,
+        into: &[u8],
+    ) -> Result<Answer<'a>, CommandError>
+        ensures performed { let a = asked_of asked.now in Performs
+            (into_response (leaves_of way) (answer_to way a.program a.pin) a into.now self.old) result self.old self.new }
+        ensures kept { IfErr result (λ _. self.new ≡ self.old) }
+    {
+        let written = self.write(way, asked, into)?;
+        let Written {
+            edges,
+            total,
+            changed,
+            numbers,
+        } = written;
+        store_column(self.alloc, &mut self.columns, into, numbers)?;
+        let program = asked.program;
+        let pin = asked.pin;
+        match way {
+            Way::Pull => Ok(Answer::ColumnPulled {
+                program,
+                pin,
+                edges,
+                total,
+                changed,
+            }),
+            Way::Push => Ok(Answer::ColumnPushed {
+                program,
+                pin,
+                edges,
+                total,
+                changed,
+            }),
+        }
+    }
+}
