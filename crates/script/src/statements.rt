@@ -28,7 +28,7 @@ pub(crate) fn whole(done: Result<(), LineError>) -> Result<Option<Listing>, Line
 }
 
 /// What a line asks for, lent.
-fn asked<'a>(asking: &'a Asking<'a>) -> Asked<'a>
+fn asked<'a, 'b>(asking: &'a Asking<'b>) -> Asked<'a, 'b>
     ensures { asked_of result ≡ said_asked asking.now }
 {
     Asked {

@@ -6,18 +6,18 @@ use past_model::Edit;
 /// What a command that lends columns asks for: a program and a pin by their names, how numbers are reduced, the argument's
 /// bytes, the columns that records have numbers of, by their names, and the frontier (none for all vertices).
 #[derive(Clone, Copy, Debug)]
-pub struct Asked<'a> {
+pub struct Asked<'a, 'b> {
     pub program: &'a [u8],
     pub pin: &'a [u8],
     pub reduction: Reduction,
     pub argument: &'a [u8],
-    pub columns: &'a [&'a [u8]],
+    pub columns: &'a [&'b [u8]],
     pub frontier: &'a [u64],
 }
 
 /// A command. Numbers are tested when it is performed.
 #[derive(Debug, Drop)]
-pub enum Command<'a> {
+pub enum Command<'a, 'b> {
     /// A graph of so many vertices.
     MakeGraph {
         vertices: u64,
@@ -77,16 +77,16 @@ pub enum Command<'a> {
     },
     /// A program mapped over the edges of a pin with columns, a row for each vertex with a neighbour.
     PullRows {
-        asked: Asked<'a>,
+        asked: Asked<'a, 'b>,
     },
     /// The same, and a column gets what each vertex of the frontier has.
     PullInto {
-        asked: Asked<'a>,
+        asked: Asked<'a, 'b>,
         into: &'a [u8],
     },
     /// The same, and each edge's number is reduced into that of its target in a column.
     PushInto {
-        asked: Asked<'a>,
+        asked: Asked<'a, 'b>,
         into: &'a [u8],
     },
 }

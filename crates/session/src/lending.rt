@@ -64,7 +64,7 @@ pub(crate) struct Written {
 /// What a command that lends columns names, where all are there.
 fn lent_of<'a>(
     alloc: Global,
-    asked: &Asked<'_>,
+    asked: &Asked<'_, '_>,
     columns: &'a [NamedColumn],
     program: Option<&'a Arc<Verified>>,
     pin: Option<&'a Pin>,
@@ -86,7 +86,7 @@ fn lent_of<'a>(
 }
 
 /// Whether an argument and columns fill a program's record.
-fn fills_record(asked: &Asked<'_>, lent: &Lent<'_>) -> bool
+fn fills_record(asked: &Asked<'_, '_>, lent: &Lent<'_>) -> bool
     ensures { (result ≡ true) ↔ (length asked.now.argument.now + EDGE_BYTES + COLUMN_BYTES * length lent.now.columns.items
         ≡ lent.now.program.now.record_length) }
 {
@@ -100,7 +100,7 @@ fn fills_record(asked: &Asked<'_>, lent: &Lent<'_>) -> bool
 }
 
 /// What is wrong with the argument, the frontier and the columns of a command, and with the column that it writes, if it does.
-fn lent_fault(asked: &Asked<'_>, lent: &Lent<'_>, into: Option<&[u64]>) -> Option<Fault>
+fn lent_fault(asked: &Asked<'_, '_>, lent: &Lent<'_>, into: Option<&[u64]>) -> Option<Fault>
     ensures fault { result ≡ lent_fault_of (asked_of asked.now) lent.now.program.now lent.now.pin.now.past.vertex_count
         (each_now lent.now.columns.items) (into_list into.entry) }
     ensures fits { IfNone result (length asked.now.argument.now + EDGE_BYTES + COLUMN_BYTES * length lent.now.columns.items
@@ -217,7 +217,7 @@ fn mapped_rows(
 fn write_numbers(
     alloc: Global,
     way: Way,
-    asked: &Asked<'_>,
+    asked: &Asked<'_, '_>,
     lent: &Lent<'_>,
     numbers: &[u64],
 ) -> Result<Written, CommandError>
@@ -246,7 +246,7 @@ fn write_numbers(
 /// The rows of a pull.
 fn pulled_rows<'a>(
     alloc: Global,
-    asked: &Asked<'a>,
+    asked: &Asked<'a, '_>,
     lent: &Lent<'_>,
 ) -> Result<Answer<'a>, CommandError>
     ensures { (s : SessionState) → let p = lent.now.program.now in let past = lent.now.pin.now.past in
@@ -281,7 +281,7 @@ fn pulled_rows<'a>(
 
 impl Session {
     /// Finds what a command that lends columns names.
-    fn find_lent(&self, asked: &Asked<'_>) -> Result<Lent<'_>, CommandError>
+    fn find_lent(&self, asked: &Asked<'_, '_>) -> Result<Lent<'_>, CommandError>
         ensures { IsLent (lent_response (asked_of asked.now) self.now) result }
     {
         let Some(store) = &self.store else {
@@ -296,7 +296,7 @@ impl Session {
     }
 
     /// Maps a program over the edges of a pin with columns.
-    pub(crate) fn pull_rows<'a>(&self, asked: &Asked<'a>) -> Result<Answer<'a>, CommandError>
+    pub(crate) fn pull_rows<'a>(&self, asked: &Asked<'a, '_>) -> Result<Answer<'a>, CommandError>
         ensures { Performs (pull_response (asked_of asked.now) self.now) result self.now self.now }
     {
         match self.find_lent(asked) {
@@ -306,7 +306,7 @@ impl Session {
     }
 
     /// What a command writes in place of a column.
-    fn write(&self, way: Way, asked: &Asked<'_>, into: &[u8]) -> Result<Written, CommandError>
+    fn write(&self, way: Way, asked: &Asked<'_, '_>, into: &[u8]) -> Result<Written, CommandError>
         ensures { WritesInto way (asked_of asked.now) into.now self.now result }
     {
         match self.find_lent(asked) {
@@ -324,7 +324,7 @@ impl Session {
     pub(crate) fn write_column<'a>(
         &mut self,
         way: Way,
-        asked: &Asked<'a>,
+        asked: &Asked<'a, '_>,
         into: &[u8],
     ) -> Result<Answer<'a>, CommandError>
         ensures performed { let a = asked_of asked.now in Performs

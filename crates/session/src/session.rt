@@ -61,10 +61,10 @@ impl Session {
     /// So it is after `OutOfMemory` and `WorkerRefused` of a batch, but that its store may hold one where it held none: a batch
     /// handed in again publishes that one, and is answered `Store` if it is another. After `Store` of a batch none is held,
     /// and there is no use of the session but `close`.
-    pub fn perform<'a, Ga: Gate, R: Threads + Wait>(
+    pub fn perform<'a, 'b, Ga: Gate, R: Threads + Wait>(
         &mut self,
         crew: &Crew<'_, R, Ga>,
-        command: Command<'a>,
+        command: Command<'a, 'b>,
     ) -> Result<Answer<'a>, CommandError>
         ensures performed { Performs (response (command_of command.entry) self.old) result self.old self.new }
         ensures kept { IfErr result (λ _. HandsInBatch (command_of command.entry) ⊎ (self.new ≡ self.old)) }
