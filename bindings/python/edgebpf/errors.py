@@ -107,5 +107,5 @@ class TimedOut(Error):
 
 
 class NotHere(Error):
-    """A version of `connect` has no steps, no limit of time, no columns, no pairs, no pushes, no numbers of a frontier, and none of the
+    """A version of `connect` has no steps, no limit of time, no pairs, no numbers of a frontier or with columns, and none of the
     algorithms that read lists where they lie; one of `Store` has them."""
