@@ -11,7 +11,9 @@ ghost use Rattle.embedding.specs.declared.statuses.TheConstants.{DONE};
 
 use crate::held::Held;
 use crate::statuses::{DONE, OTHER_KIND};
-use answers::{Components, Cores, Search, are_components, are_cores, is_independent_set, is_search};
+use answers::{
+    Components, Cores, Search, are_components, are_cores, is_independent_set, is_search,
+};
 
 /// Writes 1 if levels and parents are the answer of a search of the version from its root, and else 0: also where one of the arrays has
 /// not an entry for each vertex. A 1 says that the levels are distances (`answers::laws::levels_are_distances`). It takes no memory.
