@@ -67,6 +67,31 @@ class Compile(unittest.TestCase):
         for word, value in (("--crate-type", "staticlib"), ("--cpu", "x86-64-v3"), ("--target", "x86_64-unknown-linux-gnu")):
             self.assertEqual(words[words.index(word) + 1], value)
 
+    def test_all_of_dist(self):
+        """Each object file of tools/variants, for its processor; the programs' own stay, which rt ci leaves."""
+        rows = [line.split(None, 2) for line in (TOOLS / "variants").read_text().splitlines() if not line.startswith("#")]
+        crates = {row[1] for row in rows}
+        for crate in crates:
+            (self.top / "crates" / crate / "src").mkdir(parents=True)
+            if crate != "edgebpf_c":
+                (self.top / "crates" / crate / "src/main.rt").write_text("")
+        (self.top / "crates.txt").write_text("low:\n" + "".join(f"{crate}{' staticlib' * (crate == 'edgebpf_c')}: low\n" for crate in sorted(crates)))
+        kept = self.top / "crates/edgebpf/out/edgebpf.o"
+        kept.parent.mkdir()
+        kept.write_text("of rt\n")
+        self.assertEqual(self.compile("--dist"), (0, ""))
+        for name, crate, *words in rows:
+            text = (self.top / "crates" / crate / "out" / f"{name}.o").read_text()
+            if name == crate == "edgebpf":
+                self.assertEqual(text, "of rt\n")
+                continue
+            for word in (f"--crate-name {crate} ", *words, "--incremental "):
+                self.assertIn(word, text)
+            self.assertEqual("--cpu" in text or "--target" in text, bool(words))
+        made = {path.name for path in self.top.glob("crates/*/out/*") if path.suffix}
+        self.assertEqual(made, {f"{row[0]}.o" for row in rows})
+        self.assertEqual(self.compile("--dist", FAILS="yes")[0], 1)
+
     def test_what_is_not_compiled(self):
         """It is said in words, and what was there stays."""
         self.file.parent.mkdir()
