@@ -14,8 +14,8 @@ from pathlib import Path
 
 TOP = Path(__file__).resolve().parent.parent.parent
 OURS = re.compile(r"^[0-9a-f]+ <bpf_blocks::")
-WANTED = {"sum": {"paddq"}, "difference": {"psubq"}, "product": {"pmuludq"}, "bitwise operation": {"pand", "por", "pxor"}, "shift": {"psrlq", "psllq"},
-          "comparison": {"pcmpgtd", "pcmpgtq"}, "choice between lanes": {"blendvpd", "blendvps"}}
+WANTED = {"sum": {"paddq"}, "difference": {"psubq"}, "product": {"pmuludq"}, "bitwise operation": {"pand", "por", "pxor"}, "shift": {"psrlq", "psllq", "psrlvq", "psllvq"},
+          "comparison": {"pcmpgtd", "pcmpgtq"}, "choice between lanes": {"blendvpd", "blendvps", "pblendvb"}}
 
 
 def instructions_of(program, is_wide):
