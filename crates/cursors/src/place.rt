@@ -1,5 +1,5 @@
 //! Where a vertex's list stands.
-ghost use Rattle.std.specs.Prelude.{◌≡◌, ◌<◌, [], length, IfSome, MatchOption};
+ghost use Rattle.std.specs.Prelude.{◌≡◌, ◌<◌, ◌≤◌, length, IfSome, MatchOption};
 ghost use Rattle.graph_model.specs.Graph.{Graph, neighbours};
 ghost use Rattle.migration.specs.Part.{row_at};
 ghost use Rattle.migration.specs.Table.{IsShardOf};
@@ -7,11 +7,11 @@ ghost use Rattle.migration.specs.Table.{IsShardOf};
 use migration::Shard;
 use past_model::RANGE_VERTICES;
 
-/// A vertex's list by the shard in which it stands and its place there. An empty list may have none.
+/// A vertex's list by the shard in which it stands and its place there. A vertex outside the graph has none.
 pub(crate) fn place_of(shard: Option<&Shard>, vertex: u64) -> Option<(&Shard, u8)>
     ensures inside { IfSome result (λ place. place.1 < length place.0.now.rows) }
     ensures list { (g : Graph) → IsShardOf g vertex shard.entry
-        → MatchOption result (neighbours g vertex ≡ []) (λ place. row_at place.0.now place.1 ≡ neighbours g vertex) }
+        → MatchOption result (g.vertex_count ≤ vertex) (λ place. row_at place.0.now place.1 ≡ neighbours g vertex) }
 {
     let shard: &Shard = shard?;
     let place = (vertex % u64::from(RANGE_VERTICES)) as u8;

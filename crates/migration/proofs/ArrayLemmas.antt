@@ -4,9 +4,10 @@ use Rattle.std.specs.List.{AllByRecursion}
 use Rattle.std.specs.declared.sync.Arc.{Arc}
 use Rattle.std.specs.declared.alloc.Global.{Global}
 use Rattle.std.specs.Arc.{arc_value}
-use Rattle.std.proofs.lemmas.Bool.{cases_lt}
+use Rattle.std.proofs.lemmas.Bool.{cases_lt, cases_eq, false_from_ne_true}
 use Rattle.std.proofs.lemmas.List.{length-map, length_push, map_push, get_or-map, get_or_append_left, get_or_push, get_or_past}
 use Rattle.past_model.specs.declared.limits.TheConstants.{MOST_VERTICES, MOST_RANGES}
+use Rattle.past_model.specs.declared.home.Home.{Home}
 use Rattle.past_model.specs.declared.home.Home.TheVariants.{Block}
 use Rattle.past_model.specs.Homes.{IsHomeOf}
 use Rattle.past_model.proofs.HomeLemmas.{homes_hold}
@@ -20,7 +21,7 @@ use Rattle.word_sets.proofs.Within.{IsWithin-filter}
 use Rattle.migration.specs.declared.lists.Lists.{Lists}
 use Rattle.migration.specs.Lists.{rows_of, homes_of, AreKept}
 use Rattle.migration.specs.Pages.{rows_in, homes_in, sizes_in, ArePages}
-use Rattle.migration.specs.Part.{Part, IsShard, AreHomes, home_at}
+use Rattle.migration.specs.Part.{Part, IsShard, AreHomes, vertex_at, row_at, home_at}
 use Rattle.migration.specs.Table.{IsTable, IsPartAt, part_at, home_in}
 use Rattle.migration.specs.Blocks.{AreHoused}
 use Rattle.migration.specs.Arrays.{list_of, first_home, rows_from, homes_from, part_from, AreLists, ArePartsOf, AreListsOf}

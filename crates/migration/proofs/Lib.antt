@@ -21,7 +21,5 @@ pub mod HousedLemmas
 pub mod FilledLemmas
 pub mod MadeLemmas
 pub mod ArrayLemmas
-pub mod SlotLemmas
-pub mod SparseLemmas
 mod SeenLemmas
 mod NearbyLemmas

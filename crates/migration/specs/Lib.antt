@@ -12,7 +12,3 @@ pub mod Begun
 pub mod Made
 pub mod Edited
 pub mod Arrays
-pub mod Slots
-pub mod Empty
-pub mod Kinds
-pub mod Sparse

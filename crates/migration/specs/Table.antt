@@ -7,7 +7,7 @@ use Rattle.std.specs.Arc.{arc_value}
 use Rattle.past_model.specs.declared.limits.TheConstants.{MOST_VERTICES, RANGE_VERTICES}
 use Rattle.past_model.specs.declared.edit.Edit.{Edit}
 use Rattle.past_model.specs.declared.home.Home.{Home}
-use Rattle.graph_model.specs.Graph.{Graph, neighbours, numbers_below}
+use Rattle.graph_model.specs.Graph.{Graph, numbers_below}
 use Rattle.past_model.specs.Homes.{home_after}
 use Rattle.past_model.specs.Past.{Base, no_base}
 use Rattle.past_model.specs.Edits.{after_batch, added, removed, AreEditsBelow}
@@ -32,9 +32,9 @@ pub record IsTable (g : Graph) (parts : List Part) : Type 0 where
   pub ranges : (range : ℕ) → (range < length parts) ↔ (RANGE_VERTICES * range < g.vertex_count)
   pub each : (range : ℕ) → range < length parts → IsPartAt g range (part_at parts range)
 
--- the shard in which a vertex's list stands; there may be none if the list is empty
+-- the shard in which a vertex's list stands, if the graph has the vertex's range
 abbrev pub IsShardOf : Graph → ℕ → Option (Bor Part) → Type 0
-IsShardOf g v None = neighbours g v ≡ []
+IsShardOf g v None = g.vertex_count ≤ RANGE_VERTICES * (v / RANGE_VERTICES)
 IsShardOf g v (Some shard) = IsPartAt g (v / RANGE_VERTICES) shard.now
 
 -- a graph is these parts

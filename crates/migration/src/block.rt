@@ -1,5 +1,5 @@
-//! Neighbouring ranges, after one owner.
-ghost use Rattle.std.specs.Prelude.{◌≡◌, ◌+◌, ◌^◌, ◌<◌, ◌≤◌, length, map, IfOk, IfSome, MatchOption};
+//! Shards of neighbouring ranges, after one owner.
+ghost use Rattle.std.specs.Prelude.{◌≡◌, ◌+◌, ◌^◌, ◌<◌, ◌≤◌, length, IfOk};
 ghost use Rattle.past_model.specs.declared.limits.TheConstants.{MOST_RANGES};
 ghost use Rattle.graph_model.specs.Graph.{Graph};
 ghost use Rattle.past_model.specs.Edits.{AreEditsBelow};
@@ -7,100 +7,58 @@ ghost use Rattle.migration.specs.declared.groups.Grouping.TheVariants.{ByRange};
 ghost use Rattle.migration.specs.Blocks.{ArePartsFrom, AreEditable, AreEdited, AreHoused, AreRehoused};
 ghost use Rattle.migration.specs.Groups.{filled_below};
 ghost use Rattle.migration.specs.Made.{AreMade};
-ghost use Rattle.migration.specs.Slots.{part_of, part_seen};
-ghost use Rattle.migration.specs.Table.{part_at};
+ghost use Rattle.migration.specs.Table.{parts_of};
 
 use crate::counts::Counts;
 use crate::edited_shard::EditedShard;
-use crate::empty::EmptyRanges;
 use crate::groups::Groups;
-use crate::slots::{Seen, Slot, Slots};
+use crate::shard::Shard;
 use std::alloc::{AllocError, Global};
 use std::marker::Model;
+use std::sync::Arc;
 
-/// What a block has: no slot before its first edit.
-#[derive(Drop)]
-pub(crate) enum Kind {
-    Empty(EmptyRanges),
-    Kept(Slots),
-}
-
-/// Ranges one after another. As long as none of them has had an edit, they take no memory of their own.
+/// The shards of ranges one after another.
 #[derive(Drop)]
 pub(crate) struct Block {
-    kind: Kind,
+    shards: Vec<Arc<Shard>>,
 }
 
 impl Model for Block {
     ghost use Rattle.std.specs.Prelude.{List};
     ghost use Rattle.migration.specs.Part.{Part};
-    ghost use Rattle.migration.specs.Kinds.{parts_by};
+    ghost use Rattle.migration.specs.Table.{parts_of};
 
     ghost Value = { List Part };
 
-    ghost view = { λ b. parts_by b.kind };
+    ghost view = { λ b. parts_of b.shards.items };
 }
 
 impl Block {
-    /// These slots.
-    pub(crate) fn of(slots: Slots) -> Block
-        ensures { result ≡ slots }
+    /// These shards.
+    pub(crate) fn of(shards: Vec<Arc<Shard>>) -> Block
+        ensures { result ≡ parts_of shards.items }
     {
-        Block {
-            kind: Kind::Kept(slots),
-        }
+        Block { shards }
     }
 
-    /// Ranges without an edge.
-    pub(crate) fn empty(ranges: EmptyRanges) -> Block
-        ensures { result ≡ ranges }
+    /// The shards, in order.
+    pub(crate) fn shards(&self) -> &[Arc<Shard>]
+        ensures { parts_of result.now ≡ self.now }
     {
-        Block {
-            kind: Kind::Empty(ranges),
-        }
+        &self.shards
     }
 
-    /// How many ranges it has.
-    pub(crate) fn len(&self) -> usize
-        ensures { result ≡ length self.now }
+    /// The shards, in order, which are no block any more.
+    pub(crate) fn into_shards(self) -> Vec<Arc<Shard>>
+        ensures { parts_of result.items ≡ self }
     {
-        match &self.kind {
-            Kind::Empty(ranges) => ranges.len(),
-            Kind::Kept(slots) => slots.len(),
-        }
+        self.shards
     }
 
-    /// The range at a place.
-    #[inline(always)]
-    pub(crate) fn at(&self, place: usize) -> Option<Seen<'_>>
-        ensures { MatchOption result (length self.now ≤ place)
-            (λ seen. (place < length self.now) × (part_seen seen ≡ part_at self.now place)) }
-    {
-        match &self.kind {
-            Kind::Kept(slots) => slots.at(place),
-            Kind::Empty(ranges) => {
-                if place < ranges.len() {
-                    Some(Seen::Empty(ranges.at(place)))
-                } else {
-                    None
-                }
-            }
-        }
-    }
-
-    /// The slots, in order, which are no block any more. A block without an edit has none.
-    pub(crate) fn into_slots(self) -> Option<Vec<Slot>>
-        ensures { IfSome result (λ slots. map part_of slots.items ≡ self) }
-    {
-        let Block { kind } = self;
-        match kind {
-            Kind::Empty(_) => None,
-            Kind::Kept(slots) => Some(slots.into_slots()),
-        }
-    }
-
-    /// The block with edited shards put in, where its first range is this one, and what the edits did to its
-    /// ranges. A shard that no edit is of is shared. `next` counts the edited shards that were put in.
+    /// The block with edited shards put in, where its first shard is of this range, and what the edits did to its
+    /// shards. A shard that no edit is of is shared. `next` counts the edited shards that were put in.
+    // A function of its own: as part of the long function that makes a version each shard takes half as much again.
+    #[inline(never)]
     pub(crate) fn with(
         &self,
         alloc: Global,
@@ -122,13 +80,22 @@ impl Block {
         ensures homes { IfOk result (λ new. AreHoused self.now → AreRehoused self.now new.0) }
         ensures next { IfOk result (λ _. next.new ≡ length (filled_below groups.now (first + length self.now))) }
     {
-        let (slots, counts) = match &self.kind {
-            Kind::Kept(slots) => slots.with(alloc, first, groups, made, next)?,
-            Kind::Empty(ranges) => {
-                Slots::empty(alloc, ranges)?.with(alloc, first, groups, made, next)?
+        let mut shards = Vec::with_capacity(alloc, self.shards.len())?;
+        let mut counts = Counts::NONE;
+        let end = first + self.shards.len();
+        let mut filled = groups.next_filled(first, end);
+        for (place, shard) in self.shards.iter().enumerate() {
+            if first + place < filled {
+                shards.push(Arc::try_clone(shard)?)?;
+                continue;
             }
-        };
-        let block = Block::of(slots);
+            let edited: &EditedShard = made[*next];
+            shards.push(Arc::try_clone(&edited.shard)?)?;
+            counts = counts.plus(edited.counts);
+            *next += 1;
+            filled = groups.next_filled(filled + 1, end);
+        }
+        let block = Block { shards };
         Ok((block, counts))
     }
 }

@@ -13,7 +13,6 @@ mod edited_run;
 mod edited_shard;
 mod edited_tree;
 mod edited_vertex;
-mod empty;
 mod groups;
 mod in_place;
 mod letting_go;
@@ -28,8 +27,6 @@ mod scratch;
 mod shard;
 mod shards;
 mod short_blocks;
-mod slots;
-mod sparse;
 mod table;
 mod width;
 

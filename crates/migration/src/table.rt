@@ -1,13 +1,11 @@
 //! The shards of a graph, in blocks that tables share.
-ghost use Rattle.std.specs.Prelude.{◌≡◌, ◌+◌, ◌*◌, ◌<◌, ◌≤◌, ℕ, length, IsTrue, IfOk, MatchOption};
+ghost use Rattle.std.specs.Prelude.{◌≡◌, ◌+◌, ◌<◌, ◌≤◌, ℕ, length, IsTrue, IfOk, MatchOption};
 ghost use Rattle.past_model.specs.declared.home.Home.TheVariants.{Block as InBlock};
-ghost use Rattle.past_model.specs.declared.limits.TheConstants.{MOST_VERTICES, MOST_RANGES, RANGE_VERTICES};
+ghost use Rattle.past_model.specs.declared.limits.TheConstants.{MOST_VERTICES, MOST_RANGES};
 ghost use Rattle.graph_model.specs.Graph.{Graph, empty_graph};
 ghost use Rattle.migration.specs.Arrays.{AreLists, AreListsOf, first_home, list_of};
 ghost use Rattle.migration.specs.Blocks.{parts_in, sizes_of, AreFull};
-ghost use Rattle.migration.specs.Empty.{empty_parts};
 ghost use Rattle.migration.specs.Part.{AreEditsOf};
-ghost use Rattle.migration.specs.Slots.{part_seen};
 ghost use Rattle.migration.specs.Made.{IsBatch, IsMade, AreMade, IsNoneBelow};
 ghost use Rattle.migration.specs.Table.{IsTable, IsOfGraph, IsShardOf, AreAfter, AreMoved, part_at, parts_of, home_in};
 
@@ -15,12 +13,11 @@ use crate::arrays::shards_of_lists;
 use crate::block::Block;
 use crate::counts::Counts;
 use crate::edited_shard::EditedShard;
-use crate::empty::EmptyRanges;
 use crate::groups::Groups;
 use crate::letting_go::let_go_each;
 use crate::scratch::Scratch;
 use crate::shard::Shard;
-use crate::slots::{Seen, Slot, Slots};
+use crate::shards::{empty_shards, share_shards};
 use crate::width::Width;
 use past_model::{Edit, Home, RANGE_VERTICES};
 use std::alloc::{AllocError, Global};
@@ -85,32 +82,8 @@ fn blocks_of(
     for number in 0..shards.len().div_ceil(width) {
         let first = width * number;
         let behind = shards.len().min(first + width);
-        let block = Block::of(Slots::of(alloc, &shards[first..behind])?);
-        blocks.push(Arc::new(alloc, block)?)?;
-    }
-    Ok(blocks)
-}
-
-/// Blocks of so many ranges of a graph of so many vertices without an edge, each of so many but for the last.
-fn empty_blocks(
-    alloc: Global,
-    vertex_count: u32,
-    count: u32,
-    width: usize,
-) -> Result<Vec<Arc<Block>>, AllocError>
-    requires most { vertex_count ≤ MOST_VERTICES }
-    requires inside { RANGE_VERTICES * count < vertex_count + RANGE_VERTICES }
-    requires some { 0 < width }
-    requires small { width ≤ 1024 }
-    ensures parts { IfOk result (λ blocks. parts_in blocks.items ≡ empty_parts vertex_count 0 count) }
-    ensures full { IfOk result (λ blocks. AreFull width (sizes_of blocks.items)) }
-{
-    let mut blocks = Vec::new(alloc);
-    for number in 0..(count as usize).div_ceil(width) {
-        let first = width * number;
-        let behind = (count as usize).min(first + width);
-        let own = EmptyRanges::of(vertex_count, first as u32, (behind - first) as u32);
-        blocks.push(Arc::new(alloc, Block::empty(own))?)?;
+        let own = share_shards(alloc, &shards[first..behind])?;
+        blocks.push(Arc::new(alloc, Block::of(own))?)?;
     }
     Ok(blocks)
 }
@@ -123,10 +96,10 @@ impl Table {
         ensures table { IfOk result (λ table. IsTable (empty_graph vertex_count) table) }
         ensures homes { IfOk result (λ table. (v : ℕ) → home_in table v ≡ InBlock) }
     {
-        let ranges = (vertex_count - 1) / RANGE_VERTICES + 1;
-        let count = ranges as usize;
+        let shards = empty_shards(alloc, vertex_count)?;
+        let count = shards.len();
         let width = Width::of(count);
-        let blocks = empty_blocks(alloc, vertex_count, ranges, width.shards)?;
+        let blocks = blocks_of(alloc, &shards, width.shards)?;
         Ok(Table {
             blocks,
             count,
@@ -162,37 +135,31 @@ impl Table {
         })
     }
 
-    // A range, if there is one.
-    #[inline(always)]
-    fn range_at(&self, range: usize) -> Option<Seen<'_>>
+    // The shard of a range, if there is one.
+    fn shard_at(&self, range: usize) -> Option<&Shard>
         ensures { MatchOption result (length self.now ≤ range)
-            (λ seen. (range < length self.now) × (part_seen seen ≡ part_at self.now range)) }
+            (λ shard. (range < length self.now) × (shard.now ≡ part_at self.now range)) }
     {
         let number = self.width.block_of(range);
         let place = self.width.place_of(range);
         let block: &Block = self.blocks.get(number)?;
-        let seen = block.at(place)?;
-        Some(seen)
+        let shard: &Shard = block.shards().get(place)?;
+        Some(shard)
     }
 
-    /// The shard in which a vertex's list stands. A vertex past the last range has none, and neither has one of a range in
-    /// which no edit was since the table was empty.
+    /// The shard in which a vertex's list stands. A vertex past the last range has none.
     pub fn shard_of(&self, vertex: u64) -> Option<&Shard>
         ensures { (g : Graph) → IsTable g self.now → IsShardOf g vertex result }
     {
-        let seen = self.range_at((vertex / u64::from(RANGE_VERTICES)) as usize)?;
-        match seen {
-            Seen::Empty(_) => None,
-            Seen::Kept(shard) => Some(shard),
-        }
+        let shard = self.shard_at((vertex / u64::from(RANGE_VERTICES)) as usize)?;
+        Some(shard)
     }
 
     /// The home of a vertex's list. A vertex outside has an empty one, in its block.
     pub fn home(&self, vertex: u64) -> Home
         ensures { result ≡ home_in self.now vertex }
     {
-        let range = (vertex / u64::from(RANGE_VERTICES)) as usize;
-        let Some(Seen::Kept(shard)) = self.range_at(range) else {
+        let Some(shard) = self.shard_at((vertex / u64::from(RANGE_VERTICES)) as usize) else {
             return Home::Block;
         };
         let place = (vertex % u64::from(RANGE_VERTICES)) as u16;
@@ -218,10 +185,10 @@ impl Table {
         let Some(last) = self.count.checked_sub(1) else {
             return 0;
         };
-        let Some(seen) = self.range_at(last) else {
+        let Some(shard) = self.shard_at(last) else {
             unreachable!()
         };
-        RANGE_VERTICES * last as u32 + u32::from(seen.vertex_count())
+        RANGE_VERTICES * last as u32 + u32::from(shard.vertex_count())
     }
 
     /// The shard of a range after edits of its vertices, to vertices that a graph may have, made in space that is lent. The
@@ -237,13 +204,10 @@ impl Table {
         requires edits { AreEditsOf (part_at self.now range) edits.now }
         ensures { IfOk result (λ made. IsMade (part_at self.now range) edits.now made) }
     {
-        let Some(seen) = self.range_at(range) else {
+        let Some(shard) = self.shard_at(range) else {
             unreachable!()
         };
-        let made = match seen {
-            Seen::Empty(empty) => EditedShard::of(alloc, &empty.shard(alloc)?, edits, scratch)?,
-            Seen::Kept(shard) => EditedShard::of(alloc, shard, edits, scratch)?,
-        };
+        let made = EditedShard::of(alloc, shard, edits, scratch)?;
         Ok(made)
     }
 
@@ -266,8 +230,8 @@ impl Table {
         let mut next = 0;
         for (number, block) in self.blocks.iter().enumerate() {
             let first = self.width.shards * number;
-            let size = block.len();
-            if is_past(made, next, first + size) {
+            let behind = first + block.shards().len();
+            if is_past(made, next, behind) {
                 blocks.push(Arc::try_clone(block)?)?;
                 continue;
             }
@@ -306,14 +270,9 @@ impl Table {
             let Some(block) = Arc::into_inner(block) else {
                 continue;
             };
-            let Some(slots) = block.into_slots() else {
-                continue;
-            };
-            for slot in slots {
-                if let Slot::Kept(shard) = slot {
-                    lists[next].push(shard)?;
-                    next = (next + 1) % hands;
-                }
+            for shard in block.into_shards() {
+                lists[next].push(shard)?;
+                next = (next + 1) % hands;
             }
         }
         Ok(lists)

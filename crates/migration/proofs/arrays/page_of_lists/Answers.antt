@@ -1,8 +1,9 @@
-use Rattle.std.proofs.Common.{ℕ, ◌+◌, ◌<◌, List, [], ◌∷◌, ◌++◌, length, sym, ap, ◌∙◌, arith}
+use Rattle.std.proofs.Common.{◌≡◌, ℕ, ◌+◌, ◌<◌, List, [], ◌∷◌, ◌++◌, length, sym, ap, ◌∙◌, arith}
 use Rattle.past_model.specs.declared.limits.TheConstants.{MOST_VERTICES}
 use Rattle.past_model.specs.declared.home.Home.{Home}
 use Rattle.word_sets.proofs.Within.{IsWithin-length}
-use Rattle.migration.specs.Arrays.{list_of, first_home, homes_from}
+use Rattle.migration.specs.Arrays.{list_of, first_home, rows_from, homes_from}
+use Rattle.migration.specs.Lists.{rows_of}
 use Rattle.migration.proofs.ArrayLemmas.{length-from, one_from}
 use Rattle.migration.proofs.arrays.page_of_lists.Goals as goal
 

@@ -1,7 +1,6 @@
-use Rattle.std.proofs.Common.{◌≡◌, ◌/◌, ◌<◌, ◌≤◌, length, get_or, sym, ap, subst, ◌∙◌, arith}
+use Rattle.std.proofs.Common.{◌≡◌, ◌/◌, ◌<◌, ◌≤◌, length, get_or, sym, ap, subst, ◌∙◌}
 use Rattle.std.specs.Arc.{arc_value}
 use Rattle.std.proofs.lemmas.List.{length-map}
-use Rattle.graph_model.proofs.Neighbours.{neighbours-outside}
 use Rattle.migration.specs.Table.{IsPartAt, parts_of, part_at}
 use Rattle.migration.proofs.TableLemmas.{shown_part, range_past}
 use Rattle.migration.proofs.shards.shard_of.Goals as goal
@@ -11,8 +10,7 @@ returns-in_err-get c =
     λ g table.
     let shards = c.args.shards.now in
     let past : length shards ≤ c.args.vertex / 256 = subst (λ k. length shards ≤ c.args.vertex / k) c.from.ensures c.in_err-get.ensures.lookup.3 in
-    let outside = range_past g (parts_of shards) (c.args.vertex / 256) table (subst (λ n. n ≤ c.args.vertex / 256) (sym (length-map shards arc_value)) past) in
-    rw c.from_residual.ensures (neighbours-outside g c.args.vertex (omega (arith, outside)))
+    rw c.from_residual.ensures (range_past g (parts_of shards) (c.args.vertex / 256) table (subst (λ n. n ≤ c.args.vertex / 256) (sym (length-map shards arc_value)) past))
 
 pub returns : goal.returns
 returns c =

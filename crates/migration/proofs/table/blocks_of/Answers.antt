@@ -19,7 +19,7 @@ loop-number-preserved c =
     let inside : w * n < length shards = before_end w n (length shards) c.div_ceil-number-end.result c.requires.some c.div_ceil-number-end.ensures c.loop-number-test.true in
     let behind = c.min-behind.result in
     let behind_is : behind ≡ min (length shards) (w * n + w) = (let is = c.min-behind.ensures in omega arith) in
-    let made : arc_value block ≡ parts_of (take (behind - w * n) (drop (w * n) shards)) = c.in_ok-new.ensures.ok ∙ c.of-block.ensures ∙ c.in_ok-of.ensures in
+    let made : arc_value block ≡ parts_of (take (behind - w * n) (drop (w * n) shards)) = c.in_ok-new.ensures.ok ∙ c.of.ensures ∙ c.in_ok-own.ensures in
     let size : length (arc_value block) ≡ behind - w * n =
     ap length made
     ∙ length-map (take (behind - w * n) (drop (w * n) shards)) arc_value

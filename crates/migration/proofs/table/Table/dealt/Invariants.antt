@@ -6,12 +6,12 @@ invariant-loop l = record {
   made : length l.lists.items ≡ l.counter;
 }
 
-abbrev pub invariant-loop-slot : goal.invariant-loop-slot
-invariant-loop-slot l = record {
+abbrev pub invariant-loop-shard : goal.invariant-loop-shard
+invariant-loop-shard l = record {
   turn : l.next < l.hands;
   all : length l.lists.items ≡ l.hands;
-  can_next : (goal.iterator-loop-slot).can_next l.slot-iterator;
-  is_finite : (goal.iterator-loop-slot).is_finite l.slot-iterator;
+  can_next : (goal.iterator-loop-shard).can_next l.shard-iterator;
+  is_finite : (goal.iterator-loop-shard).is_finite l.shard-iterator;
 }
 
 abbrev pub invariant-loop-block : goal.invariant-loop-block

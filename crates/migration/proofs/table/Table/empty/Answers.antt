@@ -1,35 +1,34 @@
-use Rattle.std.proofs.Common.{◌≡◌, ◌+◌, ◌-◌, ◌*◌, ◌/◌, ◌<◌, length, sym, ap, subst, ◌∙◌, arith}
+use Rattle.std.proofs.Common.{◌≡◌, ℕ, ◌+◌, List, length, sym, ap, subst, ◌∙◌, arith}
 use Rattle.graph_model.specs.Graph.{empty_graph}
-use Rattle.migration.specs.Empty.{empty_parts}
-use Rattle.migration.specs.Table.{IsTable, IsPartAt, part_at}
+use Rattle.std.specs.declared.sync.Arc.{Arc}
+use Rattle.std.specs.declared.alloc.Global.{Global}
+use Rattle.std.specs.Arc.{arc_value}
+use Rattle.std.proofs.lemmas.List.{length-map}
+use Rattle.migration.specs.Part.{Part}
+use Rattle.migration.specs.Table.{IsTable, IsPartAt, part_at, parts_of}
 use Rattle.migration.specs.Blocks.{parts_in, AreInBlocks, AreHoused}
 use Rattle.migration.proofs.HousedLemmas.{all_in_blocks, empty_parts_housed}
-use Rattle.migration.proofs.SlotLemmas.{length-empty_parts, empty_each, empty_in_blocks}
-use Rattle.migration.proofs.TableLemmas.{empty_table}
+use Rattle.migration.proofs.TableLemmas.{few_parts}
 use Rattle.migration.proofs.table.Table.empty.Goals as goal
+
+-- parts of a graph without an edge, in blocks
+housed : (n : ℕ) (shards : List (Arc Part Global)) (blocks : List (Arc (List Part) Global)) → IsTable (empty_graph n) (parts_of shards) → AreInBlocks (parts_of shards) → parts_in blocks ≡ parts_of shards → AreHoused (parts_in blocks)
+housed n shards blocks table are is = subst AreHoused (sym is) (empty_parts_housed n 0 (parts_of shards) (λ k h. (let whole : k ≡ 0 + k = omega arith in subst (λ r. IsPartAt (empty_graph n) r (part_at (parts_of shards) k)) whole (table.each k h))) are)
+
+pub of-width-requires : goal.of-width-requires
+of-width-requires c =
+    let size = length-map c.in_ok-shards.shards.items arc_value in
+    omega (arith, few_parts (empty_graph c.args.vertex_count) (parts_of c.in_ok-shards.shards.items) c.in_ok-shards.ensures.table c.requires.most, size, c.len-count.ensures, c.in_ok-shards.shards.ok)
 
 pub invariant_of-result : goal.invariant_of-result
 invariant_of-result c =
-    let n = c.args.vertex_count in
-    let blocks = c.in_ok-blocks.blocks.items in
-    let shown = c.in_ok-blocks.ensures.parts in
-    let count = (n - 1) / 256 + 1 in
-    let some = c.requires.some in
-    let inside : 256 * count < n + 256 = omega arith in (
+    let shown : parts_in c.in_ok-blocks.blocks.items ≡ parts_of c.in_ok-shards.shards.items = c.in_ok-blocks.ensures.parts ∙ ap parts_of c.deref.ensures.value in (
       c.in_ok-blocks.ensures.full,
-      sym (ap length shown ∙ length-empty_parts n 0 count),
-      subst AreHoused (sym shown) (empty_parts_housed n 0 (empty_parts n 0 count) (λ k h. (let whole : k ≡ 0 + k = omega arith in subst (λ r. IsPartAt (empty_graph n) r (part_at (empty_parts n 0 count) k)) whole (empty_each n count inside k h))) (empty_in_blocks n 0 count)),
+      (let long = ap length shown in let size = length-map c.in_ok-shards.shards.items arc_value in omega (arith, long, size, c.len-count.ensures, c.in_ok-shards.shards.ok)),
+      housed c.args.vertex_count c.in_ok-shards.shards.items c.in_ok-blocks.blocks.items c.in_ok-shards.ensures.table c.in_ok-shards.ensures.homes shown,
     )
-
-pub returns-clause-table : goal.returns-clause-table
-returns-clause-table c =
-    let n = c.args.vertex_count in
-    let count = (n - 1) / 256 + 1 in
-    let some = c.requires.some in
-    let inside : 256 * count < n + 256 = omega arith in
-    subst (IsTable (empty_graph n)) (sym c.in_ok-blocks.ensures.parts) (empty_table n (empty_parts n 0 count) some (length-empty_parts n 0 count) (empty_each n count inside))
 
 pub returns-clause-homes : goal.returns-clause-homes
 returns-clause-homes c =
-    let n = c.args.vertex_count in
-    all_in_blocks (parts_in c.in_ok-blocks.blocks.items) (subst AreInBlocks (sym c.in_ok-blocks.ensures.parts) (empty_in_blocks n 0 ((n - 1) / 256 + 1)))
+    let shown : parts_in c.in_ok-blocks.blocks.items ≡ parts_of c.in_ok-shards.shards.items = c.in_ok-blocks.ensures.parts ∙ ap parts_of c.deref.ensures.value in
+    all_in_blocks (parts_in c.in_ok-blocks.blocks.items) (subst AreInBlocks (sym shown) c.in_ok-shards.ensures.homes)

@@ -16,9 +16,9 @@ returns c =
     λ g table.
     let all = c.self.invariant.1 in
     let last = c.in-Some.last in
-    let inside : last < length c.args.self.now = c.in-Some-range_at.ensures.0 in
+    let inside : last < length c.args.self.now = c.in-Some-shard_at.ensures.0 in
     let end : length c.args.self.now ≤ last + 1 = omega (arith, all, ap (λ (p : List Part). length p) c.self.view_is, c.in-Some.ensures) in
     let low = (table.ranges last).0 inside in
     let high = range_past g c.args.self.now (last + 1) table end in
     let size = (table.each last inside).size in
-    omega (arith, size, ap (λ (p : Part). length p.rows) c.in-Some-range_at.ensures.1, c.vertex_count.ensures, c.from.ensures)
+    omega (arith, size, ap (λ (p : Part). length p.rows) c.in-Some-shard_at.ensures.1, c.vertex_count.ensures.value, c.from.ensures)

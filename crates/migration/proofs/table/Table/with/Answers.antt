@@ -2,14 +2,14 @@ use Rattle.std.proofs.Common.{◌≡◌, ℕ, ◌+◌, ◌*◌, ◌^◌, ◌<◌
 use Rattle.std.specs.declared.sync.Arc.{Arc}
 use Rattle.std.specs.declared.alloc.Global.{Global}
 use Rattle.std.specs.Arc.{arc_value}
-use Rattle.std.proofs.lemmas.List.{take_all}
+use Rattle.std.proofs.lemmas.List.{length-map, take_all}
 use Rattle.graph_model.specs.Graph.{Graph}
 use Rattle.past_model.specs.declared.limits.TheConstants.{MOST_VERTICES, MOST_RANGES}
 use Rattle.past_model.specs.Edits.{AreEditsBelow}
 use Rattle.migration.specs.Groups.{filled_below}
 use Rattle.migration.specs.Made.{AreMade}
 use Rattle.migration.specs.Part.{Part}
-use Rattle.migration.specs.Table.{IsTable, AreMoved}
+use Rattle.migration.specs.Table.{IsTable, AreMoved, parts_of}
 use Rattle.migration.specs.Blocks.{ArePartsFrom, AreEdited, AreFull, AreHoused, AreRehoused, parts_in, sizes_of}
 use Rattle.migration.proofs.RangeLemmas.{range_edits}
 use Rattle.migration.proofs.FilledLemmas.{none_between}
@@ -37,6 +37,10 @@ inside w old n count b full all h is = omega (arith, block_inside w old n b full
 few : (g : Graph) (parts : List Part) (old : Blocks) (count : ℕ) → count ≡ length (parts_in old) → parts_in old ≡ parts → IsTable g parts → g.vertex_count ≤ MOST_VERTICES → count ≤ MOST_RANGES
 few g parts old count all is table small = omega (arith, few_parts g parts table small, all, ap length is)
 
+-- the shards that are looked at show the block
+long : (shards : List (Arc Part Global)) (block : Arc (List Part) Global) → parts_of shards ≡ arc_value block → length shards ≡ length (arc_value block)
+long shards block is = sym (length-map shards arc_value) ∙ ap length is
+
 pub overflow_mul-first : goal.overflow_mul-first
 overflow_mul-first c =
     let old = c.self.inside.blocks.items in
@@ -44,12 +48,12 @@ overflow_mul-first c =
     let is = block_of c.deref-block-items.result.now old c.loop-number.number c.block-item.result c.deref-block-items.ensures.value c.block-item.is in
     omega (arith, inside c.self.inside.width.shards old c.loop-number.number c.self.inside.count c.block-item.result c.self.invariant.0 c.self.invariant.1 h is, few c.requires.batch.editable.graph c.args.self.now old c.self.inside.count c.self.invariant.1 c.self.view_is c.requires.batch.editable.table c.requires.batch.editable.small)
 
-pub overflow_add-first : goal.overflow_add-first
-overflow_add-first c =
+pub overflow_add-behind : goal.overflow_add-behind
+overflow_add-behind c =
     let old = c.self.inside.blocks.items in
     let h = at c.deref-block-items.result.now old c.loop-number.number c.deref-block-items.ensures.value c.loop-number-test.true in
     let is = block_of c.deref-block-items.result.now old c.loop-number.number c.block-item.result c.deref-block-items.ensures.value c.block-item.is in
-    let size = c.len-size.ensures ∙ ap length c.deref.ensures in
+    let size = long c.shards.result.now c.block-item.result (c.shards.ensures ∙ c.deref.ensures) in
     omega (arith, size, inside c.self.inside.width.shards old c.loop-number.number c.self.inside.count c.block-item.result c.self.invariant.0 c.self.invariant.1 h is, few c.requires.batch.editable.graph c.args.self.now old c.self.inside.count c.self.invariant.1 c.self.view_is c.requires.batch.editable.table c.requires.batch.editable.small)
 
 pub loop-number-preserved-then-is_past : goal.loop-number-preserved-then-is_past
@@ -62,11 +66,11 @@ loop-number-preserved-then-is_past c =
     let full = c.self.invariant.0 in
     let h = at c.deref-block-items.result.now old number c.deref-block-items.ensures.value c.loop-number-test.true in
     let is = block_of c.deref-block-items.result.now old number block c.deref-block-items.ensures.value c.block-item.is in
-    let size = c.len-size.ensures ∙ ap length c.deref.ensures in
+    let size = long c.shards.result.now block (c.shards.ensures ∙ c.deref.ensures) in
     let same : arc_value c.in_ok-try_clone.field-0 ≡ arc_value (get_or old number block) = c.in_ok-try_clone.ensures ∙ ap arc_value is in
-    let within : c.self.inside.width.shards * number + c.len-size.result ≤ length c.args.self.now =
+    let within : c.self.inside.width.shards * number + length c.shards.result.now ≤ length c.args.self.now =
     (let all : c.self.inside.count ≡ length c.args.self.now = c.self.invariant.1 ∙ ap length c.self.view_is in omega (arith, size, all, inside c.self.inside.width.shards old number c.self.inside.count block full c.self.invariant.1 h is)) in
-    let untouched = none_made (c.len-size.result) c.args.groups.now c.requires.batch.editable.graph c.args.self.now c.args.made.now (c.self.inside.width.shards * number) c.loop-number.next c.requires.batch.editable.table c.requires.made (c.loop-number.invariant.next h) within (c.is_past.ensures c.if-is_past.true) in
+    let untouched = none_made (length c.shards.result.now) c.args.groups.now c.requires.batch.editable.graph c.args.self.now c.args.made.now (c.self.inside.width.shards * number) c.loop-number.next c.requires.batch.editable.table c.requires.made (c.loop-number.invariant.next h) within (c.is_past.ensures c.if-is_past.true) in
     let unedited : (range : ℕ) → c.self.inside.width.shards * number ≤ range → range < c.self.inside.width.shards * number + length (arc_value c.in_ok-try_clone.field-0) → range_edits c.args.groups.now.count es range ≡ [] =
     (λ range low high. sym (edits_in c.args.groups.now c.requires.batch.by_range range) ∙ untouched range low (omega (arith, high, size, ap length c.in_ok-try_clone.ensures))) in
     record {
@@ -80,7 +84,7 @@ loop-number-preserved-then-is_past c =
           (subst (λ r. AreEdited es g r (arc_value c.in_ok-try_clone.field-0) none) (sym (parts_made c.self.inside.width.shards new old number full h c.loop-number.invariant.sizes)) kept))));
       next = λ more. (
           let groups = c.args.groups.now in
-          let own : c.len-size.result ≡ c.self.inside.width.shards = size ∙ ap (λ b. length (arc_value b)) is ∙ full_block c.self.inside.width.shards old number block full more in
+          let own : length c.shards.result.now ≡ c.self.inside.width.shards = size ∙ ap (λ b. length (arc_value b)) is ∙ full_block c.self.inside.width.shards old number block full more in
           let end : c.self.inside.width.shards * number + c.self.inside.width.shards ≡ c.self.inside.width.shards * (number + 1) = sym (next_times c.self.inside.width.shards number) in
           c.loop-number.invariant.next h
           ∙ ap length (sym (none_between c.self.inside.width.shards groups (c.self.inside.width.shards * number) (λ range low high. untouched range low (omega (arith, high, own)))))
