@@ -8,6 +8,7 @@ It needs a file system of its own, which a namespace of mounts gives: as root, o
 """
 import argparse
 import collections
+import errno
 import os
 import pathlib
 import random
@@ -33,10 +34,17 @@ class Disk:
 
     def fill(self, left):
         with open(self.place / "filler", "wb") as file:
-            room = os.statvfs(self.place)
-            size = room.f_bavail * room.f_frsize - left
-            if size > 0:
-                os.posix_fallocate(file.fileno(), 0, size)
+            while (size := self.room() - left) > 0:
+                try:
+                    return os.posix_fallocate(file.fileno(), 0, size)
+                except OSError as error:
+                    # The service wrote a snapshot in between, and there is less room now.
+                    if error.errno != errno.ENOSPC:
+                        raise
+
+    def room(self):
+        room = os.statvfs(self.place)
+        return room.f_bavail * room.f_frsize
 
     def empty(self):
         (self.place / "filler").unlink(missing_ok=True)
