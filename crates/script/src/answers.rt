@@ -5,8 +5,8 @@ ghost use Rattle.session.specs.Kept.{answer_of};
 ghost use Rattle.script.specs.Listed.{first_text};
 
 use crate::texts::{
-    put, put_batch, put_column, put_graph, put_home, put_image, put_into, put_list, put_pin,
-    put_program, put_pull, put_rebase, put_refused, put_rows, put_run, put_values,
+    put, put_batch, put_changed, put_column, put_graph, put_home, put_image, put_list, put_mapped,
+    put_pin, put_program, put_pull, put_rebase, put_refused, put_rows, put_run, put_values,
 };
 use session::Answer;
 use std::alloc::AllocError;
@@ -77,7 +77,8 @@ pub(crate) fn put_answer(text: &mut Vec<u8>, answer: &Answer) -> Result<(), Allo
             changed,
         } => {
             put(text, b"pull ")?;
-            put_into(text, program, pin, *edges, *total, *changed)
+            put_mapped(text, program, pin, *edges, *total)?;
+            put_changed(text, *changed)
         }
         Answer::ColumnPushed {
             program,
@@ -87,7 +88,8 @@ pub(crate) fn put_answer(text: &mut Vec<u8>, answer: &Answer) -> Result<(), Allo
             changed,
         } => {
             put(text, b"push ")?;
-            put_into(text, program, pin, *edges, *total, *changed)
+            put_mapped(text, program, pin, *edges, *total)?;
+            put_changed(text, *changed)
         }
     }
 }

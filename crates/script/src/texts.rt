@@ -12,6 +12,7 @@ ghost use Rattle.script_model.specs.Texts.{
   image_text,
   assembler_text,
   pin_text,
+  mapped_text,
   run_text,
   row_text,
   home_word,
@@ -22,7 +23,7 @@ ghost use Rattle.script_model.specs.Texts.{
   column_text,
   value_text,
   pull_text,
-  into_text,
+  changed_text,
   feed_text,
   fault_text,
 };
@@ -206,6 +207,22 @@ pub(crate) fn put_rebase(text: &mut Vec<u8>, epoch: u64, edges: u64) -> Result<(
     put_epoch(text, epoch, edges)
 }
 
+/// A program, the pin whose edges it was run on, and what that gave: a line after its first word.
+pub(crate) fn put_mapped(
+    text: &mut Vec<u8>,
+    program: &[u8],
+    pin: &[u8],
+    edges: u64,
+    total: u64,
+) -> Result<(), AllocError>
+    ensures { OnOk result (text.new.items ≡ text.old.items ++ mapped_text program.now pin.now edges total) }
+{
+    put(text, program)?;
+    put_name(text, b" ", pin)?;
+    put_field(text, b" edges ", edges)?;
+    put_field(text, b" total ", total)
+}
+
 /// The first line of a run.
 pub(crate) fn put_run(
     text: &mut Vec<u8>,
@@ -216,10 +233,8 @@ pub(crate) fn put_run(
 ) -> Result<(), AllocError>
     ensures { OnOk result (text.new.items ≡ text.old.items ++ run_text program.now pin.now edges total) }
 {
-    put_name(text, b"run ", program)?;
-    put_name(text, b" ", pin)?;
-    put_field(text, b" edges ", edges)?;
-    put_field(text, b" total ", total)?;
+    put(text, b"run ")?;
+    put_mapped(text, program, pin, edges, total)?;
     put(text, b"\n")
 }
 
@@ -348,28 +363,15 @@ pub(crate) fn put_pull(
 ) -> Result<(), AllocError>
     ensures { OnOk result (text.new.items ≡ text.old.items ++ pull_text program.now pin.now edges total) }
 {
-    put_name(text, b"pull ", program)?;
-    put_name(text, b" ", pin)?;
-    put_field(text, b" edges ", edges)?;
-    put_field(text, b" total ", total)?;
+    put(text, b"pull ")?;
+    put_mapped(text, program, pin, edges, total)?;
     put(text, b"\n")
 }
 
-/// The line of a pull or a push into a column, after its first word.
-pub(crate) fn put_into(
-    text: &mut Vec<u8>,
-    program: &[u8],
-    pin: &[u8],
-    edges: u64,
-    total: u64,
-    changed: u64,
-) -> Result<(), AllocError>
-    ensures { OnOk result (text.new.items ≡ text.old.items ++ into_text program.now pin.now edges total changed) }
+/// The end of the line of a pull or a push into a column.
+pub(crate) fn put_changed(text: &mut Vec<u8>, changed: u64) -> Result<(), AllocError>
+    ensures { OnOk result (text.new.items ≡ text.old.items ++ changed_text changed) }
 {
-    put(text, program)?;
-    put_name(text, b" ", pin)?;
-    put_field(text, b" edges ", edges)?;
-    put_field(text, b" total ", total)?;
     put_field(text, b" changed ", changed)?;
     put(text, b"\n")
 }

@@ -112,9 +112,13 @@ abbrev pub pin_text : List ℕ → ℕ → ℕ → List ℕ
 pin_text name number edges =
     codes "pin " ++ name ++ codes " version " ++ decimal number ++ codes " edges " ++ decimal edges ++ newline
 
-abbrev pub run_text : List ℕ → List ℕ → ℕ → ℕ → List ℕ
-run_text program pin edges total =
-    codes "run " ++ program ++ codes " " ++ pin ++ codes " edges " ++ decimal edges ++ codes " total " ++ decimal total ++ newline
+-- what was mapped, and what that gave, after the first word of a line
+abbrev pub mapped_text : (program pin : List ℕ) → (edges total : ℕ) → List ℕ
+mapped_text program pin edges total =
+    program ++ codes " " ++ pin ++ codes " edges " ++ decimal edges ++ codes " total " ++ decimal total
+
+abbrev pub run_text : (program pin : List ℕ) → (edges total : ℕ) → List ℕ
+run_text program pin edges total = codes "run " ++ mapped_text program pin edges total ++ newline
 
 abbrev pub row_text : Row → List ℕ
 row_text row = codes "row " ++ decimal row.vertex ++ codes " " ++ decimal row.value ++ newline
@@ -148,14 +152,12 @@ abbrev pub value_text : Row → List ℕ
 value_text row = codes "value " ++ decimal row.vertex ++ codes " " ++ decimal row.value ++ newline
 
 -- the first line of a pull
-abbrev pub pull_text : List ℕ → List ℕ → ℕ → ℕ → List ℕ
-pull_text program pin edges total =
-    codes "pull " ++ program ++ codes " " ++ pin ++ codes " edges " ++ decimal edges ++ codes " total " ++ decimal total ++ newline
+abbrev pub pull_text : (program pin : List ℕ) → (edges total : ℕ) → List ℕ
+pull_text program pin edges total = codes "pull " ++ mapped_text program pin edges total ++ newline
 
--- the line of a pull or a push into a column, after its first word
-abbrev pub into_text : (program pin : List ℕ) → (edges total changed : ℕ) → List ℕ
-into_text program pin edges total changed =
-    program ++ codes " " ++ pin ++ codes " edges " ++ decimal edges ++ codes " total " ++ decimal total ++ codes " changed " ++ decimal changed ++ newline
+-- the end of the line of a pull or a push into a column
+abbrev pub changed_text : ℕ → List ℕ
+changed_text changed = codes " changed " ++ decimal changed ++ newline
 
 -- what is written for an answer
 abbrev pub answer_text : Answer → List ℕ
@@ -172,8 +174,8 @@ answer_text (EdgesListed program pin edges listed) = list_text program pin edges
 answer_text (ColumnSet name count) = column_text name count
 answer_text (ValuesShown rows) = flat_map value_text rows
 answer_text (RowsPulled program pin edges total rows) = pull_text program pin edges total ++ flat_map row_text rows
-answer_text (ColumnPulled program pin edges total changed) = codes "pull " ++ into_text program pin edges total changed
-answer_text (ColumnPushed program pin edges total changed) = codes "push " ++ into_text program pin edges total changed
+answer_text (ColumnPulled program pin edges total changed) = codes "pull " ++ mapped_text program pin edges total ++ changed_text changed
+answer_text (ColumnPushed program pin edges total changed) = codes "push " ++ mapped_text program pin edges total ++ changed_text changed
 
 abbrev pub fault_text : LineFault → ℕ → List ℕ
 fault_text fault line = codes "fault " ++ decimal (line_fault_number fault) ++ codes " line " ++ decimal line ++ newline
