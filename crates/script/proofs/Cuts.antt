@@ -11,7 +11,7 @@ use Rattle.past_model.specs.declared.edit.Edit.TheVariants.{Insert, Remove}
 use Rattle.bpf_image.specs.Program.{Program}
 use Rattle.session_model.specs.declared.fault.Fault.TheVariants as faults
 use Rattle.session_model.specs.Session.{Session}
-use Rattle.session_model.specs.Commands.{Asked, Command, MakeGraph, PublishBatch, LoadProgram, LoadImage, TakePin, RunProgram, ReportHome, Rebase, ListEdges, SetColumn, ShowValues, PullRows, PullInto, PushInto}
+use Rattle.session_model.specs.Commands.{Asked, Command, MakeGraph, PublishBatch, LoadProgram, LoadImage, TakePin, RunProgram, ReportHome, Rebase, ListEdges, SetColumn, ShowValues, PullRows, WriteColumn}
 use Rattle.session_model.specs.Faults.{is_vertex_count, is_record_length, AreFewVertices, HasFewVertices}
 use Rattle.session_model.specs.Responses.{Response, Fails, response, graph_response, load_response, run_response, home_response, column_response, values_response, lent_response}
 use Rattle.script_model.specs.State.{OpenBatch, Script}
@@ -169,8 +169,7 @@ response-cut (ListEdges program pin argument) s few = refl
 response-cut (SetColumn name first numbers) s few = column_at name first numbers s s.past refl few
 response-cut (ShowValues name frontier) s few = values_at name frontier s s.past refl few
 response-cut (PullRows asked) s few = lent_at (λ a. response (PullRows a) s) asked s s.past refl few (λ a. (_, refl))
-response-cut (PullInto asked into) s few = lent_at (λ a. response (PullInto a into) s) asked s s.past refl few (λ a. (_, refl))
-response-cut (PushInto asked into) s few = lent_at (λ a. response (PushInto a into) s) asked s s.past refl few (λ a. (_, refl))
+response-cut (WriteColumn way asked into) s few = lent_at (λ a. response (WriteColumn way a into) s) asked s s.past refl few (λ a. (_, refl))
 
 begin_program-cut : (name : List ℕ) (n : ℕ) (s : Script) → begin_program name (cut_number n) s ≡ begin_program name n s
 begin_program-cut name n s =

@@ -5,8 +5,10 @@ use Rattle.std.proofs.lemmas.Bool.{cases_Bool, and_parts, and_from}
 use Rattle.std.proofs.lemmas.Option.{same_Some}
 use Rattle.bpf_image.specs.Program.{without_table}
 use Rattle.script_model.specs.Lexing.{number, hex, is_dash, is_name, is_column_name}
-use Rattle.session_model.specs.Commands.{Asked, LoadProgram, SetColumn, PullRows, PullInto, PushInto}
-use Rattle.script_model.specs.Parsing.{Statement, Asks, option_then, numbers, column_number, code_statement, image_statement, list_statement, column_statement, pull_to, push_to, statement}
+use Rattle.session_model.specs.Commands.{Asked, LoadProgram, SetColumn, PullRows, WriteColumn}
+use Rattle.session_model.specs.declared.way.Way.{Way}
+use Rattle.session_model.specs.declared.way.Way.TheVariants.{Pull}
+use Rattle.script_model.specs.Parsing.{Statement, Asks, option_then, numbers, column_number, code_statement, image_statement, list_statement, column_statement, pull_to, write_to, statement}
 use Rattle.script_model.specs.Execution.{is_comment}
 use Rattle.script.specs.declared.reading.line.Statement.{Statement as CodeStatement}
 use Rattle.script.specs.Said.{NoStatement, Makes, cut_asked, cut_number, cut_statement, cut_saying, said_statement, saying_of, found_statement}
@@ -102,7 +104,7 @@ pub column_statement-numberless : (name : List ℕ) (line : List (List ℕ)) →
 column_statement-numberless name [] none = refl
 column_statement-numberless name (word ∷ given) none = column_numberless_at name word given (number word) refl none
 
--- ---- `pull` and `push`
+-- ---- `pull`, `push` and `each`
 
 pub lend_none : (asked : Option Asked) (to : Asked → Option Statement) → None ≡ option_map cut_asked asked → None ≡ option_map cut_statement (option_then asked to)
 lend_none None to none = refl
@@ -115,10 +117,10 @@ lend_some (Some a) to said means some same = same a (sym (same_Some said (cut_as
 pub pull_rows : (into : List ℕ) (said a : Asked) → is_dash into ≡ true → cut_asked a ≡ said → Some (Asks (PullRows said)) ≡ option_map cut_statement (pull_to into a)
 pull_rows into said a dash same = rw dash (ap (λ (b : Asked). Some (Asks (PullRows b))) (sym same))
 
-pub pull_into : (into : List ℕ) (said a : Asked) → is_dash into ≡ false → is_column_name into ≡ true → cut_asked a ≡ said → Some (Asks (PullInto said into)) ≡ option_map cut_statement (pull_to into a)
+pub pull_into : (into : List ℕ) (said a : Asked) → is_dash into ≡ false → is_column_name into ≡ true → cut_asked a ≡ said → Some (Asks (WriteColumn Pull said into)) ≡ option_map cut_statement (pull_to into a)
 pull_into into said a word named same =
     let name : is_name into ≡ true = (and_parts _ _ named).0 in
-    rw (word, name) (ap (λ (b : Asked). Some (Asks (PullInto b into))) (sym same))
+    rw (word, name) (ap (λ (b : Asked). Some (Asks (WriteColumn Pull b into))) (sym same))
 
 pub pull_unnamed : (into : List ℕ) (a : Asked) → is_dash into ≡ false → is_column_name into ≡ false → None ≡ option_map cut_statement (pull_to into a)
 pull_unnamed into a word unnamed = elim (cases_Bool (is_name into)) [
@@ -126,11 +128,11 @@ pull_unnamed into a word unnamed = elim (cases_Bool (is_name into)) [
   | inr other ↦ rw (word, other) refl
 ]
 
-pub push_into : (into : List ℕ) (said a : Asked) → is_column_name into ≡ true → cut_asked a ≡ said → Some (Asks (PushInto said into)) ≡ option_map cut_statement (push_to into a)
-push_into into said a named same = rw named (ap (λ (b : Asked). Some (Asks (PushInto b into))) (sym same))
+pub write_into : (way : Way) (into : List ℕ) (said a : Asked) → is_column_name into ≡ true → cut_asked a ≡ said → Some (Asks (WriteColumn way said into)) ≡ option_map cut_statement (write_to way into a)
+write_into way into said a named same = rw named (ap (λ (b : Asked). Some (Asks (WriteColumn way b into))) (sym same))
 
-pub push_unnamed : (into : List ℕ) (a : Asked) → is_column_name into ≡ false → None ≡ option_map cut_statement (push_to into a)
-push_unnamed into a unnamed = rw unnamed refl
+pub write_unnamed : (way : Way) (into : List ℕ) (a : Asked) → is_column_name into ≡ false → None ≡ option_map cut_statement (write_to way into a)
+write_unnamed way into a unnamed = rw unnamed refl
 
 -- ---- what a line says
 

@@ -1,6 +1,6 @@
 -- The lines of a list, which are written apart from its first one.
 use Rattle.std.specs.Prelude.{ℕ, List}
-use Rattle.session_model.specs.Commands.{Answer, GraphMade, BatchPublished, ProgramAccepted, ProgramRefused, NoImage, PinTaken, EdgesMapped, HomeReported, Rebased, EdgesListed, ColumnSet, ValuesShown, RowsPulled, ColumnPulled, ColumnPushed}
+use Rattle.session_model.specs.Commands.{Answer, GraphMade, BatchPublished, ProgramAccepted, ProgramRefused, NoImage, PinTaken, EdgesMapped, HomeReported, Rebased, EdgesListed, ColumnSet, ValuesShown, RowsPulled, ColumnWritten}
 use Rattle.script_model.specs.Texts.{answer_text, list_text}
 
 -- the lines of an answer, but for those of the edges that it lists
@@ -18,5 +18,4 @@ first_text (Rebased epoch edges) = answer_text (Rebased epoch edges)
 first_text (ColumnSet name count) = answer_text (ColumnSet name count)
 first_text (ValuesShown rows) = answer_text (ValuesShown rows)
 first_text (RowsPulled program pin edges total rows) = answer_text (RowsPulled program pin edges total rows)
-first_text (ColumnPulled program pin edges total changed) = answer_text (ColumnPulled program pin edges total changed)
-first_text (ColumnPushed program pin edges total changed) = answer_text (ColumnPushed program pin edges total changed)
+first_text (ColumnWritten way program pin count total changed) = answer_text (ColumnWritten way program pin count total changed)

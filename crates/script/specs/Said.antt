@@ -3,7 +3,7 @@ use Rattle.std.specs.Prelude.{ℕ, ◌-◌, ◌^◌, min, if◌then◌else◌, L
 use Rattle.bpf_image.specs.Program.{Program, without_table}
 use Rattle.past_model.specs.declared.edit.Edit.{Edit}
 use Rattle.past_model.specs.declared.edit.Edit.TheVariants.{Insert, Remove}
-use Rattle.session_model.specs.Commands.{Asked, Command, MakeGraph, PublishBatch, LoadProgram, LoadImage, TakePin, RunProgram, ReportHome, Rebase, ListEdges, SetColumn, ShowValues, PullRows, PullInto, PushInto}
+use Rattle.session_model.specs.Commands.{Asked, Command, MakeGraph, PublishBatch, LoadProgram, LoadImage, TakePin, RunProgram, ReportHome, Rebase, ListEdges, SetColumn, ShowValues, PullRows, WriteColumn}
 use Rattle.session.specs.Kept.{each_now}
 use Rattle.script_model.specs.Parsing.{Statement, Asks, BeginBatch, BeginProgram, statement, BatchLine, OneEdit, EndBatch}
 use Rattle.script_model.specs.Execution.{is_comment}
@@ -47,8 +47,7 @@ cut_command (ListEdges program pin argument) = ListEdges program pin argument
 cut_command (SetColumn name first numbers) = SetColumn name (cut_number first) numbers
 cut_command (ShowValues name frontier) = ShowValues name (map cut_number frontier)
 cut_command (PullRows asked) = PullRows (cut_asked asked)
-cut_command (PullInto asked into) = PullInto (cut_asked asked) into
-cut_command (PushInto asked into) = PushInto (cut_asked asked) into
+cut_command (WriteColumn way asked into) = WriteColumn way (cut_asked asked) into
 
 abbrev pub cut_statement : Statement → Statement
 cut_statement (Asks c) = Asks (cut_command c)
@@ -80,8 +79,7 @@ said_statement (statements.List program pin argument) = Asks (ListEdges program.
 said_statement (statements.Column name first numbers) = Asks (SetColumn name.now first numbers.items)
 said_statement (statements.Values name frontier) = Asks (ShowValues name.now frontier.items)
 said_statement (statements.PullRows asking) = Asks (PullRows (said_asked asking))
-said_statement (statements.PullInto asking into) = Asks (PullInto (said_asked asking) into.now)
-said_statement (statements.PushInto asking into) = Asks (PushInto (said_asked asking) into.now)
+said_statement (statements.WriteColumn way asking into) = Asks (WriteColumn way (said_asked asking) into.now)
 
 -- what a line outside blocks says
 pub data Saying : Type 0 where

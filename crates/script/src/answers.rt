@@ -5,8 +5,8 @@ ghost use Rattle.session.specs.Kept.{answer_of};
 ghost use Rattle.script.specs.Listed.{first_text};
 
 use crate::texts::{
-    put, put_batch, put_changed, put_column, put_graph, put_home, put_image, put_list, put_mapped,
-    put_pin, put_program, put_pull, put_rebase, put_refused, put_rows, put_run, put_values,
+    put_batch, put_column, put_counts, put_graph, put_home, put_image, put_list, put_pin,
+    put_program, put_pull, put_rebase, put_refused, put_rows, put_run, put_values, put_way,
 };
 use session::Answer;
 use std::alloc::AllocError;
@@ -69,27 +69,16 @@ pub(crate) fn put_answer(text: &mut Vec<u8>, answer: &Answer) -> Result<(), Allo
             put_pull(text, program, pin, *edges, *total)?;
             put_rows(text, rows)
         }
-        Answer::ColumnPulled {
+        Answer::ColumnWritten {
+            way,
             program,
             pin,
-            edges,
+            count,
             total,
             changed,
         } => {
-            put(text, b"pull ")?;
-            put_mapped(text, program, pin, *edges, *total)?;
-            put_changed(text, *changed)
-        }
-        Answer::ColumnPushed {
-            program,
-            pin,
-            edges,
-            total,
-            changed,
-        } => {
-            put(text, b"push ")?;
-            put_mapped(text, program, pin, *edges, *total)?;
-            put_changed(text, *changed)
+            put_way(text, *way, program, pin)?;
+            put_counts(text, *way, *count, *total, *changed)
         }
     }
 }

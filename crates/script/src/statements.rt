@@ -161,18 +161,11 @@ impl Script {
                     asked: asked(&asking),
                 },
             ),
-            Statement::PullInto { asking, into } => self.perform(
+            Statement::WriteColumn { way, asking, into } => self.perform(
                 crew,
                 text,
-                Command::PullInto {
-                    asked: asked(&asking),
-                    into,
-                },
-            ),
-            Statement::PushInto { asking, into } => self.perform(
-                crew,
-                text,
-                Command::PushInto {
+                Command::WriteColumn {
+                    way,
                     asked: asked(&asking),
                     into,
                 },

@@ -23,7 +23,9 @@ ghost use Rattle.script_model.specs.Texts.{
   column_text,
   value_text,
   pull_text,
-  changed_text,
+  way_word,
+  counted_word,
+  counts_text,
   feed_text,
   fault_text,
 };
@@ -35,6 +37,7 @@ use itoa::Buffer;
 use map_model::{ListedEdge, Row};
 use past_model::Home;
 use script_model::LineFault;
+use session_model::Way;
 use std::alloc::AllocError;
 use verifier::Refusal;
 
@@ -208,7 +211,7 @@ pub(crate) fn put_rebase(text: &mut Vec<u8>, epoch: u64, edges: u64) -> Result<(
 }
 
 /// A program, the pin whose edges it was run on, and what that gave: a line after its first word.
-pub(crate) fn put_mapped(
+fn put_mapped(
     text: &mut Vec<u8>,
     program: &[u8],
     pin: &[u8],
@@ -368,10 +371,53 @@ pub(crate) fn put_pull(
     put(text, b"\n")
 }
 
-/// The end of the line of a pull or a push into a column.
-pub(crate) fn put_changed(text: &mut Vec<u8>, changed: u64) -> Result<(), AllocError>
-    ensures { OnOk result (text.new.items ≡ text.old.items ++ changed_text changed) }
+/// The first word of a command that writes a column.
+fn way_name(way: Way) -> &'static [u8]
+    ensures { result.now ≡ way_word way }
 {
+    match way {
+        Way::Pull => b"pull ",
+        Way::Push => b"push ",
+        Way::Each => b"each ",
+    }
+}
+
+/// What a command that writes a column was run for.
+fn counted_name(way: Way) -> &'static [u8]
+    ensures { result.now ≡ counted_word way }
+{
+    match way {
+        Way::Pull | Way::Push => b" edges ",
+        Way::Each => b" vertices ",
+    }
+}
+
+/// The line of a column that was written, up to its pin.
+pub(crate) fn put_way(
+    text: &mut Vec<u8>,
+    way: Way,
+    program: &[u8],
+    pin: &[u8],
+) -> Result<(), AllocError>
+    ensures { OnOk result (text.new.items ≡ text.old.items
+        ++ (way_word way ++ (program.now ++ (codes " " ++ pin.now)))) }
+{
+    put_name(text, way_name(way), program)?;
+    put_name(text, b" ", pin)
+}
+
+/// What came of a column that was written, at the end of its line.
+pub(crate) fn put_counts(
+    text: &mut Vec<u8>,
+    way: Way,
+    count: u64,
+    total: u64,
+    changed: u64,
+) -> Result<(), AllocError>
+    ensures { OnOk result (text.new.items ≡ text.old.items ++ counts_text way count total changed) }
+{
+    put_field(text, counted_name(way), count)?;
+    put_field(text, b" total ", total)?;
     put_field(text, b" changed ", changed)?;
     put(text, b"\n")
 }

@@ -5,7 +5,9 @@ use Rattle.past_model.specs.declared.edit.Edit.{Edit}
 use Rattle.past_model.specs.declared.edit.Edit.TheVariants.{Insert, Remove}
 use Rattle.map_model.specs.declared.reduction.Reduction.{Reduction}
 use Rattle.map_model.specs.declared.reduction.Reduction.TheVariants.{Min, Max, Sum}
-use Rattle.session_model.specs.Commands.{Asked, Command, MakeGraph, LoadProgram, LoadImage, TakePin, RunProgram, ReportHome, Rebase, ListEdges, SetColumn, ShowValues, PullRows, PullInto, PushInto}
+use Rattle.session_model.specs.Commands.{Asked, Command, MakeGraph, LoadProgram, LoadImage, TakePin, RunProgram, ReportHome, Rebase, ListEdges, SetColumn, ShowValues, PullRows, WriteColumn}
+use Rattle.session_model.specs.declared.way.Way.{Way}
+use Rattle.session_model.specs.declared.way.Way.TheVariants.{Pull, Push, Each}
 use Rattle.script_model.specs.Lexing.{number, is_name, hex, same_bytes, is_dash, is_column_name, column_names}
 
 pub data Statement : Type 0 where
@@ -120,19 +122,19 @@ lending_statement to (program ∷ pin ∷ reducer ∷ digits ∷ names ∷ into 
     under_name program (under_name pin (option_then (reduction_of reducer) (λ reduction. option_then (asked_of program pin reduction digits names frontier) (to into))))
 lending_statement to _ = None
 
+-- a column that is written, under its name
+abbrev pub write_to : Way → List ℕ → Asked → Option Statement
+write_to way into asked = under_column_name into (Some (Asks (WriteColumn way asked into)))
+
 -- rows where no column is named, and else that column
 abbrev pub pull_to : List ℕ → Asked → Option Statement
-pull_to into asked =
-    if is_dash into then Some (Asks (PullRows asked)) else under_column_name into (Some (Asks (PullInto asked into)))
-
-abbrev pub push_to : List ℕ → Asked → Option Statement
-push_to into asked = under_column_name into (Some (Asks (PushInto asked into)))
+pull_to into asked = if is_dash into then Some (Asks (PullRows asked)) else write_to Pull into asked
 
 abbrev pub pull_statement : List (List ℕ) → Option Statement
 pull_statement operands = lending_statement pull_to operands
 
-abbrev pub push_statement : List (List ℕ) → Option Statement
-push_statement operands = lending_statement push_to operands
+abbrev pub write_statement : Way → List (List ℕ) → Option Statement
+write_statement way operands = lending_statement (write_to way) operands
 
 -- the statement that a line's first word names, with the words after it
 abbrev pub statement : List ℕ → List (List ℕ) → Option Statement
@@ -150,7 +152,8 @@ statement word operands =
     else (if same_bytes word (codes "column") then column_statement operands
     else (if same_bytes word (codes "values") then values_statement operands
     else (if same_bytes word (codes "pull") then pull_statement operands
-    else (if same_bytes word (codes "push") then push_statement operands else None)))))))))))))
+    else (if same_bytes word (codes "push") then write_statement Push operands
+    else (if same_bytes word (codes "each") then write_statement Each operands else None))))))))))))))
 
 -- a block ends at a line whose only word is `end`
 abbrev pub is_end : List (List ℕ) → Bool

@@ -16,7 +16,9 @@ use Rattle.past_model.specs.declared.home.Home.{Home}
 use Rattle.past_model.specs.declared.home.Home.TheVariants.{Block, Gapped, Tree}
 use Rattle.session_model.specs.declared.fault.Fault.{Fault}
 use Rattle.session_model.specs.declared.fault.Fault.TheVariants as faults
-use Rattle.session_model.specs.Commands.{Answer, GraphMade, BatchPublished, ProgramAccepted, ProgramRefused, NoImage, PinTaken, EdgesMapped, HomeReported, Rebased, EdgesListed, ColumnSet, ValuesShown, RowsPulled, ColumnPulled, ColumnPushed}
+use Rattle.session_model.specs.declared.way.Way.{Way}
+use Rattle.session_model.specs.declared.way.Way.TheVariants as ways
+use Rattle.session_model.specs.Commands.{Answer, GraphMade, BatchPublished, ProgramAccepted, ProgramRefused, NoImage, PinTaken, EdgesMapped, HomeReported, Rebased, EdgesListed, ColumnSet, ValuesShown, RowsPulled, ColumnWritten}
 use Rattle.script_model.specs.declared.line_fault.LineFault.{LineFault}
 use Rattle.script_model.specs.declared.line_fault.LineFault.TheVariants as line_faults
 
@@ -155,9 +157,26 @@ value_text row = codes "value " ++ decimal row.vertex ++ codes " " ++ decimal ro
 abbrev pub pull_text : (program pin : List ℕ) → (edges total : ℕ) → List ℕ
 pull_text program pin edges total = codes "pull " ++ mapped_text program pin edges total ++ newline
 
--- the end of the line of a pull or a push into a column
-abbrev pub changed_text : ℕ → List ℕ
-changed_text changed = codes " changed " ++ decimal changed ++ newline
+-- the first word of a command that writes a column
+abbrev pub way_word : Way → List ℕ
+way_word ways.Pull = codes "pull "
+way_word ways.Push = codes "push "
+way_word ways.Each = codes "each "
+
+-- what it was run for
+abbrev pub counted_word : Way → List ℕ
+counted_word ways.Pull = codes " edges "
+counted_word ways.Push = codes " edges "
+counted_word ways.Each = codes " vertices "
+
+-- what came of it
+abbrev pub counts_text : Way → (count total changed : ℕ) → List ℕ
+counts_text way count total changed =
+    counted_word way ++ decimal count ++ codes " total " ++ decimal total ++ codes " changed " ++ decimal changed ++ newline
+
+abbrev pub written_text : Way → (program pin : List ℕ) → (count total changed : ℕ) → List ℕ
+written_text way program pin count total changed =
+    way_word way ++ program ++ codes " " ++ pin ++ counts_text way count total changed
 
 -- what is written for an answer
 abbrev pub answer_text : Answer → List ℕ
@@ -174,8 +193,7 @@ answer_text (EdgesListed program pin edges listed) = list_text program pin edges
 answer_text (ColumnSet name count) = column_text name count
 answer_text (ValuesShown rows) = flat_map value_text rows
 answer_text (RowsPulled program pin edges total rows) = pull_text program pin edges total ++ flat_map row_text rows
-answer_text (ColumnPulled program pin edges total changed) = codes "pull " ++ mapped_text program pin edges total ++ changed_text changed
-answer_text (ColumnPushed program pin edges total changed) = codes "push " ++ mapped_text program pin edges total ++ changed_text changed
+answer_text (ColumnWritten way program pin count total changed) = written_text way program pin count total changed
 
 abbrev pub fault_text : LineFault → ℕ → List ℕ
 fault_text fault line = codes "fault " ++ decimal (line_fault_number fault) ++ codes " line " ++ decimal line ++ newline

@@ -8,17 +8,16 @@ use Rattle.session_model.specs.declared.fault.Fault.TheVariants as faults
 use Rattle.map_model.specs.EdgeMap.{reduction_of_numbers}
 use Rattle.map_model.specs.Pushes.{changed}
 use Rattle.past_model.specs.Past.{graph_of}
-use Rattle.session_model.specs.Commands.{Asked, Answer, RowsPulled, ValuesShown}
+use Rattle.session_model.specs.Commands.{Asked, Answer, RowsPulled, ValuesShown, ColumnWritten}
 use Rattle.session_model.specs.Faults.{is_ascending, lent_fault}
 use Rattle.session_model.specs.Session.{KeptColumn, Session, program_named, pin_named, column_named, stored}
-use Rattle.session_model.specs.Responses.{Response, Answers, Fails, response_with, unless_fault, lent_response, lent_numbers, into_response, inputs_of, frontier_of, rows_answer, values_response, values_of}
+use Rattle.session_model.specs.Responses.{Response, Answers, Fails, response_with, unless_fault, lent_response, exit_numbers, column_after, write_response, inputs_of, frontier_of, rows_answer, values_response, values_of}
 use Rattle.session.specs.declared.error.CommandError.{CommandError}
 use Rattle.session.specs.declared.error.CommandError.TheVariants as errors
 use Rattle.session.specs.declared.lending.Lent.{Lent}
 use Rattle.edge_fold.specs.declared.outcome.MapOutcome.{MapOutcome}
 use Rattle.graph_model.specs.Graph.{Graph}
-use Rattle.session.specs.declared.lending.Way.{Way}
-use Rattle.session.specs.declared.lending.Way.TheVariants as ways
+use Rattle.session_model.specs.declared.way.Way.{Way}
 use Rattle.session.specs.declared.lending.Written.{Written}
 use Rattle.session.specs.declared.answer.Answer.{Answer as GivenAnswer}
 use Rattle.session.specs.declared.kept.NamedProgram.{NamedProgram}
@@ -26,7 +25,7 @@ use Rattle.session.specs.declared.kept.NamedPin.{NamedPin}
 use Rattle.session.specs.declared.kept.NamedColumn.{NamedColumn}
 use Rattle.session.specs.Handles.{StoreState}
 use Rattle.session.specs.Kept.{answer_of, each_now, kept_column, session_of}
-use Rattle.session.specs.Lending.{AreRows, GoesOn, IsLeft, IsLent, IsWritten, left_by, lends, leaves_of, answer_to, Writes, WritesInto}
+use Rattle.session.specs.Lending.{AreRows, GoesOn, IsLeft, IsLent, IsWritten, lends, Writes, WritesInto}
 use Rattle.session.specs.Performs.{Performs}
 
 pub lent_outside : (asked : Asked) (s : Session) (last : Past) (go : GoesOn) → s.past ≡ Some last → list_all (λ v. nat_lt v last.vertex_count) asked.frontier ≡ false → lent_response asked s go ≡ Fails faults.Range
@@ -56,9 +55,12 @@ abbrev writes_of : Way → Asked → List ℕ → Session → GoesOn
 writes_of way asked into s p past columns =
     response_with (column_named into s.columns) faults.Name (λ numbers.
     unless_fault (lent_fault asked p past.vertex_count columns (numbers ∷ []))
-    (let all = lent_numbers asked p (graph_of past) columns in
-    let after = leaves_of way asked p (graph_of past) columns numbers in
-    Answers (answer_to way asked.program asked.pin (length all) (reduction_of_numbers asked.reduction all) (changed numbers after))
+    (let g = graph_of past in
+    let inputs = inputs_of asked.argument columns in
+    let frontier = frontier_of asked.frontier g in
+    let exits = exit_numbers way p g inputs frontier in
+    let after = column_after way p g asked.reduction inputs frontier numbers in
+    Answers (ColumnWritten way asked.program asked.pin (length exits) (reduction_of_numbers asked.reduction exits) (changed numbers after))
     (record s { columns = stored into after s.columns })))
 
 pub write_fails : (way : Way) (asked : Asked) (into : List ℕ) (s : Session) (error : CommandError) → IsLent (lent_response asked s) (Err error) → WritesInto way asked into s (Err error)
@@ -72,9 +74,9 @@ write_unnamed way asked into s lent is none =
     is (writes_of way asked into s) ∙ (rw none refl)
 
 pub wrote : (way : Way) (asked : Asked) (into : List ℕ) (s : Session) (lent : Lent) (numbers : List ℕ) (result : Result Written CommandError) → IsLent (lent_response asked s) (Ok lent) → column_named into s.columns ≡ Some numbers
-    → Writes (leaves_of way) asked lent.program.now lent.pin.now.past (each_now lent.columns.items) numbers result → WritesInto way asked into s result
+    → Writes way asked lent.program.now lent.pin.now.past (each_now lent.columns.items) numbers result → WritesInto way asked into s result
 wrote way asked into s lent numbers (Ok w) is named did =
-    is (writes_of way asked into s) ∙ (rw (named, did.fits, did.edges, did.total, did.changes, did.after) refl)
+    is (writes_of way asked into s) ∙ (rw (named, did.fits, did.left.count, did.left.total, did.left.changes, did.left.after) refl)
 wrote way asked into s lent numbers (Err (errors.Fault fault)) is named did = is (writes_of way asked into s) ∙ (rw (named, did) refl)
 wrote way asked into s lent numbers (Err errors.OutOfMemory) is named did = did
 wrote way asked into s lent numbers (Err errors.WorkerRefused) is named did = did
@@ -89,8 +91,8 @@ session_stored store programs pins before after s into numbers view same =
     (ap (λ (kept : List KeptColumn). record (session_of store programs pins after) { columns = kept }) same)
 
 pub wrote_column : (way : Way) (asked : Asked) (into : List ℕ) (s new : Session) (w : Written) (answer : GivenAnswer) → WritesInto way asked into s (Ok w)
-    → new ≡ record s { columns = stored into w.numbers.items s.columns } → answer_of answer ≡ answer_to way asked.program asked.pin w.edges w.total w.changed
-    → into_response (leaves_of way) (answer_to way asked.program asked.pin) asked into s ≡ Answers (answer_of answer) new
+    → new ≡ record s { columns = stored into w.numbers.items s.columns } → answer_of answer ≡ ColumnWritten way asked.program asked.pin w.count w.total w.changed
+    → write_response way asked into s ≡ Answers (answer_of answer) new
 wrote_column way asked into s new w answer told after said = told ∙ ap (λ (a : Answer). Answers a (record s { columns = stored into w.numbers.items s.columns })) (sym said) ∙ ap (λ (t : Session). Answers (answer_of answer) t) (sym after)
 
 -- ---- the numbers of a column
@@ -109,19 +111,9 @@ values_shown name frontier numbers s last past-is below named up = rw (past-is, 
 
 -- ---- what is written
 
-left_as : (way : Way) (asked : Asked) (p : Program) (g : Graph) (columns : List (List ℕ)) (numbers : List ℕ) → left_by way p g asked.reduction (inputs_of asked.argument columns) (frontier_of asked.frontier g) numbers ≡ leaves_of way asked p g columns numbers
-left_as ways.Pull asked p g columns numbers = refl
-left_as ways.Push asked p g columns numbers = refl
-
 pub left_written : (way : Way) (asked : Asked) (p : Program) (past : Past) (columns : List (List ℕ)) (numbers : List ℕ) (w : Written) → lent_fault asked p past.vertex_count columns (numbers ∷ []) ≡ None
-    → IsLeft way p (graph_of past) asked.reduction (inputs_of asked.argument columns) (frontier_of asked.frontier (graph_of past)) numbers w → IsWritten (leaves_of way) asked p past columns numbers w
-left_written way asked p past columns numbers w fits is = record {
-  fits = fits;
-  edges = is.edges;
-  total = is.total;
-  after = is.after ∙ left_as way asked p (graph_of past) columns numbers;
-  changes = is.changes;
-}
+    → IsLeft way p (graph_of past) asked.reduction (inputs_of asked.argument columns) (frontier_of asked.frontier (graph_of past)) numbers w → IsWritten way asked p past columns numbers w
+left_written way asked p past columns numbers w fits is = record { fits = fits; left = is }
 
 pub rows_told : (asked : Asked) (p : Program) (past : Past) (columns : List (List ℕ)) (out : MapOutcome) (s : Session) → lent_fault asked p past.vertex_count columns [] ≡ None
     → AreRows p (graph_of past) asked.reduction (inputs_of asked.argument columns) (frontier_of asked.frontier (graph_of past)) out

@@ -11,7 +11,7 @@ use Rattle.past_model.specs.declared.entry.Entry.{Entry}
 use Rattle.past_model.specs.Past.{Past}
 use Rattle.history.specs.Moment.{Moment}
 use Rattle.session_model.specs.Session.{KeptProgram, KeptPin, KeptColumn, Session}
-use Rattle.session_model.specs.Commands.{Asked, Command, MakeGraph, PublishBatch, LoadProgram, LoadImage, TakePin, RunProgram, ReportHome, Rebase, ListEdges, SetColumn, ShowValues, PullRows, PullInto, PushInto, Answer, GraphMade, BatchPublished, ProgramAccepted, ProgramRefused, NoImage, PinTaken, EdgesMapped, HomeReported, Rebased, EdgesListed, ColumnSet, ValuesShown, RowsPulled, ColumnPulled, ColumnPushed}
+use Rattle.session_model.specs.Commands.{Asked, Command, MakeGraph, PublishBatch, LoadProgram, LoadImage, TakePin, RunProgram, ReportHome, Rebase, ListEdges, SetColumn, ShowValues, PullRows, WriteColumn, Answer, GraphMade, BatchPublished, ProgramAccepted, ProgramRefused, NoImage, PinTaken, EdgesMapped, HomeReported, Rebased, EdgesListed, ColumnSet, ValuesShown, RowsPulled, ColumnWritten}
 use Rattle.session.specs.Handles.{StoreState}
 use Rattle.session.specs.declared.kept.NamedProgram.{NamedProgram}
 use Rattle.session.specs.declared.kept.NamedPin.{NamedPin}
@@ -83,8 +83,7 @@ command_of (commands.ListEdges program pin argument) = ListEdges program.now pin
 command_of (commands.SetColumn name first numbers) = SetColumn name.now first numbers.now
 command_of (commands.ShowValues name frontier) = ShowValues name.now frontier.now
 command_of (commands.PullRows asked) = PullRows (asked_of asked)
-command_of (commands.PullInto asked into) = PullInto (asked_of asked) into.now
-command_of (commands.PushInto asked into) = PushInto (asked_of asked) into.now
+command_of (commands.WriteColumn way asked into) = WriteColumn way (asked_of asked) into.now
 
 abbrev pub answer_of : GivenAnswer → Answer
 answer_of (answers.GraphMade vertices) = GraphMade vertices
@@ -100,8 +99,7 @@ answer_of (answers.EdgesListed program pin edges listing) = EdgesListed program.
 answer_of (answers.ColumnSet name count) = ColumnSet name.now count
 answer_of (answers.ValuesShown rows) = ValuesShown rows.items
 answer_of (answers.RowsPulled program pin edges total rows) = RowsPulled program.now pin.now edges total rows.items
-answer_of (answers.ColumnPulled program pin edges total changed) = ColumnPulled program.now pin.now edges total changed
-answer_of (answers.ColumnPushed program pin edges total changed) = ColumnPushed program.now pin.now edges total changed
+answer_of (answers.ColumnWritten way program pin count total changed) = ColumnWritten way program.now pin.now count total changed
 
 -- the edges that an answer lists, if it does
 abbrev pub listing_of : GivenAnswer → Option (List ListedEdge)
@@ -118,5 +116,4 @@ listing_of (answers.Rebased epoch edges) = None
 listing_of (answers.ColumnSet name count) = None
 listing_of (answers.ValuesShown rows) = None
 listing_of (answers.RowsPulled program pin edges total rows) = None
-listing_of (answers.ColumnPulled program pin edges total changed) = None
-listing_of (answers.ColumnPushed program pin edges total changed) = None
+listing_of (answers.ColumnWritten way program pin count total changed) = None

@@ -7,6 +7,7 @@ use crate::listing::Listing;
 use bpf_image::ImageError;
 use map_model::Row;
 use past_model::Home;
+use session_model::Way;
 use verifier::Refusal;
 
 /// The answer to a command, with the names that the command gave.
@@ -90,20 +91,13 @@ pub enum Answer<'a> {
         total: u64,
         rows: Vec<Row>,
     },
-    /// A column has what each vertex of the frontier has: how many edges there were, what their numbers reduce to, and at
-    /// how many vertices the column has another number than before.
-    ColumnPulled {
+    /// A column is written: the way, for how many edges (or vertices, of `Each`) the program was run, what the exit numbers
+    /// reduce to, and at how many vertices the column has another number than before.
+    ColumnWritten {
+        way: Way,
         program: &'a [u8],
         pin: &'a [u8],
-        edges: u64,
-        total: u64,
-        changed: u64,
-    },
-    /// The same, where each edge's number was reduced into that of its target.
-    ColumnPushed {
-        program: &'a [u8],
-        pin: &'a [u8],
-        edges: u64,
+        count: u64,
         total: u64,
         changed: u64,
     },

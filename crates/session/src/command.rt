@@ -2,6 +2,7 @@
 
 use map_model::Reduction;
 use past_model::Edit;
+use session_model::Way;
 
 /// What a command that lends columns asks for: a program and a pin by their names, how numbers are reduced, the argument's
 /// bytes, the columns that records have numbers of, by their names, and the frontier (none for all vertices).
@@ -79,13 +80,9 @@ pub enum Command<'a, 'b> {
     PullRows {
         asked: Asked<'a, 'b>,
     },
-    /// The same, and a column gets what each vertex of the frontier has.
-    PullInto {
-        asked: Asked<'a, 'b>,
-        into: &'a [u8],
-    },
-    /// The same, and each edge's number is reduced into that of its target in a column.
-    PushInto {
+    /// A program run with columns for the edges of a pin, or for its vertices, and a column that it writes in one of three ways.
+    WriteColumn {
+        way: Way,
         asked: Asked<'a, 'b>,
         into: &'a [u8],
     },

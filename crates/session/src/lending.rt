@@ -1,4 +1,5 @@
-//! The pulls and pushes of a session: a program mapped over the edges of a pin with columns. One thread runs them.
+//! The pulls, pushes and maps of a session: a program run for the edges or the vertices of a pin with columns. One thread runs
+//! them.
 
 ghost use Rattle.std.specs.Prelude.{◌≡◌, ◌+◌, ◌*◌, ◌≤◌, ◌↔◌, [], length, map, IfOk, IfNone, IfSome, IfErr, true};
 ghost use Rattle.past_model.specs.declared.limits.TheConstants.{MOST_VERTICES};
@@ -6,18 +7,19 @@ ghost use Rattle.past_model.specs.Past.{graph_of};
 ghost use Rattle.map_model.specs.declared.limits.TheConstants.{COLUMN_BYTES, EDGE_BYTES, MOST_COLUMNS};
 ghost use Rattle.session_model.specs.Session.{Session as SessionState};
 ghost use Rattle.session_model.specs.Faults.{is_frontier as is_frontier_of, lent_fault as lent_fault_of};
-ghost use Rattle.session_model.specs.Responses.{Answers, unless_fault, rows_answer, pull_response, into_response, frontier_of, lent_response, placed};
+ghost use Rattle.session_model.specs.Responses.{Answers, unless_fault, rows_answer, pull_response, write_response, frontier_of, lent_response, placed};
 ghost use Rattle.edge_fold.specs.Inputs.{inputs_of};
 ghost use Rattle.edge_fold.specs.Kept.{IsFor};
 ghost use Rattle.map_model.specs.EdgeMap.{all_with, reduction_of_numbers};
 ghost use Rattle.map_model.specs.Parts.{values_for};
 ghost use Rattle.verifier.specs.Walks.{longest};
 ghost use Rattle.session.specs.Kept.{asked_of, each_now, kept_column, program_of, past_of};
-ghost use Rattle.session.specs.Lending.{AreRows, IsLeft, IsLent, lends, Writes, WritesInto, leaves_of, answer_to, into_list};
+ghost use Rattle.session.specs.Lending.{AreRows, IsLeft, IsLent, lends, Writes, WritesInto, into_list};
 ghost use Rattle.session.specs.Performs.{Performs};
 
 use crate::answer::Answer;
 use crate::command::Asked;
+use crate::each::number_vertices;
 use crate::error::CommandError;
 use crate::frontier::{are_below, ascends};
 use crate::kept::{NamedColumn, find_column, find_columns, find_pin, find_program, store_column};
@@ -28,7 +30,7 @@ use edge_fold::{
     push_whole,
 };
 use map_model::{COLUMN_BYTES, EDGE_BYTES, count_changed};
-use session_model::Fault;
+use session_model::{Fault, Way};
 use std::alloc::{AllocError, Global};
 use std::sync::Arc;
 use store::{Pin, Version};
@@ -42,19 +44,11 @@ pub(crate) struct Lent<'a> {
     pub columns: Vec<&'a [u64]>,
 }
 
-/// How a column is written.
-#[derive(Clone, Copy)]
-pub(crate) enum Way {
-    /// Each vertex of the frontier gets what the numbers of its edges reduce to.
-    Pull,
-    /// The number of each edge is reduced into that of its target.
-    Push,
-}
-
 /// What is written in place of a column.
 #[derive(Drop)]
 pub(crate) struct Written {
-    pub edges: u64,
+    /// How many edges, or vertices, the program was run for.
+    pub count: u64,
     pub total: u64,
     /// At how many vertices there is another number.
     pub changed: u64,
@@ -136,7 +130,7 @@ fn frontier_for(alloc: Global, version: &Version, frontier: &[u64]) -> Result<Ve
 }
 
 /// Gives each vertex of a frontier its value.
-fn place(frontier: &[u32], values: &[u64], numbers: &mut [u64])
+pub(crate) fn place(frontier: &[u32], values: &[u64], numbers: &mut [u64])
     requires { length values.now ≡ length frontier.now }
     ensures placed { numbers.new ≡ placed frontier.now values.now numbers.old }
 {
@@ -172,7 +166,7 @@ fn pull(
     Ok(end)
 }
 
-/// What a pull or a push over edges writes in place of a column.
+/// What a command writes in place of a column.
 fn mapped_numbers(
     alloc: Global,
     way: Way,
@@ -190,9 +184,10 @@ fn mapped_numbers(
     let end = match way {
         Way::Pull => pull(alloc, &mut memory, mapped, request, &mut after)?,
         Way::Push => push_whole(&mut memory, mapped, request, &mut after),
+        Way::Each => number_vertices(alloc, &mut memory, mapped, request, &mut after)?,
     };
     Ok(Written {
-        edges: end.edges,
+        count: end.edges,
         total: end.total,
         changed: count_changed(numbers, &after) as u64,
         numbers: after,
@@ -213,7 +208,7 @@ fn mapped_rows(
     map_frontier(alloc, &mut memory, mapped, request, Rows::OfSources)
 }
 
-/// What a pull or a push writes in place of a column.
+/// What a command writes in place of a column, or its fault.
 fn write_numbers(
     alloc: Global,
     way: Way,
@@ -221,7 +216,7 @@ fn write_numbers(
     lent: &Lent<'_>,
     numbers: &[u64],
 ) -> Result<Written, CommandError>
-    ensures { Writes (leaves_of way) (asked_of asked.now) lent.now.program.now lent.now.pin.now.past
+    ensures { Writes way (asked_of asked.now) lent.now.program.now lent.now.pin.now.past
         (each_now lent.now.columns.items) numbers.now result }
 {
     if let Some(fault) = lent_fault(asked, lent, Some(numbers)) {
@@ -320,42 +315,31 @@ impl Session {
         }
     }
 
-    /// Maps a program over the edges of a pin with columns, and writes a column.
+    /// Maps a program over the edges or the vertices of a pin with columns, and writes a column.
     pub(crate) fn write_column<'a>(
         &mut self,
         way: Way,
         asked: &Asked<'a, '_>,
         into: &[u8],
     ) -> Result<Answer<'a>, CommandError>
-        ensures performed { let a = asked_of asked.now in Performs
-            (into_response (leaves_of way) (answer_to way a.program a.pin) a into.now self.old) result self.old self.new }
+        ensures performed { Performs (write_response way (asked_of asked.now) into.now self.old) result self.old self.new }
         ensures kept { IfErr result (λ _. self.new ≡ self.old) }
     {
         let written = self.write(way, asked, into)?;
         let Written {
-            edges,
+            count,
             total,
             changed,
             numbers,
         } = written;
         store_column(self.alloc, &mut self.columns, into, numbers)?;
-        let program = asked.program;
-        let pin = asked.pin;
-        match way {
-            Way::Pull => Ok(Answer::ColumnPulled {
-                program,
-                pin,
-                edges,
-                total,
-                changed,
-            }),
-            Way::Push => Ok(Answer::ColumnPushed {
-                program,
-                pin,
-                edges,
-                total,
-                changed,
-            }),
-        }
+        Ok(Answer::ColumnWritten {
+            way,
+            program: asked.program,
+            pin: asked.pin,
+            count,
+            total,
+            changed,
+        })
     }
 }

@@ -11,7 +11,6 @@ use crate::command::Command;
 use crate::error::CommandError;
 use crate::handles::Handles;
 use crate::kept::{NamedColumn, NamedPin, NamedProgram};
-use crate::lending::Way;
 use crate::lists::Names;
 use crate::runs::Run;
 use std::alloc::Global;
@@ -109,8 +108,7 @@ impl Session {
             } => self.set_column(name, first, numbers),
             Command::ShowValues { name, frontier } => self.show_values(name, frontier),
             Command::PullRows { asked } => self.pull_rows(&asked),
-            Command::PullInto { asked, into } => self.write_column(Way::Pull, &asked, into),
-            Command::PushInto { asked, into } => self.write_column(Way::Push, &asked, into),
+            Command::WriteColumn { way, asked, into } => self.write_column(way, &asked, into),
         }
     }
 

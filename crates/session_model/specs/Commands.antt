@@ -8,6 +8,7 @@ use Rattle.map_model.specs.declared.listed_edge.ListedEdge.{ListedEdge}
 use Rattle.past_model.specs.declared.edit.Edit.{Edit}
 use Rattle.past_model.specs.declared.home.Home.{Home}
 use Rattle.verifier.specs.declared.refusal.Refusal.{Refusal}
+use Rattle.session_model.specs.declared.way.Way.{Way}
 
 -- what a command that lends columns asks for: a program, a pin and columns by their names, how numbers are reduced, the
 -- argument, and the frontier; an empty one stands for all vertices
@@ -44,10 +45,8 @@ pub data Command : Type 0 where
   ShowValues : (name frontier : List ℕ) → Command
   -- a program mapped over the edges of a pin with columns, a row for each vertex
   PullRows : Asked → Command
-  -- the same, where a column gets each vertex's number
-  PullInto : Asked → (into : List ℕ) → Command
-  -- the same, where each edge's number is reduced into that of its target in a column
-  PushInto : Asked → (into : List ℕ) → Command
+  -- a program run with columns, and a column that is written in one of three ways
+  WriteColumn : Way → Asked → (into : List ℕ) → Command
 
 pub data Answer : Type 0 where
   GraphMade : (vertices : ℕ) → Answer
@@ -66,6 +65,5 @@ pub data Answer : Type 0 where
   ColumnSet : (name : List ℕ) (count : ℕ) → Answer
   ValuesShown : List Row → Answer
   RowsPulled : (program pin : List ℕ) (edges total : ℕ) → List Row → Answer
-  -- at how many vertices the column has another number than before
-  ColumnPulled : (program pin : List ℕ) (edges total changed : ℕ) → Answer
-  ColumnPushed : (program pin : List ℕ) (edges total changed : ℕ) → Answer
+  -- how many runs there were, what their exit numbers reduce to, and at how many vertices the column has another number than before
+  ColumnWritten : Way → (program pin : List ℕ) (count total changed : ℕ) → Answer

@@ -14,16 +14,18 @@ use Rattle.bpf_image.specs.declared.image_error.ImageError.TheVariants.{CodeLeng
 use Rattle.map_model.specs.declared.reduction.Reduction.{Reduction}
 use Rattle.map_model.specs.declared.row.Row.{Row}
 use Rattle.map_model.specs.EdgeMap.{Inputs, all_numbers, all_with, rows_of, rows_with, reduction_of_numbers, listed_edges}
-use Rattle.map_model.specs.Parts.{values_for}
+use Rattle.map_model.specs.Parts.{values_for, pair_numbers}
 use Rattle.map_model.specs.Pushes.{changed}
 use Rattle.map_model.specs.PushParts.{pushed_edges}
 use Rattle.verifier.specs.Walks.{longest}
 use Rattle.verifier.specs.Verdict.{Verdict, Accepted, Refused, verdict}
 use Rattle.session_model.specs.declared.fault.Fault.{Fault}
 use Rattle.session_model.specs.declared.fault.Fault.TheVariants as faults
+use Rattle.session_model.specs.declared.way.Way.{Way}
+use Rattle.session_model.specs.declared.way.Way.TheVariants as ways
 use Rattle.session_model.specs.Session.{Session, program_named, pin_named, column_named, columns_named, stored}
 use Rattle.session_model.specs.Images.{loaded}
-use Rattle.session_model.specs.Commands.{Asked, Command, MakeGraph, PublishBatch, LoadProgram, LoadImage, TakePin, RunProgram, ReportHome, Rebase, ListEdges, SetColumn, ShowValues, PullRows, PullInto, PushInto, Answer, GraphMade, BatchPublished, ProgramAccepted, ProgramRefused, NoImage, PinTaken, EdgesMapped, HomeReported, Rebased, EdgesListed, ColumnSet, ValuesShown, RowsPulled, ColumnPulled, ColumnPushed}
+use Rattle.session_model.specs.Commands.{Asked, Command, MakeGraph, PublishBatch, LoadProgram, LoadImage, TakePin, RunProgram, ReportHome, Rebase, ListEdges, SetColumn, ShowValues, PullRows, WriteColumn, Answer, GraphMade, BatchPublished, ProgramAccepted, ProgramRefused, NoImage, PinTaken, EdgesMapped, HomeReported, Rebased, EdgesListed, ColumnSet, ValuesShown, RowsPulled, ColumnWritten}
 use Rattle.session_model.specs.Faults.{graph_fault, batch_fault, program_fault, image_fault, pin_fault, vertices_fault, home_fault, rebase_fault, argument_fault, length_fault, column_fault, shown_fault, lent_fault}
 
 -- an answer with the session after it, or a fault
@@ -230,37 +232,33 @@ placed [] values numbers = numbers
 placed (v ∷ vs) [] numbers = numbers
 placed (v ∷ vs) (x ∷ xs) numbers = placed vs xs (slice_set numbers v x)
 
--- what a command that writes a column leaves of it
-abbrev pub Leaves : Type 0
-Leaves = Asked → Program → Graph → (columns : List (List ℕ)) → (numbers : List ℕ) → List ℕ
+-- the exit numbers of a command that writes a column: of the edges of a frontier, or of its vertices, each as a pair with itself
+abbrev pub exit_numbers : Way → Program → Graph → Inputs → (frontier : List ℕ) → List ℕ
+exit_numbers ways.Pull p g inputs frontier = all_with p (longest p) g inputs frontier
+exit_numbers ways.Push p g inputs frontier = all_with p (longest p) g inputs frontier
+exit_numbers ways.Each p g inputs frontier = pair_numbers p (longest p) g inputs frontier frontier
 
--- what a pull leaves: at each vertex of the frontier what the numbers of its edges reduce to
-abbrev pub pulled : Leaves
-pulled asked p g columns numbers =
-    let frontier = frontier_of asked.frontier g in
-    placed frontier (values_for p (longest p) g asked.reduction (inputs_of asked.argument columns) frontier) numbers
-
--- what a push leaves: the number of each edge of the frontier has gone to that of its target
-abbrev pub pushed_column : Leaves
-pushed_column asked p g columns numbers =
-    pushed_edges p (longest p) g asked.reduction (inputs_of asked.argument columns) (frontier_of asked.frontier g) numbers
+-- What such a command leaves of a column: at each vertex of the frontier what the numbers of its edges reduce to; the number
+-- of each edge reduced into that of its target; or at each vertex of the frontier its own number.
+abbrev pub column_after : Way → Program → Graph → Reduction → Inputs → (frontier numbers : List ℕ) → List ℕ
+column_after ways.Pull p g r inputs frontier numbers = placed frontier (values_for p (longest p) g r inputs frontier) numbers
+column_after ways.Push p g r inputs frontier numbers = pushed_edges p (longest p) g r inputs frontier numbers
+column_after ways.Each p g r inputs frontier numbers =
+    placed frontier (pair_numbers p (longest p) g inputs frontier frontier) numbers
 
 -- all numbers that are read are those before the command, of the column that is written, too
-abbrev pub into_response : Leaves → ((edges total changed : ℕ) → Answer) → Asked → List ℕ → Session → Response
-into_response leaves answer asked into s =
+abbrev pub write_response : Way → Asked → List ℕ → Session → Response
+write_response way asked into s =
     lent_response asked s (λ p past columns.
     response_with (column_named into s.columns) faults.Name (λ numbers.
     unless_fault (lent_fault asked p past.vertex_count columns (numbers ∷ []))
-    (let all = lent_numbers asked p (graph_of past) columns in
-    let after = leaves asked p (graph_of past) columns numbers in
-    Answers (answer (length all) (reduction_of_numbers asked.reduction all) (changed numbers after))
+    (let g = graph_of past in
+    let inputs = inputs_of asked.argument columns in
+    let frontier = frontier_of asked.frontier g in
+    let exits = exit_numbers way p g inputs frontier in
+    let after = column_after way p g asked.reduction inputs frontier numbers in
+    Answers (ColumnWritten way asked.program asked.pin (length exits) (reduction_of_numbers asked.reduction exits) (changed numbers after))
     (record s { columns = stored into after s.columns }))))
-
-abbrev pub pull_into_response : Asked → List ℕ → Session → Response
-pull_into_response asked into s = into_response pulled (ColumnPulled asked.program asked.pin) asked into s
-
-abbrev pub push_response : Asked → List ℕ → Session → Response
-push_response asked into s = into_response pushed_column (ColumnPushed asked.program asked.pin) asked into s
 
 abbrev pub response : Command → Session → Response
 response (MakeGraph n) s = graph_response n s
@@ -276,5 +274,4 @@ response (ListEdges program pin argument) s = list_response program pin argument
 response (SetColumn name first numbers) s = column_response name first numbers s
 response (ShowValues name frontier) s = values_response name frontier s
 response (PullRows asked) s = pull_response asked s
-response (PullInto asked into) s = pull_into_response asked into s
-response (PushInto asked into) s = push_response asked into s
+response (WriteColumn way asked into) s = write_response way asked into s

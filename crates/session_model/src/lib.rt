@@ -4,6 +4,8 @@
 
 mod fault;
 mod limits;
+mod way;
 
 pub use fault::Fault;
 pub use limits::{MOST_KEPT, MOST_KEPT_COLUMNS};
+pub use way::Way;

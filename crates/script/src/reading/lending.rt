@@ -3,7 +3,7 @@
 ghost use Rattle.std.specs.Prelude.{◌≡◌, List, ℕ, Option, None, option_map, IfOk, MatchOption};
 ghost use Rattle.script_model.specs.Lexing.{words};
 ghost use Rattle.session_model.specs.Commands.{Asked};
-ghost use Rattle.script_model.specs.Parsing.{Statement as SaidStatement, option_then, asked_of, column_statement, values_statement, lending_statement, pull_statement, push_statement};
+ghost use Rattle.script_model.specs.Parsing.{Statement as SaidStatement, option_then, asked_of, column_statement, values_statement, lending_statement, pull_statement, write_statement};
 ghost use Rattle.script.specs.Said.{said_asked, cut_asked, said_statement, cut_statement};
 ghost use Rattle.script.specs.Reading.{column_of};
 
@@ -14,6 +14,7 @@ use crate::reading::numbers::{all_numbers, next_number};
 use crate::reading::statements::reduction;
 use crate::reading::words::next_word;
 use map_model::Reduction;
+use session_model::Way;
 use std::alloc::{AllocError, Global};
 
 /// The words of a `column` command, its numbers as a line.
@@ -155,15 +156,21 @@ pub(crate) fn pull(alloc: Global, operands: &[u8]) -> Result<Option<Statement<'_
     if !is_column_name(found.into) {
         return Ok(None);
     }
-    Ok(Some(Statement::PullInto {
+    Ok(Some(Statement::WriteColumn {
+        way: Way::Pull,
         asking,
         into: found.into,
     }))
 }
 
-pub(crate) fn push(alloc: Global, operands: &[u8]) -> Result<Option<Statement<'_>>, AllocError>
+/// A command that writes a column in a way.
+pub(crate) fn write(
+    alloc: Global,
+    way: Way,
+    operands: &[u8],
+) -> Result<Option<Statement<'_>>, AllocError>
     ensures { IfOk result (λ found. option_map said_statement found
-        ≡ option_map cut_statement (push_statement (words operands.now))) }
+        ≡ option_map cut_statement (write_statement way (words operands.now))) }
 {
     let Some(found) = lending_words(operands) else {
         return Ok(None);
@@ -174,7 +181,8 @@ pub(crate) fn push(alloc: Global, operands: &[u8]) -> Result<Option<Statement<'_
     if !is_column_name(found.into) {
         return Ok(None);
     }
-    Ok(Some(Statement::PushInto {
+    Ok(Some(Statement::WriteColumn {
+        way,
         asking,
         into: found.into,
     }))

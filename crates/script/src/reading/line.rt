@@ -1,6 +1,7 @@
 //! What lines say.
 
 use map_model::Reduction;
+use session_model::Way;
 
 /// A line inside a batch. A number from 2^64 - 1 on stands as 2^64 - 1, which no graph has as a vertex.
 #[derive(Clone, Copy)]
@@ -90,13 +91,9 @@ pub(crate) enum Statement<'a> {
     PullRows {
         asking: Asking<'a>,
     },
-    /// The same, into a column.
-    PullInto {
-        asking: Asking<'a>,
-        into: &'a [u8],
-    },
-    /// The same, into the targets' numbers of a column.
-    PushInto {
+    /// A program run with columns, and a column that it writes.
+    WriteColumn {
+        way: Way,
         asking: Asking<'a>,
         into: &'a [u8],
     },

@@ -8,12 +8,13 @@ ghost use Rattle.script.specs.Said.{said_statement, cut_statement, saying_of, sa
 ghost use Rattle.script.specs.Reading.{load_of, image_of, run_of, list_of};
 
 use crate::reading::hex::hex;
-use crate::reading::lending::{column, pull, push, values};
+use crate::reading::lending::{column, pull, values, write};
 use crate::reading::line::{Line, Statement};
 use crate::reading::names::is_name;
 use crate::reading::numbers::{all_numbers, next_number};
 use crate::reading::words::{has_no_word, is_word, next_word};
 use map_model::Reduction;
+use session_model::Way;
 use std::alloc::{AllocError, Global};
 
 /// The words of a `code` command, its code in hexadecimal digits.
@@ -338,7 +339,10 @@ fn statement<'a>(
         return pull(alloc, operands);
     }
     if is_word(word, "push") {
-        return push(alloc, operands);
+        return write(alloc, Way::Push, operands);
+    }
+    if is_word(word, "each") {
+        return write(alloc, Way::Each, operands);
     }
     Ok(None)
 }

@@ -1,17 +1,13 @@
-use Rattle.std.proofs.Common.{◌≡◌, refl, sym, subst, rules, List, ℕ}
+use Rattle.std.proofs.Common.{◌≡◌, refl, sym, subst, List, ℕ}
 use Rattle.std.specs.Prelude.{Result, Ok, Err}
 use Rattle.session_model.specs.Session.{Session, stored}
-use Rattle.session_model.specs.Responses.{into_response}
+use Rattle.session_model.specs.Responses.{write_response}
 use Rattle.session.specs.declared.answer.Answer.{Answer as GivenAnswer}
 use Rattle.session.specs.declared.answer.Answer.TheVariants as answers
 use Rattle.session.specs.declared.error.CommandError.{CommandError}
-use Rattle.session.specs.declared.lending.Way.{Way}
-use Rattle.session.specs.declared.lending.Way.TheVariants as ways
-use Rattle.session.specs.Kept.{asked_of, answer_of, session_of}
-use Rattle.session.specs.Lending.{leaves_of, answer_to}
+use Rattle.session.specs.Kept.{asked_of, session_of}
 use Rattle.session.specs.Performs.{Performs}
 use Rattle.session.proofs.LentLemmas.{session_stored, wrote_column}
-use Rattle.session.proofs.session.Session.write_column.Goals.{in-Pull, in-Push}
 use Rattle.session.proofs.session.Session.write_column.Goals as goal
 
 pub returns-clause-performed : goal.returns-clause-performed
@@ -22,9 +18,4 @@ returns-clause-performed c =
     let written = c.in_ok-written.written in
     let new : Session = session_of c.self.inside.store c.self.inside.programs.items c.self.inside.pins.items c.store_column.new.columns.items in
     let after : new ≡ record s { columns = stored into written.numbers.items s.columns } = session_stored c.self.inside.store c.self.inside.programs.items c.self.inside.pins.items c.self.inside.columns.items c.store_column.new.columns.items s into written.numbers.items c.self.view_is c.in_ok-store_column.ensures.stored in
-    elim c.match-way.branch [
-      | in-Pull w ↦ subst (λ (r : Result GivenAnswer CommandError). Performs (into_response (leaves_of c.args.way) (answer_to c.args.way asked.program asked.pin) asked into s) r s new) (sym w.result-is)
-          (wrote_column c.args.way asked into s new written (answers.ColumnPulled c.args.asked.now.program c.args.asked.now.pin written.edges written.total written.changed) c.in_ok-written.ensures after (rw w.in-Pull.is refl))
-      | in-Push w ↦ subst (λ (r : Result GivenAnswer CommandError). Performs (into_response (leaves_of c.args.way) (answer_to c.args.way asked.program asked.pin) asked into s) r s new) (sym w.result-is)
-          (wrote_column c.args.way asked into s new written (answers.ColumnPushed c.args.asked.now.program c.args.asked.now.pin written.edges written.total written.changed) c.in_ok-written.ensures after (rw w.in-Push.is refl))
-    ]
+    wrote_column c.args.way asked into s new written (answers.ColumnWritten c.args.way c.args.asked.now.program c.args.asked.now.pin written.count written.total written.changed) c.in_ok-written.ensures after refl

@@ -1,19 +1,19 @@
 use Rattle.std.proofs.Common.{◌≡◌, Some, None, List, ℕ, true, false, sym, ap, ◌∙◌}
 use Rattle.std.specs.Prelude.{Option, option_map}
-use Rattle.session_model.specs.Commands.{Asked, PullRows, PullInto, PushInto}
+use Rattle.session_model.specs.Commands.{Asked, WriteColumn}
 use Rattle.script_model.specs.Lexing.{words}
-use Rattle.script_model.specs.Parsing.{Statement, Asks, asked_of, option_then, push_statement, push_to}
+use Rattle.script_model.specs.Parsing.{Statement, Asks, asked_of, option_then, write_to}
 use Rattle.script.specs.Said.{said_asked, cut_asked, cut_statement}
 use Rattle.script.specs.declared.reading.line.Asking.{Asking}
-use Rattle.script.proofs.StatementLemmas.{lend_none, lend_some, pull_rows, pull_into, pull_unnamed, push_into, push_unnamed}
-use Rattle.script.proofs.reading.lending.push.Goals as goal
+use Rattle.script.proofs.StatementLemmas.{lend_none, lend_some, write_into, write_unnamed}
+use Rattle.script.proofs.reading.lending.write.Goals as goal
 
 pub returns-in_default-2 : goal.returns-in_default-2
 returns-in_default-2 c =
     let f = c.in-Some.found in
     let asked = asked_of f.program.now f.pin.now f.reduction f.digits.now f.names.now (words f.frontier.now) in
     let none : None ≡ option_map cut_asked asked = ap (λ (a : Option Asking). option_map said_asked a) (sym c.in_default-2.is) ∙ c.in_ok-asking.ensures in
-    lend_none asked (push_to f.into.now) none ∙ ap (λ (s : Option Statement). option_map cut_statement s) (sym (c.in-Some.ensures push_to))
+    lend_none asked (write_to c.args.way f.into.now) none ∙ ap (λ (s : Option Statement). option_map cut_statement s) (sym (c.in-Some.ensures (write_to c.args.way)))
 
 pub returns-then-not-is_column_name : goal.returns-then-not-is_column_name
 returns-then-not-is_column_name c =
@@ -21,7 +21,7 @@ returns-then-not-is_column_name c =
     let asked = asked_of f.program.now f.pin.now f.reduction f.digits.now f.names.now (words f.frontier.now) in
     let said : Asked = said_asked c.in-Some-2.asking in
     let some : Some said ≡ option_map cut_asked asked = ap (λ (a : Option Asking). option_map said_asked a) (sym c.in-Some-2.is) ∙ c.in_ok-asking.ensures in
-    lend_some asked (push_to f.into.now) said None some (λ a same. push_unnamed f.into.now a (sym c.is_column_name.ensures ∙ c.if-not-is_column_name.true)) ∙ ap (λ (s : Option Statement). option_map cut_statement s) (sym (c.in-Some.ensures push_to))
+    lend_some asked (write_to c.args.way f.into.now) said None some (λ a same. write_unnamed c.args.way f.into.now a (sym c.is_column_name.ensures ∙ c.if-not-is_column_name.true)) ∙ ap (λ (s : Option Statement). option_map cut_statement s) (sym (c.in-Some.ensures (write_to c.args.way)))
 
 pub returns : goal.returns
 returns c =
@@ -29,4 +29,4 @@ returns c =
     let asked = asked_of f.program.now f.pin.now f.reduction f.digits.now f.names.now (words f.frontier.now) in
     let said : Asked = said_asked c.in-Some-2.asking in
     let some : Some said ≡ option_map cut_asked asked = ap (λ (a : Option Asking). option_map said_asked a) (sym c.in-Some-2.is) ∙ c.in_ok-asking.ensures in
-    lend_some asked (push_to f.into.now) said (Some (Asks (PushInto said f.into.now))) some (λ a same. push_into f.into.now said a (sym c.is_column_name.ensures ∙ c.if-not-is_column_name.false) same) ∙ ap (λ (s : Option Statement). option_map cut_statement s) (sym (c.in-Some.ensures push_to))
+    lend_some asked (write_to c.args.way f.into.now) said (Some (Asks (WriteColumn c.args.way said f.into.now))) some (λ a same. write_into c.args.way f.into.now said a (sym c.is_column_name.ensures ∙ c.if-not-is_column_name.false) same) ∙ ap (λ (s : Option Statement). option_map cut_statement s) (sym (c.in-Some.ensures (write_to c.args.way)))
