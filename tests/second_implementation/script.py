@@ -80,7 +80,7 @@ def lent_names(word):
 
 
 def lends(command, words):
-    """Whether these words fit a pull or a push."""
+    """Whether these words fit a pull, a push or an each."""
     if len(words) < 6 or not are_names(words[:2]) or words[2] not in REDUCTIONS or hexadecimal(words[3]) is None:
         return False
     into = command == "pull" and words[5] == "-" or are_columns(words[5:6])
@@ -93,7 +93,7 @@ def is_command(command, words):
         return len(words) >= 2 and are_columns(words[:1]) and are_numbers(words[1:])
     if command == "values":
         return len(words) >= 1 and are_columns(words[:1]) and are_numbers(words[1:])
-    if command in ("pull", "push"):
+    if command in ("pull", "push", "each"):
         return lends(command, words)
     if command == "graph":
         return len(words) == 1 and are_numbers(words)
@@ -255,16 +255,27 @@ class Session:
         shown = frontier or [vertex for vertex, number in enumerate(column) if number]
         self.said += [f"value {vertex} {column[vertex]}" for vertex in shown]
 
-    def lend(self, command, program, pin, reducer, argument, names, into, *frontier):
-        """A pull or a push."""
-        frontier, names = [int(vertex) for vertex in frontier], lent_names(names)
+    def lent(self, program, pin, argument, names, into, frontier):
+        """The numbers of the columns that a command reads."""
         test(any(vertex >= self.vertices for vertex in frontier), RANGE)
         test(program not in self.programs or pin not in self.pins, NAME)
         test(any(name not in self.columns for name in names) or into != "-" and into not in self.columns, NAME)
         test(len(hexadecimal(argument)) + 16 * len(names) != self.programs[program][0] - 16, ARGUMENT)
         test(any(low >= high for low, high in zip(frontier, frontier[1:])), FRONTIER)
         test(len(names) > MOST_LENT, TOO_MANY)
-        columns, reduced = [self.columns[name] for name in names], REDUCTIONS[reducer]
+        return [self.columns[name] for name in names]
+
+    def write(self, command, said, into, after):
+        """Stores a column, and says at how many vertices it has another number than before."""
+        changed = sum(old != new for old, new in zip(self.columns[into], after))
+        self.columns[into] = after
+        self.said.append(f"{said} changed {changed}")
+        self.seen[f"numbers that a {command} changed"] += changed
+
+    def lend(self, command, program, pin, reducer, argument, names, into, *frontier):
+        """A pull or a push."""
+        frontier, names = [int(vertex) for vertex in frontier], lent_names(names)
+        columns, reduced = self.lent(program, pin, argument, names, into, frontier), REDUCTIONS[reducer]
         edges = [
             (source, target, number)
             for source in frontier or self.pins[pin].sources()
@@ -278,15 +289,30 @@ class Session:
             rows = [f"row {vertex} {reduced(own)}" for vertex, own in gathered.items() if own]
             self.said += [said, *rows]
             return
-        before = self.columns[into]
-        after = list(before)
+        after = list(self.columns[into])
         for vertex, own in gathered.items():
-            after[vertex] = reduced([before[vertex], *own] if command == "push" else own)
-        changed = sum(old != new for old, new in zip(before, after))
-        self.columns[into] = after
-        self.said.append(f"{said} changed {changed}")
+            after[vertex] = reduced([after[vertex], *own] if command == "push" else own)
         self.seen[f"{command} into a column that it reads"] += into in names
-        self.seen[f"numbers that a {command} changed"] += changed
+        self.write(command, said, into, after)
+
+    def own_number(self, program, pin, argument, vertex, columns):
+        """The number of a vertex's pair with itself, whose place is the degree where it is no edge."""
+        _, code, bound, table = self.programs[program]
+        graph = self.pins[pin]
+        targets = graph.neighbours(vertex)
+        place = targets.index(vertex) if vertex in targets else len(targets)
+        self.seen["loops that an each runs for"] += vertex in targets
+        ends = b"".join(struct.pack("<QQ", column[vertex], column[vertex]) for column in columns)
+        record = struct.pack("<IIII", vertex, vertex, place, len(targets)) + hexadecimal(argument) + ends
+        return run(code, record, graph, bound, table)
+
+    def each(self, program, pin, reducer, argument, names, into, *frontier):
+        """A program run for each vertex, whose number its column gets."""
+        frontier, names = [int(vertex) for vertex in frontier], lent_names(names)
+        columns = self.lent(program, pin, argument, names, into, frontier)
+        own = {vertex: self.own_number(program, pin, argument, vertex, columns) for vertex in frontier or range(self.vertices)}
+        after = [own.get(vertex, number) for vertex, number in enumerate(self.columns[into])]
+        self.write("each", f"each {program} {pin} vertices {len(own)} total {REDUCTIONS[reducer](list(own.values()))}", into, after)
 
     def command(self, command, words, line_number):
         test(not is_command(command, words), WORDS)
@@ -332,6 +358,8 @@ class Session:
             self.show_values(*words)
         elif command in ("pull", "push"):
             self.lend(command, *words)
+        elif command == "each":
+            self.each(*words)
         else:
             self.run(*words)
 

@@ -26,7 +26,7 @@ CALLS = 2_000_000_000
 COLUMNS = 3_000_000_000
 ODD_LENDING = ["column - 0 1", "column c0", "column c0 x", "column c0 99999 1", "column c0 0 18446744073709551616 18446744073709551615", "column c0 18446744073709551616", "column a.b 0"]
 ODD_LENDING += ["values", "values -", "values nothing", "values c0 1 0", "values c0 0 0", "values c0 99999", "push t a min - - -", "push t a min - - - 0", "pull t a min - c0,,c1 -", "pull t a min - ,c0 -"]
-ODD_LENDING += ["pull t a min - c0,- -", "pull t a avg - - -", "pull t a min - -", "pull t a min 0 - -", "push t a sum - c0 nothing", "column " + "x" * 32 + " 0 7", "column " + "x" * 33 + " 0 7"]
+ODD_LENDING += ["pull t a min - c0,- -", "pull t a avg - - -", "pull t a min - -", "pull t a min 0 - -", "push t a sum - c0 nothing", "each t a sum - c0 -", "each t a - c0 c0", "column " + "x" * 32 + " 0 7", "column " + "x" * 33 + " 0 7"]
 CALLS_EDGES = [(0, 1), (0, 2), (0, 15), (1, 0), (1, 3), (2, 2), (5, 7), *((6, target) for target in range(9))]
 # A run of a program executes no more instructions than this, and all runs of a command no more than that.
 LONG_RUN, LONG_COMMAND = 2_000, 100_000
@@ -266,12 +266,12 @@ class Writer:
         program, pin = self.choice(sorted(self.lending)), self.choice(sorted(self.pins))
         length, bound = self.programs[program]
         frontier, degrees = self.some_vertices(), self.pins[pin]
-        if bound * sum(degrees.get(source, 0) for source in frontier or degrees) > LONG_COMMAND:
+        if bound * max(len(frontier or range(self.vertices)), sum(degrees.get(source, 0) for source in frontier or degrees)) > LONG_COMMAND:
             return []
         count = self.lending[program] if self.often(0.97) else self.random.randrange(10)
         names = ",".join(self.choice(self.columns) for _ in range(count)) or "-"
         rest = length - 16 - 16 * self.lending[program]
-        command, into = self.choice(["pull", "push"]), self.choice(self.columns)
+        command, into = self.choice(["pull", "push", "each"]), self.choice(self.columns)
         if command == "pull" and self.often(0.4):
             into = "-"
         argument = self.random.randbytes(rest).hex() or "-"

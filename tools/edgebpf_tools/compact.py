@@ -8,7 +8,7 @@ ZERO = "b7000000000000009500000000000000"
 MOST_BATCHES = 4_000
 # So many numbers fit into a line.
 MOST_NUMBERS = 3_000
-OF_COLUMNS = ("column", "pull", "push")
+OF_COLUMNS = ("column", "pull", "push", "each")
 
 
 def differences(before, after):

@@ -26,6 +26,7 @@ FORMS = {
     "values": "values NAME [U ..]: the numbers of a column at some vertices, or all that are not 0",
     "pull": "pull PROGRAM PIN min|max|sum HEX NAMES INTO [U ..]: a run with columns, as a,b or - for none; INTO is - for rows or a column",
     "push": "push PROGRAM PIN min|max|sum HEX NAMES INTO [U ..]: the same, but each edge's number goes to its target's in the column INTO",
+    "each": "each PROGRAM PIN min|max|sum HEX NAMES INTO [U ..]: runs it for each vertex, as the pair of it with itself, and the column INTO gets the numbers",
     "rebase": "rebase: makes the last version's graph the base of a new epoch, and forgets the log",
 }
 
@@ -146,7 +147,7 @@ class Language:
         if command not in FORMS:
             raise Complaint("no command has this name; .help lists them", 0)
         counts = {"graph": 2, "batch": 2, "code": 4, "image": 3, "program": 3, "pin": 2, "home": 2, "list": 4, "rebase": 1}
-        least = {"run": 5, "column": 3, "values": 2, "pull": 7, "push": 7}
+        least = {"run": 5, "column": 3, "values": 2, "pull": 7, "push": 7, "each": 7}
         if len(words) != counts.get(command, len(words)) or len(words) < least.get(command, 0):
             raise Complaint(FORMS[command], 0)
         if (command == "graph") != (self.vertices is None):
@@ -247,7 +248,7 @@ class Language:
     def _check_lending(self, words):
         self._check_reducer(words)
         names = lent(words, 5)
-        if words[0] == "push" or words[6] != "-":
+        if words[0] != "pull" or words[6] != "-":
             self._check_known([column(words, 6)], 6)
         self._check_known(names, 5)
         if len(names) > MOST_LENT:
@@ -255,7 +256,7 @@ class Language:
         self._check_argument(words, 4, len(names))
         self._check_frontier(words, 7)
 
-    _check_pull = _check_push = _check_lending
+    _check_pull = _check_push = _check_each = _check_lending
 
     def take(self, line):
         """Takes note of a line that was looked at. Answers the lines that are to be sent now, once a block has ended."""
