@@ -78,7 +78,7 @@ class EdgebpfShell(unittest.TestCase):
         self.assertEqual(said, BEGUN_SAID + TARGET_SAID + rows + edges)
 
     def test_columns(self):
-        """Columns are set, shown, pulled and pushed; slips about them are told; a journal that is shortened gives the same columns."""
+        """Columns are set, shown, pulled, pushed and mapped; slips about them are told; a journal that is shortened gives the same columns."""
         lines = BEGUN + "code s 32 79101000000000009500000000000000\n" + "column x 1 5 0 7\ncolumn y 0\n"
         slips = [
             ("values z", "       ^ no column has the name z"),
@@ -89,19 +89,21 @@ class EdgebpfShell(unittest.TestCase):
             ("pull s a sum - x,z -", "               ^^^ no column has the name z"),
             ("push s a sum - x -", "                 ^ - names no column"),
             ("push s a sum 00 x y", "             ^^ this program's argument has 0 bytes with 1 columns"),
+            ("each s a sum - x -", "                 ^ - names no column"),
+            ("each s a sum - x z", "                 ^ no column has the name z"),
             ("values x 1 1", "           ^ vertices ascend"),
         ]
-        asked = "".join(line + "\n" for line, _ in slips) + "push s a sum - x y\nvalues y\npull s a max - x -\npull s a sum - x x\nvalues x\nvalues y 0\n"
+        asked = "".join(line + "\n" for line, _ in slips) + "push s a sum - x y\nvalues y\npull s a max - x -\npull s a sum - x x\nvalues x\neach s a sum - y x 2\nvalues y 0\n"
         journal = self.folder / "journal"
         said = self.said(lines + asked, "--journal", str(journal), status=1)
         for line, told in slips:
             self.assertIn(f"{line}\n{told}", said)
-        pulled = "pull s a edges 3 total 5\nrow 0 0\nrow 1 5\npull s a edges 3 total 5 changed 1\nvalue 1 5\nvalue 0 0\n"
+        pulled = "pull s a edges 3 total 5\nrow 0 0\nrow 1 5\npull s a edges 3 total 5 changed 1\nvalue 1 5\neach s a vertices 1 total 5 changed 1\nvalue 0 0\n"
         self.assertTrue(said.endswith("push s a edges 3 total 5 changed 1\nvalue 2 5\n" + pulled), said)
         shown = "values x\nvalues y\nhome 0\n"
-        self.assertIn("value 1 5\nvalue 2 5\nhome 0", self.said(".compact\n" + shown, "--journal", str(journal)))
-        self.assertIn("value 1 5\nvalue 2 5\nhome 0", self.said(shown, "--journal", str(journal)))
-        self.assertIn("\ncolumn x 0\ncolumn x 1 5\ncolumn y 0\ncolumn y 2 5\n", journal.read_text())
+        self.assertIn("value 1 5\nvalue 2 5\nvalue 2 5\nhome 0", self.said(".compact\n" + shown, "--journal", str(journal)))
+        self.assertIn("value 1 5\nvalue 2 5\nvalue 2 5\nhome 0", self.said(shown, "--journal", str(journal)))
+        self.assertIn("\ncolumn x 0\ncolumn x 1 5 5\ncolumn y 0\ncolumn y 2 5\n", journal.read_text())
 
     def test_blocks(self):
         """A wrong edit is not part of its batch, and a block that is dropped is not sent."""
