@@ -83,7 +83,7 @@ class EpochsFull(Error):
 
 
 class ArgumentLength(Error):
-    """The argument of a run does not have the record's length less 16 bytes."""
+    """The argument of a run does not have the record's length less 16 bytes, and less 16 for each column."""
 
 
 class TooManyNames(Error):

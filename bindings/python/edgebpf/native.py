@@ -457,9 +457,10 @@ class Version:
         return bool(answer[0])
 
     def is_independent_set(self, marks: npt.ArrayLike) -> bool:
-        """Whether some vertices are an independent set to which none can be added, whoever found them; the test is proved.
+        """Whether some vertices, whoever found them, pass the proved test of an independent set to which none can be added.
 
-        marks: for each vertex whether it is in the set. No edge joins two of the set, and from each vertex outside an edge leads to one of it.
+        marks: for each vertex whether it is in the set. No edge joins two of the set, and from each vertex outside an edge leads to one of it: in a
+        graph that is not mirrored this asks for more than an edge in one direction or the other.
         """
         answer, chosen = library.new("uint32_t *"), members_of(marks, "marks")
         at = library.foreign().from_buffer("uint8_t[]", chosen.data) if len(chosen) else library.foreign().NULL

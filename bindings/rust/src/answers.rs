@@ -54,7 +54,7 @@ impl Version {
         answer == 1
     }
 
-    /// Whether the marked vertices are an independent set to which none can be added: no edge joins two of them, and from each other vertex an
+    /// Whether the marked vertices pass the test of an independent set to which none can be added: no edge joins two of them, and from each other vertex an
     /// edge leads to one of them. The test is proved to be exact.
     pub fn is_independent_set(&self, marks: &[bool]) -> bool {
         let mut answer = 0;

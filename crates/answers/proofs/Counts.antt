@@ -4,11 +4,11 @@ use Rattle.std.specs.Int.{from_bool}
 use Rattle.std.specs.Prelude.{slice_index, filter, take, cond}
 use Rattle.std.proofs.lemmas.List.{take_all}
 use Rattle.std.proofs.lemmas.List.Filters.{length-filter_more}
-use Rattle.answers.specs.Cores.{is_after, is_least}
+use Rattle.answers.specs.Cores.{is_after, is_at_least}
 
 -- another vertex, whose core number is no less
 abbrev pub as_high : List ℕ → ℕ → ℕ → Bool
-as_high numbers v u = is_least (slice_index numbers v) (slice_index numbers u) && not (u == v)
+as_high numbers v u = is_at_least (slice_index numbers v) (slice_index numbers u) && not (u == v)
 
 -- another vertex, which comes after
 abbrev pub later : (numbers places : List ℕ) → ℕ → ℕ → Bool

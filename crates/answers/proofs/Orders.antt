@@ -6,7 +6,7 @@ use Rattle.std.proofs.lemmas.Bool.{false≢true, cases_lt, and_from, and_parts, 
 use Rattle.std.proofs.lemmas.List.{get_or_past}
 use Rattle.graph_model.specs.Graph.{Graph, neighbours}
 use Rattle.graph_model.proofs.Neighbours.{Contains-neighbours}
-use Rattle.answers.specs.Cores.{IsCore, is_least, is_after, AreCores, NumbersAreCores}
+use Rattle.answers.specs.Cores.{IsCore, is_at_least, is_after, AreCores, NumbersAreCores}
 
 grows : (b c : Bool) (x : ℕ) (us vs : List ℕ) → (b ≡ true → c ≡ true) → length us ≤ length vs → length (cond b (x ∷ us) us) ≤ length (cond c (x ∷ vs) vs)
 grows true true x us vs both le = omega (arith, le)
@@ -41,7 +41,7 @@ module _ (g : Graph) (cores places : List ℕ) (are : AreCores g cores places) w
 
   -- a vertex's own core: those whose numbers are no less
   abbrev above : ℕ → ℕ → Bool
-  above v u = is_least (core v) (core u)
+  above v u = is_at_least (core v) (core u)
 
   wider : (v u w : ℕ) → core v ≤ core u → (above u w && not (w == u)) ≡ true → (above v w && not (w == u)) ≡ true
   wider v u w le both =
@@ -68,12 +68,12 @@ module _ (g : Graph) (cores places : List ℕ) (are : AreCores g cores places) w
 
     before : (v u : ℕ) → is_after cores places v u ≡ false → (core u < core v) ⊎ ((core u ≡ core v) × (place u < place v))
     before v u apart =
-        let parts = or_parts (nat_lt (core v) (core u)) ((core u == core v) && is_least (place v) (place u)) apart in
+        let parts = or_parts (nat_lt (core v) (core u)) ((core u == core v) && is_at_least (place v) (place u)) apart in
         let le : core u ≤ core v = ltb-false (core v) (core u) parts.0 in
         elim (cases_lt (core u) (core v)) [
           | inl less ↦ inl less
           | inr most ↦
-              elim (and_cases (core u == core v) (is_least (place v) (place u)) parts.1) [
+              elim (and_cases (core u == core v) (is_at_least (place v) (place u)) parts.1) [
                 | inl other ↦ absurd (eqb-false (core u) (core v) other (omega (arith, le, most)))
                 | inr first ↦ inr (omega (arith, le, most), ltb-true (place u) (place v) (not-false (nat_lt (place u) (place v)) first))
               ]

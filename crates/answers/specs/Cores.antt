@@ -11,18 +11,18 @@ abbrev pub IsCore : Graph → ℕ → (ℕ → Bool) → Type 0
 IsCore g k set = (v : ℕ) → set v ≡ true → k ≤ count_others g set v
 
 -- whether a number is no less than another
-abbrev pub is_least : ℕ → ℕ → Bool
-is_least least number = not (nat_lt number least)
+abbrev pub is_at_least : ℕ → ℕ → Bool
+is_at_least least number = not (nat_lt number least)
 
 -- whether a vertex comes after another: its core number is greater, or it is the same and its place is none before
 abbrev pub is_after : (cores places : List ℕ) → (v u : ℕ) → Bool
 is_after cores places v u =
     nat_lt (slice_index cores v) (slice_index cores u)
-    || ((slice_index cores u == slice_index cores v) && is_least (slice_index places v) (slice_index places u))
+    || ((slice_index cores u == slice_index cores v) && is_at_least (slice_index places v) (slice_index places u))
 
 -- a vertex has enough edges to others whose core numbers are no less than its own, and no more to others that come after it
 pub record HasItsCore (g : Graph) (cores places : List ℕ) (v : ℕ) : Type 0 where
-  pub enough : slice_index cores v ≤ count_others g (λ u. is_least (slice_index cores v) (slice_index cores u)) v
+  pub enough : slice_index cores v ≤ count_others g (λ u. is_at_least (slice_index cores v) (slice_index cores u)) v
   pub few : count_others g (is_after cores places v) v ≤ slice_index cores v
 
 -- arrays of core numbers and of places, with an entry for each vertex, that pass the test of cores

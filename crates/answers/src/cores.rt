@@ -1,6 +1,6 @@
 //! The test of an answer of cores.
 ghost use Rattle.std.specs.Prelude.{◌≡◌, ◌==◌, ◌&&◌, true, false, not, slice_index};
-ghost use Rattle.answers.specs.Cores.{AreCores, HasItsCore, is_after, is_least};
+ghost use Rattle.answers.specs.Cores.{AreCores, HasItsCore, is_after, is_at_least};
 
 use crate::components::entry_at;
 use graph_model::GraphView;
@@ -18,7 +18,7 @@ pub struct Cores<'a> {
 /// Whether a vertex is another one, whose core number is no less.
 fn is_as_high(cores: &Cores<'_>, vertex: u32, other: u32) -> bool
     ensures { let c = cores.now in
-        result ≡ (is_least (slice_index c.numbers.now vertex) (slice_index c.numbers.now other) && not (other == vertex)) }
+        result ≡ (is_at_least (slice_index c.numbers.now vertex) (slice_index c.numbers.now other) && not (other == vertex)) }
 {
     entry_at(cores.numbers, other) >= entry_at(cores.numbers, vertex) && other != vertex
 }

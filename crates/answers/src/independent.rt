@@ -48,9 +48,9 @@ fn is_beside<G: GraphView>(graph: &G, marks: &[u8], vertex: u32) -> bool
     false
 }
 
-/// Whether a set of vertices, those whose marks are not 0, is independent and none can be added, by one pass over all edges: no edge leads
-/// from one of them to another, and each vertex outside has an edge to one of them. `laws::sets_are_independent` says it for edges of both
-/// directions.
+/// Whether no edge leads from a marked vertex to another one, and each vertex without a mark has an edge to a marked one, by one pass over
+/// all edges. A mark is any number but 0. Then the set is independent and no vertex can be added, whatever the direction of edges:
+/// `laws::sets_are_independent`. A set fails if a vertex outside is joined to it only by edges that lead from the set.
 pub fn is_independent_set<G: GraphView>(graph: &G, marks: &[u8]) -> bool
     ensures yes { result ≡ true → IsIndependentSet (G.graph graph.now) marks.now }
     ensures no { result ≡ false → IsIndependentSet (G.graph graph.now) marks.now → ⊥ }

@@ -90,7 +90,7 @@ pub extern "C" fn edgebpf_are_cores(
     status
 }
 
-/// Whether the vertices whose marks are not 0 are an independent set of a version, to which no vertex can be added: 1, or else 0.
+/// Whether no edge joins two vertices whose marks are not 0, and each other vertex has an edge to one of these: 1, or else 0.
 #[unsafe(no_mangle)]
 pub extern "C" fn edgebpf_is_independent_set(
     alloc: Global,

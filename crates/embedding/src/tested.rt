@@ -69,8 +69,9 @@ pub fn are_cores_held(held: &Held, cores: &Cores<'_>, answer: &mut u32) -> u32
     }
 }
 
-/// Writes 1 if the vertices whose marks are not 0 are an independent set of the version, to which no vertex can be added, and else 0: also
-/// where there is not a mark for each vertex. `answers::laws::sets_are_independent` says what a 1 means. It takes no memory.
+/// Writes 1 if no edge joins two vertices whose marks are not 0, and each other vertex has an edge to one of these, and else 0: also
+/// where there is not a mark for each vertex. A 1 says that they are an independent set, to which no vertex can be added
+/// (`answers::laws::sets_are_independent`). It takes no memory.
 pub fn is_independent_set_held(held: &Held, marks: &[u8], answer: &mut u32) -> u32
     ensures { OnVersion (Some held.now) result (answer.new ≡ answer.old)
         (λ p. (result ≡ DONE) × Tells answer.new (IsIndependentSet (graph_of p) marks.now)) }

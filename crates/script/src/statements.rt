@@ -27,7 +27,7 @@ pub(crate) fn whole(done: Result<(), LineError>) -> Result<Option<Listing>, Line
     }
 }
 
-/// What a line asks for, lent.
+/// Lends a command what a line asks for.
 fn asked<'a, 'b>(asking: &'a Asking<'b>) -> Asked<'a, 'b>
     ensures { asked_of result ≡ said_asked asking.now }
 {

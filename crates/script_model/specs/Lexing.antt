@@ -65,7 +65,7 @@ hex_pairs [] = Some []
 hex_pairs (a ∷ []) = None
 hex_pairs (a ∷ b ∷ digits) = onto (hex_byte (hex_digit a) (hex_digit b)) (hex_pairs digits)
 
--- no byte at all is written `-`
+-- the word for no byte, for no column, and for rows in place of a column: `-`
 abbrev pub is_dash : List ℕ → Bool
 is_dash [] = false
 is_dash (b ∷ []) = b == 45
@@ -77,7 +77,7 @@ hex word = if is_dash word then Some [] else hex_pairs word
 abbrev pub is_comma : ℕ → Bool
 is_comma b = b == 44
 
--- `-` names no column
+-- the name of a column, which is not `-`
 abbrev pub is_column_name : List ℕ → Bool
 is_column_name word = is_name word && not (is_dash word)
 

@@ -1,9 +1,9 @@
 -- Columns by their names.
 use Rattle.std.proofs.Common.{◌≡◌, ℕ, ◌+◌, ◌<◌, suc, true, List, ◌∷◌, ◌++◌, length, take, drop, get_or, set, refl, sym, ap, ◌∙◌, arith}
-use Rattle.std.specs.Prelude.{map, Option, option_map}
+use Rattle.std.specs.Prelude.{map, Option, Some, option_map}
 use Rattle.std.proofs.lemmas.List.{drop_more, set_split, map-append}
 use Rattle.bpf_asm.specs.Lexing.{same_bytes}
-use Rattle.session_model.specs.Session.{KeptColumn, stored}
+use Rattle.session_model.specs.Session.{KeptColumn, column_named, stored}
 use Rattle.session.specs.declared.kept.NamedColumn.{NamedColumn}
 use Rattle.session.specs.Kept.{kept_column}
 
@@ -25,3 +25,13 @@ stored_there name numbers columns at old new there is same made place =
     ∙ ap (λ (l : List KeptColumn). map kept_column (take at columns) ++ l) (sym here)
     ∙ ap (λ (l : List NamedColumn). map kept_column (take at columns) ++ stored name numbers (map kept_column l)) (sym rest)
     ∙ sym place
+
+-- the column of a name, after those of other names
+pub named_there : (name : List ℕ) (columns : List NamedColumn) (at : ℕ) (old : NamedColumn) → at < length columns → old ≡ get_or columns at old → same_bytes old.name.items name ≡ true
+    → column_named name (map kept_column columns) ≡ column_named name (map kept_column (drop at columns))
+    → column_named name (map kept_column columns) ≡ Some old.numbers.items
+named_there name columns at old there is same first =
+    let next : at + 1 ≡ suc at = omega arith in
+    let rest : drop at columns ≡ old ∷ drop (suc at) columns = drop_more columns at old there ∙ ap (λ (c : NamedColumn). c ∷ drop (at + 1) columns) (sym is) ∙ ap (λ (n : ℕ). old ∷ drop n columns) next in
+    let here : column_named name (map kept_column (old ∷ drop (suc at) columns)) ≡ Some old.numbers.items = rw same refl in
+    first ∙ ap (λ (l : List NamedColumn). column_named name (map kept_column l)) rest ∙ here

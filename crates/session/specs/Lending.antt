@@ -25,7 +25,7 @@ use Rattle.session.specs.Kept.{each_now}
 abbrev pub GoesOn : Type 0
 GoesOn = Program → Past → List (List ℕ) → Response
 
--- what comes of a command, where these are there
+-- how a command goes on with a program, a pin and columns, or its fault if one of them is unknown
 abbrev pub lends : Asked → Option Program → Option Past → List KeptColumn → GoesOn → Response
 lends asked found pinned kept go =
     response_with found faults.Name (λ p.
@@ -40,7 +40,7 @@ IsLent response (Err errors.OutOfMemory) = ⊤
 IsLent response (Err errors.WorkerRefused) = ⊥
 IsLent response (Err errors.Store) = ⊥
 
--- what was written is what it leaves
+-- count, total, numbers and changes are those of a command that writes a column
 pub record IsLeft (way : Way) (p : Program) (g : Graph) (r : Reduction) (inputs : Inputs) (frontier numbers : List ℕ) (w : Written) : Type 0 where
   pub count : w.count ≡ length (exit_numbers way p g inputs frontier)
   pub total : w.total ≡ reduction_of_numbers r (exit_numbers way p g inputs frontier)
@@ -58,7 +58,7 @@ pub record IsWritten (way : Way) (asked : Asked) (p : Program) (past : Past) (co
   pub fits : lent_fault asked p past.vertex_count columns (numbers ∷ []) ≡ None
   pub left : IsLeft way p (graph_of past) asked.reduction (inputs_of asked.argument columns) (frontier_of asked.frontier (graph_of past)) numbers w
 
--- it is written, or what was found does not fit
+-- the column is written, or argument, frontier and columns have a fault
 abbrev pub Writes : Way → Asked → Program → Past → (columns : List (List ℕ)) → (numbers : List ℕ) → Result Written CommandError → Type 0
 Writes way asked p past columns numbers (Ok w) = IsWritten way asked p past columns numbers w
 Writes way asked p past columns numbers (Err (errors.Fault fault)) = lent_fault asked p past.vertex_count columns (numbers ∷ []) ≡ Some fault

@@ -4,14 +4,14 @@ ghost use Rattle.std.specs.Prelude.{◌≡◌, ◌<◌, IfOk, IfErr, true, nat_l
 ghost use Rattle.std.specs.List.{list_all};
 ghost use Rattle.graph_model.specs.Graph.{numbers_below};
 ghost use Rattle.session_model.specs.Faults.{is_span, column_fault};
-ghost use Rattle.session_model.specs.Responses.{column_response, values_response, values_of as values_among, value_at, is_some_value, numbers_or_zeros, with_numbers};
+ghost use Rattle.session_model.specs.Responses.{column_response, values_response, values_of as values_among, value_at, is_not_zero, numbers_or_zeros, with_numbers};
 ghost use Rattle.session_model.specs.Session.{column_named};
 ghost use Rattle.session.specs.Performs.{Performs};
 
 use crate::answer::Answer;
 use crate::error::CommandError;
 use crate::frontier::{are_below, ascends};
-use crate::kept::{find_column, store_column};
+use crate::kept::{find_column, set_in_place, store_column};
 use crate::session::Session;
 use map_model::Row;
 use session_model::{Fault, MOST_KEPT_COLUMNS};
@@ -58,7 +58,7 @@ fn row_of(numbers: &[u64], vertex: u32) -> Row
 /// What a column has for all vertices, but 0.
 fn some_values(alloc: Global, numbers: &[u64], vertices: u32) -> Result<Vec<Row>, AllocError>
     ensures { IfOk result (λ rows. rows.items
-        ≡ filter is_some_value (map (value_at numbers.now) (numbers_below vertices))) }
+        ≡ filter is_not_zero (map (value_at numbers.now) (numbers_below vertices))) }
 {
     let mut rows = Vec::new(alloc);
     for vertex in 0..vertices {
@@ -104,7 +104,7 @@ fn values_of(
 }
 
 impl Session {
-    /// What the column of a name is, once it has numbers from a vertex on.
+    /// The column of a name with other numbers from a vertex on, or zeros with these if there is none.
     fn column_with(
         &self,
         name: &[u8],
@@ -146,12 +146,13 @@ impl Session {
         if is_new && self.columns.len() >= MOST_KEPT_COLUMNS {
             return Err(CommandError::Fault(Fault::TooMany));
         }
+        let count = numbers.len() as u64;
+        if set_in_place(&mut self.columns, name, first as usize, numbers) {
+            return Ok(Answer::ColumnSet { name, count });
+        }
         let after = self.column_with(name, vertices, first, numbers)?;
         store_column(self.alloc, &mut self.columns, name, after)?;
-        Ok(Answer::ColumnSet {
-            name,
-            count: numbers.len() as u64,
-        })
+        Ok(Answer::ColumnSet { name, count })
     }
 
     /// Shows the numbers of a column.

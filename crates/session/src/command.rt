@@ -4,8 +4,8 @@ use map_model::Reduction;
 use past_model::Edit;
 use session_model::Way;
 
-/// What a command that lends columns asks for: a program and a pin by their names, how numbers are reduced, the argument's
-/// bytes, the columns that records have numbers of, by their names, and the frontier (none for all vertices).
+/// What a command that lends columns asks for: a program, a pin and columns by their names, how numbers are reduced, the
+/// argument's bytes, and the frontier. An empty frontier stands for all vertices.
 #[derive(Clone, Copy, Debug)]
 pub struct Asked<'a, 'b> {
     pub program: &'a [u8],
@@ -71,7 +71,7 @@ pub enum Command<'a, 'b> {
         first: u64,
         numbers: &'a [u64],
     },
-    /// The numbers of a column at vertices. No vertex stands for all whose number is not 0.
+    /// The numbers of a column at vertices. An empty list stands for all vertices whose number is not 0.
     ShowValues {
         name: &'a [u8],
         frontier: &'a [u64],
@@ -80,7 +80,8 @@ pub enum Command<'a, 'b> {
     PullRows {
         asked: Asked<'a, 'b>,
     },
-    /// A program run with columns for the edges of a pin, or for its vertices, and a column that it writes in one of three ways.
+    /// A program run with columns for the edges of a pin, or for its vertices, whose numbers go into a column in one of three
+    /// ways.
     WriteColumn {
         way: Way,
         asked: Asked<'a, 'b>,

@@ -1,8 +1,9 @@
 //! Programs, pins and columns under their names.
 
-ghost use Rattle.std.specs.Prelude.{◌≡◌, ◌<◌, ◌≤◌, ◌++◌, true, ℕ, List, length, get_or, take, drop, map, option_map, IfOk, IfErr};
+ghost use Rattle.std.specs.Prelude.{◌≡◌, ◌+◌, ◌<◌, ◌≤◌, ◌↔◌, ◌++◌, true, false, is_some, ℕ, List, length, get_or, take, drop, map, option_map, IfOk, IfErr};
 ghost use Rattle.bpf_asm.specs.Lexing.{same_bytes};
 ghost use Rattle.session_model.specs.Session.{KeptColumn, program_named, pin_named, column_named, columns_named, stored};
+ghost use Rattle.session_model.specs.Responses.{numbers_or_zeros, with_numbers};
 ghost use Rattle.session.specs.Kept.{kept_program, kept_pin, kept_column, program_of, past_of, numbers_in, each_now};
 
 use std::alloc::{AllocError, Global};
@@ -129,6 +130,8 @@ fn place_of(columns: &[NamedColumn], name: &[u8]) -> usize
         ≡ map kept_column (take result columns.now) ++ stored name.now numbers (map kept_column (drop result columns.now)) }
     ensures same { (c : KeptColumn) → result < length columns.now → c ≡ get_or (map kept_column columns.now) result c
         → same_bytes c.name name.now ≡ true }
+    ensures first { column_named name.now (map kept_column columns.now)
+        ≡ column_named name.now (map kept_column (drop result columns.now)) }
     ensures within { result ≤ length columns.now }
 {
     for at in 0..columns.len() {
@@ -137,6 +140,42 @@ fn place_of(columns: &[NamedColumn], name: &[u8]) -> usize
         }
     }
     columns.len()
+}
+
+/// Whether a column has so many numbers from a place on.
+fn has_span(column: &[u64], first: usize, count: usize) -> bool
+    ensures { (result ≡ true) ↔ (first + count ≤ length column.now) }
+{
+    count <= column.len() && first <= column.len() - count
+}
+
+/// Writes numbers over those from a place on.
+fn write_over(column: &mut [u64], first: usize, numbers: &[u64])
+    requires { first + length numbers.now ≤ length column.old }
+    ensures { column.new ≡ with_numbers first numbers.now column.old }
+{
+    column[first..first + numbers.len()].copy_from_slice(numbers);
+}
+
+/// Sets numbers of the column of a name from a vertex on where they stand, if there is one and it has all of these.
+pub(crate) fn set_in_place(
+    columns: &mut Vec<NamedColumn>,
+    name: &[u8],
+    first: usize,
+    numbers: &[u64],
+) -> bool
+    ensures set { result ≡ true → (vertices : ℕ) → map kept_column columns.new.items ≡ stored name.now
+        (with_numbers first numbers.now (numbers_or_zeros vertices (column_named name.now (map kept_column columns.old.items))))
+        (map kept_column columns.old.items) }
+    ensures there { result ≡ true → is_some (column_named name.now (map kept_column columns.old.items)) ≡ true }
+    ensures kept { result ≡ false → columns.new ≡ columns.old }
+{
+    let at = place_of(columns, name);
+    if at >= columns.len() || !has_span(&columns[at].numbers, first, numbers.len()) {
+        return false;
+    }
+    write_over(&mut columns[at].numbers, first, numbers);
+    true
 }
 
 /// Gives the column of a name these numbers. It is made if there is none.

@@ -300,7 +300,7 @@ impl Session {
         }
     }
 
-    /// What a command writes in place of a column.
+    /// What a pull or a push writes in place of a column of the session.
     fn write(&self, way: Way, asked: &Asked<'_, '_>, into: &[u8]) -> Result<Written, CommandError>
         ensures { WritesInto way (asked_of asked.now) into.now self.now result }
     {

@@ -41,11 +41,11 @@ pub data Command : Type 0 where
   ListEdges : (program pin argument : List ℕ) → Command
   -- numbers of a column from a vertex on; the column is made if there is none
   SetColumn : (name : List ℕ) (first : ℕ) (numbers : List ℕ) → Command
-  -- the numbers of a column at vertices; no vertex stands for all whose number is not 0
+  -- the numbers of a column at vertices; an empty list stands for all vertices whose number is not 0
   ShowValues : (name frontier : List ℕ) → Command
   -- a program mapped over the edges of a pin with columns, a row for each vertex
   PullRows : Asked → Command
-  -- a program run with columns, and a column that is written in one of three ways
+  -- a program run with columns, whose numbers go into a column in one of three ways
   WriteColumn : Way → Asked → (into : List ℕ) → Command
 
 pub data Answer : Type 0 where

@@ -114,8 +114,8 @@ shown_fault frontier = first_fault ((not (is_ascending frontier), faults.Frontie
 abbrev pub is_column : ℕ → List ℕ → Bool
 is_column vertices numbers = length numbers == vertices
 
--- Columns for the records of a graph's edges, and those that are written: there are few enough for a record, and each has a
--- number for each vertex, as all columns of a session have.
+-- columns for the records of a graph's edges, and those that are written: there are few enough for a record, and each has a
+-- number for each vertex
 abbrev pub are_lent : (vertices : ℕ) → (columns into : List (List ℕ)) → Bool
 are_lent vertices columns into = nat_le (length columns) MOST_COLUMNS && list_all (is_column vertices) columns && list_all (is_column vertices) into
 

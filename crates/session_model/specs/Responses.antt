@@ -182,12 +182,12 @@ column_response name first numbers s =
 abbrev pub value_at : List ℕ → ℕ → Row
 value_at numbers v = record { vertex = v; value = slice_index numbers v }
 
-abbrev pub is_some_value : Row → Bool
-is_some_value row = not (row.value == 0)
+abbrev pub is_not_zero : Row → Bool
+is_not_zero row = not (row.value == 0)
 
 -- the numbers of vertices; where none is named, those of all vertices that are not 0
 abbrev pub values_of : (vertices : ℕ) → (numbers frontier : List ℕ) → List Row
-values_of vertices numbers [] = filter is_some_value (map (value_at numbers) (numbers_below vertices))
+values_of vertices numbers [] = filter is_not_zero (map (value_at numbers) (numbers_below vertices))
 values_of vertices numbers (v ∷ vs) = map (value_at numbers) (v ∷ vs)
 
 abbrev pub values_response : List ℕ → List ℕ → Session → Response
@@ -213,7 +213,7 @@ inputs_of argument columns = record { argument = argument; columns = columns }
 abbrev pub lent_numbers : Asked → Program → Graph → List (List ℕ) → List ℕ
 lent_numbers asked p g columns = all_with p (longest p) g (inputs_of asked.argument columns) (frontier_of asked.frontier g)
 
--- as of a run, with columns
+-- how many edges there are, what all their numbers reduce to, and the rows of vertices with a neighbour
 abbrev pub rows_answer : Asked → Program → Graph → List (List ℕ) → Answer
 rows_answer asked p g columns =
     let numbers = lent_numbers asked p g columns in
@@ -246,7 +246,7 @@ column_after ways.Push p g r inputs frontier numbers = pushed_edges p (longest p
 column_after ways.Each p g r inputs frontier numbers =
     placed frontier (pair_numbers p (longest p) g inputs frontier frontier) numbers
 
--- all numbers that are read are those before the command, of the column that is written, too
+-- a command that writes a column: all numbers that it reads are those before it, also of the column that it writes
 abbrev pub write_response : Way → Asked → List ℕ → Session → Response
 write_response way asked into s =
     lent_response asked s (λ p past columns.

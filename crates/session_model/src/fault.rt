@@ -16,7 +16,7 @@ pub enum Fault {
     #[error("a name is used already, or unknown")]
     Name = 5,
     /// An argument that does not have the record length less 16 bytes, and less 16 for each column.
-    #[error("the argument does not have the record's length less 16 bytes")]
+    #[error("the argument does not have the record's length less 16 bytes, and less 16 for each column")]
     ArgumentLength = 6,
     /// A frontier that is not strictly ascending.
     #[error("the frontier does not ascend")]

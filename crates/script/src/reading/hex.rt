@@ -62,7 +62,7 @@ fn hex_pairs(alloc: Global, digits: &[u8]) -> Result<Option<Vec<u8>>, AllocError
     Ok(Some(bytes))
 }
 
-/// Whether a word stands for no byte.
+/// Whether a word is `-`, which stands for no byte and for no column.
 pub(crate) fn is_dash(word: &[u8]) -> bool
     ensures { result ≡ is_dash_word word.now }
 {

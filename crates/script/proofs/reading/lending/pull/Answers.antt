@@ -1,9 +1,9 @@
-use Rattle.std.proofs.Common.{◌≡◌, Some, None, List, ℕ, true, false, sym, ap, ◌∙◌}
+use Rattle.std.proofs.Common.{◌≡◌, Some, None, sym, ap, ◌∙◌}
 use Rattle.std.specs.Prelude.{Option, option_map}
 use Rattle.session_model.specs.Commands.{Asked, PullRows, WriteColumn}
 use Rattle.session_model.specs.declared.way.Way.TheVariants.{Pull}
 use Rattle.script_model.specs.Lexing.{words}
-use Rattle.script_model.specs.Parsing.{Statement, Asks, asked_of, option_then, pull_statement, pull_to}
+use Rattle.script_model.specs.Parsing.{Statement, Asks, asked_of, pull_to}
 use Rattle.script.specs.Said.{said_asked, cut_asked, cut_statement}
 use Rattle.script.specs.declared.reading.line.Asking.{Asking}
 use Rattle.script.proofs.StatementLemmas.{lend_none, lend_some, pull_rows, pull_into, pull_unnamed}

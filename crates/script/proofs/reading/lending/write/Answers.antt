@@ -1,8 +1,8 @@
-use Rattle.std.proofs.Common.{◌≡◌, Some, None, List, ℕ, true, false, sym, ap, ◌∙◌}
+use Rattle.std.proofs.Common.{◌≡◌, Some, None, sym, ap, ◌∙◌}
 use Rattle.std.specs.Prelude.{Option, option_map}
 use Rattle.session_model.specs.Commands.{Asked, WriteColumn}
 use Rattle.script_model.specs.Lexing.{words}
-use Rattle.script_model.specs.Parsing.{Statement, Asks, asked_of, option_then, write_to}
+use Rattle.script_model.specs.Parsing.{Statement, Asks, asked_of, write_to}
 use Rattle.script.specs.Said.{said_asked, cut_asked, cut_statement}
 use Rattle.script.specs.declared.reading.line.Asking.{Asking}
 use Rattle.script.proofs.StatementLemmas.{lend_none, lend_some, write_into, write_unnamed}

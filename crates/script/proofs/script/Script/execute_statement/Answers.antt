@@ -5,7 +5,7 @@ use Rattle.script_model.specs.Parsing.{Asks}
 use Rattle.script_model.specs.State.{Script}
 use Rattle.script_model.specs.Execution.{Execution, statement_execution}
 use Rattle.script.specs.Executes.{Prints}
-use Rattle.script.specs.Said.{said_asked, said_statement}
+use Rattle.script.specs.Said.{said_statement}
 use Rattle.script.specs.declared.reading.line.Statement.{Statement as CodeStatement}
 use Rattle.script.proofs.script.Script.execute_statement.Goals as goal
 

@@ -1,6 +1,5 @@
-use Rattle.std.proofs.Common.{◌≡◌, List, ℕ, [], sym, subst}
-use Rattle.bpf_image.specs.Program.{Program}
-use Rattle.past_model.specs.Past.{Past, graph_of}
+use Rattle.std.proofs.Common.{[], sym, subst}
+use Rattle.past_model.specs.Past.{graph_of}
 use Rattle.session_model.specs.Session.{Session}
 use Rattle.session_model.specs.Commands.{Asked}
 use Rattle.session_model.specs.Faults.{lent_fault}

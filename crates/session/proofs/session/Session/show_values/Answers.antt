@@ -1,10 +1,10 @@
-use Rattle.std.proofs.Common.{◌≡◌, ℕ, true, false, List, Some, None, sym, ap, ◌∙◌, refl, subst}
-use Rattle.std.specs.Prelude.{nat_lt, map, option_map, Ok, Err}
+use Rattle.std.proofs.Common.{◌≡◌, ℕ, true, false, List, Some, sym, ap, ◌∙◌, refl}
+use Rattle.std.specs.Prelude.{nat_lt, map}
 use Rattle.std.specs.List.{list_all}
 use Rattle.session_model.specs.Session.{Session, column_named}
 use Rattle.session_model.specs.Faults.{is_ascending}
 use Rattle.session_model.specs.Responses.{values_of}
-use Rattle.session_model.specs.Commands.{Answer, ValuesShown}
+use Rattle.session_model.specs.Commands.{ValuesShown}
 use Rattle.session_model.specs.Responses.{Answers}
 use Rattle.map_model.specs.declared.row.Row.{Row}
 use Rattle.session.specs.declared.kept.NamedColumn.{NamedColumn}
