@@ -589,6 +589,19 @@ class Folders(WithService):
                 self.assertEqual(found, version)
                 self.assertEqual([(u, v) for u in range(VERTICES) for v in targets[starts[u]:starts[u + 1]]], graphs[version])
 
+    def test_names_of_folders(self):
+        """A folder has any name: no other one is opened in its place, nor made."""
+        place = self.data.parent
+        for name in ("a#b", "50%41", "really?", "a&mode=ro"):
+            with served(self.forks, data=str(place / name), vertices=VERTICES) as client:
+                client.batch([(0, 1)])
+                run = self.tool("token", place / name, "--name", "one", "--roles", "read")
+                self.assertEqual((run.returncode, run.stderr), (0, ""), name)
+                run = self.tool("backup", place / name, place / "copy of it")
+                self.assertEqual((run.stdout, run.stderr), ('{"version": 1}\n', ""), name)
+            self.assertEqual({path.name for path in place.iterdir()}, {name, "copy of it"})
+            subprocess.run(["rm", "-rf", place / name, place / "copy of it"])
+
     def test_folders_that_cannot_be_served(self):
         with self.served():
             run = self.tool("--data", self.data, "--listen", "127.0.0.1:0")

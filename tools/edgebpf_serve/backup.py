@@ -6,7 +6,7 @@ import shutil
 import sqlite3
 
 from edgebpf_serve import rows
-from edgebpf_serve.disk import NAME, Disk, Wrong, sync_folder
+from edgebpf_serve.disk import NAME, Disk, Wrong, address, sync_folder
 from edgebpf_serve.limits import Options
 from edgebpf_serve.recovery import recover
 from edgebpf_serve.rows import Damaged
@@ -44,7 +44,7 @@ def _copy_again(folder, draft):
 
 
 def _copy(folder, draft):
-    with contextlib.closing(sqlite3.connect(f"file:{folder / NAME}?mode=ro", uri=True)) as db:
+    with contextlib.closing(sqlite3.connect(address(folder, "ro"), uri=True)) as db:
         with contextlib.closing(sqlite3.connect(draft / NAME, isolation_level=None)) as copy:
             db.backup(copy)
             copy.execute("pragma journal_mode=delete")

@@ -33,6 +33,11 @@ class Full(Wrong):
 NO_ROOM = (errno.ENOSPC, errno.EDQUOT, "SQLITE_FULL", "SQLITE_IOERR_SHMSIZE")
 
 
+def address(folder, mode):
+    """By which SQLite opens the file of a folder to read ("ro") or to write ("rw"), and makes none: the folder's name may have any sign."""
+    return f"{pathlib.Path(folder, NAME).absolute().as_uri()}?mode={mode}"
+
+
 def is_full(error):
     return getattr(error, "errno", None) in NO_ROOM or getattr(error, "sqlite_errorname", None) in NO_ROOM
 
@@ -77,7 +82,7 @@ class Disk:
 
     def reader(self):
         """A connection that only reads, for the thread that asks for it."""
-        return contextlib.closing(sqlite3.connect(f"file:{self.folder / NAME}?mode=ro", uri=True, isolation_level=None))
+        return contextlib.closing(sqlite3.connect(address(self.folder, "ro"), uri=True, isolation_level=None))
 
     def _begin(self, vertices):
         db = self.db
