@@ -10,6 +10,7 @@ import sys
 import threading
 import time
 import unittest
+import unittest.mock
 
 HERE = pathlib.Path(__file__).resolve().parent
 sys.path.insert(0, str(HERE))
@@ -286,6 +287,42 @@ class Names(unittest.TestCase):
                 self.assertEqual({name: column.numbers.tolist() for name, column in found[1].of.items()},
                                  {name: [number] * 4 for name, number in columns.items()})
             self.assertEqual({path.name for path in self.data.glob("column-*")}, {column.file for column in self.columns.of.values()})
+
+
+@unittest.skipIf(MISSING, f"not there: {MISSING}")
+class Backups(unittest.TestCase):
+    def test_two_of_one_name(self):
+        """One of them is told that there is one already, the other's is whole, and drafts whose makers were killed are gone."""
+        sys.path[:0] = [str(TOP / "tools"), str(TOP / "bindings" / "python")]
+        from edgebpf_serve import backup, disk
+        with folder() as place:
+            data = disk.Disk(place / "graph", 4)
+            self.addCleanup(data.close)
+            (place / "copies" / ".one.x.draft").mkdir(parents=True)
+            (place / "copies" / ".one.x.draft" / "lock").touch()
+            both, told, copy = threading.Barrier(2), [], backup._copy
+
+            def copied(folder, draft):
+                both.wait(60)
+                version = copy(folder, draft)
+                both.wait(60)
+                return version
+
+            def back_up():
+                try:
+                    told.append(backup.back_up(place / "graph", place / "copies" / "one"))
+                except Exception as error:
+                    told.append(type(error))
+
+            with unittest.mock.patch.object(backup, "_copy", copied):
+                threads = [threading.Thread(target=back_up) for _ in range(2)]
+                for thread in threads:
+                    thread.start()
+                for thread in threads:
+                    thread.join()
+            self.assertEqual(sorted(told, key=str), [0, FileExistsError])
+            self.assertEqual([path.name for path in (place / "copies").iterdir()], ["one"])
+            self.assertEqual(backup.check(place / "copies" / "one", lambda *_, **__: None)["vertices"], 4)
 
 
 @unittest.skipIf(MISSING, f"not there: {MISSING}")

@@ -90,8 +90,8 @@ async def backup(service, request, token):
     """Copies the folder, while it is served, into its folder `backups`."""
     asked = ask.fields_of(request, await service.body(request), "name")
     name = ask.name_of(asked.get("name"), "name")
-    target = service.disk.folder / "backups" / name
-    if target.exists():
-        raise web.HTTPConflict(text=f"there is a backup {name} already")
-    version = await service.on_disk(back_up, service.disk.folder, target)
+    try:
+        version = await service.on_disk(back_up, service.disk.folder, service.disk.folder / "backups" / name)
+    except FileExistsError:
+        raise web.HTTPConflict(text=f"there is a backup {name} already") from None
     return answer({"name": name, "version": version}, 201)
