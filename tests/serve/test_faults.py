@@ -259,6 +259,21 @@ class Names(unittest.TestCase):
             self.assertNotIsInstance(told[0], Exception)
             self.assertIsInstance(told[1], self.named.TooMany)
 
+    def test_a_column_that_finds_no_place(self):
+        """Its file is gone if the writer's queue is full or closed."""
+        import numpy as np
+        from edgebpf_serve.engine import Busy, Stopped
+        self.engine.options.queue_batches, told = 2, []
+        hand_in = functools.partial(self.columns.hand_in, self.engine)
+        for name in "ab":
+            hand_in(self.columns.draft(name, np.zeros(4, "<u8"), "me"), 5, told.append)
+        for error in (Busy, Stopped):
+            with self.assertRaises(error):
+                hand_in(self.columns.draft("c", np.zeros(4, "<u8"), "me"), 5, told.append)
+            self.engine._write(self.engine.queue.take(0) or [])
+            self.engine.queue.close()
+        self.assertEqual(([column.name for column in told], len(list(self.data.glob("column-*")))), (["a", "b"], 2))
+
     def test_groups_of_all_kinds(self):
         chance, programs, columns = random.Random("names"), {}, {}
         for _ in range(300):

@@ -69,8 +69,7 @@ async def put_numbers(service, request, token):
         if len(numbers) != count:
             raise ask.Unfit(f"numbers has one for each of {count} vertices, and not {len(numbers)}")
     column = await service.on_disk(service.columns.draft, name, numbers, token.name)
-    put = functools.partial(service.columns.keep, column, token.limits["columns"])
-    column = await service.written(lambda done: service.engine.do(put(done)))
+    column = await service.written(functools.partial(service.columns.hand_in, service.engine, column, token.limits["columns"]))
     service.published()
     return answer({"name": name, "column": column.seq})
 
