@@ -274,6 +274,20 @@ class Names(unittest.TestCase):
             self.engine.queue.close()
         self.assertEqual(([column.name for column in told], len(list(self.data.glob("column-*")))), (["a", "b"], 2))
 
+    def test_a_snapshot_that_is_not_entered(self):
+        """Its file is gone, but for one of a version that was entered before."""
+        import numpy as np
+        from edgebpf_serve.engine import Busy
+        files, told = lambda: [path.name for path in self.data.glob("snapshot-*")], []
+        self.engine.submit(None, np.array([(0, 1)], "<u4"), lambda _: None)
+        self.engine._write(self.engine.queue.take(0))
+        for most, wanted in ((0, 0), (1, 1), (0, 1)):
+            self.engine.options.queue_batches = most
+            self.engine._take_snapshot(self.engine.latest, [told.append])
+            self.engine._write(self.engine.queue.take(0))
+            self.assertEqual(len(files()), wanted)
+        self.assertEqual([told[1], *(type(error) for error in (told[0], told[2]))], [1, Busy, Busy])
+
     def test_groups_of_all_kinds(self):
         chance, programs, columns = random.Random("names"), {}, {}
         for _ in range(300):

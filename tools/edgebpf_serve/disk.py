@@ -192,6 +192,12 @@ class Disk:
             rows.remove(self.db, "snapshots", old)
         return entered[-2][0] if len(entered) > 1 else 0, [name for _, name, *_ in entered[:-2]]
 
+    def remove_unentered(self, row):
+        """Removes the file of a snapshot, by any thread, unless a row names it: that version may have been entered before."""
+        with contextlib.suppress(sqlite3.Error, OSError), self.reader() as db:
+            if db.execute("select 1 from snapshots where seq = ?", row[:1]).fetchone() is None:
+                (self.folder / row[1]).unlink(missing_ok=True)
+
     def snapshots(self):
         """(seq, file, edges, sum of the file) of each snapshot, the newest first."""
         return list(reversed(rows.read(self.db, "snapshots")))
