@@ -127,7 +127,7 @@ class EdgebpfSpread(unittest.TestCase):
                 (["--column", f"x={self.folder}/none"], "No such file"), (["--column", self.column("text", ["a"])], "is no number from 0 to 2^64 - 1"),
                 (["--column", self.column("large", [2**64])], "is no number"), (2 * short, "--column short is given twice"),
                 (["--push", "-"], "--push is NAME or NAME=FILE"), ([*short, "--push", "short"], "is a column that the run reads"),
-                (["--push", self.column("begins", [1] * 7)], "--column begins has 7 numbers"),
+                (["--push", self.column("begins", [1] * 7)], "--push begins has 7 numbers"),
                 ([*short, "--column", self.column("more", [1] * 300)], "no room for 2 columns"), (["--argument", "00", *short], "cannot run r: fault 6")):
             run = self.spread(*words, program=OF_TARGET)
             self.assertEqual((run.stdout, run.returncode), ("", 1), run)
