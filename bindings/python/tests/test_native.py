@@ -336,9 +336,13 @@ print(found, threading.stack_size())
                 self.assertEqual((edgebpf.library.in_checkout(), built.read_text()), (str(built), "new\n"))
                 built.write_text("kept")
                 self.assertEqual((edgebpf.library.in_checkout(), built.read_text()), (str(built), "kept"))
-                later = built.stat().st_mtime + 9
-                os.utime(link, (later, later))
-                self.assertEqual((edgebpf.library.in_checkout(), built.read_text()), (str(built), "new\n"))
+                for changed in ("link", "libedgebpf-v3.s", *edgebpf.library.BESIDE[:2]):
+                    built.write_text("old")
+                    with open(folder / changed, "a"):
+                        later = built.stat().st_mtime + 9
+                        os.utime(folder / changed, (later, later))
+                    self.assertEqual((edgebpf.library.in_checkout(), built.read_text()), (str(built), "new\n"), changed)
+                    os.utime(folder / changed, (1, 1))
 
     def test_wrong_libraries(self):
         """What is no library, or one of another interface, is named, whatever is asked first."""
