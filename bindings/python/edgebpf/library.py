@@ -104,7 +104,9 @@ def in_checkout(name: str = "libedgebpf", source: pathlib.Path = DIST / "libedge
     if not os.path.isfile(built) or built.stat().st_mtime < max(part.stat().st_mtime for part in parts):
         try:
             built.parent.mkdir(exist_ok=True)
-            subprocess.run([DIST / "link", name, built], check=True, capture_output=True)
+            # It would build for the machine that this variable names.
+            here = {word: value for word, value in os.environ.items() if word != "MACHINE"}
+            subprocess.run([DIST / "link", name, built], check=True, capture_output=True, env=here)
         except (OSError, subprocess.CalledProcessError):
             return None
     return str(built)

@@ -328,11 +328,11 @@ print(found, threading.stack_size())
             folder = pathlib.Path(name)
             (folder / "build").mkdir()
             text, built, link = folder / "libedgebpf.s", folder / "build" / "libedgebpf.so", folder / "link"
-            for file, words in ((text, ""), (built, "old"), (link, "#!/bin/sh\necho new > $2\n")):
+            for file, words in ((text, ""), (built, "old"), (link, "#!/bin/sh\necho new$MACHINE > $2\n")):
                 file.write_text(words)
             link.chmod(0o755)
             os.utime(built, (1, 1))
-            with unittest.mock.patch(library + "DIST", folder):
+            with unittest.mock.patch(library + "DIST", folder), unittest.mock.patch.dict(os.environ, MACHINE="another"):
                 self.assertEqual((edgebpf.library.in_checkout(), built.read_text()), (str(built), "new\n"))
                 built.write_text("kept")
                 self.assertEqual((edgebpf.library.in_checkout(), built.read_text()), (str(built), "kept"))
