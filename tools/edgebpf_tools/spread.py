@@ -132,7 +132,9 @@ class Asked:
         return Asked(self.name, self.program, self.reduction, self.argument, dict.fromkeys(self.lent, [0]), self.into, None)
 
     def test(self, graph_file, vertices):
-        """Refuses columns that have not a number for each vertex."""
+        """Refuses columns that have not a number for each vertex. Without a vertex edgebpf has a fault, which is told."""
+        if not vertices:
+            return
         columns.refuse_other_lengths(self.lent, graph_file, vertices)
         if self.begins is not None:
             columns.refuse_other_lengths({self.into: self.begins}, graph_file, vertices, "--push")
