@@ -602,6 +602,25 @@ class Folders(WithService):
             self.assertEqual({path.name for path in place.iterdir()}, {name, "copy of it"})
             subprocess.run(["rm", "-rf", place / name, place / "copy of it"])
 
+    def test_a_copy_that_is_interrupted(self):
+        """It is told in a line, and nothing of it is left. Another process holds the database, so that the copy waits."""
+        with self.served():
+            pass
+        with contextlib.closing(sqlite3.connect(self.data / "serve.db", isolation_level=None)) as db:
+            db.execute("pragma journal_mode=delete")
+            db.execute("begin exclusive")
+            words = [TOOLS / "edgebpf-serve", "backup", self.data, self.data.with_name("copy")]
+            # A shell may have started the tests to ignore the signal.
+            heard = {"preexec_fn": lambda: signal.signal(signal.SIGINT, signal.SIG_DFL)}
+            with subprocess.Popen(words, stdout=subprocess.PIPE, stderr=subprocess.PIPE, text=True, **heard) as run:
+                self.addCleanup(run.kill)
+                until = time.monotonic() + 60
+                while not list(self.data.parent.glob(".copy.*")) and time.monotonic() < until:
+                    time.sleep(0.01)
+                run.send_signal(signal.SIGINT)
+                self.assertEqual((*run.communicate(timeout=60), run.returncode), ("", "edgebpf-serve: interrupted\n", 130))
+        self.assertEqual([path.name for path in self.data.parent.iterdir()], [self.data.name])
+
     def test_folders_that_cannot_be_served(self):
         with self.served():
             run = self.tool("--data", self.data, "--listen", "127.0.0.1:0")

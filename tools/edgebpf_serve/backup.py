@@ -81,7 +81,8 @@ def _held(draft, flags):
 def _copy(folder, draft):
     with contextlib.closing(sqlite3.connect(address(folder, "ro"), uri=True)) as db:
         with contextlib.closing(sqlite3.connect(draft / NAME, isolation_level=None)) as copy:
-            db.backup(copy)
+            # While another process holds the file, Python hears of a signal in what is called here alone.
+            db.backup(copy, progress=lambda *_: None)
             copy.execute("pragma journal_mode=delete")
             names = [row[1] for row in rows.read(copy, "snapshots")] + [row[2] for row in rows.read(copy, "columns")]
             batches = copy.execute("select max(seq) from journal").fetchone()[0]
