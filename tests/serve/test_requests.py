@@ -613,12 +613,14 @@ class Folders(WithService):
             # A shell may have started the tests to ignore the signal.
             heard = {"preexec_fn": lambda: signal.signal(signal.SIGINT, signal.SIG_DFL)}
             with subprocess.Popen(words, stdout=subprocess.PIPE, stderr=subprocess.PIPE, text=True, **heard) as run:
-                self.addCleanup(run.kill)
-                until = time.monotonic() + 60
-                while not list(self.data.parent.glob(".copy.*")) and time.monotonic() < until:
-                    time.sleep(0.01)
-                run.send_signal(signal.SIGINT)
-                self.assertEqual((*run.communicate(timeout=60), run.returncode), ("", "edgebpf-serve: interrupted\n", 130))
+                try:
+                    until = time.monotonic() + 60
+                    while not list(self.data.parent.glob(".copy.*")) and time.monotonic() < until:
+                        time.sleep(0.01)
+                    run.send_signal(signal.SIGINT)
+                    self.assertEqual((*run.communicate(timeout=60), run.returncode), ("", "edgebpf-serve: interrupted\n", 130))
+                finally:
+                    run.kill()
         self.assertEqual([path.name for path in self.data.parent.iterdir()], [self.data.name])
 
     def test_folders_that_cannot_be_served(self):
