@@ -74,7 +74,7 @@ def _of_text(path, data):
 
 def vertices_of(graph):
     """How many vertices a script's graph has; None if no line makes one."""
-    made = re.search(r"^graph[ \t]+([0-9]+)[ \t]*$", graph, re.MULTILINE)
+    made = re.search(r"^[ \t]*graph[ \t]+([0-9]+)[ \t]*$", graph, re.MULTILINE)
     return made and decimals.value(made[1])
 
 

@@ -12,6 +12,7 @@ import unittest.mock
 from sample_programs import GRAPH, RUNS, SOURCE
 from tools_here import MISSING, TOOLS, run_tool
 
+from edgebpf_tools import columns
 from edgebpf_tools.clang import newest
 from edgebpf_tools.link import ObjectFile, link
 from edgebpf_tools.refusal import Refusal
@@ -272,6 +273,11 @@ class WordsAtTheLine(unittest.TestCase):
         self.assertIn(" total 13\n", self.of_columns("--column", f"risk={pipe}").stdout)
         lines = self.of_columns(*self.column("5\n6\n7\n"), "--vertices", "1", "--reduce", "max", "--script").stdout.splitlines()
         self.assertEqual(lines[-3:], ["pin last", "column risk 0 5 6 7", "pull risk last max - risk - 1"])
+
+    def test_vertices_of_a_script(self):
+        """As edgebpf reads it: a column is not taken for a whole one if blanks stand around the words."""
+        for text, wanted in (("graph 3\n", 3), ("\t graph \t007 \nbatch A\nend\n", 7), ("# graph 3\n graph 4", 4), ("graph\n", None), ("graph 3 4\n", None)):
+            self.assertEqual(columns.vertices_of(text), wanted, text)
 
     def test_columns_that_are_wrong(self):
         right, other = "5\n6\n7\n", self.column("1\n2\n3\n", "other")
