@@ -344,6 +344,14 @@ print(found, threading.stack_size())
                     self.assertEqual((edgebpf.library.in_checkout(), built.read_text()), (str(built), "new\n"), changed)
                     os.utime(folder / changed, (1, 1))
 
+    def test_code_without_a_library(self):
+        """What a process verified has no code here, if the library cannot be loaded: that is said."""
+        program, library = edgebpf.assemble("mov r0, 1\nexit"), edgebpf.library
+        self.assertEqual(program.assembled(), bytes.fromhex("b7000000010000009500000000000000"))
+        with unittest.mock.patch.multiple(library, cffi=None, load=library.load.__wrapped__, foreign=library.foreign.__wrapped__):
+            with self.assertRaisesRegex(edgebpf.Error, "cffi is not there"):
+                program.assembled()
+
     def test_wrong_libraries(self):
         """What is no library, or one of another interface, is named, whatever is asked first."""
         number = re.search(r"^interface=(\d+)$", (TOP / "dist" / "link").read_text(), re.M)[1]
