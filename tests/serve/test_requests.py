@@ -549,11 +549,17 @@ class Folders(WithService):
             client.column("risk", range(VERTICES))
             client.batch([(1, 2)], key="kept")
             self.assertEqual(client.json("POST", "/backups", {"name": "one"}), {"name": "one", "version": 21})
+            left = self.data / "backups" / ".two.x.draft"
+            left.mkdir()
+            (left / "lock").touch()
             self.refused(409, client.json, "POST", "/backups", {"name": "one"})
             copy, other = self.data / "backups" / "one", self.data.with_name("copy")
             run = self.tool("backup", self.data, other)
             self.assertEqual(json.loads(run.stdout), {"version": 21}, run.stderr)
             client.batch([(1, 3)])
+        # What a killed service left of a copy goes with the next start.
+        with self.served():
+            self.assertEqual([path.name for path in left.parent.iterdir()], ["one"])
         graph.apply([(1, 2)])
         for kept in (copy, other):
             made = self.data.with_name("made")

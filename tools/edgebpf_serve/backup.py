@@ -53,13 +53,17 @@ def _rename(draft, target):
         raise FileExistsError(f"{target} is there already") from None
 
 
-@contextlib.contextmanager
-def draft_of(target):
-    """A new folder beside a target, for the time of a block, which holds a lock in it: two may make the same copy at once. Folders that no lock
-    holds any more go: their makers were ended."""
-    for left in target.parent.glob(f".{glob.escape(target.name)}.*.draft"):
+def remove_drafts(folder, name="*"):
+    """Removes the drafts of copies that no lock holds any more: their makers were ended."""
+    for left in folder.glob(f".{name}.*.draft"):
         with contextlib.suppress(OSError), _held(left, os.O_RDWR):
             shutil.rmtree(left, ignore_errors=True)
+
+
+@contextlib.contextmanager
+def draft_of(target):
+    """A new folder beside a target, for the time of a block, which holds a lock in it: two may make the same copy at once."""
+    remove_drafts(target.parent, glob.escape(target.name))
     draft = pathlib.Path(tempfile.mkdtemp(prefix=f".{target.name}.", suffix=".draft", dir=target.parent))
     try:
         with _held(draft, os.O_RDWR | os.O_CREAT):
