@@ -350,18 +350,12 @@ class Session:
             test(self.epoch >= 1024, EPOCHS_FULL)
             self.batches, self.epoch = 0, self.epoch + 1
             self.said.append(f"rebase epoch {self.epoch} edges {self.edge_count}")
-        elif command == "list":
-            self.list_edges(*words)
-        elif command == "column":
-            self.set_column(*words)
-        elif command == "values":
-            self.show_values(*words)
         elif command in ("pull", "push"):
             self.lend(command, *words)
         elif command == "each":
             self.each(*words)
         else:
-            self.run(*words)
+            {"run": self.run, "list": self.list_edges, "column": self.set_column, "values": self.show_values}[command](*words)
 
     def line(self, line, line_number):
         test(len(line) > 80000, LONG_LINE)

@@ -237,6 +237,8 @@ class Flasked:
         mine, its = multiprocessing.Pipe()
         self.process = multiprocessing.get_context("fork").Process(target=serve_networkx, args=(its,), daemon=True)
         self.process.start()
+        # Else nobody would hear that the process has ended.
+        its.close()
         self.connection = http.client.HTTPConnection("127.0.0.1", mine.recv())
 
     def now(self):

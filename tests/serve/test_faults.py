@@ -10,6 +10,7 @@ import sys
 import threading
 import time
 import unittest
+import unittest.mock
 
 HERE = pathlib.Path(__file__).resolve().parent
 sys.path.insert(0, str(HERE))
@@ -258,6 +259,35 @@ class Names(unittest.TestCase):
             self.assertNotIsInstance(told[0], Exception)
             self.assertIsInstance(told[1], self.named.TooMany)
 
+    def test_a_column_that_finds_no_place(self):
+        """Its file is gone if the writer's queue is full or closed."""
+        import numpy as np
+        from edgebpf_serve.engine import Busy, Stopped
+        self.engine.options.queue_batches, told = 2, []
+        hand_in = functools.partial(self.columns.hand_in, self.engine)
+        for name in "ab":
+            hand_in(self.columns.draft(name, np.zeros(4, "<u8"), "me"), 5, told.append)
+        for error in (Busy, Stopped):
+            with self.assertRaises(error):
+                hand_in(self.columns.draft("c", np.zeros(4, "<u8"), "me"), 5, told.append)
+            self.engine._write(self.engine.queue.take(0) or [])
+            self.engine.queue.close()
+        self.assertEqual(([column.name for column in told], len(list(self.data.glob("column-*")))), (["a", "b"], 2))
+
+    def test_a_snapshot_that_is_not_entered(self):
+        """Its file is gone, but for one of a version that was entered before."""
+        import numpy as np
+        from edgebpf_serve.engine import Busy
+        files, told = lambda: [path.name for path in self.data.glob("snapshot-*")], []
+        self.engine.submit(None, np.array([(0, 1)], "<u4"), lambda _: None)
+        self.engine._write(self.engine.queue.take(0))
+        for most, wanted in ((0, 0), (1, 1), (0, 1)):
+            self.engine.options.queue_batches = most
+            self.engine._take_snapshot(self.engine.latest, [told.append])
+            self.engine._write(self.engine.queue.take(0))
+            self.assertEqual(len(files()), wanted)
+        self.assertEqual([told[1], *(type(error) for error in (told[0], told[2]))], [1, Busy, Busy])
+
     def test_groups_of_all_kinds(self):
         chance, programs, columns = random.Random("names"), {}, {}
         for _ in range(300):
@@ -286,6 +316,42 @@ class Names(unittest.TestCase):
                 self.assertEqual({name: column.numbers.tolist() for name, column in found[1].of.items()},
                                  {name: [number] * 4 for name, number in columns.items()})
             self.assertEqual({path.name for path in self.data.glob("column-*")}, {column.file for column in self.columns.of.values()})
+
+
+@unittest.skipIf(MISSING, f"not there: {MISSING}")
+class Backups(unittest.TestCase):
+    def test_two_of_one_name(self):
+        """One of them is told that there is one already, the other's is whole, and drafts whose makers were killed are gone."""
+        sys.path[:0] = [str(TOP / "tools"), str(TOP / "bindings" / "python")]
+        from edgebpf_serve import backup, disk
+        with folder() as place:
+            data = disk.Disk(place / "graph", 4)
+            self.addCleanup(data.close)
+            (place / "copies" / ".one.x.draft").mkdir(parents=True)
+            (place / "copies" / ".one.x.draft" / "lock").touch()
+            both, told, copy = threading.Barrier(2), [], backup._copy
+
+            def copied(folder, draft):
+                both.wait(60)
+                version = copy(folder, draft)
+                both.wait(60)
+                return version
+
+            def back_up():
+                try:
+                    told.append(backup.back_up(place / "graph", place / "copies" / "one"))
+                except Exception as error:
+                    told.append(type(error))
+
+            with unittest.mock.patch.object(backup, "_copy", copied):
+                threads = [threading.Thread(target=back_up) for _ in range(2)]
+                for thread in threads:
+                    thread.start()
+                for thread in threads:
+                    thread.join()
+            self.assertEqual(sorted(told, key=str), [0, FileExistsError])
+            self.assertEqual([path.name for path in (place / "copies").iterdir()], ["one"])
+            self.assertEqual(backup.check(place / "copies" / "one", lambda *_, **__: None)["vertices"], 4)
 
 
 @unittest.skipIf(MISSING, f"not there: {MISSING}")

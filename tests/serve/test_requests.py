@@ -549,11 +549,17 @@ class Folders(WithService):
             client.column("risk", range(VERTICES))
             client.batch([(1, 2)], key="kept")
             self.assertEqual(client.json("POST", "/backups", {"name": "one"}), {"name": "one", "version": 21})
+            left = self.data / "backups" / ".two.x.draft"
+            left.mkdir()
+            (left / "lock").touch()
             self.refused(409, client.json, "POST", "/backups", {"name": "one"})
             copy, other = self.data / "backups" / "one", self.data.with_name("copy")
             run = self.tool("backup", self.data, other)
             self.assertEqual(json.loads(run.stdout), {"version": 21}, run.stderr)
             client.batch([(1, 3)])
+        # What a killed service left of a copy goes with the next start.
+        with self.served():
+            self.assertEqual([path.name for path in left.parent.iterdir()], ["one"])
         graph.apply([(1, 2)])
         for kept in (copy, other):
             made = self.data.with_name("made")
@@ -588,6 +594,40 @@ class Folders(WithService):
                 found, starts, targets = client.edges()
                 self.assertEqual(found, version)
                 self.assertEqual([(u, v) for u in range(VERTICES) for v in targets[starts[u]:starts[u + 1]]], graphs[version])
+
+    def test_names_of_folders(self):
+        """A folder has any name: no other one is opened in its place, nor made."""
+        place = self.data.parent
+        for name in ("a#b", "50%41", "really?", "a&mode=ro"):
+            with served(self.forks, data=str(place / name), vertices=VERTICES) as client:
+                client.batch([(0, 1)])
+                run = self.tool("token", place / name, "--name", "one", "--roles", "read")
+                self.assertEqual((run.returncode, run.stderr), (0, ""), name)
+                run = self.tool("backup", place / name, place / "copy of it")
+                self.assertEqual((run.stdout, run.stderr), ('{"version": 1}\n', ""), name)
+            self.assertEqual({path.name for path in place.iterdir()}, {name, "copy of it"})
+            subprocess.run(["rm", "-rf", place / name, place / "copy of it"])
+
+    def test_a_copy_that_is_interrupted(self):
+        """It is told in a line, and nothing of it is left. Another process holds the database, so that the copy waits."""
+        with self.served():
+            pass
+        with contextlib.closing(sqlite3.connect(self.data / "serve.db", isolation_level=None)) as db:
+            db.execute("pragma journal_mode=delete")
+            db.execute("begin exclusive")
+            words = [TOOLS / "edgebpf-serve", "backup", self.data, self.data.with_name("copy")]
+            # A shell may have started the tests to ignore the signal.
+            heard = {"preexec_fn": lambda: signal.signal(signal.SIGINT, signal.SIG_DFL)}
+            with subprocess.Popen(words, stdout=subprocess.PIPE, stderr=subprocess.PIPE, text=True, **heard) as run:
+                try:
+                    until = time.monotonic() + 60
+                    while not list(self.data.parent.glob(".copy.*")) and time.monotonic() < until:
+                        time.sleep(0.01)
+                    run.send_signal(signal.SIGINT)
+                    self.assertEqual((*run.communicate(timeout=60), run.returncode), ("", "edgebpf-serve: interrupted\n", 130))
+                finally:
+                    run.kill()
+        self.assertEqual([path.name for path in self.data.parent.iterdir()], [self.data.name])
 
     def test_folders_that_cannot_be_served(self):
         with self.served():

@@ -15,7 +15,9 @@ import sys
 import tempfile
 
 TOP = pathlib.Path(__file__).resolve().parent.parent.parent
+PAGE = TOP / "docs" / "SPEED.md"
 BEGIN, END = "<!-- counted by tools/dev/count_processors.py -->", "<!-- end of what was counted -->"
+PLACE = re.compile(re.escape(BEGIN) + ".*?" + re.escape(END), re.S)
 WORKS = {
     "two": "two instructions",
     "filter": "a filter of 15 instructions",
@@ -68,6 +70,8 @@ def main():
     parser.add_argument("--write", action="store_true")
     parser.add_argument("libraries", metavar="V2 V3", nargs="*", type=pathlib.Path)
     options = parser.parse_args()
+    if options.write and not PLACE.search(PAGE.read_text()):
+        sys.exit(f"count_processors.py: {PAGE.name} has no place for the table: a line {BEGIN} and a line {END}")
     libraries = options.libraries or [TOP / "dist" / name for name in ("libedgebpf.s", "libedgebpf-v3.s")]
     if len(libraries) != 2:
         parser.error("two libraries are compared")
@@ -77,9 +81,7 @@ def main():
     said = f"Counted on {datetime.date.today()}, commit {commit}.\n\n{made}"
     print(said)
     if options.write:
-        page = TOP / "docs" / "SPEED.md"
-        text = page.read_text()
-        page.write_text(re.sub(re.escape(BEGIN) + ".*?" + re.escape(END), lambda _: f"{BEGIN}\n{said}\n{END}", text, flags=re.S))
+        PAGE.write_text(PLACE.sub(lambda _: f"{BEGIN}\n{said}{END}", PAGE.read_text()))
 
 
 if __name__ == "__main__":

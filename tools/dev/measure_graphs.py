@@ -146,12 +146,20 @@ def row(name, vertices, count):
     return f"| {' | '.join(cells)} |"
 
 
+def around():
+    """What the page has before and after the table, by its marks."""
+    before, _, rest = PAGE.read_text().partition(BEGIN)
+    _, end, after = rest.partition(END)
+    if not end:
+        sys.exit(f"measure_graphs.py: {PAGE.name} has no place for the table: a line {BEGIN} and a line {END}")
+    return before, after
+
+
 def write(rows):
     """Puts the rows between the marks of the page, with the date, the commit and the load."""
     commit = subprocess.run(["git", "-C", TOP, "rev-parse", "--short=8", "HEAD"], stdout=subprocess.PIPE, text=True, check=True).stdout.strip()
     when = f"{time.strftime('%Y-%m-%d')}, commit {commit}, load {os.getloadavg()[1]:.0f}"
-    before, _, rest = PAGE.read_text().partition(BEGIN)
-    _, _, after = rest.partition(END)
+    before, after = around()
     PAGE.write_text("\n".join([before + BEGIN, f"Measured on {when}:", "", *HEAD, *rows, END + after]))
 
 
@@ -167,6 +175,9 @@ def main():
         kind, path, vertices, edges = options.child
         print(json.dumps({"store": of_store, "scipy": of_scipy}[kind](path, int(vertices), int(edges))))
         return
+    if options.write:
+        # not only after an hour
+        around()
     print("\n".join(HEAD))
     rows = [row(f"2^{power}", 1 << power, options.edges) for power in options.powers]
     rows += [row(name, *LARGE[name]) for name in options.large]

@@ -13,6 +13,7 @@ import edgebpf
 from aiohttp import web
 
 from edgebpf_serve.asked import Unfit
+from edgebpf_serve.backup import remove_drafts
 from edgebpf_serve.connections import Connections, feed_watchdog, notify
 from edgebpf_serve.engine import Busy, NoRoom, OtherBatch, Stopped
 from edgebpf_serve.limits import IDLE_SECONDS, PAUSE_SECONDS
@@ -226,6 +227,7 @@ async def serve(disk, options, log, begun=lambda service, server: None):
     connections = Connections(runner.server, options.connections, service.meter)
     server = await listening(connections, options.listen)
     service.engine.start()
+    remove_drafts(disk.folder / "backups")
     tasks = [asyncio.ensure_future(one) for one in (
         connections.look_after(), watch_tokens(service), pause_long_requests(service), feed_watchdog(service.engine))]
     log("serves", listen=options.listen, version=service.engine.latest.seq, edges=service.engine.latest.version.edges,

@@ -1,12 +1,16 @@
 """Copies of a folder, while it is served, and folders made of them."""
 import contextlib
+import errno
+import fcntl
+import glob
 import os
 import pathlib
 import shutil
 import sqlite3
+import tempfile
 
 from edgebpf_serve import rows
-from edgebpf_serve.disk import NAME, Disk, Wrong, sync_folder
+from edgebpf_serve.disk import NAME, Disk, Wrong, address, sync_folder
 from edgebpf_serve.limits import Options
 from edgebpf_serve.recovery import recover
 from edgebpf_serve.rows import Damaged
@@ -21,32 +25,68 @@ def back_up(folder, target):
     if target.exists():
         raise FileExistsError(f"{target} is there already")
     target.parent.mkdir(parents=True, exist_ok=True)
-    draft = target.with_name(f".{target.name}.draft")
-    try:
-        version = _copy_again(folder, draft)
-        os.rename(draft, target)
-    finally:
-        shutil.rmtree(draft, ignore_errors=True)
+    version = _copy_again(folder, target)
     sync_folder(target.parent)
     return version
 
 
-def _copy_again(folder, draft):
+def _copy_again(folder, target):
     """Copies a folder, again if a file of it went meanwhile."""
     for left in range(TRIES - 1, -1, -1):
+        with draft_of(target) as draft:
+            try:
+                version = _copy(folder, draft)
+            except FileNotFoundError:
+                if not left:
+                    raise
+                continue
+            _rename(draft, target)
+            return version
+
+
+def _rename(draft, target):
+    try:
+        os.rename(draft, target)
+    except OSError as error:
+        if error.errno not in (errno.EEXIST, errno.ENOTEMPTY):
+            raise
+        raise FileExistsError(f"{target} is there already") from None
+
+
+def remove_drafts(folder, name="*"):
+    """Removes the drafts of copies that no lock holds any more: their makers were ended."""
+    for left in folder.glob(f".{name}.*.draft"):
+        with contextlib.suppress(OSError), _held(left, os.O_RDWR):
+            shutil.rmtree(left, ignore_errors=True)
+
+
+@contextlib.contextmanager
+def draft_of(target):
+    """A new folder beside a target, for the time of a block, which holds a lock in it: two may make the same copy at once."""
+    remove_drafts(target.parent, glob.escape(target.name))
+    draft = pathlib.Path(tempfile.mkdtemp(prefix=f".{target.name}.", suffix=".draft", dir=target.parent))
+    try:
+        with _held(draft, os.O_RDWR | os.O_CREAT):
+            yield draft
+    finally:
         shutil.rmtree(draft, ignore_errors=True)
-        draft.mkdir(mode=0o700)
-        try:
-            return _copy(folder, draft)
-        except FileNotFoundError:
-            if not left:
-                raise
+
+
+@contextlib.contextmanager
+def _held(draft, flags):
+    file = os.open(draft / "lock", flags | os.O_CLOEXEC, 0o600)
+    try:
+        fcntl.flock(file, fcntl.LOCK_EX | fcntl.LOCK_NB)
+        yield
+    finally:
+        os.close(file)
 
 
 def _copy(folder, draft):
-    with contextlib.closing(sqlite3.connect(f"file:{folder / NAME}?mode=ro", uri=True)) as db:
+    with contextlib.closing(sqlite3.connect(address(folder, "ro"), uri=True)) as db:
         with contextlib.closing(sqlite3.connect(draft / NAME, isolation_level=None)) as copy:
-            db.backup(copy)
+            # While another process holds the file, Python hears of a signal in what is called here alone.
+            db.backup(copy, progress=lambda *_: None)
             copy.execute("pragma journal_mode=delete")
             names = [row[1] for row in rows.read(copy, "snapshots")] + [row[2] for row in rows.read(copy, "columns")]
             batches = copy.execute("select max(seq) from journal").fetchone()[0]
@@ -85,17 +125,15 @@ def restore(copy, folder, log):
     folder = pathlib.Path(folder)
     if folder.exists() and any(folder.iterdir()):
         raise Wrong(f"{folder}: it is not empty")
-    draft = folder.with_name(f".{folder.name}.draft")
-    shutil.rmtree(draft, ignore_errors=True)
+    folder.parent.mkdir(parents=True, exist_ok=True)
     try:
-        back_up(copy, draft)
-        found = check(draft, log)
-        if folder.exists():
-            folder.rmdir()
-        os.rename(draft, folder)
+        with draft_of(folder) as draft:
+            back_up(copy, draft / "made")
+            found = check(draft / "made", log)
+            if folder.exists():
+                folder.rmdir()
+            _rename(draft / "made", folder)
         sync_folder(folder.parent)
         return found
     except (sqlite3.Error, Damaged) as error:
         raise Wrong(f"{copy}: {error}") from None
-    finally:
-        shutil.rmtree(draft, ignore_errors=True)

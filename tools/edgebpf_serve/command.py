@@ -197,9 +197,13 @@ def main_copy(words, name):
 
 def main():
     words = sys.argv[1:]
-    if words[:1] == ["token"]:
-        main_token(words[1:])
-    elif words[:1] in (["backup"], ["restore"], ["check"]):
-        main_copy(words[1:], words[0])
-    else:
-        main_serve(words)
+    try:
+        if words[:1] == ["token"]:
+            main_token(words[1:])
+        elif words[:1] in (["backup"], ["restore"], ["check"]):
+            main_copy(words[1:], words[0])
+        else:
+            main_serve(words)
+    except KeyboardInterrupt:
+        # of a copy or a recovery: a service ends by itself
+        stop("interrupted", 130)

@@ -33,6 +33,11 @@ class Full(Wrong):
 NO_ROOM = (errno.ENOSPC, errno.EDQUOT, "SQLITE_FULL", "SQLITE_IOERR_SHMSIZE")
 
 
+def address(folder, mode):
+    """By which SQLite opens the file of a folder to read ("ro") or to write ("rw"), and makes none: the folder's name may have any sign."""
+    return f"{pathlib.Path(folder, NAME).absolute().as_uri()}?mode={mode}"
+
+
 def is_full(error):
     return getattr(error, "errno", None) in NO_ROOM or getattr(error, "sqlite_errorname", None) in NO_ROOM
 
@@ -77,7 +82,7 @@ class Disk:
 
     def reader(self):
         """A connection that only reads, for the thread that asks for it."""
-        return contextlib.closing(sqlite3.connect(f"file:{self.folder / NAME}?mode=ro", uri=True, isolation_level=None))
+        return contextlib.closing(sqlite3.connect(address(self.folder, "ro"), uri=True, isolation_level=None))
 
     def _begin(self, vertices):
         db = self.db
@@ -186,6 +191,12 @@ class Disk:
         for old, *_ in entered[:-2]:
             rows.remove(self.db, "snapshots", old)
         return entered[-2][0] if len(entered) > 1 else 0, [name for _, name, *_ in entered[:-2]]
+
+    def remove_unentered(self, row):
+        """Removes the file of a snapshot, by any thread, unless a row names it: that version may have been entered before."""
+        with contextlib.suppress(sqlite3.Error, OSError), self.reader() as db:
+            if db.execute("select 1 from snapshots where seq = ?", row[:1]).fetchone() is None:
+                (self.folder / row[1]).unlink(missing_ok=True)
 
     def snapshots(self):
         """(seq, file, edges, sum of the file) of each snapshot, the newest first."""

@@ -344,7 +344,7 @@ class Engine:
 
     def _take_snapshot(self, moment, wanted):
         """Writes a snapshot's file, and has the writer enter it."""
-        begun = time.perf_counter()
+        begun, row = time.perf_counter(), None
 
         def answer(result):
             self.is_making_snapshot = False
@@ -354,6 +354,9 @@ class Engine:
         def failed(error):
             self.log("snapshot failed", version=moment.seq, error=f"{type(error).__name__}: {error}")
             self.snapshot_after, self.since = time.monotonic() + AGAIN_SECONDS, [1 << 60, 0]
+            # Else it would take the room that it was to make. At the end of the service the next start does that.
+            if row is not None and not isinstance(error, Stopped):
+                self.disk.remove_unentered(row)
             answer(error if isinstance(error, (Busy, Stopped, NoRoom)) else NoRoom(f"the snapshot failed: {error}"))
 
         def entered(told):

@@ -11,7 +11,7 @@ import numpy as np
 
 from edgebpf_serve import rows
 from edgebpf_serve.disk import Wrong
-from edgebpf_serve.engine import Busy, Task
+from edgebpf_serve.engine import Busy, Stopped, Task
 from edgebpf_serve.rows import Damaged
 from edgebpf_tools.own_source import asks_of
 
@@ -164,6 +164,14 @@ class Columns:
             done(result)
 
         return Task(write, then, told)
+
+    def hand_in(self, engine, column, most_of_owner, done):
+        """Has the writer keep a column. Raises `Busy` and `Stopped`; then its file is gone."""
+        try:
+            engine.do(self.keep(column, most_of_owner, done))
+        except (Busy, Stopped):
+            self._unlink(column.file)
+            raise
 
     def drop(self, name, done):
         def write(db):

@@ -8,7 +8,7 @@ import time
 import typing
 
 from edgebpf_serve import rows
-from edgebpf_serve.disk import transaction
+from edgebpf_serve.disk import address, transaction
 from edgebpf_serve.limits import ROLES, TOKEN_LIMITS
 
 
@@ -55,7 +55,7 @@ class Tokens:
     def __init__(self, disk, is_open):
         self.is_open = is_open
         # Each commit of another connection changes this connection's number.
-        self.db = sqlite3.connect(f"file:{disk.folder / 'serve.db'}?mode=ro", uri=True, isolation_level=None, check_same_thread=False)
+        self.db = sqlite3.connect(address(disk.folder, "ro"), uri=True, isolation_level=None, check_same_thread=False)
         self.seen, self.of = None, {}
         self.used = collections.defaultdict(collections.Counter)
         self.began = {}
@@ -103,7 +103,7 @@ class Tokens:
 
 def change(folder, call):
     """Changes the tokens of a folder, also while it is served."""
-    db = sqlite3.connect(f"file:{folder / 'serve.db'}?mode=rw", uri=True, isolation_level=None)
+    db = sqlite3.connect(address(folder, "rw"), uri=True, isolation_level=None)
     try:
         for line in ("busy_timeout=10000", "synchronous=full"):
             db.execute(f"pragma {line}")

@@ -69,8 +69,7 @@ async def put_numbers(service, request, token):
         if len(numbers) != count:
             raise ask.Unfit(f"numbers has one for each of {count} vertices, and not {len(numbers)}")
     column = await service.on_disk(service.columns.draft, name, numbers, token.name)
-    put = functools.partial(service.columns.keep, column, token.limits["columns"])
-    column = await service.written(lambda done: service.engine.do(put(done)))
+    column = await service.written(functools.partial(service.columns.hand_in, service.engine, column, token.limits["columns"]))
     service.published()
     return answer({"name": name, "column": column.seq})
 
@@ -90,8 +89,8 @@ async def backup(service, request, token):
     """Copies the folder, while it is served, into its folder `backups`."""
     asked = ask.fields_of(request, await service.body(request), "name")
     name = ask.name_of(asked.get("name"), "name")
-    target = service.disk.folder / "backups" / name
-    if target.exists():
-        raise web.HTTPConflict(text=f"there is a backup {name} already")
-    version = await service.on_disk(back_up, service.disk.folder, target)
+    try:
+        version = await service.on_disk(back_up, service.disk.folder, service.disk.folder / "backups" / name)
+    except FileExistsError:
+        raise web.HTTPConflict(text=f"there is a backup {name} already") from None
     return answer({"name": name, "version": version}, 201)

@@ -1,4 +1,5 @@
 """Columns that a run is lent: a number for each vertex, of numpy's file or of a text with one on each line."""
+import io
 import re
 
 from edgebpf_tools import decimals, packages
@@ -18,15 +19,15 @@ def is_name(text):
     return NAME.fullmatch(text) is not None
 
 
-def named(options):
-    """The columns of --column by their names, in their order."""
+def named(options, option="--column"):
+    """The columns of an option by their names, in their order."""
     found = {}
     for word in options:
         name, _, file = word.partition("=")
         if not is_name(name) or not file:
-            raise Refusal(f"--column is NAME=FILE, where a name has 1 to 32 of A-Z a-z 0-9 _ -, not {word!r}")
+            raise Refusal(f"{option} is NAME=FILE, where a name has 1 to 32 of A-Z a-z 0-9 _ -, not {word!r}")
         if name in found:
-            raise Refusal(f"--column {name} is given twice")
+            raise Refusal(f"{option} {name} is given twice")
         found[name] = _read(file)
     if len(found) > MOST:
         raise Refusal(f"a run is lent at most {MOST} columns, not {len(found)}")
@@ -39,15 +40,16 @@ def _read(path):
             data = stream.read()
     except OSError as error:
         raise Refusal(f"{path}: {error.strerror}") from None
-    return _of_array(path) if data.startswith(NUMPY) else _of_text(path, data)
+    return _of_array(path, data) if data.startswith(NUMPY) else _of_text(path, data)
 
 
-def _of_array(path):
+def _of_array(path, data):
     numpy = packages.numpy()
     try:
-        array = numpy.load(path, allow_pickle=False)
-    except (OSError, ValueError, EOFError) as error:
-        raise Refusal(f"{path}: {str(error).splitlines()[0]}") from None
+        array = numpy.load(io.BytesIO(data), allow_pickle=False)
+    except Exception as error:
+        # Of a damaged head numpy raises what Python's parser does, or has no memory for as many numbers as it says.
+        raise Refusal(f"{path} is no file that numpy reads: {(str(error) or type(error).__name__).splitlines()[0]}") from None
     if array.ndim != 1 or array.dtype.kind not in "biu":
         raise Refusal(f"{path} is an array of {array.dtype} in {array.ndim} dimensions; a column has whole numbers in one")
     numbers = [int(number) for number in array.tolist()]
@@ -72,15 +74,15 @@ def _of_text(path, data):
 
 def vertices_of(graph):
     """How many vertices a script's graph has; None if no line makes one."""
-    made = re.search(r"^graph[ \t]+([0-9]+)[ \t]*$", graph, re.MULTILINE)
+    made = re.search(r"^[ \t]*graph[ \t]+([0-9]+)[ \t]*$", graph, re.MULTILINE)
     return made and decimals.value(made[1])
 
 
-def refuse_other_lengths(columns, graph_file, vertices):
+def refuse_other_lengths(columns, graph_file, vertices, option="--column"):
     """Refuses a column that has not a number for each vertex of a graph."""
     for name, numbers in columns.items():
         if len(numbers) != vertices:
-            raise Refusal(f"--column {name} has {len(numbers)} numbers, and {graph_file} {vertices} vertices")
+            raise Refusal(f"{option} {name} has {len(numbers)} numbers, and {graph_file} {vertices} vertices")
 
 
 def lines_of(columns):

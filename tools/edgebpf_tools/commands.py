@@ -1,8 +1,13 @@
 """The commands of a session: lines that are sent together."""
 
 BLOCKS = ("batch", "program")
-# These ask, and change nothing.
+# These ask, and change nothing; so does a pull that writes rows.
 QUESTIONS = ("run", "list", "home", "values")
+
+
+def is_question(line):
+    words = line.split()
+    return words[0] in QUESTIONS or words[0] == "pull" and words[6] == "-"
 
 
 def commands_of(sent):
@@ -17,7 +22,7 @@ def commands_of(sent):
 
 def changes(sent):
     """The commands that change something."""
-    return [command for command in commands_of(sent) if command[0].split()[0] not in QUESTIONS]
+    return [command for command in commands_of(sent) if not is_question(command[0])]
 
 
 def whole_length(stream):

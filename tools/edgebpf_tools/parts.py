@@ -89,7 +89,8 @@ class Cutter:
             self.begun = at
         if words[:1] == ["graph"] and self.vertices is None:
             # A graph without a number, or with one that is out of range, has edgebpf's fault.
-            self.vertices = decimals.value(words[1]) if len(words) == 2 and decimals.is_number(words[1]) else 0
+            made = decimals.value(words[1]) if len(words) == 2 and decimals.is_number(words[1]) else 0
+            self.vertices = made if made <= MOST_VERTICES else 0
         return EVERY
 
     def _write(self, block, part_of_line, starts, ends):

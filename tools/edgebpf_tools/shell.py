@@ -10,7 +10,7 @@ import sys
 import time
 
 from edgebpf_tools import decimals, ends, explain, owned, tables
-from edgebpf_tools.commands import QUESTIONS, changes, whole_length
+from edgebpf_tools.commands import changes, is_question, whole_length
 from edgebpf_tools.compact import column_lines, compacted
 from edgebpf_tools.journal import Journal
 from edgebpf_tools.language import FORMS, MOST_BYTES, Complaint, Language
@@ -101,11 +101,11 @@ class Shell:
             lines = self.language.take(line)
             if not lines:
                 return
-            is_question = lines[0].split()[0] in QUESTIONS
-            if is_question and self.is_taken_up:
+            asks = is_question(lines[0])
+            if asks and self.is_taken_up:
                 self.sent += lines
                 return
-            said = None if is_question and self.is_typed else self.store.ask(lines)
+            said = None if asks and self.is_typed else self.store.ask(lines)
             if said is not None:
                 self.note(lines, said)
         if said is None:
@@ -350,14 +350,14 @@ def take_up(shell, path, is_synced):
 
 
 def complete_names(shell):
-    """Completion of commands, programs and pins, and a history of lines, where there is a terminal."""
+    """Completion of commands, programs, pins and columns, and a history of lines, where there is a terminal."""
     try:
         import readline
     except ImportError:
         return
 
     def completion(text, state):
-        known = sorted({*FORMS, *DOTS, *shell.language.programs, *shell.language.pins})
+        known = sorted({*FORMS, *DOTS, *shell.language.programs, *shell.language.pins, *shell.language.columns})
         return ([word for word in known if word.startswith(text)] + [None])[state]
 
     readline.set_completer_delims(" \t")

@@ -101,7 +101,7 @@ class Asked:
         into, _, file = (options.push or "").partition("=")
         if options.push is not None and not columns.is_name(into):
             raise Refusal(f"--push is NAME or NAME=FILE, where a name has 1 to 32 of A-Z a-z 0-9 _ -, not {options.push!r}")
-        begins = columns.named([options.push])[into] if file else None
+        begins = columns.named([options.push], "--push")[into] if file else None
         if into in lent:
             raise Refusal(f"--push {into} is a column that the run reads; give this one another name")
         room = length - LEAST_LENGTH - columns.BYTES * len(lent)
@@ -132,8 +132,12 @@ class Asked:
         return Asked(self.name, self.program, self.reduction, self.argument, dict.fromkeys(self.lent, [0]), self.into, None)
 
     def test(self, graph_file, vertices):
-        """Refuses columns that have not a number for each vertex."""
-        columns.refuse_other_lengths(self.lent | ({self.into: self.begins} if self.begins is not None else {}), graph_file, vertices)
+        """Refuses columns that have not a number for each vertex. Without a vertex edgebpf has a fault, which is told."""
+        if not vertices:
+            return
+        columns.refuse_other_lengths(self.lent, graph_file, vertices)
+        if self.begins is not None:
+            columns.refuse_other_lengths({self.into: self.begins}, graph_file, vertices, "--push")
 
 
 def runs_over(run, sources):

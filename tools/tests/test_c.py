@@ -5,12 +5,14 @@ import random
 import struct
 import subprocess
 import tempfile
+import threading
 import unittest
 import unittest.mock
 
 from sample_programs import GRAPH, RUNS, SOURCE
 from tools_here import MISSING, TOOLS, run_tool
 
+from edgebpf_tools import columns
 from edgebpf_tools.clang import newest
 from edgebpf_tools.link import ObjectFile, link
 from edgebpf_tools.refusal import Refusal
@@ -265,8 +267,17 @@ class WordsAtTheLine(unittest.TestCase):
             self.assertTrue(run.stdout.startswith("program risk bound "), run.stdout)
             self.assertTrue(run.stdout.endswith("\npull risk last edges 2 total 13\nrow 0 6\nrow 1 7\n"), run.stdout)
             self.assertNotIn("column", run.stdout)
+        pipe = pathlib.Path(self.folder, "pipe")
+        os.mkfifo(pipe)
+        threading.Thread(target=pipe.write_bytes, args=(array_file([5, 6, 7], "<u8"),), daemon=True).start()
+        self.assertIn(" total 13\n", self.of_columns("--column", f"risk={pipe}").stdout)
         lines = self.of_columns(*self.column("5\n6\n7\n"), "--vertices", "1", "--reduce", "max", "--script").stdout.splitlines()
         self.assertEqual(lines[-3:], ["pin last", "column risk 0 5 6 7", "pull risk last max - risk - 1"])
+
+    def test_vertices_of_a_script(self):
+        """As edgebpf reads it: a column is not taken for a whole one if blanks stand around the words."""
+        for text, wanted in (("graph 3\n", 3), ("\t graph \t007 \nbatch A\nend\n", 7), ("# graph 3\n graph 4", 4), ("graph\n", None), ("graph 3 4\n", None)):
+            self.assertEqual(columns.vertices_of(text), wanted, text)
 
     def test_columns_that_are_wrong(self):
         right, other = "5\n6\n7\n", self.column("1\n2\n3\n", "other")
@@ -275,7 +286,9 @@ class WordsAtTheLine(unittest.TestCase):
             ("5\n6\n", [], "--column risk has 2 numbers, and "), ("5\n-6\n7\n", [], "risk.txt:2: '-6' is no number from 0 to 2^64 - 1"),
             ("5\n\n7\n", [], "risk.txt:2: '' is no number"), (f"5\n6\n{1 << 64}", [], "risk.txt:3: "), ("5\n" * 2 + "9" * 5_000, [], "risk.txt:3: "),
             (b"\xff", [], "it is no text, and no file of numpy"), (array_file([5, 6, -7], "<i8"), [], "has -7"),
-            (array_file([5, 6, 7], "<f8"), [], "is an array of float64 in 1 dimensions"), (b"\x93NUMPY", [], "risk.txt: "),
+            (array_file([5, 6, 7], "<f8"), [], "is an array of float64 in 1 dimensions"), (b"\x93NUMPY", [], "no file that numpy reads"),
+            (array_file([5], "<u8").replace(b"(1,)", b"(1,("), [], "no file that numpy reads"),
+            (array_file([5], "<u8").replace(b"(1,), }" + 18 * b" ", b"(%d,), }" % 10**18), [], "no file that numpy reads"),
             (right, ["--column", "second"], "--column is NAME=FILE"), (right, ["--column", f"second={self.folder}"], "Is a directory"),
             (right, other, "records of 32 bytes have no room for 2 columns of 16 bytes"),
             (right, ["--argument", "00"], "--argument has 1 bytes; records of 32 bytes and 1 columns have an argument of 0"),

@@ -69,6 +69,14 @@ class Early(unittest.TestCase):
         self.refused()
 
 
+class CanRun(unittest.TestCase):
+    def test_only_a_refused_processor_is_a_no(self):
+        refusal = "echo edgebpf: EDGEBPF_CPU is $EDGEBPF_CPU, and this processor has not all of that >&2; exit 127"
+        for words, wanted in (("exit 0", (0, "yes\n")), (refusal, (0, "no\n")), ("exit 127", (1, "")), ("exit 1", (1, "")), ("kill -9 $$", (1, ""))):
+            run = subprocess.run([TOP / ".ci/can_run", "x86-64-v3", "sh", "-c", words], capture_output=True, text=True)
+            self.assertEqual((run.returncode, run.stdout), wanted, words)
+
+
 @unittest.skipIf(MISSING, f"missing: {MISSING}")
 class ObjectText(unittest.TestCase):
     def setUp(self):

@@ -15,6 +15,7 @@ from sample_programs import SOURCE
 from tools_here import MISSING, PYTHON, TOOLS, memory_of, run_tool
 
 from edgebpf_tools import store
+from edgebpf_tools.commands import changes
 from edgebpf_tools.language import Language, edits_below
 
 BEGUN = "graph 4\nbatch A\n+ 0 1\n+ 0 2\n+ 1 2\nend\npin a\n"
@@ -104,6 +105,12 @@ class EdgebpfShell(unittest.TestCase):
         self.assertIn("value 1 5\nvalue 2 5\nvalue 2 5\nhome 0", self.said(".compact\n" + shown, "--journal", str(journal)))
         self.assertIn("value 1 5\nvalue 2 5\nvalue 2 5\nhome 0", self.said(shown, "--journal", str(journal)))
         self.assertIn("\ncolumn x 0\ncolumn x 1 5 5\ncolumn y 0\ncolumn y 2 5\n", journal.read_text())
+
+    def test_what_changes_something(self):
+        """It is done again if a session is taken up; a pull that writes rows is a question, as a run is."""
+        changing = ["pull s a sum - x x", "push s a sum - x y 1 2"]
+        asking = ["pull s a max - x -", "pull s a max - x - 1 2", "run s a sum 00", "list s a 00", "values x", "home 0"]
+        self.assertEqual(changes([*asking, *changing]), [[line] for line in changing])
 
     def test_blocks(self):
         """A wrong edit is not part of its batch, and a block that is dropped is not sent."""

@@ -127,12 +127,20 @@ class EdgebpfSpread(unittest.TestCase):
                 (["--column", f"x={self.folder}/none"], "No such file"), (["--column", self.column("text", ["a"])], "is no number from 0 to 2^64 - 1"),
                 (["--column", self.column("large", [2**64])], "is no number"), (2 * short, "--column short is given twice"),
                 (["--push", "-"], "--push is NAME or NAME=FILE"), ([*short, "--push", "short"], "is a column that the run reads"),
-                (["--push", self.column("begins", [1] * 7)], "--column begins has 7 numbers"),
+                (["--push", self.column("begins", [1] * 7)], "--push begins has 7 numbers"),
                 ([*short, "--column", self.column("more", [1] * 300)], "no room for 2 columns"), (["--argument", "00", *short], "cannot run r: fault 6")):
             run = self.spread(*words, program=OF_TARGET)
             self.assertEqual((run.stdout, run.returncode), ("", 1), run)
             self.assertIn(told, run.stderr)
             self.assertEqual(len(run.stderr.splitlines()), 1)
+
+    def test_columns_of_no_graph(self):
+        """How many vertices there are is read of the script: too many of them, or none, are edgebpf's to refuse."""
+        for line in ("graph 1048577", "graph 100000000000", "graph 0", "graph"):
+            for words, program in ((["--column", self.column("one", [1])], OF_TARGET), (["--push", "sums"], OF_TARGET.replace("32", "16").replace("79101800", "b7000000"))):
+                run = self.spread(*words, graph=f"{line}\n", program=program)
+                self.assertEqual((run.stdout, run.returncode, len(run.stderr.splitlines())), ("", 1, 1), run.stderr)
+                self.assertRegex(run.stderr, "fault [24] line 1")
 
     def test_reductions(self):
         least = "run t last edges 4 total 1\nrow 0 1\nrow 70 2\nrow 299 3\n"

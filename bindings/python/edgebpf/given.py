@@ -249,8 +249,8 @@ def members_of(marks: npt.ArrayLike, name: str) -> npt.NDArray[np.uint8]:
 
 def values_into(into: Numbers, count: int, columns: list[Numbers]) -> Numbers:
     """The array that a push writes: a value for each of `count` vertices, none of which is a column's."""
-    if not isinstance(into, np.ndarray) or into.dtype != np.uint64 or into.ndim != 1 or not into.flags.c_contiguous:
-        raise TypeError("into is an array of uint64 in one dimension, without steps; it is written in place")
+    if not isinstance(into, np.ndarray) or into.dtype != np.uint64 or into.ndim != 1 or not (into.flags.c_contiguous and into.flags.aligned):
+        raise TypeError("into is an array of uint64 in one dimension, aligned and without steps; it is written in place")
     if not into.flags.writeable:
         raise TypeError("into is read-only")
     if len(into) != count:

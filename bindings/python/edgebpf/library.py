@@ -22,6 +22,8 @@ HERE = pathlib.Path(__file__).resolve()
 # A package that lies near the root has fewer folders above it.
 DIST = HERE.parent.parent.parent.parent / "dist"
 NAME = "libedgebpf.so"
+# What is compiled beside a library's text.
+BESIDE = ("processor.h", "choose_library.c", *(f"../bindings/c/{name}" for name in ("heap.c", "edgebpf.h", "edgebpf_algorithms.h")))
 # The number of the library's interface that this package calls, as dist/link has it.
 INTERFACE = 1
 DONE, NO_MEMORY, EMPTY = 0, 1, 2
@@ -94,14 +96,17 @@ void edgebpf_close(handle *);
 def in_checkout(name: str = "libedgebpf", source: pathlib.Path = DIST / "libedgebpf.s") -> str | None:
     """A library of the checkout's `dist/`, which the C compiler builds at the first use; None where there is no checkout or compiler."""
     # The texts for other processors have the library's name before a hyphen.
-    built, parts = DIST / "build" / f"{name}.so", [source, DIST / "link", *DIST.glob(f"{name}-*.s"), *DIST.glob("choose_library.c")]
+    built, beside = DIST / "build" / f"{name}.so", filter(os.path.isfile, (DIST / file for file in BESIDE))
+    parts = [source, DIST / "link", *DIST.glob(f"{name}-*.s"), *beside]
     # Path.is_file raises an error where a folder may not be read.
     if not all(map(os.path.isfile, parts)):
         return None
     if not os.path.isfile(built) or built.stat().st_mtime < max(part.stat().st_mtime for part in parts):
         try:
             built.parent.mkdir(exist_ok=True)
-            subprocess.run([DIST / "link", name, built], check=True, capture_output=True)
+            # It would build for the machine that this variable names.
+            here = {word: value for word, value in os.environ.items() if word != "MACHINE"}
+            subprocess.run([DIST / "link", name, built], check=True, capture_output=True, env=here)
         except (OSError, subprocess.CalledProcessError):
             return None
     return str(built)

@@ -462,9 +462,8 @@ class Version:
         marks: for each vertex whether it is in the set. No edge joins two of the set, and from each vertex outside an edge leads to one of it: in a
         graph that is not mirrored this asks for more than an edge in one direction or the other.
         """
-        answer, chosen = library.new("uint32_t *"), members_of(marks, "marks")
-        at = library.foreign().from_buffer("uint8_t[]", chosen.data) if len(chosen) else library.foreign().NULL
-        library.check(library.load().edgebpf_is_independent_set(self._at(), at, len(chosen), answer))
+        calls, answer, chosen = self._calls, library.new("uint32_t *"), members_of(marks, "marks")
+        library.check(library.load().edgebpf_is_independent_set(self._at(), calls.buffer(calls.bytes, chosen), len(chosen), answer))
         return bool(answer[0])
 
     def has_edge(self, source: int, target: int) -> bool:

@@ -177,9 +177,9 @@ class Program:
         """The code of the program, in units of 8 bytes; the library assembles it if the program was made of a text."""
         if self.code is not None:
             return self.code
-        assembled, text = library.new("assembled *"), (self.text or "").encode()
-        code = library.foreign().new("uint8_t[]", UNIT * MOST_UNITS)
-        status = library.load().edgebpf_assemble(text, len(text), code, len(code), assembled)
+        calls, text = library.load(), (self.text or "").encode()
+        assembled, code = library.new("assembled *"), library.foreign().new("uint8_t[]", UNIT * MOST_UNITS)
+        status = calls.edgebpf_assemble(text, len(text), code, len(code), assembled)
         if status == library.WRONG_TEXT:
             raise WrongText(assembled.cause, assembled.line)
         library.check(status)

@@ -328,17 +328,29 @@ print(found, threading.stack_size())
             folder = pathlib.Path(name)
             (folder / "build").mkdir()
             text, built, link = folder / "libedgebpf.s", folder / "build" / "libedgebpf.so", folder / "link"
-            for file, words in ((text, ""), (built, "old"), (link, "#!/bin/sh\necho new > $2\n")):
+            for file, words in ((text, ""), (built, "old"), (link, "#!/bin/sh\necho new$MACHINE > $2\n")):
                 file.write_text(words)
             link.chmod(0o755)
             os.utime(built, (1, 1))
-            with unittest.mock.patch(library + "DIST", folder):
+            with unittest.mock.patch(library + "DIST", folder), unittest.mock.patch.dict(os.environ, MACHINE="another"):
                 self.assertEqual((edgebpf.library.in_checkout(), built.read_text()), (str(built), "new\n"))
                 built.write_text("kept")
                 self.assertEqual((edgebpf.library.in_checkout(), built.read_text()), (str(built), "kept"))
-                later = built.stat().st_mtime + 9
-                os.utime(link, (later, later))
-                self.assertEqual((edgebpf.library.in_checkout(), built.read_text()), (str(built), "new\n"))
+                for changed in ("link", "libedgebpf-v3.s", *edgebpf.library.BESIDE[:2]):
+                    built.write_text("old")
+                    with open(folder / changed, "a"):
+                        later = built.stat().st_mtime + 9
+                        os.utime(folder / changed, (later, later))
+                    self.assertEqual((edgebpf.library.in_checkout(), built.read_text()), (str(built), "new\n"), changed)
+                    os.utime(folder / changed, (1, 1))
+
+    def test_code_without_a_library(self):
+        """What a process verified has no code here, if the library cannot be loaded: that is said."""
+        program, library = edgebpf.assemble("mov r0, 1\nexit"), edgebpf.library
+        self.assertEqual(program.assembled(), bytes.fromhex("b7000000010000009500000000000000"))
+        with unittest.mock.patch.multiple(library, cffi=None, load=library.load.__wrapped__, foreign=library.foreign.__wrapped__):
+            with self.assertRaisesRegex(edgebpf.Error, "cffi is not there"):
+                program.assembled()
 
     def test_wrong_libraries(self):
         """What is no library, or one of another interface, is named, whatever is asked first."""

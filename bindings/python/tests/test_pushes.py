@@ -106,7 +106,8 @@ class Pushes(unittest.TestCase):
         frozen = np.zeros(4, np.uint64)
         frozen.flags.writeable = False
         longer = np.zeros(8, np.uint64)
-        for wrong in ([0] * 4, np.zeros(4), np.zeros(4, np.int64), np.zeros((4, 1), np.uint64), longer[::2], frozen, None):
+        askew = np.frombuffer(bytearray(33), np.uint64, 4, offset=1)
+        for wrong in ([0] * 4, np.zeros(4), np.zeros(4, np.int64), np.zeros((4, 1), np.uint64), longer[::2], frozen, askew, None):
             with self.assertRaisesRegex(TypeError, "into"):
                 push(wrong)
         for wrong in (longer, longer[:3]):
