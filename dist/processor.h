@@ -25,7 +25,7 @@ static int has_v3(void)
     unsigned a, b, c, d, low, high;
     if (!__get_cpuid(1, &a, &b, &c, &d) || (c & first) != first)
         return 0;
-    __asm__("xgetbv" : "=a"(low), "=d"(high) : "c"(0));
+    __asm__ volatile("xgetbv" : "=a"(low), "=d"(high) : "c"(0));
     if ((low & kept) != kept || !__get_cpuid_count(7, 0, &a, &b, &c, &d) || (b & seventh) != seventh)
         return 0;
     return __get_cpuid(0x80000001, &a, &b, &c, &d) && (c & bit_LZCNT) != 0;
