@@ -86,6 +86,9 @@ class Built(unittest.TestCase):
         with self.assertRaisesRegex(AssertionError, "dist/ is for Linux on x86-64 and on aarch64, and this is (Linux )?riscv64"):
             make(f"BUILD={self.room / 'build'}", "MACHINE=riscv64", "deb")
         self.assertEqual(list(self.room.glob("made*")), [])
+        for machine in ("x86_64", "aarch64"):
+            here = "build" if machine == platform.machine() else f"build/{machine}"
+            self.assertIn(f"./link edgebpf {here}/edgebpf\n", make("-n", "-B", f"MACHINE={machine}", f"{here}/edgebpf"))
 
     @unittest.skipUnless(shutil.which("cc"), "there is no cc")
     def test_a_compiler_with_more_words(self):
