@@ -152,7 +152,8 @@ fn has_span(column: &[u64], first: usize, count: usize) -> bool
 /// Writes numbers over those from a place on.
 fn write_over(column: &mut [u64], first: usize, numbers: &[u64])
     requires { first + length numbers.now ≤ length column.old }
-    ensures { column.new ≡ with_numbers first numbers.now column.old }
+    ensures set { column.new ≡ with_numbers first numbers.now column.old }
+    ensures long { length column.new ≡ length column.old }
 {
     column[first..first + numbers.len()].copy_from_slice(numbers);
 }

@@ -1,7 +1,7 @@
 use Rattle.std.proofs.Common.{◌≡◌, ◌<◌, ◌++◌, true, ℕ, List, length, get_or, take, drop, refl, sym, ap, ◌∙◌, subst, arith}
 use Rattle.std.specs.Prelude.{map, Option, Some, is_some}
 use Rattle.std.specs.Vec.{with_items}
-use Rattle.std.proofs.lemmas.List.{get_or-map}
+use Rattle.std.proofs.lemmas.List.{get_or-map, with_items_is}
 use Rattle.bpf_asm.specs.Lexing.{same_bytes}
 use Rattle.session_model.specs.Session.{KeptColumn, column_named, stored}
 use Rattle.session_model.specs.Responses.{numbers_or_zeros, with_numbers}
@@ -27,9 +27,11 @@ returns-clause-set c done vertices =
     let first : column_named name (map kept_column items) ≡ column_named name (map kept_column (drop i items)) =
     subst (λ (l : List NamedColumn). column_named name (map kept_column l) ≡ column_named name (map kept_column (drop i l))) c.deref.ensures.value c.place_of-at.ensures.first in
     let found : column_named name (map kept_column items) ≡ Some old.numbers.items = named_there name items i old there is same first in
-    let written : c.write_over.new.column ≡ after = c.write_over.ensures ∙ ap (with_numbers c.args.first c.args.numbers.now) c.deref_mut.ensures.value in
+    let written : c.write_over.new.column ≡ after = c.write_over.ensures.set ∙ ap (with_numbers c.args.first c.args.numbers.now) c.deref_mut.ensures.value in
     let new : NamedColumn = record { name = old.name; numbers = with_items old.numbers c.write_over.new.column } in
-    let made : kept_column new ≡ record { name = old.name.items; numbers = after } = ap (λ (n : List ℕ). kept_column (record old { numbers = with_items old.numbers n })) written in
+    let long : length c.write_over.new.column ≡ old.numbers.len = omega (arith, c.write_over.ensures.long, ap length c.deref_mut.ensures.value, old.numbers.ok.0) in
+    let column : List ℕ → KeptColumn = λ n. record { name = old.name.items; numbers = n } in
+    let made : kept_column new ≡ record { name = old.name.items; numbers = after } = ap column (with_items_is old.numbers c.write_over.new.column long ∙ written) in
     stored_there name after items i old new there is same made place
     ∙ ap (λ (o : Option (List ℕ)). stored name (with_numbers c.args.first c.args.numbers.now (numbers_or_zeros vertices o)) (map kept_column items)) (sym found)
 
