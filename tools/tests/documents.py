@@ -124,7 +124,7 @@ def readme_lines():
     block = re.search(r"^```\n(program degree .*?)^```$", TOUR, re.M | re.S)[1]
     said = re.search(r"answered with its line, as `(.*?)`", on_one_line(TOUR))[1]
     yield "readme_faulty_text", Case("graph 4\n" + block.replace("ldxw r0, ", "ldxw ") + "pin a\n", [said, "pin a version 0 edges 0"])
-    least = re.search(r"^\| `(edges 0 total [0-9]+)` \| `min` over zero edges", README, re.M)[1]
+    least = re.search(r"^\| `(edges 0 total [0-9]+)` \| `min` over zero edges", TOUR, re.M)[1]
     yield "readme_least_of_none", Case("graph 4\npin a\ncode t 16 61100400000000009500000000000000\nrun t a min -\n", ["run t a " + least])
 
 
