@@ -41,6 +41,8 @@ ATTRIBUTES = (
     '"probe-stack"="inline-asm" "stack-probe-size"="3072" "target-cpu"="x86-64-v2"',
     '"no-builtin-bcmp" "no-builtin-memcmp" "no-builtin-strlen" "target-cpu"="lime1"',
 )
+# This tells the compiler that memory may have changed, and is no instruction.
+BARRIER = 'asm sideeffect "", "~{memory}"()'
 # The words that the kit gives its clang and its linker for wasm64.
 COMPILES = (
     "--target=wasm64-unknown-unknown -mcpu=lime1 -mllvm -expand-div-rem-bits=64 -mllvm -expand-fp-convert-bits=64 -ffunction-sections "
@@ -114,8 +116,9 @@ def retargeted(text):
             raise Stop(f"the module has not once: {old}")
         text = text.replace(old, new)
     text = text.replace(*ATTRIBUTES)
-    for word in ("x86", "asm sideeffect", "probe-stack"):
-        if word in text:
+    without = text.replace(BARRIER, "")
+    for word in ("x86", "asm ", "probe-stack"):
+        if word in without:
             raise Stop(f"the module has something of x86-64 that this does not know: {word}")
     return text
 
