@@ -1,5 +1,5 @@
 #!/usr/bin/env python3
-"""Draws the pictures of docs/ by headless Chromium: `edgebpf-explain --html` of a program that is refused, and the page of edgebpf-serve.
+"""Draws the pictures of docs/ by headless Chromium: `edgebpf-explain --html` of a program that is refused, the page of edgebpf-serve, and the playground.
 
     tools/dev/make_pictures.py             draws them
     tools/dev/make_pictures.py --compare   draws them elsewhere, and compares: the same size, and few other points, since fonts differ
@@ -37,8 +37,8 @@ done:
 """
 
 
-def screenshot(browser, page, picture, size):
-    flags = ["--headless", "--no-sandbox", "--disable-gpu", "--virtual-time-budget=3000", f"--window-size={size}"]
+def screenshot(browser, page, picture, size, *more):
+    flags = ["--headless", "--no-sandbox", "--disable-gpu", "--virtual-time-budget=3000", f"--window-size={size}", *more]
     subprocess.run([browser, *flags, f"--screenshot={picture}", page], check=True, stderr=subprocess.DEVNULL)
 
 
@@ -81,6 +81,10 @@ def served(browser, picture):
             server.wait()
 
 
+def played(browser, picture):
+    screenshot(browser, (TOP / "docs/playground.html").as_uri(), picture, "1280,740", "--hide-scrollbars")
+
+
 def is_like(picture, kept):
     """Whether two pictures show the same, but for fonts."""
     from PIL import Image, ImageChops
@@ -95,7 +99,7 @@ def is_like(picture, kept):
 
 def main():
     browser = shutil.which("chromium") or sys.exit("make_pictures: chromium is needed: apt-get install chromium")
-    draws = {"explain.png": explained, "service.png": served}
+    draws = {"explain.png": explained, "service.png": served, "playground.png": played}
     if sys.argv[1:] != ["--compare"]:
         for name, draw in draws.items():
             draw(browser, TOP / "docs" / name)
