@@ -96,7 +96,7 @@ def arguments():
     words.add_argument("--from", type=int, default=0, dest="first", help="the number of the first one (0)")
     words.add_argument("--hubs", action="store_true", help="scripts of long lists that are edited one edit a batch, near the borders of homes")
     words.add_argument("--calls", action="store_true", help="scripts of 150 programs each, which all have functions, most of them lent frames")
-    words.add_argument("--columns", action="store_true", help="scripts about columns: mostly they set and show them, and pull and push")
+    words.add_argument("--columns", action="store_true", help="scripts about columns: mostly they set, show, pull, push and map them")
     words.add_argument("--workers", type=int, nargs="+", default=[1], help="with how many workers each script is served, in turn (1)")
     words.add_argument("--processes", type=int, default=os.cpu_count(), help="how many processes work side by side (as many as cores)")
     words.add_argument("--seconds", type=int, default=120, help="how long a serving may take by the clock; more on a busy machine (120)")

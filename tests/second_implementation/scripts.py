@@ -278,7 +278,7 @@ class Writer:
         return [" ".join([command, program, pin, self.choice(["min", "max", "sum"]), argument, names, into, *map(str, frontier)])]
 
     def script_of_columns(self):
-        """A graph, and mostly columns, pulls and pushes."""
+        """A graph, and mostly columns, pulls, pushes and maps of vertices."""
         self.vertices, self.lending = self.choice([1, 2, 4, 8, 20, 70, 300]), {}
         self.pool = list(range(self.vertices)) if self.vertices <= 20 else self.random.sample(range(self.vertices), 12)
         self.hubs, self.is_big = self.random.sample(self.pool, min(3, len(self.pool))), False
