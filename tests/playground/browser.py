@@ -1,15 +1,20 @@
 """Headless Chromium, driven by its protocol over two pipes."""
 import base64
+import contextlib
 import json
 import os
 import shutil
+import signal
 import subprocess
 import tempfile
+import time
 
 FLAGS = [
     "--headless", "--no-sandbox", "--disable-gpu", "--hide-scrollbars", "--no-first-run", "--disable-extensions", "--force-color-profile=srgb",
     "--remote-debugging-pipe",
 ]
+
+CLEANINGS = 50
 
 
 def found():
@@ -27,7 +32,7 @@ class Browser:
         words = [found(), *FLAGS, *flags, f"--user-data-dir={self._folder.name}"]
         # The browser reads commands from 3 and writes answers to 4.
         command = ["bash", "-c", f'exec "$@" 3<&{read} 4>&{write}', "bash", *words, "about:blank"]
-        self._process = subprocess.Popen(command, pass_fds=(read, write), stdout=subprocess.DEVNULL, stderr=subprocess.DEVNULL)
+        self._process = subprocess.Popen(command, pass_fds=(read, write), stdout=subprocess.DEVNULL, stderr=subprocess.DEVNULL, start_new_session=True)
         os.close(read)
         os.close(write)
         self._rest, self._number, self._session = b"", 0, None
@@ -43,9 +48,21 @@ class Browser:
     def __exit__(self, *_):
         self._process.terminate()
         self._process.wait()
+        with contextlib.suppress(ProcessLookupError):
+            os.killpg(self._process.pid, signal.SIGKILL)
         os.close(self._to)
         os.close(self._from)
-        self._folder.cleanup()
+        self._clean_up()
+
+    def _clean_up(self):
+        """Removes the folder, again if what the browser started wrote into it meanwhile: such processes end a moment after it."""
+        for left in range(CLEANINGS - 1, -1, -1):
+            try:
+                return self._folder.cleanup()
+            except OSError:
+                if not left:
+                    raise
+                time.sleep(0.1)
 
     def call(self, method, **words):
         self._number += 1
