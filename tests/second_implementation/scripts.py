@@ -260,7 +260,7 @@ class Writer:
     def some_vertices(self):
         if self.often(0.4):
             return []
-        return sorted(self.random.sample(range(self.vertices), self.random.randrange(min(self.vertices, 40) + 1)))
+        return sorted(self.random.sample(range(self.vertices), self.random.randrange(min(self.vertices, self.choice([40, 40, 700])) + 1)))
 
     def lend(self):
         program, pin = self.choice(sorted(self.lending)), self.choice(sorted(self.pins))
@@ -279,7 +279,7 @@ class Writer:
 
     def script_of_columns(self):
         """A graph, and mostly columns, pulls, pushes and maps of vertices."""
-        self.vertices, self.lending = self.choice([1, 2, 4, 8, 20, 70, 300]), {}
+        self.vertices, self.lending = self.choice([1, 2, 4, 8, 20, 70, 130, 300, 700]), {}
         self.pool = list(range(self.vertices)) if self.vertices <= 20 else self.random.sample(range(self.vertices), 12)
         self.hubs, self.is_big = self.random.sample(self.pool, min(3, len(self.pool))), False
         lines = [f"graph {self.vertices}", *self.burst(), *self.lending_program(), f"pin n{self.count + 1}"]

@@ -120,6 +120,11 @@ def calls_of_ten(first):
 
 
 ROWS |= {
+    "nine functions, of which a load and a branch pass the first call": (
+        "ldxw r3, [r1+0]/mov r1, 5/jeq r3, 0, e/calllocal f1/e:/mov r0, 0/exit/"
+        + "".join(f"f{k}:/calllocal f{k + 1}/exit/" for k in range(1, 8)) + "f8:/mov r0, 0/exit",
+        (6, 0),
+    ),
     "54,444,441 pairs, and no walk of more than 86": (branching_calls(), (18, 0)),
     "1,000,000 pairs": (calls_of_ten("mov r0, 0/exit/"), (2, 1, 0)),
     "1,000,001 pairs": (calls_of_ten("mov r0, 0/mov r0, 0/exit/"), (18, 0)),

@@ -1,4 +1,5 @@
 pub mod Maps
+pub mod Jobs
 pub mod Pieces
 pub mod Plans
 pub mod Refused

@@ -156,9 +156,15 @@ fn a_list_is_written_in_blocks(rt: HostRuntime) -> Result<(), Fail> {
 }
 
 /// How often a script's pieces were entered and left with so many workers, a digit of 16 for each piece, and how many
-/// waited in vain for as many pieces as there are workers; none where the script does not come to its end.
-fn seen<R: Threads + Wait>(rt: &R, alloc: Global, script: &str, count: u8) -> Option<[u64; 3]> {
-    let gate = HoldingGate::until(u64::from(count));
+/// waited in vain until `inside` were entered; none where the script does not come to its end.
+fn seen<R: Threads + Wait>(
+    rt: &R,
+    alloc: Global,
+    script: &str,
+    count: u8,
+    inside: u64,
+) -> Option<[u64; 3]> {
+    let gate = HoldingGate::until(inside);
     let workers = Workers::new(count)?;
     let (answer, _) = served_whole(rt, alloc, script, workers, &gate);
     if answer != Ok(Ending::Complete) {
@@ -182,19 +188,38 @@ const TWO_PIECES: &str =
 const FOUR_PIECES: &str =
     "graph 256\ncode t 16 61100400000000009500000000000000\npin a\nrun t a sum -\n";
 
+// Commands with a column over graphs without an edge. They have a piece for each worker, and 64 vertices at least for each piece.
+const PULL: &str =
+    "graph 256\ncode t 32 61100400000000009500000000000000\npin a\ncolumn x 0 1\npull t a sum - x -\n";
+
+const PULL_INTO: &str =
+    "graph 256\ncode t 32 61100400000000009500000000000000\npin a\ncolumn x 0 1\npull t a sum - x x\n";
+
+const PUSH: &str =
+    "graph 256\ncode t 32 61100400000000009500000000000000\npin a\ncolumn x 0 1\npush t a sum - x x\n";
+
+const EACH: &str =
+    "graph 256\ncode t 32 61100400000000009500000000000000\npin a\ncolumn x 0 1\neach t a sum - x x\n";
+
 // As many workers as there are pieces are inside at once, and so are three of four pieces.
 #[test]
 fn workers_are_inside_at_once(rt: HostRuntime) {
-    for (script, workers, pieces) in [
-        (TWO_RANGES, 2, 0x11),
-        (SECOND_AND_FOURTH, 2, 0x1010),
-        (FOUR_RANGES, 4, 0x1111),
-        (FOUR_RANGES, 3, 0x1111),
-        (TWO_PIECES, 2, 0x11),
-        (FOUR_PIECES, 4, 0x1111),
-        (FOUR_PIECES, 3, 0x1111),
+    for (script, workers, inside, pieces) in [
+        (PULL, 2, 2, 0x11),
+        (PULL, 4, 4, 0x1111),
+        (PULL, 16, 4, 0x1111),
+        (PULL_INTO, 3, 3, 0x111),
+        (PUSH, 3, 3, 0x111),
+        (EACH, 3, 3, 0x111),
+        (TWO_RANGES, 2, 2, 0x11),
+        (SECOND_AND_FOURTH, 2, 2, 0x1010),
+        (FOUR_RANGES, 4, 4, 0x1111),
+        (FOUR_RANGES, 3, 3, 0x1111),
+        (TWO_PIECES, 2, 2, 0x11),
+        (FOUR_PIECES, 4, 4, 0x1111),
+        (FOUR_PIECES, 3, 3, 0x1111),
     ] {
-        let told = seen(&rt, rt.alloc(), script, workers);
+        let told = seen(&rt, rt.alloc(), script, workers, inside);
         assert_eq!(rt; told, Some([pieces, pieces, 0]), "{script} by {workers}");
     }
 }

@@ -1,23 +1,31 @@
 -- What commands that lend columns find, and what they come to.
-use Rattle.std.proofs.Common.{◌≡◌, true, false, length, List, [], ◌∷◌, ℕ, Some, None, Result, Ok, Err, refl, sym, ap, subst, ◌∙◌, inl}
+use Rattle.std.proofs.Common.{◌≡◌, ◌≤◌, true, false, drop, length, min, List, [], ◌∷◌, ℕ, Some, None, Result, Ok, Err, refl, sym, ap, subst, ◌∙◌, inl, inr, arith}
+use Rattle.std.proofs.lemmas.Bool.{cases_lt}
+use Rattle.std.proofs.lemmas.List.{drop_all}
 use Rattle.std.specs.Prelude.{nat_lt, map, Option}
-use Rattle.std.specs.List.{list_all}
+use Rattle.std.specs.List.{flat_map, list_all}
 use Rattle.bpf_image.specs.Program.{Program}
 use Rattle.past_model.specs.Past.{Past}
 use Rattle.session_model.specs.declared.fault.Fault.TheVariants as faults
-use Rattle.map_model.specs.EdgeMap.{reduction_of_numbers}
+use Rattle.map_model.specs.declared.reduction.Reduction.{Reduction}
+use Rattle.map_model.specs.EdgeMap.{Inputs, all_with, reduction_of_numbers}
 use Rattle.map_model.specs.Pushes.{changed}
+use Rattle.map_model.proofs.Pushes.{pushed_long}
+use Rattle.verifier.specs.Walks.{longest}
 use Rattle.past_model.specs.Past.{graph_of}
 use Rattle.session_model.specs.Commands.{Asked, Answer, RowsPulled, ValuesShown, ColumnWritten}
 use Rattle.session_model.specs.Faults.{is_ascending, lent_fault}
 use Rattle.session_model.specs.Session.{KeptColumn, Session, program_named, pin_named, column_named, stored}
-use Rattle.session_model.specs.Responses.{Response, Answers, Fails, response_with, unless_fault, lent_response, exit_numbers, column_after, write_response, inputs_of, frontier_of, rows_answer, values_response, values_of}
+use Rattle.session_model.specs.Responses.{Response, Answers, Fails, response_with, unless_fault, lent_response, exit_numbers, column_after, write_response, inputs_of, frontier_of, rows_answer, values_response, values_of, placed}
 use Rattle.session.specs.declared.error.CommandError.{CommandError}
 use Rattle.session.specs.declared.error.CommandError.TheVariants as errors
 use Rattle.session.specs.declared.lending.Lent.{Lent}
-use Rattle.edge_fold.specs.declared.outcome.MapOutcome.{MapOutcome}
-use Rattle.graph_model.specs.Graph.{Graph}
+use Rattle.edge_map.specs.declared.job.JobOutcome.{JobOutcome}
+use Rattle.edge_map.specs.declared.job.Wanted.TheVariants.{Rows}
+use Rattle.edge_map.specs.Jobs.{job_numbers, IsDone}
+use Rattle.graph_model.specs.Graph.{Graph, neighbours}
 use Rattle.session_model.specs.declared.way.Way.{Way}
+use Rattle.session_model.specs.declared.way.Way.TheVariants as ways
 use Rattle.session.specs.declared.lending.Written.{Written}
 use Rattle.session.specs.declared.answer.Answer.{Answer as GivenAnswer}
 use Rattle.session.specs.declared.kept.NamedProgram.{NamedProgram}
@@ -25,7 +33,7 @@ use Rattle.session.specs.declared.kept.NamedPin.{NamedPin}
 use Rattle.session.specs.declared.kept.NamedColumn.{NamedColumn}
 use Rattle.session.specs.Handles.{StoreState}
 use Rattle.session.specs.Kept.{answer_of, each_now, kept_column, session_of}
-use Rattle.session.specs.Lending.{AreRows, GoesOn, IsLeft, IsLent, IsWritten, lends, Writes, WritesInto}
+use Rattle.session.specs.Lending.{GoesOn, IsLeft, IsLent, IsWritten, lends, wanted_of, Writes, WritesInto}
 use Rattle.session.specs.Performs.{Performs}
 
 pub lent_outside : (asked : Asked) (s : Session) (last : Past) (go : GoesOn) → s.past ≡ Some last → list_all (λ v. nat_lt v last.vertex_count) asked.frontier ≡ false → lent_response asked s go ≡ Fails faults.Range
@@ -115,7 +123,25 @@ pub left_written : (way : Way) (asked : Asked) (p : Program) (past : Past) (colu
     → IsLeft way p (graph_of past) asked.reduction (inputs_of asked.argument columns) (frontier_of asked.frontier (graph_of past)) numbers w → IsWritten way asked p past columns numbers w
 left_written way asked p past columns numbers w fits is = record { fits = fits; left = is }
 
-pub rows_told : (asked : Asked) (p : Program) (past : Past) (columns : List (List ℕ)) (out : MapOutcome) (s : Session) → lent_fault asked p past.vertex_count columns [] ≡ None
-    → AreRows p (graph_of past) asked.reduction (inputs_of asked.argument columns) (frontier_of asked.frontier (graph_of past)) out
-    → unless_fault (lent_fault asked p past.vertex_count columns []) (Answers (rows_answer asked p (graph_of past) columns) s) ≡ Answers (RowsPulled asked.program asked.pin out.edges out.total out.rows.items) s
-rows_told asked p past columns out s fits is = rw (fits, is.edges, is.total, is.rows) refl
+pub rows_told : (asked : Asked) (p : Program) (past : Past) (columns : List (List ℕ)) (first : List ℕ) (out : JobOutcome) (s : Session) → lent_fault asked p past.vertex_count columns [] ≡ None
+    → IsDone Rows p (graph_of past) asked.reduction (inputs_of asked.argument columns) (frontier_of asked.frontier (graph_of past)) first out
+    → unless_fault (lent_fault asked p past.vertex_count columns []) (Answers (rows_answer asked p (graph_of past) columns) s) ≡ Answers (RowsPulled asked.program asked.pin out.count out.total out.rows.items) s
+rows_told asked p past columns first out s fits is = rw (fits, is.count, is.total, is.rows) refl
+
+-- a push has a number for each vertex still
+pub found_long : (way : Way) (p : Program) (g : Graph) (r : Reduction) (inputs : Inputs) (frontier numbers : List ℕ) (found : JobOutcome)
+    → IsDone (wanted_of way) p g r inputs frontier numbers found → way ≡ ways.Push → length found.numbers.items ≡ length numbers
+found_long way p g r inputs frontier numbers found is push =
+    ap length (is.numbers ∙ ap (λ (w : Way). job_numbers (wanted_of w) p g r inputs frontier numbers) push)
+    ∙ pushed_long r (flat_map (neighbours g) frontier) (all_with p (longest p) g inputs frontier) numbers
+
+placed_none : (vertices numbers : List ℕ) → placed vertices [] numbers ≡ numbers
+placed_none [] numbers = refl
+placed_none (v ∷ vs) numbers = refl
+
+-- where the vertices or their values are at the end, all are placed
+pub placed_all : (vertices values numbers : List ℕ) (at : ℕ) → min (length vertices) (length values) ≤ at → placed (drop at vertices) (drop at values) numbers ≡ numbers
+placed_all vertices values numbers at ended = elim (cases_lt (length vertices) (length values)) [
+  | inl less ↦ ap (λ (l : List ℕ). placed l (drop at values) numbers) (drop_all at vertices (omega (arith, ended, less)))
+  | inr more ↦ ap (λ (l : List ℕ). placed (drop at vertices) l numbers) (drop_all at values (omega (arith, ended, more))) ∙ placed_none (drop at vertices) numbers
+]

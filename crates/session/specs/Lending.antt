@@ -1,24 +1,25 @@
 -- What commands that lend columns find, and what they write.
 use Rattle.std.specs.Borrow.{Bor}
-use Rattle.std.specs.Prelude.{◌≡◌, ℕ, List, [], ◌∷◌, filter, length, Option, Some, None, Result, Ok, Err, ⊤}
+use Rattle.std.specs.Prelude.{◌≡◌, ℕ, List, [], ◌∷◌, length, Option, Some, None, Result, Ok, Err, ⊤}
 use Rattle.bpf_image.specs.Program.{Program}
 use Rattle.past_model.specs.Past.{Past, graph_of}
-use Rattle.edge_fold.specs.declared.outcome.MapOutcome.{MapOutcome}
 use Rattle.graph_model.specs.Graph.{Graph}
 use Rattle.map_model.specs.declared.reduction.Reduction.{Reduction}
-use Rattle.map_model.specs.EdgeMap.{Inputs, all_with, rows_with, reduction_of_numbers}
-use Rattle.verifier.specs.Walks.{longest}
+use Rattle.map_model.specs.EdgeMap.{Inputs, reduction_of_numbers}
 use Rattle.map_model.specs.Pushes.{changed}
 use Rattle.session_model.specs.Session.{KeptColumn, Session, columns_named, stored}
 use Rattle.session_model.specs.Commands.{Asked, ColumnWritten}
 use Rattle.session_model.specs.declared.fault.Fault.TheVariants as faults
 use Rattle.session_model.specs.Faults.{lent_fault}
-use Rattle.session_model.specs.Responses.{Response, Answers, Fails, response_with, inputs_of, frontier_of, has_neighbour, exit_numbers, column_after, write_response}
+use Rattle.session_model.specs.Responses.{Response, Answers, Fails, response_with, inputs_of, frontier_of, exit_numbers, column_after, write_response, placed}
 use Rattle.session.specs.declared.error.CommandError.{CommandError}
 use Rattle.session.specs.declared.error.CommandError.TheVariants as errors
 use Rattle.session.specs.declared.lending.Lent.{Lent}
 use Rattle.session.specs.declared.lending.Written.{Written}
 use Rattle.session_model.specs.declared.way.Way.{Way}
+use Rattle.session_model.specs.declared.way.Way.TheVariants as ways
+use Rattle.edge_map.specs.declared.job.Wanted.{Wanted}
+use Rattle.edge_map.specs.declared.job.Wanted.TheVariants as wanted
 use Rattle.session.specs.Kept.{each_now}
 
 -- how a command goes on with a program, the version of a pin, and columns
@@ -47,11 +48,17 @@ pub record IsLeft (way : Way) (p : Program) (g : Graph) (r : Reduction) (inputs 
   pub after : w.numbers.items ≡ column_after way p g r inputs frontier numbers
   pub changes : w.changed ≡ changed numbers w.numbers.items
 
--- the rows of a map over the edges of a frontier, of vertices with a neighbour
-pub record AreRows (p : Program) (g : Graph) (r : Reduction) (inputs : Inputs) (frontier : List ℕ) (out : MapOutcome) : Type 0 where
-  pub edges : out.edges ≡ length (all_with p (longest p) g inputs frontier)
-  pub total : out.total ≡ reduction_of_numbers r (all_with p (longest p) g inputs frontier)
-  pub rows : out.rows.items ≡ filter (has_neighbour g) (rows_with p (longest p) g r inputs frontier)
+-- what is wanted of the runs of a command that writes a column
+abbrev pub wanted_of : Way → Wanted
+wanted_of ways.Pull = wanted.Values
+wanted_of ways.Push = wanted.Pushed
+wanted_of ways.Each = wanted.Own
+
+-- a column after what a job has found: each vertex of the frontier has got its number, or all have
+abbrev pub after_job : Way → (frontier found numbers : List ℕ) → List ℕ
+after_job ways.Pull frontier found numbers = placed frontier found numbers
+after_job ways.Push frontier found numbers = found
+after_job ways.Each frontier found numbers = placed frontier found numbers
 
 -- what was written in place of a column
 pub record IsWritten (way : Way) (asked : Asked) (p : Program) (past : Past) (columns : List (List ℕ)) (numbers : List ℕ) (w : Written) : Type 0 where

@@ -1,40 +1,37 @@
-//! The pulls, pushes and maps of a session: a program run for the edges or the vertices of a pin with columns. One thread runs
-//! them.
+//! The pulls, pushes and maps of a session: a program run for the edges or the vertices of a pin with columns.
 
-ghost use Rattle.std.specs.Prelude.{◌≡◌, ◌+◌, ◌*◌, ◌≤◌, ◌↔◌, [], length, map, IfOk, IfNone, IfSome, IfErr, true};
+ghost use Rattle.std.specs.Prelude.{◌≡◌, ◌+◌, ◌*◌, ◌≤◌, ◌↔◌, [], length, map, None, IfOk, IfNone, IfSome, IfErr, true};
 ghost use Rattle.past_model.specs.declared.limits.TheConstants.{MOST_VERTICES};
 ghost use Rattle.past_model.specs.Past.{graph_of};
 ghost use Rattle.map_model.specs.declared.limits.TheConstants.{COLUMN_BYTES, EDGE_BYTES, MOST_COLUMNS};
 ghost use Rattle.session_model.specs.Session.{Session as SessionState};
+ghost use Rattle.session_model.specs.declared.way.Way.TheVariants.{Push};
 ghost use Rattle.session_model.specs.Faults.{is_frontier as is_frontier_of, lent_fault as lent_fault_of};
 ghost use Rattle.session_model.specs.Responses.{Answers, unless_fault, rows_answer, pull_response, write_response, frontier_of, lent_response, placed};
 ghost use Rattle.edge_fold.specs.Inputs.{inputs_of};
-ghost use Rattle.edge_fold.specs.Kept.{IsFor};
-ghost use Rattle.map_model.specs.EdgeMap.{all_with, reduction_of_numbers};
-ghost use Rattle.map_model.specs.Parts.{values_for};
-ghost use Rattle.verifier.specs.Walks.{longest};
+ghost use Rattle.edge_map.specs.declared.job.Wanted.TheVariants.{Rows};
+ghost use Rattle.edge_map.specs.Jobs.{begins_with, IsDone};
 ghost use Rattle.session.specs.Kept.{asked_of, each_now, kept_column, program_of, past_of};
-ghost use Rattle.session.specs.Lending.{AreRows, IsLeft, IsLent, lends, Writes, WritesInto, into_list};
+ghost use Rattle.session.specs.Lending.{IsLeft, IsLent, lends, after_job, wanted_of, Writes, WritesInto, into_list};
 ghost use Rattle.session.specs.Performs.{Performs};
 
 use crate::answer::Answer;
 use crate::command::Asked;
-use crate::each::number_vertices;
 use crate::error::CommandError;
 use crate::frontier::{are_below, ascends};
 use crate::kept::{NamedColumn, find_column, find_columns, find_pin, find_program, store_column};
 use crate::runs::vertices_of;
 use crate::session::Session;
-use edge_fold::{
-    MapOutcome, Mapped, Memory, Progress, Request, Rows, columns_fit, map_frontier, map_whole,
-    push_whole,
-};
+use edge_fold::columns_fit;
+use edge_map::{Job, JobOutcome, Mapped, Request, Wanted, do_job};
 use map_model::{COLUMN_BYTES, EDGE_BYTES, count_changed};
 use session_model::{Fault, Way};
 use std::alloc::{AllocError, Global};
 use std::sync::Arc;
+use std::thread::Threads;
 use store::{Pin, Version};
 use verifier::Verified;
+use workers::{Crew, Gate};
 
 /// What a command that lends columns names.
 #[derive(Drop)]
@@ -42,6 +39,13 @@ pub(crate) struct Lent<'a> {
     pub program: &'a Verified,
     pub pin: &'a Pin,
     pub columns: Vec<&'a [u64]>,
+}
+
+/// A column that a command writes, and how.
+#[derive(Clone, Copy)]
+pub(crate) struct Into<'a> {
+    pub way: Way,
+    pub numbers: &'a [u64],
 }
 
 /// What is written in place of a column.
@@ -129,12 +133,11 @@ fn frontier_for(alloc: Global, version: &Version, frontier: &[u64]) -> Result<Ve
     Ok(all)
 }
 
-/// Gives each vertex of a frontier its value.
-pub(crate) fn place(frontier: &[u32], values: &[u64], numbers: &mut [u64])
-    requires { length values.now ≡ length frontier.now }
+/// Gives each vertex of a frontier its value, as far as there are values.
+fn place(frontier: &[u32], values: &[u64], numbers: &mut [u64])
     ensures placed { numbers.new ≡ placed frontier.now values.now numbers.old }
 {
-    for at in 0..frontier.len() {
+    for at in 0..frontier.len().min(values.len()) {
         let vertex = frontier[at] as usize;
         if vertex < numbers.len() {
             numbers[vertex] = values[at];
@@ -142,84 +145,86 @@ pub(crate) fn place(frontier: &[u32], values: &[u64], numbers: &mut [u64])
     }
 }
 
-/// Pulls a column's next numbers.
-fn pull(
-    alloc: Global,
-    memory: &mut Memory,
-    mapped: &Mapped<'_>,
-    request: &Request<'_>,
-    numbers: &mut [u64],
-) -> Result<Progress, AllocError>
-    requires few { length request.now.frontier.now ≤ MOST_VERTICES }
-    requires memory { IsFor mapped.now.program.now memory.old }
-    ensures numbers { IfOk result (λ _. let m = mapped.now in let p = m.program.now in let r = request.now in
-        numbers.new ≡ placed r.frontier.now
-        (values_for p (longest p) (graph_of m.version.now) r.reduction (inputs_of m) r.frontier.now) numbers.old) }
-    ensures edges { IfOk result (λ end. let m = mapped.now in let p = m.program.now in
-        end.edges ≡ length (all_with p (longest p) (graph_of m.version.now) (inputs_of m) request.now.frontier.now)) }
-    ensures total { IfOk result (λ end. let m = mapped.now in let p = m.program.now in let r = request.now in end.total
-        ≡ reduction_of_numbers r.reduction (all_with p (longest p) (graph_of m.version.now) (inputs_of m) r.frontier.now)) }
+/// What is wanted of the runs of a command that writes a column.
+fn wanted_by(way: Way) -> Wanted
+    ensures { result ≡ wanted_of way }
 {
-    let mut values = vec![in alloc; 0u64; request.frontier.len()]?;
-    let end = map_whole(memory, mapped, request, &mut values);
-    place(request.frontier, &values, numbers);
-    Ok(end)
+    match way {
+        Way::Pull => Wanted::Values,
+        Way::Push => Wanted::Pushed,
+        Way::Each => Wanted::Own,
+    }
+}
+
+/// The numbers of a column after those that a job has found.
+fn numbers_after(
+    alloc: Global,
+    into: &Into<'_>,
+    frontier: &[u32],
+    found: Vec<u64>,
+) -> Result<Vec<u64>, AllocError>
+    requires { into.now.way ≡ Push → length found.items ≡ length into.now.numbers.now }
+    ensures after { IfOk result (λ after. after.items
+        ≡ after_job into.now.way frontier.now found.items into.now.numbers.now) }
+    ensures long { IfOk result (λ after. length after.items ≡ length into.now.numbers.now) }
+{
+    match into.way {
+        Way::Push => Ok(found),
+        Way::Pull | Way::Each => {
+            let mut after = Vec::from_slice(alloc, into.numbers)?;
+            place(frontier, &found, &mut after);
+            Ok(after)
+        }
+    }
 }
 
 /// What a command writes in place of a column.
-fn mapped_numbers(
+fn mapped_numbers<Ga: Gate, R: Threads>(
+    crew: &Crew<'_, R, Ga>,
     alloc: Global,
-    way: Way,
+    into: &Into<'_>,
     mapped: &Mapped<'_>,
     request: &Request<'_>,
-    numbers: &[u64],
 ) -> Result<Written, AllocError>
     requires few { length request.now.frontier.now ≤ MOST_VERTICES }
-    requires long { length numbers.now ≡ (graph_of mapped.now.version.now).vertex_count }
-    ensures { IfOk result (λ w. let m = mapped.now in let r = request.now in IsLeft way m.program.now
-        (graph_of m.version.now) r.reduction (inputs_of m) r.frontier.now numbers.now w) }
+    requires long { length into.now.numbers.now ≡ (graph_of mapped.now.version.now).vertex_count }
+    ensures { IfOk result (λ w. let m = mapped.now in let r = request.now in IsLeft into.now.way m.program.now
+        (graph_of m.version.now) r.reduction (inputs_of m) r.frontier.now into.now.numbers.now w) }
 {
-    let mut after = Vec::from_slice(alloc, numbers)?;
-    let mut memory = Memory::for_program(mapped.program);
-    let end = match way {
-        Way::Pull => pull(alloc, &mut memory, mapped, request, &mut after)?,
-        Way::Push => push_whole(&mut memory, mapped, request, &mut after),
-        Way::Each => number_vertices(alloc, &mut memory, mapped, request, &mut after)?,
+    let job = Job {
+        mapped: *mapped,
+        request: *request,
+        wanted: wanted_by(into.way),
+        before: Some(into.numbers),
     };
+    let found = do_job(crew, alloc, &job)?;
+    let JobOutcome {
+        count,
+        total,
+        numbers,
+        rows: _,
+    } = found;
+    let numbers = numbers_after(alloc, into, request.frontier, numbers)?;
     Ok(Written {
-        count: end.edges,
-        total: end.total,
-        changed: count_changed(numbers, &after) as u64,
-        numbers: after,
+        count,
+        total,
+        changed: count_changed(into.numbers, &numbers) as u64,
+        numbers,
     })
 }
 
-/// The rows of a map over edges, of vertices with a neighbour.
-fn mapped_rows(
-    alloc: Global,
-    mapped: &Mapped<'_>,
-    request: &Request<'_>,
-) -> Result<MapOutcome, AllocError>
-    requires { length request.now.frontier.now ≤ MOST_VERTICES }
-    ensures { IfOk result (λ out. let m = mapped.now in let r = request.now in AreRows m.program.now (graph_of m.version.now)
-        r.reduction (inputs_of m) r.frontier.now out) }
-{
-    let mut memory = Memory::for_program(mapped.program);
-    map_frontier(alloc, &mut memory, mapped, request, Rows::OfSources)
-}
-
 /// What a command writes in place of a column, or its fault.
-fn write_numbers(
+fn write_numbers<Ga: Gate, R: Threads>(
+    crew: &Crew<'_, R, Ga>,
     alloc: Global,
-    way: Way,
     asked: &Asked<'_, '_>,
     lent: &Lent<'_>,
-    numbers: &[u64],
+    into: &Into<'_>,
 ) -> Result<Written, CommandError>
-    ensures { Writes way (asked_of asked.now) lent.now.program.now lent.now.pin.now.past
-        (each_now lent.now.columns.items) numbers.now result }
+    ensures { Writes into.now.way (asked_of asked.now) lent.now.program.now lent.now.pin.now.past
+        (each_now lent.now.columns.items) into.now.numbers.now result }
 {
-    if let Some(fault) = lent_fault(asked, lent, Some(numbers)) {
+    if let Some(fault) = lent_fault(asked, lent, Some(into.numbers)) {
         return Err(CommandError::Fault(fault));
     }
     let version = lent.pin.version();
@@ -234,12 +239,33 @@ fn write_numbers(
         frontier: &frontier,
         reduction: asked.reduction,
     };
-    let written = mapped_numbers(alloc, way, &mapped, &request, numbers)?;
+    let written = mapped_numbers(crew, alloc, into, &mapped, &request)?;
     Ok(written)
 }
 
+/// The rows of a map over edges, of vertices with a neighbour.
+fn mapped_rows<'l, Ga: Gate, R: Threads>(
+    crew: &Crew<'_, R, Ga>,
+    alloc: Global,
+    mapped: &Mapped<'l>,
+    request: &Request<'l>,
+) -> Result<JobOutcome, AllocError>
+    requires few { length request.now.frontier.now ≤ MOST_VERTICES }
+    ensures { IfOk result (λ out. let m = mapped.now in let r = request.now in let g = graph_of m.version.now in
+        IsDone Rows m.program.now g r.reduction (inputs_of m) r.frontier.now (begins_with r.reduction g.vertex_count None) out) }
+{
+    let job = Job {
+        mapped: *mapped,
+        request: *request,
+        wanted: Wanted::Rows,
+        before: None,
+    };
+    do_job(crew, alloc, &job)
+}
+
 /// The rows of a pull.
-fn pulled_rows<'a>(
+fn pulled_rows<'a, Ga: Gate, R: Threads>(
+    crew: &Crew<'_, R, Ga>,
     alloc: Global,
     asked: &Asked<'a, '_>,
     lent: &Lent<'_>,
@@ -264,11 +290,11 @@ fn pulled_rows<'a>(
         frontier: &frontier,
         reduction: asked.reduction,
     };
-    let out = mapped_rows(alloc, &mapped, &request)?;
+    let out = mapped_rows(crew, alloc, &mapped, &request)?;
     Ok(Answer::RowsPulled {
         program: asked.program,
         pin: asked.pin,
-        edges: out.edges,
+        edges: out.count,
         total: out.total,
         rows: out.rows,
     })
@@ -291,17 +317,27 @@ impl Session {
     }
 
     /// Maps a program over the edges of a pin with columns.
-    pub(crate) fn pull_rows<'a>(&self, asked: &Asked<'a, '_>) -> Result<Answer<'a>, CommandError>
+    pub(crate) fn pull_rows<'a, Ga: Gate, R: Threads>(
+        &self,
+        crew: &Crew<'_, R, Ga>,
+        asked: &Asked<'a, '_>,
+    ) -> Result<Answer<'a>, CommandError>
         ensures { Performs (pull_response (asked_of asked.now) self.now) result self.now self.now }
     {
         match self.find_lent(asked) {
-            Ok(lent) => pulled_rows(self.alloc, asked, &lent),
+            Ok(lent) => pulled_rows(crew, self.alloc, asked, &lent),
             Err(error) => Err(error),
         }
     }
 
-    /// What a pull or a push writes in place of a column of the session.
-    fn write(&self, way: Way, asked: &Asked<'_, '_>, into: &[u8]) -> Result<Written, CommandError>
+    /// What a command writes in place of a column of the session.
+    fn write<Ga: Gate, R: Threads>(
+        &self,
+        crew: &Crew<'_, R, Ga>,
+        way: Way,
+        asked: &Asked<'_, '_>,
+        into: &[u8],
+    ) -> Result<Written, CommandError>
         ensures { WritesInto way (asked_of asked.now) into.now self.now result }
     {
         match self.find_lent(asked) {
@@ -309,15 +345,16 @@ impl Session {
                 let Some(numbers) = find_column(&self.columns, into) else {
                     return Err(CommandError::Fault(Fault::Name));
                 };
-                write_numbers(self.alloc, way, asked, &lent, numbers)
+                write_numbers(crew, self.alloc, asked, &lent, &Into { way, numbers })
             }
             Err(error) => Err(error),
         }
     }
 
     /// Maps a program over the edges or the vertices of a pin with columns, and writes a column.
-    pub(crate) fn write_column<'a>(
+    pub(crate) fn write_column<'a, Ga: Gate, R: Threads>(
         &mut self,
+        crew: &Crew<'_, R, Ga>,
         way: Way,
         asked: &Asked<'a, '_>,
         into: &[u8],
@@ -325,7 +362,7 @@ impl Session {
         ensures performed { Performs (write_response way (asked_of asked.now) into.now self.old) result self.old self.new }
         ensures kept { IfErr result (λ _. self.new ≡ self.old) }
     {
-        let written = self.write(way, asked, into)?;
+        let written = self.write(crew, way, asked, into)?;
         let Written {
             count,
             total,

@@ -6,7 +6,6 @@ mod answer;
 mod batches;
 mod columns;
 mod command;
-mod each;
 mod error;
 mod frontier;
 mod graphs;

@@ -52,9 +52,10 @@ impl Session {
     }
 
     /// Performs a command: the answer is what the definition `response` says, or the fault is, for every number of
-    /// workers, their gate and the order in which threads run. Batches and runs are in pieces: a batch's are the ranges
-    /// of 256 vertices that it edits, a run's are 64 places each of its frontier. Besides it answers `OutOfMemory` if memory
-    /// was refused, `WorkerRefused` if a thread could not be started, of which one worker needs none, and `Store`
+    /// workers, their gate and the order in which threads run. Work is in pieces: a batch's are the ranges of 256 vertices
+    /// that it edits, a run's are 64 places each of its frontier, and a command with columns has one for each worker that it
+    /// has enough for. Besides it answers `OutOfMemory` if memory was refused, `WorkerRefused` if a thread for a batch or a
+    /// run could not be started, of which one worker needs none, and `Store`
     /// if its store does not answer as it should, which comes only of a command that is answered by a publication, a pin,
     /// a home or a rebase. After a fault the session is as it was, and after each error of a command that hands in no batch.
     /// So it is after `OutOfMemory` and `WorkerRefused` of a batch, but that its store may hold one where it held none: a batch
@@ -107,8 +108,8 @@ impl Session {
                 numbers,
             } => self.set_column(name, first, numbers),
             Command::ShowValues { name, frontier } => self.show_values(name, frontier),
-            Command::PullRows { asked } => self.pull_rows(&asked),
-            Command::WriteColumn { way, asked, into } => self.write_column(way, &asked, into),
+            Command::PullRows { asked } => self.pull_rows(crew, &asked),
+            Command::WriteColumn { way, asked, into } => self.write_column(crew, way, &asked, into),
         }
     }
 

@@ -14,12 +14,12 @@ abbrev answers_rows : Asked → Session → GoesOn
 answers_rows asked s p past columns = unless_fault (lent_fault asked p past.vertex_count columns []) (Answers (rows_answer asked p (graph_of past) columns) s)
 
 pub returns-in-Err : goal.returns-in-Err
-returns-in-Err c =
+returns-in-Err g c =
     let asked = asked_of c.args.asked.now in
     lent_fails (lent_response asked c.args.self.now) (answers_rows asked c.args.self.now) c.args.self.now c.in-Err.error c.in-Err.ensures
 
 pub returns-in-Ok : goal.returns-in-Ok
-returns-in-Ok c =
+returns-in-Ok g c =
     let asked = asked_of c.args.asked.now in
     subst (λ (r : Response). Performs r c.pulled_rows.result c.args.self.now c.args.self.now)
     (sym (c.in-Ok.ensures (answers_rows asked c.args.self.now))) (c.pulled_rows.ensures c.args.self.now)

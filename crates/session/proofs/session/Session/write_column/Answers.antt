@@ -11,7 +11,7 @@ use Rattle.session.proofs.LentLemmas.{session_stored, wrote_column}
 use Rattle.session.proofs.session.Session.write_column.Goals as goal
 
 pub returns-clause-performed : goal.returns-clause-performed
-returns-clause-performed c =
+returns-clause-performed g c =
     let asked = asked_of c.args.asked.now in
     let into = c.args.into.now in
     let s : Session = c.args.self.now in

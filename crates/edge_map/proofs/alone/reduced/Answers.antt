@@ -3,7 +3,7 @@ use Rattle.std.proofs.lemmas.List.{take_more, take_all}
 use Rattle.map_model.specs.EdgeMap.{reduction_of_numbers}
 use Rattle.edge_fold.specs.Numbers.{combination}
 use Rattle.edge_fold.proofs.Reductions.{reduced_more}
-use Rattle.session.proofs.each.reduced.Goals as goal
+use Rattle.edge_map.proofs.alone.reduced.Goals as goal
 
 pub numbers-preserved : goal.numbers-preserved
 numbers-preserved c =
