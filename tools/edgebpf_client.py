@@ -107,8 +107,11 @@ class Client:
 
     def program(self, name, text=None, *, code=None, record=16, table=b""):
         """Keeps a program, as text (lines, or one text) or as code, and returns what the verifier says of it."""
-        form = {"text": text} if code is None else {"code": bytes(code).hex()}
-        return self.json("POST", "/programs", {"name": name, "record": record, "table": bytes(table).hex(), **form})
+        return self.json("POST", "/programs", {"name": name, **brought(text, code, record, table)})
+
+    def explain(self, text=None, *, code=None, record=16, table=b""):
+        """What the verifier says of a program, which is not kept: `explanation` has its state before each instruction."""
+        return self.json("POST", "/explain", brought(text, code, record, table))
 
     def drop_program(self, name):
         return self.json("DELETE", f"/programs/{quoted(name)}")
@@ -127,17 +130,17 @@ class Client:
     # Reads
 
     def run(self, program, reduction="sum", frontier=None, argument=b"", **more):
-        """A run over a frontier, or all vertices. more: columns (names), version."""
-        asked = {"program": program, "reduction": reduction, "frontier": listed(frontier), "argument": bytes(argument).hex()}
+        """A run over a frontier, or all vertices. program: the name of a kept one, or `brought` one. more: columns (names), version."""
+        asked = {**named(program), "reduction": reduction, "frontier": listed(frontier), "argument": bytes(argument).hex()}
         return self._ask("/runs", asked, **more)
 
     def numbers(self, program, frontier, argument=b"", **more):
         """The number of each edge of a frontier: `starts`, `targets` and `numbers`."""
-        return self._ask("/numbers", {"program": program, "frontier": listed(frontier), "argument": bytes(argument).hex()}, **more)
+        return self._ask("/numbers", {**named(program), "frontier": listed(frontier), "argument": bytes(argument).hex()}, **more)
 
     def pairs(self, program, pairs, argument=b"", **more):
         """The number of each pair, which need not be an edge."""
-        return self._ask("/pairs", {"program": program, "pairs": [list(pair) for pair in pairs], "argument": bytes(argument).hex()}, **more)
+        return self._ask("/pairs", {**named(program), "pairs": [list(pair) for pair in pairs], "argument": bytes(argument).hex()}, **more)
 
     def _ask(self, path, asked, columns=(), version=None):
         return self.json("POST", path + ("" if version is None else f"?version={version}"), {**asked, "columns": list(columns)})
@@ -152,6 +155,11 @@ class Client:
                 return found
             # All pages are of the first one's version.
             query |= {"after": page["next"], "version": page["version"]}
+
+    def around(self, vertex, steps=1, limit=24, version=None):
+        """The nearest vertices that are reached from one, the edges between them, and their degrees."""
+        query = {"steps": steps, "limit": limit} | ({} if version is None else {"version": version})
+        return self.json("GET", f"/around/{int(vertex)}?{urllib.parse.urlencode(query)}")
 
     def expand(self, vertices, steps=1, limit=10_000, version=None):
         path = "/expand" + ("" if version is None else f"?version={version}")
@@ -263,6 +271,16 @@ class Client:
 
     def __exit__(self, *_):
         self.close()
+
+
+def brought(text=None, code=None, record=16, table=b""):
+    """A program that goes with a request, as text (lines, or one text) or as code. `run`, `numbers` and `pairs` take it in place of a name."""
+    form = {"text": text} if code is None else {"code": bytes(code).hex()}
+    return {**form, "record": record, "table": bytes(table).hex()}
+
+
+def named(program):
+    return program if isinstance(program, dict) else {"program": program}
 
 
 def quoted(name):

@@ -100,7 +100,7 @@ class Browser:
         self.wait(until)
 
     def wait(self, until):
-        turns = "new Promise((done, fail) => { let left = 400; const ask = () => { let is = false; try { is = %s } catch {} "
+        turns = "new Promise((done, fail) => { let left = 1200; const ask = () => { let is = false; try { is = %s } catch {} "
         turns += "if (is) done(true); else if (left-- > 0) setTimeout(ask, 25); else fail(new Error('it never came')); }; ask(); })"
         for tries in (3, 2, 1, 0):
             try:
@@ -117,9 +117,9 @@ class Browser:
         self.call("Emulation.setEmulatedMedia", features=[{"name": "prefers-color-scheme", "value": name}])
 
     def key(self, name):
-        codes = {"Tab": 9, "Enter": 13}
+        code, text = {"Tab": (9, ""), "Enter": (13, "\r")}[name]
         for kind in ("keyDown", "keyUp"):
-            self.call("Input.dispatchKeyEvent", type=kind, key=name, code=name, windowsVirtualKeyCode=codes[name])
+            self.call("Input.dispatchKeyEvent", type=kind, key=name, code=name, text=text, windowsVirtualKeyCode=code)
 
     def type(self, text):
         self.call("Input.insertText", text=text)

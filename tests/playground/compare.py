@@ -23,7 +23,6 @@ from compared import make_cases  # noqa: E402
 from edgebpf import library  # noqa: E402
 
 COUNT, ROOM = 10_000, 1 << 24
-EXPLAIN = "uint32_t edgebpf_explain(uint16_t, const uint8_t *, size_t, const uint8_t *, size_t, uint8_t *, size_t, size_t *);"
 REDUCTIONS = "sum", "min", "max"
 # Ends of pairs: an edge, two that are none, and one outside of the graph.
 SOURCES, TARGETS = [0, 2, 5, 900], [1, 3, 3, 3]
@@ -43,7 +42,7 @@ def room():
 
 
 def explain(record, code, table):
-    """An explanation, or the status of none. The package has no call for it."""
+    """An explanation, or the status of none, which the package's call does not return."""
     calls, types, (text, count) = library.load(), library.foreign(), room()
     status = calls.edgebpf_explain(record, code, len(code), table, len(table), text, ROOM, count)
     return bytes(types.buffer(text, count[0])).decode() if status == 0 else status
@@ -113,7 +112,6 @@ def cases(count):
 def main():
     count = int(sys.argv[1]) if len(sys.argv) > 1 else COUNT
     vertices, edges = graph()
-    library.foreign().cdef(EXPLAIN)
     asked = list(cases(count))
     given = json.dumps({"vertices": vertices, "edges": edges, "sources": SOURCES, "targets": TARGETS, "cases": asked})
     ran = subprocess.run(["node", HERE / "answers.js"], input=given, stdout=subprocess.PIPE, text=True, check=True)

@@ -24,12 +24,11 @@ import browser  # noqa: E402
 import compare  # noqa: E402
 import edgebpf  # noqa: E402
 from edgebpf import library  # noqa: E402
+from reach import CONTRAST, contrast, letters  # noqa: E402
 
 PAGE = ROOT / "docs/playground.html"
 EXAMPLES = json.loads((ROOT / "tools/playground/examples.json").read_text())
 SHOWN = "document.body.dataset.shown === 'yes'"
-# The words of WCAG 2: letters stand out by this ratio at least.
-CONTRAST = 4.5
 # What the assembler says of a line, as docs/BPF.md has it in words.
 MISTAKE = "Line 3: no statement has this word"
 EVERYTHING_TRAPS = '(module (memory (export "memory") 20) (global (export "__heap_base") i64 (i64.const 1024)) %s)'
@@ -124,7 +123,6 @@ class InBrowser(unittest.TestCase):
 
 class Examples(InBrowser):
     def test_each_example_shows_what_the_library_answers(self):
-        library.foreign().cdef(compare.EXPLAIN, override=True)
         for example in EXAMPLES:
             with self.subTest(example["name"]):
                 self.open(example=example["name"])
@@ -271,30 +269,17 @@ class Reach(InBrowser):
     def test_letters_stand_out_in_light_and_dark(self):
         places = ["#verdict", "#reasons", "#reasons a", ".known", ".changed", ".broken .known", ".broken .here", ".line"]
         places += [".help", ".help a", "header p", "footer p", "footer a", "textarea", "td", "thead th"]
-        ask = """(() => { const found = []; for (const place of %s) { const element = document.querySelector(place); if (!element) continue;
-            let under = element; while (getComputedStyle(under).backgroundColor === 'rgba(0, 0, 0, 0)' && under.parentElement) under = under.parentElement;
-            found.push([place, getComputedStyle(element).color, getComputedStyle(under).backgroundColor]); } return found; })()""" % json.dumps(places)
         seen = {}
         for scheme in ("light", "dark"):
             self.page.scheme(scheme)
             for example in EXAMPLES[:2]:
                 self.open(example=example["name"])
-                for place, ink, paper in self.page.evaluate(ask):
+                for place, ink, paper in self.page.evaluate(letters(places)):
                     self.assertGreaterEqual(contrast(ink, paper), CONTRAST, (scheme, place, ink, paper))
                     seen.setdefault(place, set()).add(paper)
         self.page.scheme("")
         self.assertEqual({place for place, papers in seen.items() if len(papers) < 2}, set())
         self.assertEqual(set(places) - set(seen), set())
-
-
-def contrast(one, other):
-    """How much two colours differ, as WCAG 2 defines it."""
-    def light(colour):
-        parts = [int(part) / 255 for part in re.findall(r"\d+", colour)[:3]]
-        red, green, blue = [part / 12.92 if part <= 0.04045 else ((part + 0.055) / 1.055) ** 2.4 for part in parts]
-        return 0.2126 * red + 0.7152 * green + 0.0722 * blue
-    high, low = sorted((light(one), light(other)), reverse=True)
-    return (high + 0.05) / (low + 0.05)
 
 
 class WithoutWebAssembly(InBrowser):

@@ -34,7 +34,7 @@ def one_life(world, forks, data):
     port, status = forks.port()
     if port is None:
         raise Fault(f"the service ended with {status} before it listened")
-    whole_life(world, forks, Life(world, port), (pid, chance.random() * LIFE_SECONDS))
+    whole_life(world, forks, Life(world, port, data), (pid, chance.random() * LIFE_SECONDS))
 
 
 def loop(options, forks, data):

@@ -1,5 +1,6 @@
 #!/usr/bin/python3
-"""Flips one bit of a folder again and again: a service that starts on it has the same graph, ids, programs and columns, or refuses it in words.
+"""Flips one bit of a folder again and again: a service that starts on it has the same graph, ids, programs, columns and tokens, or refuses it
+in words.
 
     tests/serve/damage.py --seconds 30 --seed 1
 """
@@ -14,13 +15,18 @@ import signal
 import sys
 import time
 
-from harness import Error, Fault, Forks, folder, require, served
+from harness import ALL_ROLES, Error, Fault, Forks, folder, require, served, status_of, token_command
 from model import KINDS, Graph, random_edits
+
+from edgebpf_serve import tokens
+from edgebpf_serve.limits import TOKEN_LIMITS
 
 VERTICES, BATCHES, FLIPS = 60, 150, 4
 # With two snapshots, and batches after each of them.
 OPTIONS = {"vertices": VERTICES, "snapshot_batches": 10**6}
 SNAPSHOTS = (50, 100)
+# The length of a token, and the limits of one that has its own.
+SECRET, LIMITS = 43, {"runs": 7, "seconds": 2.5}
 
 
 class Made:
@@ -29,6 +35,24 @@ class Made:
     def __init__(self, seed):
         self.chance, self.graph, self.batches = random.Random(f"{seed} made"), Graph(VERTICES), []
         self.column = [self.chance.randrange(2**64) for _ in range(VERTICES)]
+        # By their names; all roles and one, with limits of its own.
+        self.tokens = {}
+
+    def introduce(self, place):
+        self.tokens = {
+            "all": token_command(place, "--name", "all", "--roles", ALL_ROLES),
+            "reader": token_command(place, "--name", "reader", "--roles", "read", *(f"--{name}={most}" for name, most in LIMITS.items())),
+        }
+
+    def check_tokens(self, port, forks, place):
+        """A token may what it might, and nobody else may anything."""
+        kept = {token.name: (sorted(token.roles), token.limits) for token in tokens.change(place, tokens.read).values()}
+        wanted = {"all": (sorted(ALL_ROLES.split(",")), TOKEN_LIMITS), "reader": (["read"], {**TOKEN_LIMITS, **LIMITS})}
+        require(kept == wanted, "other tokens:", kept)
+        for token, role, status in ((None, "read", 401), ("x" * SECRET, "read", 401), (self.tokens["reader"], "read", 200), (self.tokens["reader"], "write", 403)):
+            client = forks.client(port, token)
+            found = status_of(lambda: client.json("GET", "/programs") if role == "read" else client.batch([]))
+            require(found == status, f"a token that may {role} is answered {found}, and not {status}")
 
     def fill(self, client):
         for kind in ("target", "mutual"):
@@ -43,7 +67,7 @@ class Made:
                 client.snapshot()
 
     def check(self, client):
-        """All that the folder has."""
+        """All that the folder has but its tokens."""
         version, starts, targets = client.edges()
         require(version == BATCHES, f"version {version} of {BATCHES}, and no word of it")
         found = [(u, v) for u in range(VERTICES) for v in targets[starts[u]:starts[u + 1]]]
@@ -81,8 +105,8 @@ def one_flip(forks, made, whole, chance):
         require(status == 2, f"{path.name}: the service ended with {status}")
         return kind, "refused"
     try:
-        client = forks.client(port)
-        made.check(client)
+        made.check_tokens(port, forks, copy)
+        made.check(forks.client(port, made.tokens["all"]))
     except Error as error:
         raise Fault(f"{path.name}: {error}") from None
     except Fault as fault:
@@ -97,6 +121,7 @@ def killed(forks, made, place):
     """A folder whose service was killed, so that its last batches are in the log of SQLite alone."""
     pid = forks.begin(data=str(place), **OPTIONS)
     made.fill(forks.client(forks.port()[0]))
+    made.introduce(place)
     os.kill(pid, signal.SIGKILL)
     forks.wait(pid)
 
@@ -104,6 +129,7 @@ def killed(forks, made, place):
 def ended(forks, made, place):
     with served(forks, data=str(place), **OPTIONS) as client:
         made.fill(client)
+        made.introduce(place)
 
 
 def main():

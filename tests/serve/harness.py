@@ -14,9 +14,10 @@ TOP = HERE.parent.parent
 TOOLS = TOP / "tools"
 sys.path.insert(0, str(TOOLS))
 
-from edgebpf_client import Client, Error, NoAnswer  # noqa: E402, F401
+from edgebpf_client import Client, Error, NoAnswer, brought  # noqa: E402, F401
 
 PYTHON = "/usr/bin/python3"
+ALL_ROLES = "read,write,program,admin"
 
 
 class Fault(Exception):
@@ -64,14 +65,30 @@ class Forks:
         told = self.told()
         return told.get("port"), told.get("status")
 
-    def client(self, port):
-        return Client(f"http://127.0.0.1:{port}", timeout=30, tries=1)
+    def client(self, port, token=None):
+        return Client(f"http://127.0.0.1:{port}", token=token, timeout=30, tries=1)
 
     def wait(self, pid):
         with self.lock:
             self.process.stdin.write(json.dumps({"wait": pid}) + "\n")
             self.process.stdin.flush()
             return self.told()["status"]
+
+
+def token_command(data, *words, **environment):
+    """What `edgebpf-serve token` prints, by which an administrator makes tokens, also while the folder is served."""
+    run = subprocess.run([TOOLS / "edgebpf-serve", "token", data, *words], capture_output=True, text=True, env={**os.environ, **environment})
+    require(run.returncode == 0, "a token:", run.stderr)
+    return run.stdout.strip()
+
+
+def status_of(call):
+    """The status that a request is answered."""
+    try:
+        call()
+    except Error as error:
+        return error.status
+    return 200
 
 
 @contextlib.contextmanager

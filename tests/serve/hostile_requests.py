@@ -39,6 +39,32 @@ def no_text(chance, _):
     return post("/programs", {"name": "bad", "text": text}, 422)
 
 
+def explained(chance, _):
+    """Programs that are explained, whatever they are, and forms that are none."""
+    if chance.random() < 0.5:
+        return post("/explain", {"code": chance.randbytes(8 * chance.randrange(1, 30)).hex(), "record": chance.randrange(16, 257)}, 200)
+    wrong, *statuses = chance.choice([
+        ({"text": "mov r0, 1\n" * 5_000 + "exit"}, 422), ({"text": "fly"}, 422), ({"text": "é"}, 400), ({"text": "exit", "record": 15}, 400), ({}, 400),
+        ({"text": HEAVY}, 200), ({"text": "exit", "table": "00" * 4_097}, 400), ({"text": "exit", "name": "p0"}, 400), ({"code": "95" * 7}, 400)])
+    return post("/explain", wrong, *statuses)
+
+
+def brought(chance, programs):
+    """Runs of programs that nobody keeps, of which more come than stay verified."""
+    body, *statuses = chance.choice([
+        ({"text": f"mov r0, {chance.randrange(1_000)}\nexit", "frontier": [chance.randrange(300)]}, 200), ({"text": GOOD, "program": chance.choice(programs)}, 400),
+        ({"text": "ldxw r0, [r1+13]\nexit"}, 422), ({"code": chance.randbytes(16).hex(), "frontier": [0]}, 200, 422), ({"text": HEAVY}, 503),
+        ({"record": 16}, 400), ({"text": GOOD, "argument": "00"}, 422)])
+    return post("/runs", body, *statuses)
+
+
+def around(chance, _):
+    path, *statuses = chance.choice([
+        ("/around/300", 422), ("/around/-1", 400), ("/around/0?limit=0", 400), ("/around/0?limit=101", 400), ("/around/0?steps=65", 400),
+        ("/around/299?steps=64&limit=100", 200), ("/around/" + "9" * 5_000, 400), ("/around/0?version=9999999", 410)])
+    return raw(request("GET", path), *statuses)
+
+
 def code_length(chance, _):
     code = chance.choice(["", "9", "zz", "95" * chance.choice([1, 7, 9, 8 * 4_097]), "é", "95 " * 7])
     return post("/programs", {"name": "bad", "code": code}, 400)
@@ -215,5 +241,5 @@ def endings(chance, programs):
 
 ATTACKS = [
     refused, no_text, code_length, random_code, forms, records, names, taken, fill, heavy, vertices, edges_of_kinds, batch_shapes,
-    run_words, run_outside, run_nothing, paths, methods, lengths, short_length, wire, heads, pipelined, endings, columns, steps,
+    run_words, run_outside, run_nothing, paths, methods, lengths, short_length, wire, heads, pipelined, endings, columns, steps, explained, brought, around,
 ]

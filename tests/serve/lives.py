@@ -7,7 +7,7 @@ import signal
 import threading
 import time
 
-from harness import Client, Error, NoAnswer, require
+from harness import ALL_ROLES, Client, Error, NoAnswer, require, status_of, token_command
 from model import KINDS, Graph, random_edits, seeded, table_of
 
 VERTICES, IDS = 60, 400
@@ -15,6 +15,8 @@ WRITERS, READERS, OLD_BATCHES, MOST_EDITS = 4, 2, 8, 40
 # Limits so small that each life sees rebases and snapshots.
 OPTIONS = {"vertices": VERTICES, "mirror": True, "rebase_batches": 7, "snapshot_batches": 30, "kept_bytes": 1 << 20, "group_batches": 8, "scan_seconds": 0.01}
 WATCHED = ("target", "mutual", "next")
+# In one of so many lives a token is made and another one is taken back.
+LIVES_OF_TOKEN = 10
 LOST = (NoAnswer, OSError, http.client.HTTPException)
 
 
@@ -30,23 +32,33 @@ class World:
         self.watch = {kind: (None, {}, None) for kind in WATCHED}
         # By name: what may be on the disk. A put that was answered leaves one.
         self.column, self.programs = [None], {}
+        # The token of all clients, and by each other one its name and whether it was taken back.
+        self.token, self.tokens = None, {}
         self.counts = collections.Counter()
 
 
 class Life:
     """The clients of one life."""
 
-    def __init__(self, world, port):
-        self.world, self.port, self.ending = world, port, threading.Event()
+    def __init__(self, world, port, data, **environment):
+        """data, environment: the folder, and the variables of a command that changes its tokens."""
+        self.world, self.port, self.ending, self.data, self.environment = world, port, threading.Event(), data, environment
         self.batches, self.doubt, self.reads, self.tables = [], {}, [], []
         self.faults, self.threads = [], []
 
     def client(self):
-        return Client(f"http://127.0.0.1:{self.port}", timeout=20, tries=1)
+        return self.client_of(self.world.token)
+
+    def client_of(self, token):
+        return Client(f"http://127.0.0.1:{self.port}", token=token, timeout=20, tries=1)
+
+    def token_command(self, *words):
+        return token_command(self.data, *words, **self.environment)
 
     def begin(self):
         jobs = [*(lambda n=n: self.write(n) for n in range(WRITERS)), *(lambda n=n: self.read(n) for n in range(READERS)), self.administer]
         jobs += [lambda k=k: self.subscribe(k) for k in WATCHED]
+        jobs += [self.change_tokens] if self.world.life % LIVES_OF_TOKEN == 1 else []
         self.threads = [threading.Thread(target=self._attempt, args=(job,)) for job in jobs]
         for thread in self.threads:
             thread.start()
@@ -99,6 +111,16 @@ class Life:
             self.reads.append((told["version"], kind, reduction, frontier, told["values"]))
             time.sleep(0.001)
 
+    def change_tokens(self):
+        """One token more, and the one before is taken back, whether the service ends meanwhile or not."""
+        tokens, name = self.world.tokens, f"t{self.world.life}"
+        tokens[self.token_command("--name", name)] = name, True
+        for secret, (older, is_there) in list(tokens.items()):
+            if is_there and older != name:
+                self.token_command("--drop", older)
+                tokens[secret] = older, False
+        self.world.counts["tokens"] += 1
+
     def administer(self):
         """Columns, snapshots, and programs that come and go."""
         chance, client, world = self.chance("administer"), self.client(), self.world
@@ -133,13 +155,15 @@ class Life:
             self.tables.append((event.version, kind, table))
 
 
-def introduce(world, client):
-    """The programs, at the first life that comes so far."""
+def introduce(world, life, client):
+    """The programs and the token of all clients, at the first life that comes so far."""
     for kind, how in KINDS.items():
         if how.record <= 24:
             told = client.program(kind, how.text, record=how.record)
             require(told["asks"] == how.asks, kind, "asks", told["asks"])
             world.programs[kind] = how.text
+    # From now on a client without it is refused.
+    world.token = life.token_command("--name", "all", "--roles", ALL_ROLES)
 
 
 def recovered(world, client):
@@ -167,6 +191,14 @@ def recovered(world, client):
     require(found == world.graph.edges(), f"the edges of version {version}")
     replay(world, max(world.known, default=0))
     keeps(world, client)
+
+
+def keeps_tokens(world, life):
+    """The tokens are those that were made and not taken back."""
+    asked = {None: 401, world.token: 200, **{secret: 200 if is_there else 401 for secret, (_, is_there) in world.tokens.items()}}
+    for secret, status in asked.items():
+        found = status_of(lambda: life.client_of(secret).json("GET", "/programs"))
+        require(found == status, f"a token is answered {found}, and not {status}")
 
 
 def keeps(world, client):
@@ -226,8 +258,10 @@ def whole_life(world, forks, life, ending):
     try:
         client = life.client()
         recovered(world, client)
-        if not world.programs:
-            introduce(world, client)
+        if world.token:
+            keeps_tokens(world, life)
+        else:
+            introduce(world, life, client)
         life.begin()
         time.sleep(seconds)
     finally:

@@ -46,6 +46,16 @@ class Graph:
             seen = seen | front
         return sorted(seen)
 
+    def nearest(self, vertex, steps, limit):
+        """The first vertices that a search meets, at most so many, and whether there is no other within so many steps."""
+        order, level = [vertex], {vertex: 0}
+        for u in order:
+            for v in sorted(self.out[u]) if level[u] < steps else ():
+                if v not in level:
+                    level[v] = level[u] + 1
+                    order.append(v)
+        return order[:limit], len(order) <= limit
+
 
 # text: the program; record: the length of its record; asks: which vertices it asks about; number: what it returns for an edge.
 Kind = collections.namedtuple("Kind", "text record asks number")

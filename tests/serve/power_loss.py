@@ -36,8 +36,9 @@ def environment(place):
 class Machine:
     """A folder over losses of power."""
 
-    def __init__(self, place):
-        self.place, self.number = place, 0
+    def __init__(self, place, recorded):
+        """recorded: the variables by which a process records what it writes."""
+        self.place, self.number, self.environment = place, 0, recorded
 
     @property
     def data(self):
@@ -73,7 +74,7 @@ def one_life(world, forks, machine):
     elif port is None:
         raise Fault(f"the service ended with {status} before it listened")
     else:
-        whole_life(world, forks, Life(world, port), (pid, chance.random() * LIFE_SECONDS))
+        whole_life(world, forks, Life(world, port, machine.data, **machine.environment), (pid, chance.random() * LIFE_SECONDS))
     machine.lose_power(chance)
 
 
@@ -97,9 +98,10 @@ def main():
     options = parser.parse_args()
     with folder() as place:
         place = pathlib.Path(os.path.realpath(place))
-        with Forks(options.log, SERVE_IDS=str(IDS), SERVE_MISTAKE=options.mistake, **environment(place)) as forks:
+        recorded = environment(place)
+        with Forks(options.log, SERVE_IDS=str(IDS), SERVE_MISTAKE=options.mistake, **recorded) as forks:
             try:
-                world = loop(options, forks, Machine(place))
+                world = loop(options, forks, Machine(place, recorded))
             except Fault as fault:
                 sys.exit(f"power_loss: seed {options.seed}: {fault}")
     counts = ", ".join(f"{count} {what}" for what, count in sorted(world.counts.items()))

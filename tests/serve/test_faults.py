@@ -353,6 +353,38 @@ class Backups(unittest.TestCase):
             self.assertEqual([path.name for path in (place / "copies").iterdir()], ["one"])
             self.assertEqual(backup.check(place / "copies" / "one", lambda *_, **__: None)["vertices"], 4)
 
+    def test_no_folder_of_drafts(self):
+        """A service starts where its folder of copies is missing, or no folder."""
+        sys.path[:0] = [str(TOP / "tools"), str(TOP / "bindings" / "python")]
+        from edgebpf_serve import backup
+        with folder() as place:
+            backup.remove_drafts(place / "backups")
+            (place / "backups").touch()
+            backup.remove_drafts(place / "backups")
+            self.assertEqual([path.name for path in place.iterdir()], ["backups"])
+
+    def test_drafts_that_come_and_go(self):
+        """No draft is removed while its maker is about to lock it."""
+        sys.path[:0] = [str(TOP / "tools"), str(TOP / "bindings" / "python")]
+        from edgebpf_serve import backup
+        with folder() as place:
+            told = []
+
+            def draft():
+                for _ in range(200):
+                    try:
+                        with backup.draft_of(place / "one") as made:
+                            (made / "x").touch()
+                    except OSError as error:
+                        told.append(error)
+
+            threads = [threading.Thread(target=draft) for _ in range(4)]
+            for thread in threads:
+                thread.start()
+            for thread in threads:
+                thread.join()
+            self.assertEqual((told, list(place.iterdir())), ([], []))
+
 
 @unittest.skipIf(MISSING, f"not there: {MISSING}")
 class Leaving(unittest.TestCase):

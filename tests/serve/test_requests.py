@@ -337,11 +337,21 @@ class WrongForms(WithService):
         with self.served() as client:
             client.batch([(0, 1)])
             client.program("target", KINDS["target"].text)
+            client.column("kept", range(VERTICES))
+            before = self.state_of(client)
             for method, path, body, heads, status, word in WRONG_FORMS:
                 with self.subTest(path=path, body=body):
                     refused = self.refused(status, client.once, method, path, body, heads)
                     self.assertIn(word, refused.words)
+                    self.assertEqual(self.state_of(client), before)
             self.assertEqual((client.status()["version"], client.neighbours(0)), (1, [1]))
+
+    def state_of(self, client):
+        """All that a client can change: the graph, programs and columns."""
+        programs = [client.json("GET", f"/programs/{told['name']}") for told in client.json("GET", "/programs")["programs"]]
+        columns = [(told, client.ask("GET", f"/columns/{told['name']}")[1]) for told in client.json("GET", "/columns")["columns"]]
+        version, starts, targets = client.edges()
+        return version, list(starts), list(targets), programs, columns
 
     def test_bodies_too_large(self):
         with self.served(body=1 << 16) as client:
@@ -510,7 +520,7 @@ class Tokens(WithService):
             client.batch([(u, v) for u in range(VERTICES) for v in range(VERTICES)])
         words = ["--runs", "1", "--batches", "3", "--programs", "1", "--watches", "1", "--columns", "1"]
         secret = self.token("--name", "one", "--roles", "read,write,program", *words)
-        with self.served(seconds=3.0) as client:
+        with self.served(seconds=10.0) as client:
             mine = Client(client.url, token=secret, tries=1)
             mine.program("endless", ENDLESS)
             self.assertEqual(self.refused(403, mine.program, "more", "mov r0, 1\nexit").error, "TooMany")
@@ -523,12 +533,51 @@ class Tokens(WithService):
             events = mine.watch("endless")
             threading.Thread(target=lambda: next(events, None), daemon=True).start()
             frontier, other = list(range(VERTICES)) * 3_000, Client(client.url, token=secret, tries=1)
-            long = threading.Thread(target=lambda: self.status_of(lambda: other.run("endless", frontier=frontier)))
+
+            def run_long():
+                # One that is refused met a short one below.
+                while self.status_of(lambda: other.run("endless", frontier=frontier)) == 429:
+                    time.sleep(0.05)
+
+            long = threading.Thread(target=run_long)
             long.start()
-            time.sleep(0.5)
+            while self.status_of(lambda: mine.run("endless", frontier=[])) != 429:
+                time.sleep(0.1)
             self.assertEqual(self.refused(429, mine.run, "endless", frontier=[0]).error, "TooFast")
             self.assertEqual(self.refused(429, mine.once, "GET", "/watch?program=endless").error, "TooFast")
             long.join()
+
+    def test_limits_of_the_runs_of_tokens(self):
+        """A run ends after its token's seconds or units, and never after more than the service's."""
+        with self.served() as client:
+            client.batch([(u, v) for u in range(VERTICES) for v in range(VERTICES)])
+            client.program("endless", ENDLESS)
+        words = {"short": ["--seconds", "0.3"], "few": ["--units", "1000000"], "great": ["--seconds", "3600", "--units", str(2**63)], "plain": []}
+        secrets = {name: self.token("--name", name, *more) for name, more in words.items()}
+        listed = {line.split()[0]: line.split()[2:] for line in self.token().splitlines()}
+        for name, more in (("short", ["seconds=0.3"]), ("few", ["units=1000000"]), ("great", ["seconds=3600.0", f"units={2**63}"]), ("plain", [])):
+            self.assertEqual([word for word in listed[name] if word.startswith(("seconds", "units"))], more)
+        for options, told in (
+                ({"seconds": 1.0}, {"short": "0.3 seconds", "few": "1000000 units", "great": "1 seconds", "plain": "1 seconds"}),
+                ({"units": 2_000_000}, {"few": "1000000 units", "great": "2000000 units", "plain": "2000000 units"})):
+            with self.served(**options) as client:
+                for name, limit in told.items():
+                    mine = Client(client.url, token=secrets[name], tries=1)
+                    refused = self.refused(503, mine.run, "endless", frontier=list(range(VERTICES)) * 3_000)
+                    self.assertEqual((refused.error, refused.words.split(":")[0]), ("TookTooLong", f"the run took more than {limit}"))
+                    # A run that fits is made.
+                    self.assertEqual(mine.run("endless", frontier=[])["edges"], 0)
+                self.assertIn("seconds, units", client.json("GET", "/openapi.json")["components"]["securitySchemes"]["token"]["description"])
+
+    def test_wrong_limits_of_tokens(self):
+        with self.served():
+            pass
+        for word, said in (("--seconds 0", "0.01 to 3600"), ("--seconds nan", "0.01 to 3600"), ("--seconds 3601", "0.01 to 3600"), ("--seconds x", "a number"),
+                           ("--units 0", "1 to 9223372036854775808"), ("--units 1.5", "a number"), ("--units -1", "1 to 9223372036854775808"), ("--runs x", "a whole number")):
+            run = subprocess.run([TOOLS / "edgebpf-serve", "token", self.data, "--name", "one", *word.split()], capture_output=True, text=True)
+            self.assertEqual((run.returncode, run.stdout), (2, ""), word)
+            self.assertIn(said, run.stderr)
+        self.assertEqual(self.token(), "")
 
     def status_of(self, call):
         try:
@@ -658,6 +707,22 @@ class Folders(WithService):
         self.assertEqual((run.returncode, "format 2" in run.stderr), (2, True), run.stderr)
 
 
+    def test_a_changed_token(self):
+        """A token whose row is not as it was made ends the start in words, whatever of it was changed."""
+        with self.served():
+            pass
+        self.assertEqual(self.tool("token", self.data, "--name", "one", "--roles", "read").returncode, 0)
+        whole = (self.data / "serve.db").read_bytes()
+        for change in ("name = 'two'", "roles = 'admin'", "limits = '{\"runs\": 1}'", "hash = zeroblob(32)", "hash = 'x'"):
+            (self.data / "serve.db").write_bytes(whole)
+            with contextlib.closing(sqlite3.connect(self.data / "serve.db")) as db:
+                db.execute(f"update tokens set {change}")
+                db.commit()
+            run = self.tool("check", self.data)
+            self.assertEqual((run.returncode, run.stdout, "Traceback" in run.stderr), (2, "", False), run.stderr)
+            self.assertIn("tokens", run.stderr)
+
+
 class Ends(WithService):
     def test_the_command_from_its_start_to_its_end(self):
         path = self.data.with_name("socket")
@@ -693,7 +758,7 @@ class Ends(WithService):
             counted = 'edgebpf_requests_total{route="/batches",status="200"} 1.0'
             for line in ("edgebpf_version 1.0", "edgebpf_edges 1.0", "edgebpf_sync_seconds_count 1.0", counted):
                 self.assertIn(line, text)
-            self.assertIn(b"<svg", client.ask("GET", "/")[1])
+            self.assertIn(b"Programs on this graph", client.ask("GET", "/")[1])
 
 
 def http_of(path):

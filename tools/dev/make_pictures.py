@@ -73,9 +73,8 @@ def served(browser, picture):
         try:
             wait_for(server)
             chance = random.Random(3)
-            post("/programs", {"name": "degree", "text": "mov r0, 1\nexit"})
-            post("/batches", {"edits": [[int(200 * chance.random() ** 3), chance.randrange(200)] for _ in range(2500)]})
-            screenshot(browser, f"http://127.0.0.1:{PORT}/", picture, "900,640")
+            post("/batches", {"edits": [[int(200 * chance.random() ** 2), chance.randrange(200)] for _ in range(600)]})
+            screenshot(browser, f"http://127.0.0.1:{PORT}/#vertex=7&steps=1", picture, "1280,740", "--hide-scrollbars")
         finally:
             server.terminate()
             server.wait()

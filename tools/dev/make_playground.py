@@ -1,9 +1,10 @@
 #!/usr/bin/env python3
-"""Makes docs/playground.html: the library for C as a WebAssembly module, and a page around it, in one file.
+"""Makes docs/playground.html: the library for C as a WebAssembly module, and a page around it, in one file. Of the same parts it makes the page of
+edgebpf-serve, which has no module, and asks the service.
 
-    tools/dev/make_playground.py             makes the module and the page, over the libraries that `rt ci` or tools/prove built
-    tools/dev/make_playground.py --page      makes the page again around the module that it has
-    tools/dev/make_playground.py --compare   makes the page elsewhere, and the module where those libraries are, and compares
+    tools/dev/make_playground.py             makes the module and both pages, over the libraries that `rt ci` or tools/prove built
+    tools/dev/make_playground.py --page      makes both pages again, around the module that there is
+    tools/dev/make_playground.py --compare   makes the pages elsewhere, and the module where those libraries are, and compares
 
 The kit does not compile the library for WebAssembly. So its clang is given the module of LLVM that it compiles for x86-64, with another
 layout of data, another target and other attributes of functions, and wasm-opt makes the module's 64-bit memory one of 32 bits.
@@ -13,22 +14,39 @@ import gzip
 import hashlib
 import importlib.machinery
 import importlib.util
+import json
 import pathlib
 import re
 import shutil
 import subprocess
 import sys
 import tempfile
+import typing
 
 TOP = pathlib.Path(__file__).resolve().parent.parent.parent
-PAGE, PARTS, HEADER = TOP / "docs/playground.html", TOP / "tools/playground", TOP / "bindings/c/edgebpf.h"
+PARTS, HEADER = TOP / "tools/playground", TOP / "bindings/c/edgebpf.h"
 CRATE = "edgebpf_c"
 # What stands before an object's text in dist/.
 HEAD_LINES = 3
-SCRIPTS = [TOP / "bindings/js/heap.js", TOP / "bindings/js/host.js", PARTS / "reading.js", PARTS / "drawing.js", PARTS / "page.js"]
+SHARED = [PARTS / "reading.js", PARTS / "drawing.js", PARTS / "page.js"]
 MODULE = re.compile(r'(<script type="text/plain" id="module">\n)(.*?)(</script>)', re.S)
 LINE = 160
 MADE = "<!-- Made by tools/dev/make_playground.py, of tools/playground/ and bindings/js/: change those, and make it again. -->\n"
+
+
+class Page(typing.NamedTuple):
+    """A page: the parts of page.html that it has besides those of both, its scripts in their order, and what its policy allows."""
+
+    path: pathlib.Path
+    name: str
+    scripts: list
+    allows: str
+
+
+PLAYGROUND = Page(
+    TOP / "docs/playground.html", "module", [TOP / "bindings/js/heap.js", TOP / "bindings/js/host.js", *SHARED, PARTS / "module.js"], "script-src {script} 'wasm-unsafe-eval'")
+SERVED = Page(TOP / "tools/edgebpf_serve/page.html", "service", [*SHARED, PARTS / "service.js"], "connect-src 'self'; script-src {script}")
+PAGES = PLAYGROUND, SERVED
 
 # Pointers and numbers of 64 bits have the same sizes and alignments in both.
 LAYOUTS = (
@@ -150,10 +168,10 @@ def link_module(folder, clang, text):
     return (folder / "module.wasm").read_bytes()
 
 
-def script():
-    """The scripts as one. Each is a function of its own, that returns what it exports."""
+def script(paths):
+    """Scripts as one. Each is a function of its own, that returns what it exports."""
     parts = []
-    for path in SCRIPTS:
+    for path in paths:
         text = path.read_text()
         names = re.findall(r"^export (?:async )?(?:const|class|function) (\w+)", text, re.M)
         text = re.sub(r'^import (\{[^}]*\}) from ".*/(\w+)\.js";$', r"const \1 = \2;", text, flags=re.M)
@@ -172,26 +190,52 @@ def module_of(page):
     return gzip.decompress(base64.b64decode(MODULE.search(page)[2]))
 
 
-def make_page(packed):
-    """The page, around a module as it is packed."""
-    code, style = script(), (PARTS / "page.css").read_text()
-    examples = (PARTS / "examples.json").read_text().replace("</", "<\\/")
+def examples_of(page):
+    """The examples of a page: a service has the edges, and columns of its own."""
+    text = (PARTS / "examples.json").read_text()
+    if page is SERVED:
+        kept = [{name: value for name, value in example.items() if name != "edges"} for example in json.loads(text) if "columns" not in example]
+        text = f"{json.dumps(kept, indent=2)}\n"
+    return text.replace("</", "<\\/")
+
+
+def parts_of(page):
+    """page.html with the parts of one page alone."""
+    text = (PARTS / "page.html").read_text().replace("<!doctype html>\n", f"<!doctype html>\n{MADE}")
+    for name in (one.name for one in PAGES):
+        kept = r"\1" if name == page.name else ""
+        text = re.sub(rf"<!-- {name}: -->\n(.*?)<!-- :{name} -->\n", kept, text, flags=re.S)
+    return text
+
+
+def make_page(page, packed):
+    """A page, around a module as it is packed if it has one."""
+    code, style = script(page.scripts), (PARTS / "page.css").read_text()
     if "</script" in code or "</style" in style:
         raise Stop("a script or the style has the end of its element within")
-    # Nothing is fetched or sent, and no other script or style counts.
+    # Nothing is fetched from elsewhere or sent there, and no other script or style counts.
     sums = ["'sha256-%s'" % base64.b64encode(hashlib.sha256(f"\n{text}".encode()).digest()).decode() for text in (code, style)]
-    policy = f"default-src 'none'; script-src {sums[0]} 'wasm-unsafe-eval'; style-src {sums[1]}; base-uri 'none'; form-action 'none'"
+    policy = f"default-src 'none'; {page.allows.format(script=sums[0])}; style-src {sums[1]}; base-uri 'none'; form-action 'none'"
     filled = {
-        "policy": f'<meta http-equiv="Content-Security-Policy" content="{policy}">',
-        "style": f"<style>\n{style}</style>",
-        "examples": f'<script type="application/json" id="examples">\n{examples}</script>',
-        "module": f'<script type="text/plain" id="module">\n{packed}</script>',
-        "script": f'<script type="module">\n{code}</script>',
+        "policy": f'<meta http-equiv="Content-Security-Policy" content="{policy}">\n',
+        "style": f"<style>\n{style}</style>\n",
+        "examples": f'<script type="application/json" id="examples">\n{examples_of(page)}</script>\n',
+        "module": f'<script type="text/plain" id="module">\n{packed}</script>\n' if page is PLAYGROUND else "",
+        "script": f'<script type="module">\n{code}</script>\n',
     }
-    page = (PARTS / "page.html").read_text().replace("<!doctype html>\n", f"<!doctype html>\n{MADE}")
-    for name, text in filled.items():
-        page = page.replace(f"<!-- {name} -->", text)
-    return page
+    text = parts_of(page)
+    for name, part in filled.items():
+        text = text.replace(f"<!-- {name} -->\n", part)
+    return text
+
+
+def name_of(page):
+    return page.path.relative_to(TOP)
+
+
+def kept_module():
+    """The module that the playground has, as it is packed."""
+    return MODULE.search(PLAYGROUND.path.read_text())[2]
 
 
 def lacking():
@@ -209,15 +253,16 @@ def lacking():
 
 
 def compare():
-    page = PAGE.read_text()
-    if make_page(MODULE.search(page)[2]) != page:
-        raise Stop("docs/playground.html is not what its parts make: tools/dev/make_playground.py --page")
-    print("make_playground: docs/playground.html is what tools/playground/ and bindings/js/ make around its module")
+    packed = kept_module()
+    for page in PAGES:
+        if make_page(page, packed) != page.path.read_text():
+            raise Stop(f"{name_of(page)} is not what its parts make: tools/dev/make_playground.py --page")
+        print(f"make_playground: {name_of(page)} is what tools/playground/ and bindings/js/ make")
     if reason := lacking():
         return print(f"make_playground: skipped: the module is not made again, since {reason}")
     with tempfile.TemporaryDirectory() as folder:
         module = make_module(pathlib.Path(folder))
-    if module != module_of(page):
+    if module != module_of(PLAYGROUND.path.read_text()):
         version = subprocess.run(["wasm-opt", "--version"], stdout=subprocess.PIPE, text=True).stdout.strip()
         raise Stop(f"the proved libraries and {version} give another module than docs/playground.html has: tools/dev/make_playground.py")
     print(f"make_playground: the module of {len(module)} bytes is what the proved libraries give")
@@ -227,14 +272,15 @@ def main():
     if sys.argv[1:] == ["--compare"]:
         return compare()
     if sys.argv[1:] == ["--page"]:
-        packed = MODULE.search(PAGE.read_text())[2]
+        packed = kept_module()
     elif reason := lacking():
         raise Stop(reason)
     else:
         with tempfile.TemporaryDirectory() as folder:
             packed = packed_module(make_module(pathlib.Path(folder)))
-    PAGE.write_text(make_page(packed))
-    print(f"make_playground: docs/playground.html has {PAGE.stat().st_size} bytes, and its module {len(module_of(PAGE.read_text()))}")
+    for page in PAGES:
+        page.path.write_text(make_page(page, packed))
+        print(f"make_playground: {name_of(page)} has {page.path.stat().st_size} bytes")
 
 
 if __name__ == "__main__":

@@ -18,7 +18,7 @@ from edgebpf_serve.connections import Connections, feed_watchdog, notify
 from edgebpf_serve.engine import Busy, NoRoom, OtherBatch, Stopped
 from edgebpf_serve.limits import IDLE_SECONDS, PAUSE_SECONDS
 from edgebpf_serve.named import Conflict, Missing, TooMany
-from edgebpf_serve.routes import ROUTES, Route, description
+from edgebpf_serve.routes import ANY_TOKEN, ROUTES, Route, description
 from edgebpf_serve.runs import Gone, TookTooLong
 from edgebpf_serve.service import Service, answer, is_this_machine
 from edgebpf_serve.tokens import TooFast
@@ -27,7 +27,7 @@ PAGE = pathlib.Path(__file__).resolve().parent / "page.html"
 MOST_WORDS = 300
 ERRORS = [
     (Missing, 404), (Conflict, 409), (TooMany, 403), (TooFast, 429), (NoRoom, 507), ((Busy, Stopped, TookTooLong, edgebpf.NoMemory), 503),
-    ((Unfit, OtherBatch, edgebpf.VertexRange, edgebpf.TooManyEdits, edgebpf.ArgumentLength, edgebpf.WrongText), 422),
+    ((Unfit, OtherBatch, edgebpf.VertexRange, edgebpf.TooManyEdits, edgebpf.ArgumentLength), 422),
     ((ValueError, TypeError, RecursionError, web.RequestPayloadError), 400), (OSError, 503),
 ]
 ASK_AGAIN = {"Retry-After": "1"}
@@ -39,11 +39,11 @@ SWITCH_SECONDS = 0.001
 LINGER_SECONDS = 1.0
 
 
-def error_answer(name, words, status):
+def error_answer(name, words, status, **more):
     heads = ASK_AGAIN if status in (429, 503, 507) else {}
     if status == 401:
         heads = {"WWW-Authenticate": "Bearer"}
-    return answer({"error": name, "words": words[:MOST_WORDS]}, status, heads)
+    return answer({"error": name, **more, "words": words[:MOST_WORDS]}, status, heads)
 
 
 def answer_of(service, error):
@@ -53,6 +53,10 @@ def answer_of(service, error):
         if "Allow" in error.headers:
             made.headers["Allow"] = error.headers["Allow"]
         return made
+    if isinstance(error, edgebpf.Refused):
+        return error_answer("Refused", error.words, 422, cause=error.cause, unit=error.unit)
+    if isinstance(error, edgebpf.WrongText):
+        return error_answer("WrongText", str(error), 422, cause=error.cause, line=error.line)
     for kinds, status in ERRORS:
         if isinstance(error, kinds):
             if kinds is OSError:
@@ -76,7 +80,7 @@ def allow(service, request, route):
     token = service.tokens.of_request(request)
     if token is None:
         raise web.HTTPUnauthorized(text="Authorization: a token is wanted, as Bearer TOKEN")
-    if route.role not in token.roles:
+    if route.role != ANY_TOKEN and route.role not in token.roles:
         raise web.HTTPForbidden(text=f"this token has not the role {route.role}")
     return token
 
@@ -95,7 +99,7 @@ async def made(service, request, route):
 
 async def answered(service, request, route):
     try:
-        token = allow(service, request, route)
+        token = request["token"] = allow(service, request, route)
         response = await route.handler(service, request, token)
     except (Gone, ConnectionError):
         response = None
@@ -159,6 +163,10 @@ async def ready(service, request, token):
     return answer({"status": "ready", "version": service.engine.latest.seq})
 
 
+async def token_of(service, request, token):
+    return answer({"name": token.name, "roles": sorted(token.roles)})
+
+
 async def metrics(service, request, token):
     return web.Response(body=service.meter.text(), content_type="text/plain")
 
@@ -179,7 +187,8 @@ def all_routes():
         Route("GET", "/readyz", ready, None, "Whether it takes batches.", (200, 503)),
         Route("GET", "/metrics", metrics, "read", "Numbers for Prometheus."),
         Route("GET", "/openapi.json", openapi, None, "This description."),
-        Route("GET", "/", page, None, "A page that draws the greatest rows of a run."),
+        Route("GET", "/token", token_of, ANY_TOKEN, "The token's name, and what it may do."),
+        Route("GET", "/", page, None, "A page that tries programs on the graph."),
     ]
 
 

@@ -5,9 +5,9 @@ import fcntl
 import glob
 import os
 import pathlib
+import secrets
 import shutil
 import sqlite3
-import tempfile
 
 from edgebpf_serve import rows
 from edgebpf_serve.disk import NAME, Disk, Wrong, address, sync_folder
@@ -54,7 +54,12 @@ def _rename(draft, target):
 
 
 def remove_drafts(folder, name="*"):
-    """Removes the drafts of copies that no lock holds any more: their makers were ended."""
+    """Removes the drafts of copies that no lock holds any more: their makers were ended. A folder that cannot be opened is left alone."""
+    with contextlib.suppress(OSError), _alone_in(folder):
+        _remove_left(folder, name)
+
+
+def _remove_left(folder, name):
     for left in folder.glob(f".{name}.*.draft"):
         with contextlib.suppress(OSError), _held(left, os.O_RDWR):
             shutil.rmtree(left, ignore_errors=True)
@@ -63,13 +68,28 @@ def remove_drafts(folder, name="*"):
 @contextlib.contextmanager
 def draft_of(target):
     """A new folder beside a target, for the time of a block, which holds a lock in it: two may make the same copy at once."""
-    remove_drafts(target.parent, glob.escape(target.name))
-    draft = pathlib.Path(tempfile.mkdtemp(prefix=f".{target.name}.", suffix=".draft", dir=target.parent))
+    with contextlib.ExitStack() as holds:
+        with _alone_in(target.parent):
+            _remove_left(target.parent, glob.escape(target.name))
+            draft = target.parent / f".{target.name}.{secrets.token_hex(8)}.draft"
+            # First of all, so that an interrupt leaves none.
+            holds.callback(shutil.rmtree, draft, ignore_errors=True)
+            draft.mkdir(mode=0o700)
+            holds.enter_context(_held(draft, os.O_RDWR | os.O_CREAT))
+        yield draft
+
+
+@contextlib.contextmanager
+def _alone_in(folder):
+    """The lock of a folder in which drafts are made and removed, so that none is seen before it holds its own. Where folders have no locks, none is
+    taken."""
+    file = os.open(folder, os.O_RDONLY | os.O_DIRECTORY | os.O_CLOEXEC)
     try:
-        with _held(draft, os.O_RDWR | os.O_CREAT):
-            yield draft
+        with contextlib.suppress(OSError):
+            fcntl.flock(file, fcntl.LOCK_EX)
+        yield
     finally:
-        shutil.rmtree(draft, ignore_errors=True)
+        os.close(file)
 
 
 @contextlib.contextmanager

@@ -2,6 +2,7 @@
 import argparse
 import asyncio
 import dataclasses
+import functools
 import json
 import logging
 import os
@@ -14,7 +15,7 @@ from edgebpf_serve.app import serve
 from edgebpf_serve.asked import name_of
 from edgebpf_serve.backup import back_up, check, restore
 from edgebpf_serve.disk import NAME, Disk, Full, Wrong
-from edgebpf_serve.limits import HELP, NO_ROOM_YET, ROLES, TOKEN_LIMITS, WRONG_FOLDER, Options
+from edgebpf_serve.limits import HELP, NO_ROOM_YET, ROLES, RUN_LIMITS, TOKEN_LIMITS, WRONG_FOLDER, Options
 from edgebpf_serve.rows import Damaged
 from edgebpf_serve.service import is_near
 from edgebpf_serve.tokens import add, change, drop, read
@@ -133,6 +134,18 @@ def limit_of(text):
     return int(text)
 
 
+def limit_of_run(name, text):
+    """A limit of runs, within the limits of the service's option of the same name."""
+    (least, most, _), kind = HELP[name], type(getattr(Options, name))
+    try:
+        number = kind(text)
+    except ValueError:
+        raise argparse.ArgumentTypeError(f"a number, not {text!r}") from None
+    if not least <= number <= most:
+        raise argparse.ArgumentTypeError(f"{least} to {most}, not {text}")
+    return number
+
+
 def token_name(text):
     try:
         return name_of(text, "it")
@@ -147,7 +160,9 @@ def main_token(words):
     parser.add_argument("--roles", default="read", help=f"some of {','.join(ROLES)}")
     parser.add_argument("--drop", metavar="NAME", help="take this token back")
     for name, most in TOKEN_LIMITS.items():
-        parser.add_argument(f"--{name}", type=limit_of, metavar="NUMBER", help=f"{LIMIT_WORDS[name]}; {most} if this is not said")
+        kind = functools.partial(limit_of_run, name) if name in RUN_LIMITS else limit_of
+        default = "the service's own" if most is None else most
+        parser.add_argument(f"--{name}", type=kind, metavar="NUMBER", help=f"{LIMIT_WORDS[name]}; {default} if this is not said")
     given = parser.parse_args(words)
     roles = given.roles.split(",")
     for role in roles:
@@ -164,14 +179,14 @@ def main_token(words):
             print(change(given.folder, lambda db: add(db, given.name, roles, limits)))
         else:
             for token in change(given.folder, read).values():
-                print(token.name, ",".join(sorted(token.roles)), *(f"{name}={most}" for name, most in token.limits.items()))
+                print(token.name, ",".join(sorted(token.roles)), *(f"{name}={most}" for name, most in token.limits.items() if most is not None))
     except (sqlite3.Error, Damaged, ValueError) as error:
         stop(f"{given.folder}: {error}")
 
 
 LIMIT_WORDS = {
     "runs": "runs at once", "batches": "batches a second", "programs": "programs that it keeps", "watches": "subscriptions of /watch at once",
-    "columns": "columns that it keeps",
+    "columns": "columns that it keeps", "seconds": "the most seconds of a run", "units": "the most units of a run",
 }
 
 

@@ -44,6 +44,10 @@ MOST_STEPS, MOST_REACHED = 64, 1_000_000
 # Numbers of edges in one answer, and bytes of the bodies of all requests under way.
 MOST_NUMBERS, MOST_BODY_BYTES = 1 << 22, 256 << 20
 MOST_PAGE, PAGE = 100_000, 10_000
+# Vertices around one, and how many these are if a request does not say.
+MOST_AROUND, AROUND = 100, 24
+# Programs that were brought with a request, and stay verified for the next one.
+MOST_TRIED = 32
 MOST_TEXT = 1 << 18
 # Files that are open beside connections.
 OTHER_FILES = 64
@@ -107,4 +111,6 @@ HELP = {
     "scan_seconds": (0.0, 3_600.0, "the least seconds between two events of /watch that read the whole graph"),
 }
 # Of each token, and of all clients together if there are no tokens.
-TOKEN_LIMITS = {"runs": 16, "batches": 10_000, "programs": 1_000, "watches": 100, "columns": 100}
+TOKEN_LIMITS = {"runs": 16, "batches": 10_000, "programs": 1_000, "watches": 100, "columns": 100, "seconds": None, "units": None}
+# Of these a token has no more than the service's option of the same name, and as much if it has no own.
+RUN_LIMITS = ("seconds", "units")

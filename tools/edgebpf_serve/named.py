@@ -3,6 +3,7 @@
 Some tasks for one name may be written with one group, before readers see what any of them did. So each looks at the rows, which have what the
 tasks before it wrote.
 """
+import collections
 import threading
 import typing
 
@@ -12,6 +13,7 @@ import numpy as np
 from edgebpf_serve import rows
 from edgebpf_serve.disk import Wrong
 from edgebpf_serve.engine import Busy, Stopped, Task
+from edgebpf_serve.limits import MOST_TRIED
 from edgebpf_serve.rows import Damaged
 from edgebpf_tools.own_source import asks_of
 
@@ -101,6 +103,24 @@ class Programs:
                 raise Missing(f"no program has the name {name}")
 
         return Task(write, lambda _: self.of.pop(name), done)
+
+
+class Tried:
+    """The programs that were brought last. They stay verified, since whoever tries one asks several times."""
+
+    def __init__(self):
+        self.of = collections.OrderedDict()
+
+    def find(self, source):
+        """The program of a source; None if it has to be verified."""
+        if source in self.of:
+            self.of.move_to_end(source)
+        return self.of.get(source)
+
+    def keep(self, kept):
+        self.of[kept.source] = kept
+        while len(self.of) > MOST_TRIED:
+            self.of.popitem(last=False)
 
 
 class Column(typing.NamedTuple):

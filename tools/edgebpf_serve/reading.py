@@ -1,6 +1,5 @@
 """Requests that read one version."""
 import asyncio
-import contextlib
 import json
 import time
 
@@ -10,8 +9,9 @@ from aiohttp import web
 from edgebpf_serve import asked as ask
 from edgebpf_serve.asked import Unfit
 from edgebpf_serve.graph import lists_of
-from edgebpf_serve.limits import MOST_NUMBERS, MOST_PAGE, MOST_REACHED, MOST_STEPS, PAGE, PIECE, REMOVE
-from edgebpf_serve.service import answer
+from edgebpf_serve.limits import AROUND, MOST_AROUND, MOST_NUMBERS, MOST_PAGE, MOST_REACHED, MOST_STEPS, PAGE, PIECE, REMOVE
+from edgebpf_serve.service import answer, under_way
+from edgebpf_serve.trying import BROUGHT, program_of
 
 FORMATS = ("json", "bytes", "lines")
 LINES = "application/x-ndjson"
@@ -96,6 +96,8 @@ class Asked:
 
     def __init__(self, service, request, body, numbers):
         names = ("program", "argument", "columns", *numbers)
+        # The program is found by `asked_of`.
+        self.kept = None
         if ask.media_of(request, ask.JSON, ask.BYTES) == ask.BYTES:
             fields = {name: request.query[name] for name in names if name in request.query}
             fields["columns"] = [name for name in request.query.get("columns", "").split(",") if name]
@@ -103,9 +105,8 @@ class Asked:
                 raise ValueError("the body has 4 bytes for each vertex")
             self.given = np.frombuffer(body, "<u4")
         else:
-            fields, self.given = ask.fields_of(request, body, *names), None
+            fields, self.given = ask.fields_of(request, body, *names, *BROUGHT), None
         self.fields, self.moment = fields, service.moment(request)
-        self.kept = service.programs.get(ask.name_of(fields.get("program"), "program"))
         self.argument = ask.hex_of(fields, "argument")
         self.columns = [service.columns.get(name) for name in ask.columns_of(fields)]
         self.format = ask.choice_of(request.query.get("format", "json"), "format", FORMATS)
@@ -135,18 +136,15 @@ class Asked:
         return {**told, "columns": [column.seq for column in self.columns]} if self.columns and self.format == "json" else told
 
 
-@contextlib.contextmanager
-def under_way(service, token):
-    """A run of a token."""
-    service.tokens.take(token, "runs")
-    try:
-        yield
-    finally:
-        service.tokens.give(token, "runs")
+async def asked_of(service, request, token, *numbers):
+    """What a request asks of a program, with the program."""
+    asked = Asked(service, request, await service.body(request), numbers)
+    asked.kept = await program_of(service, token, asked.fields)
+    return asked
 
 
 async def run(service, request, token):
-    asked = Asked(service, request, await service.body(request), ("reduction", "frontier"))
+    asked = await asked_of(service, request, token, "reduction", "frontier")
     reduction, frontier = ask.choice_of(asked.fields.get("reduction", "sum"), "reduction", tuple(ask.START)), asked.frontier()
     with under_way(service, token):
         work = asked.moment.version.begin(asked.kept.program, reduction, frontier, asked.argument, **asked.lent())
@@ -174,7 +172,7 @@ async def run_lines(service, request, asked, work, frontier):
 
 async def numbers(service, request, token):
     """A number for each edge of a frontier."""
-    asked = Asked(service, request, await service.body(request), ("frontier",))
+    asked = await asked_of(service, request, token, "frontier")
     frontier = asked.frontier()
     if frontier is None:
         raise ValueError("frontier is a list of whole numbers")
@@ -206,7 +204,7 @@ async def copied(service, version, frontier):
 
 async def pairs(service, request, token):
     """A number for each pair, which need not be an edge."""
-    asked = Asked(service, request, await service.body(request), ("pairs",))
+    asked = await asked_of(service, request, token, "pairs")
     sources, targets = asked.ends()
     with under_way(service, token):
         work = asked.moment.version.begin_pairs(asked.kept.program, sources, targets, asked.argument, **asked.lent())
@@ -246,6 +244,50 @@ def mirror_of(moment):
     if moment.mirror is None:
         raise Unfit("direction in: the service was started without --mirror")
     return moment.mirror
+
+
+async def around(service, request, token):
+    """The nearest vertices that are reached from one, and the edges between them."""
+    moment = service.moment(request)
+    version = moment.version
+    vertex = vertex_of(request.match_info["vertex"], version.vertices)
+    steps, limit = ask.number_of(request, "steps", 1, MOST_STEPS), ask.number_of(request, "limit", AROUND, MOST_AROUND)
+    if not limit:
+        raise ValueError(f"limit is a whole number from 1 to {MOST_AROUND}")
+    with under_way(service, token):
+        told = await service.turns.call(surroundings, version, vertex, steps, limit)
+    return answer({"version": moment.seq, "graph": {"vertices": version.vertices, "edges": version.edges}, **told})
+
+
+def surroundings(version, vertex, steps, limit):
+    found, complete = nearest(version, vertex, steps, limit)
+    edges = [(source, target) for source in found for target in targets_among(version, source, found)]
+    return {"complete": complete, "vertices": found, "degrees": version.degrees(found).tolist(), "edges": edges}
+
+
+def nearest(version, vertex, steps, limit):
+    """The vertices that are reached from one in so many steps, the nearest first, and whether these are all."""
+    found, front = {vertex: None}, [vertex]
+    for _ in range(steps):
+        later = []
+        for source in front:
+            # Of so many targets one at least has no room, so that further ones need not be read.
+            for target in version.neighbours(source)[:limit + 1].tolist():
+                if target not in found:
+                    if len(found) == limit:
+                        return list(found), False
+                    found[target] = None
+                    later.append(target)
+        front = later
+    return list(found), True
+
+
+def targets_among(version, source, vertices):
+    """Those of some vertices to which an edge of `source` leads, ascending."""
+    targets, wanted = version.neighbours(source), np.sort(np.array(vertices, np.uint32))
+    places = np.searchsorted(targets, wanted)
+    inside = places < len(targets)
+    return wanted[inside][targets[places[inside]] == wanted[inside]].tolist()
 
 
 async def expand(service, request, token):

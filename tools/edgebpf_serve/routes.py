@@ -1,8 +1,8 @@
 """The requests of a service: what they ask for, who may make them, and their description for /openapi.json."""
 import typing
 
-from edgebpf_serve import reading, standing, writing
-from edgebpf_serve.limits import FORMAT
+from edgebpf_serve import reading, standing, trying, writing
+from edgebpf_serve.limits import FORMAT, TOKEN_LIMITS
 
 NUMBER, WORDS = {"type": "integer", "minimum": 0}, {"type": "string"}
 NUMBERS, NAMES = {"type": "array", "items": NUMBER}, {"type": "array", "items": WORDS}
@@ -10,8 +10,11 @@ PAIRS = {"type": "array", "items": NUMBERS}
 REDUCTION = {"type": "string", "enum": ["sum", "min", "max"]}
 FORMAT_OF_ANSWER = {"format": {"type": "string", "enum": ["json", "bytes", "lines"]}}
 VERSION = {"version": NUMBER}
-RUN = {"program": WORDS, "argument": WORDS, "columns": NAMES}
-PROGRAM = {"name": WORDS, "record": NUMBER, "text": {}, "code": WORDS, "table": WORDS}
+BROUGHT = {"record": NUMBER, "text": {}, "code": WORDS, "table": WORDS}
+RUN = {"program": WORDS, **BROUGHT, "argument": WORDS, "columns": NAMES}
+PROGRAM = {"name": WORDS, **BROUGHT}
+# A request that each token may make.
+ANY_TOKEN = "any"
 STATUSES = {
     200: "done", 201: "made", 400: "the request has a wrong form; the answer names the field", 401: "no token, or an unknown one",
     403: "this token may not do that, or the page is of another site", 404: "nothing has this name", 408: "the body came too slowly",
@@ -22,7 +25,7 @@ STATUSES = {
 
 
 class Route(typing.NamedTuple):
-    """A request. `role` is who may make it; None is everybody. `body` are the fields of its body, and `query` those of its query."""
+    """A request. `role` is who may make it; None is everybody, also without a token. `body` are the fields of its body, and `query` those of its query."""
 
     method: str
     path: str
@@ -42,6 +45,8 @@ ROUTES = [
     Route("GET", "/programs", reading.all_programs, "read", "All programs."),
     Route("GET", "/programs/{name}", reading.one_program, "read", "One program, with its text or code.", (200, 400, 404)),
     Route("DELETE", "/programs/{name}", writing.drop_program, "program", "Drops a program.", (200, 400, 404, 503, 507)),
+    Route("POST", "/explain", trying.explain, "program", "The verifier's state before each instruction of a program, which is not kept.",
+          (200, 400, 408, 413, 415, 422, 429, 503), BROUGHT),
     Route("POST", "/runs", reading.run, "read", "Runs a program over a frontier, or over all vertices.", READ,
           {**RUN, "reduction": REDUCTION, "frontier": NUMBERS}, {**VERSION, **FORMAT_OF_ANSWER}),
     Route("POST", "/numbers", reading.numbers, "read", "The number of each edge of a frontier.", READ, {**RUN, "frontier": NUMBERS},
@@ -50,6 +55,8 @@ ROUTES = [
           {**VERSION, **FORMAT_OF_ANSWER}),
     Route("GET", "/neighbours/{vertex}", reading.neighbours, "read", "A page of the targets of a vertex; of its sources with direction=in.",
           (200, 400, 410, 422), None, {**VERSION, "after": NUMBER, "limit": NUMBER, "direction": WORDS}),
+    Route("GET", "/around/{vertex}", reading.around, "read", "The nearest vertices that are reached from one, and the edges between them.",
+          (200, 400, 410, 422, 429, 503), None, {**VERSION, "steps": NUMBER, "limit": NUMBER}),
     Route("POST", "/expand", reading.expand, "read", "The vertices that are reached in so many steps.", READ,
           {"vertices": NUMBERS, "steps": NUMBER, "limit": NUMBER}, VERSION),
     Route("GET", "/edges", reading.edges, "read", "All edges, as bytes.", (200, 400, 410, 429, 503), None, VERSION),
@@ -85,5 +92,5 @@ def description(routes, has_tokens):
     paths = {}
     for route in routes:
         paths.setdefault(route.path, {})[route.method.lower()] = described(route, has_tokens)
-    scheme = {"token": {"type": "http", "scheme": "bearer"}}
+    scheme = {"token": {"type": "http", "scheme": "bearer", "description": f"A token has roles, and limits: {', '.join(TOKEN_LIMITS)}."}}
     return {"openapi": "3.0.3", "info": {"title": "edgebpf-serve", "version": str(FORMAT)}, "paths": paths, "components": {"securitySchemes": scheme}}

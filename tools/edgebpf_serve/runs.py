@@ -6,6 +6,7 @@ import time
 
 from edgebpf_serve.engine import Busy, Stopped
 from edgebpf_serve.limits import SHORT_BOUND, SMALL_UNITS
+from edgebpf_serve.tokens import run_limits
 
 MOST_WAITING = 64
 
@@ -59,15 +60,16 @@ class Patience:
     """How long a request waits for its runs."""
 
     def __init__(self, service, request):
-        self.request, self.options, self.meter, self.closing = request, service.options, service.meter, service.closing
-        self.end = time.monotonic() + self.options.seconds
+        self.request, self.meter, self.closing = request, service.meter, service.closing
+        self.seconds, self.units = run_limits(request.get("token"), service.options)
+        self.end = time.monotonic() + self.seconds
 
     def look(self, run):
         """Raises an error where a run has to end before it is done."""
-        if run.used >= self.options.units:
-            self._ended("units", run, f"{self.options.units} units")
+        if run.used >= self.units:
+            self._ended("units", run, f"{self.units} units")
         if time.monotonic() >= self.end:
-            self._ended("time", run, f"{self.options.seconds:g} seconds")
+            self._ended("time", run, f"{self.seconds:g} seconds")
         self.look_at_client()
 
     def look_at_client(self):

@@ -1,5 +1,6 @@
 """What the requests of a service share."""
 import asyncio
+import contextlib
 import errno
 import ipaddress
 import json
@@ -13,7 +14,7 @@ from edgebpf_serve.asked import number_of
 from edgebpf_serve.engine import Busy, Engine, NoRoom, Stopped
 from edgebpf_serve.limits import BODY_SECONDS, MOST_BODY_BYTES
 from edgebpf_serve.metrics import Meter
-from edgebpf_serve.named import Columns, Programs
+from edgebpf_serve.named import Columns, Programs, Tried
 from edgebpf_serve.runs import Patience, Turns
 from edgebpf_serve.tokens import Tokens
 
@@ -54,7 +55,7 @@ class Service:
         self.disk, self.options, self.log, self.meter = disk, options, log, Meter()
         self.loop, self.closing, self.began = asyncio.get_running_loop(), asyncio.Event(), time.time()
         self.answers, self.wake = Answers(self.loop), asyncio.Event()
-        self.programs, self.columns = Programs(disk, options.programs), Columns(disk, options.columns)
+        self.programs, self.columns, self.tried = Programs(disk, options.programs), Columns(disk, options.columns), Tried()
         self.engine = Engine(disk, options, self.meter, log, lambda: self.loop.call_soon_threadsafe(self.published))
         self.tokens, self.turns, self.standing = Tokens(disk, is_near(options.listen) or options.open), Turns(options.readers, self.meter), {}
         # Whether browsers of this machine alone reach it, which do not know a page of this service from one whose site's name leads here.
@@ -160,6 +161,16 @@ class Service:
         # The last connection has to be the one that writes: SQLite then takes its log into the file.
         self.tokens.close()
         self.engine.close()
+
+
+@contextlib.contextmanager
+def under_way(service, token):
+    """A run of a token."""
+    service.tokens.take(token, "runs")
+    try:
+        yield
+    finally:
+        service.tokens.give(token, "runs")
 
 
 written = json.JSONEncoder(separators=(",", ":")).encode

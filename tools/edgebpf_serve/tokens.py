@@ -9,7 +9,7 @@ import typing
 
 from edgebpf_serve import rows
 from edgebpf_serve.disk import address, transaction
-from edgebpf_serve.limits import ROLES, TOKEN_LIMITS
+from edgebpf_serve.limits import ROLES, RUN_LIMITS, TOKEN_LIMITS
 
 
 class Token(typing.NamedTuple):
@@ -47,6 +47,12 @@ def drop(db, name):
 def read(db):
     """The tokens by their sums."""
     return {key: Token(name, frozenset(roles.split()), {**TOKEN_LIMITS, **json.loads(limits)}) for key, name, roles, limits in rows.read(db, "tokens")}
+
+
+def run_limits(token, options):
+    """The most seconds and the most units of a run of a token: its own, and never more than the service's."""
+    own = {} if token is None else token.limits
+    return tuple(most if own.get(name) is None else min(own[name], most) for name in RUN_LIMITS for most in [getattr(options, name)])
 
 
 class Tokens:

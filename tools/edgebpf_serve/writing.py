@@ -1,15 +1,14 @@
 """Requests that change something."""
 import functools
 
-import edgebpf
 import numpy as np
 from aiohttp import web
 
 from edgebpf_serve import asked as ask
 from edgebpf_serve.backup import back_up
-from edgebpf_serve.named import Source, verified
-from edgebpf_serve.reading import under_way
-from edgebpf_serve.service import answer
+from edgebpf_serve.named import verified
+from edgebpf_serve.service import answer, under_way
+from edgebpf_serve.trying import BROUGHT, source_of
 
 
 async def batch(service, request, token):
@@ -21,28 +20,10 @@ async def batch(service, request, token):
 
 
 async def keep_program(service, request, token):
-    asked = ask.fields_of(request, await service.body(request), "name", "record", "text", "code", "table")
-    name, record, table = ask.name_of(asked.get("name"), "name"), ask.whole_of(asked, "record", 16, 1 << 16), ask.hex_of(asked, "table")
-    form, body = form_of(asked)
-    try:
-        kept = await service.turns.call(verified, name, Source(record, form, body, table), token.name)
-    except edgebpf.Refused as refused:
-        told = {"error": "Refused", "cause": refused.cause, "unit": refused.unit, "words": refused.words}
-        return answer(told, 422)
+    asked = ask.fields_of(request, await service.body(request), "name", *BROUGHT)
+    kept = await service.turns.call(verified, ask.name_of(asked.get("name"), "name"), source_of(asked), token.name)
     kept, is_new = await service.written(lambda done: service.engine.do(service.programs.keep(kept, token.limits["programs"], done)))
     return answer({**kept.about(), "new": is_new}, 201 if is_new else 200)
-
-
-def form_of(asked):
-    """The form of a program, and its bytes."""
-    if ("text" in asked) == ("code" in asked):
-        raise ValueError("a program has either text or code")
-    if "code" in asked:
-        return "code", ask.hex_of(asked, "code")
-    text = asked["text"]
-    if isinstance(text, list) and all(isinstance(line, str) and "\n" not in line for line in text):
-        asked = {"text": "\n".join(text)}
-    return "text", ask.text_of(asked, "text").encode("utf-8", "surrogatepass")
 
 
 async def drop_program(service, request, token):

@@ -1,6 +1,9 @@
 // The graph as a drawing: vertices in a circle, and an arrow for each edge with its number.
 
-const WIDTH = 440, HEIGHT = 380, RADIUS = 13, MOST_VERTICES = 24, MOST_EDGES = 72, BEND = 16, LOOP = 44, LONG = 9;
+/** A drawing has no more vertices, and no more edges. */
+export const MOST_VERTICES = 24;
+export const MOST_EDGES = 72;
+const WIDTH = 440, HEIGHT = 380, RADIUS = 13, BEND = 16, LOOP = 44, LONG = 9;
 // An edge's number stands at this part of its arrow, since the middles of many arrows lie in one place.
 const PART = 0.4;
 const SPACE = "http://www.w3.org/2000/svg";
@@ -28,9 +31,10 @@ export function shortened(number) {
   return digits.length <= LONG ? digits : `${digits.slice(0, 4)}…${digits.slice(-3)}`;
 }
 
-function placeOf(vertex, vertices) {
-  if (vertices === 1) return { x: WIDTH / 2, y: HEIGHT / 2 };
-  const turn = (2 * Math.PI * vertex) / vertices - Math.PI / 2;
+/** Where the vertex stands that is the one so far among so many. */
+function placeOf(number, count) {
+  if (count === 1) return { x: WIDTH / 2, y: HEIGHT / 2 };
+  const turn = (2 * Math.PI * number) / count - Math.PI / 2;
   return { x: WIDTH / 2 + (WIDTH / 2 - 46) * Math.cos(turn), y: HEIGHT / 2 + (HEIGHT / 2 - 42) * Math.sin(turn) };
 }
 
@@ -63,21 +67,22 @@ function numberOf({ source, target, number }, { x, y }) {
   return shape("text", { x: rounded(x), y: rounded(y), class: "number" }, whole, shortened(number));
 }
 
-/** A drawing of a graph. edges: pairs of vertices, each with its number, or null if no run gave one. */
+/** A drawing of a graph. edges: pairs of its vertices, each with its number, or null if no run gave one. */
 export function draw(vertices, edges) {
-  const words = `Drawing of ${vertices} vertices and ${edges.length} edges. The tables have its numbers.`;
+  const places = new Map(vertices.map((vertex, number) => [vertex, placeOf(number, vertices.length)]));
+  const words = `Drawing of ${vertices.length} vertices and ${edges.length} edges. The tables have its numbers.`;
   const svg = shape("svg", { viewBox: `0 0 ${WIDTH} ${HEIGHT}`, role: "img", "aria-label": words });
   const tip = { id: "tip", viewBox: "0 0 8 8", refX: 7, refY: 4, markerWidth: 7, markerHeight: 7, orient: "auto" };
   const numbers = [];
   svg.append(shape("defs", {}, shape("marker", tip, shape("path", { d: "M0 0L8 4L0 8z", class: "tip" }))));
   for (const edge of edges) {
-    const from = placeOf(edge.source, vertices);
-    const way = edge.source === edge.target ? loopWay(from) : arrowWay(from, placeOf(edge.target, vertices));
+    const from = places.get(edge.source);
+    const way = edge.source === edge.target ? loopWay(from) : arrowWay(from, places.get(edge.target));
     svg.append(shape("path", { d: way.path, class: "edge", "marker-end": "url(#tip)" }));
     if (edge.number !== null) numbers.push(numberOf(edge, way.number));
   }
-  for (let vertex = 0; vertex < vertices; vertex++) {
-    const { x, y } = placeOf(vertex, vertices), at = { x: rounded(x), y: rounded(y) };
+  for (const [vertex, { x, y }] of places) {
+    const at = { x: rounded(x), y: rounded(y) };
     svg.append(shape("circle", { cx: at.x, cy: at.y, r: RADIUS, class: "vertex" }), shape("text", { ...at, class: "name" }, String(vertex)));
   }
   svg.append(...numbers);

@@ -1,23 +1,37 @@
-// The page: what a person types is verified and run at each key. All answers are the library's; the page only shows them.
-import { FAULTS, Failed, Library, Refused, Stopped, WrongText, progress, unpacked } from "../../bindings/js/host.js";
+// The page: what a person types is verified and run at each key. All answers are a host's; the page only shows them.
+//
+// A host runs the programs: module.js by the library in this page, service.js by requests to a service. It has
+//   fields       the fields that the page's address keeps, each with what it has if nothing is said
+//   causes       where the causes of refusals stand, or null
+//   load()       begins
+//   read(field)  what the fields say, each read by `field`: the argument, the record, and what the host needs besides
+//   verify(text, given, signal)      the verdict: { words }, { fault: { line, words } }, or { explanation, accepted, bound, frames, unit }
+//   look(given, signal)              the graph that is drawn: { vertices, degrees, edges }, or null
+//   lacking(given)                   why nothing is run, in words, or null
+//   run(text, graph, given, signal)  the numbers of these edges, the values of these vertices, and their total, in words
+//   choose(value)                    what the fields have for a choice that is no example; a host that offers none needs it not
+//   listen(show, isIdle)             listens to what it has of its own; `show` shows all again, and `isIdle` tells if nothing is under way
+// Each may raise Told. Of a turn that something else has followed `signal` is aborted, and what it answers is shown no more.
 import { draw, isDrawn, make, table } from "./drawing.js";
-import { Wrong, linesOfUnits, readArgument, readColumns, readEdges, readExplanation, recordOf, testColumns } from "./reading.js";
+import { Told, Wrong, linesOfUnits, readExplanation } from "./reading.js";
 
-const FIELDS = ["program", "edges", "argument", "columns", "reduction"];
 const EXAMPLES = JSON.parse(document.getElementById("examples").textContent);
-const MOST_MEMORY = 2 ** 29, BUDGET = 4_000_000, QUIET = 400;
+const QUIET = 400;
 const OWN = "of your own";
-const CAUSES = "BPF.md#each-cause-and-a-program-that-meets-it";
+const WORDS = ["sum", "least", "greatest"];
 
-const by = (id) => document.getElementById(id);
-const counted = (count, word) => `${count} ${word}${count === 1 ? "" : "s"}`;
-const pause = () => new Promise((resolve) => setTimeout(resolve));
-let library, turns = 0, timer;
+export const by = (id) => document.getElementById(id);
+export const counted = (count, word) => `${count} ${word}${count === 1 ? "" : "s"}`;
+export const pause = (milliseconds = 0) => new Promise((resolve) => setTimeout(resolve, milliseconds));
+let host, running = null, timer;
 
 /** Sets a text that a screen reader reads out, if it is another one. */
-function say(id, words) {
+export function say(id, words) {
   if (by(id).textContent !== words) by(id).textContent = words;
 }
+
+/** What the numbers of a vertex's edges become, in a word. */
+export const reductionWord = () => WORDS[by("reduction").value];
 
 function judge(kind, words) {
   say("verdict", words);
@@ -40,14 +54,6 @@ function readField(name, read) {
   return answer;
 }
 
-function readFields() {
-  const argument = readField("argument", readArgument), graph = readField("edges", readEdges);
-  const columns = readField("columns", readColumns), record = argument && columns && recordOf(argument, columns);
-  const fitting = columns && graph && readField("columns", () => { testColumns(columns, graph.vertices); return columns; });
-  say("record", record ? record.words : "");
-  return { argument, graph, columns: fitting, record, reduction: Number(by("reduction").value) };
-}
-
 /** A line of the program, as it stands in the list. */
 function lineItem(line, statement, isBroken) {
   return make("li", isBroken ? { class: "broken" } : {}, make("span", { class: "line" }, String(line)), make("span", { class: "statement" }, statement));
@@ -60,8 +66,8 @@ function knownParts(known, before) {
 }
 
 /** The list of lines, each with what is known before it. */
-function showLines(text, code, { units, refused }) {
-  const lines = linesOfUnits(text, code), lineOf = (unit) => lines.get(unit)?.line ?? "";
+function showLines(text, { units, refused }) {
+  const lines = linesOfUnits(text), lineOf = (unit) => lines.get(unit)?.line ?? "";
   let before = null;
   by("lines").replaceChildren(...units.map(({ unit, statement, known, calls }) => {
     const item = lineItem(lineOf(unit), lines.get(unit)?.statement ?? statement, unit === refused);
@@ -75,11 +81,14 @@ function showLines(text, code, { units, refused }) {
   }));
 }
 
+function reasonTitle(name) {
+  if (!name.startsWith("rule ")) return name[0].toUpperCase() + name.slice(1);
+  const words = `Rule ${name.slice(5)}`;
+  return host.causes ? make("a", { href: host.causes }, words) : words;
+}
+
 function showReasons(reasons) {
-  by("reasons").replaceChildren(...reasons.map(({ name, words }) => {
-    const title = name.startsWith("rule ") ? make("a", { href: CAUSES }, `Rule ${name.slice(5)}`) : name[0].toUpperCase() + name.slice(1);
-    return make("p", {}, make("b", {}, title, ":"), ` ${words}`);
-  }));
+  by("reasons").replaceChildren(...reasons.map(({ name, words }) => make("p", {}, make("b", {}, reasonTitle(name), ":"), ` ${words}`)));
 }
 
 function showNothing() {
@@ -88,183 +97,154 @@ function showNothing() {
   say("text", "");
 }
 
-/** Shows what the verifier says of a program, and returns it if it is accepted, else null. */
-function verify(text, length) {
-  let code;
+/** Shows what the verifier says of a program, and returns whether it is accepted. */
+function showVerdict(text, told) {
   showNothing();
-  try {
-    code = library.assemble(text);
-  } catch (error) {
-    if (!(error instanceof WrongText)) throw error;
-    by("lines").replaceChildren(lineItem(error.line, text.split("\n")[error.line - 1] ?? "", true));
-    judge("bad", `Line ${error.line}: ${FAULTS[error.cause]}`);
-    return null;
+  if (told.fault) {
+    const { line, words } = told.fault;
+    by("lines").replaceChildren(lineItem(line, text.split("\n")[line - 1] ?? "", true));
+    judge("bad", `Line ${line}: ${words}`);
   }
-  if (code.length === 0) {
-    judge("bad", "There is no program yet.");
-    return null;
-  }
-  const explained = library.explain(code, length), parts = readExplanation(explained);
-  say("text", explained);
-  showLines(text, code, parts);
+  if (told.words) judge("bad", told.words);
+  if (!told.explanation) return false;
+  const parts = readExplanation(told.explanation), broken = linesOfUnits(text).get(told.unit);
+  say("text", told.explanation);
+  showLines(text, parts);
   showReasons(parts.reasons);
-  return accepted(text, code, length);
+  if (told.accepted) judge("good", `Accepted: at most ${counted(told.bound, "instruction")} for an edge, ${counted(told.frames, "frame")}`);
+  else judge("bad", broken ? `Refused at line ${broken.line}: ${broken.statement}` : `Refused at unit ${told.unit}`);
+  return told.accepted;
 }
 
-function accepted(text, code, length) {
+/** Has a program verified, and returns whether it is accepted. */
+async function verify(text, given, signal) {
+  if (!given.record) {
+    showNothing();
+    judge("bad", "Not verified: how long a record is depends on the argument and the columns.");
+    return false;
+  }
   try {
-    const program = library.newProgram(code, length);
-    judge("good", `Accepted: at most ${counted(program.bound, "instruction")} for an edge, ${counted(program.frames, "frame")}`);
-    return program;
+    const told = await host.verify(text, given, signal);
+    return !signal.aborted && showVerdict(text, told);
   } catch (error) {
-    if (!(error instanceof Refused)) throw error;
-    const of = linesOfUnits(text, code).get(error.pc);
-    judge("bad", of ? `Refused at line ${of.line}: ${of.statement}` : `Refused at unit ${error.pc}`);
-    return null;
+    if (!(error instanceof Told) || signal.aborted) throw error;
+    showNothing();
+    judge("bad", error.message);
+    return false;
   }
 }
 
-/** Runs a program in steps, so that the page answers meanwhile. Returns null if something was typed. */
-async function run(version, program, given, turn) {
-  const { vertices, edges } = version.info(), numbers = new BigUint64Array(Number(edges)), values = new BigUint64Array(vertices);
-  const listed = progress(0), reduced = progress(0);
-  let count = 0;
-  const steps = [
-    [listed, () => { count += version.numbersOf(program, listed, numbers.subarray(count), given); }],
-    [reduced, () => version.pullSome(program, reduced, values, given)],
-  ];
-  for (const [at, step] of steps) {
-    while (at.vertex < vertices && (at === reduced || count < numbers.length)) {
-      at.budget = BigInt(BUDGET);
-      step();
-      if (at.vertex === vertices) break;
-      say("state", `The run goes on: ${at.edges} of ${edges} edges.`);
-      await pause();
-      if (turn !== turns) return null;
-    }
-  }
-  return { numbers, values, edges, total: reduced.total };
-}
-
-/** Shows the graph, with the numbers of a run if there is one. */
-function showGraph(version, result) {
-  const { starts, targets } = version.copy(), vertices = starts.length - 1, edges = [];
-  for (let source = 0; source < vertices; source++) {
-    for (let at = Number(starts[source]); at < Number(starts[source + 1]); at++) {
-      edges.push({ source, target: targets[at], number: result ? result.numbers[at] : null });
-    }
-  }
-  const drawn = isDrawn(vertices, edges.length);
-  const words = `No drawing: ${vertices} vertices and ${edges.length} edges are too many for one.`;
-  by("graph").replaceChildren(drawn ? draw(vertices, edges) : make("p", { class: "help" }, words));
+/** Shows a graph, with the numbers of a run if there is one. */
+function showGraph({ vertices, degrees, edges }, result) {
+  const drawn = isDrawn(vertices.length, edges.length);
+  const words = `No drawing: ${vertices.length} vertices and ${edges.length} edges are too many for one.`;
+  const numbered = edges.map((edge, place) => ({ ...edge, number: result ? result.numbers[place] : null }));
+  by("graph").replaceChildren(drawn ? draw(vertices, numbered) : make("p", { class: "help" }, words));
   by("numbers").hidden = !result;
   by("rows").replaceChildren();
   by("numbers-table").replaceChildren();
   if (!result) return;
-  const word = ["sum", "least", "greatest"][by("reduction").value];
-  const rows = [...result.values].map((value, vertex) => [vertex, Number(starts[vertex + 1] - starts[vertex]), value]).filter((row) => row[1] > 0);
-  by("rows").append(table("Each vertex that has edges", ["vertex", "edges", word], rows));
-  by("numbers-table").append(table("Each edge", ["source", "target", "number"], edges.map((edge) => [edge.source, edge.target, edge.number])));
+  const rows = [...result.values].map((value, place) => [vertices[place], degrees[place], value]).filter((row) => row[1] > 0);
+  by("rows").append(table("Each vertex that has edges", ["vertex", "edges", reductionWord()], rows));
+  by("numbers-table").append(table("Each edge", ["source", "target", "number"], numbered.map((edge) => [edge.source, edge.target, edge.number])));
   if (!drawn) by("numbers").open = true;
-  const total = `${counted(edges.length, "edge")}; the ${word} of all numbers is ${result.total}.`;
-  say("state", edges.length === 0 ? "There is no edge, so there is no number." : total);
+  say("state", result.words);
 }
 
-async function showRun(given, program, opened, turn) {
-  if (!given.graph) {
-    by("graph").replaceChildren();
-    by("rows").replaceChildren();
-    by("numbers").hidden = true;
-    return say("state", "No run: the edges are not read yet.");
-  }
-  const store = library.newStore(given.graph.vertices);
-  opened.push(store);
-  store.insert(given.graph.sources, given.graph.targets);
-  const version = store.pin();
-  opened.push(version);
-  const reason = !program ? "No run: only an accepted program is run." : given.columns ? null : "No run: the columns do not fit.";
+/** No graph is shown, and why. */
+function showNoGraph(words) {
+  by("graph").replaceChildren();
+  by("rows").replaceChildren();
+  by("numbers").hidden = true;
+  say("state", words);
+}
+
+async function showRun(text, isAccepted, given, signal) {
+  const graph = await host.look(given, signal);
+  if (signal.aborted) return;
+  const reason = host.lacking(given) ?? (isAccepted ? null : "No run: only an accepted program is run.");
+  if (!graph) return showNoGraph(reason);
   if (reason) {
-    showGraph(version, null);
+    showGraph(graph, null);
     return say("state", reason);
   }
-  const result = await run(version, program, given, turn);
-  if (result) showGraph(version, result);
+  const result = await host.run(text, graph, given, signal);
+  if (!signal.aborted) showGraph(graph, result);
 }
 
-/** Verifies and runs what the fields have. */
+/** Has verified and run what the fields have. */
 async function show() {
-  const turn = ++turns, opened = [];
+  running?.abort();
+  const { signal } = (running = new AbortController()), text = by("program").value;
   try {
-    const given = readFields();
-    if (!given.record) showNothing();
-    const program = given.record ? verify(by("program").value, given.record.length) : null;
-    if (!given.record) judge("bad", "Not verified: how long a record is depends on the argument and the columns.");
-    if (program) opened.push(program);
-    await showRun(given, program, opened, turn);
-    for (const handle of opened.reverse()) handle.close();
+    const given = host.read(readField);
+    say("record", given.record ? given.record.words : "");
+    const isAccepted = await verify(text, given, signal);
+    if (!signal.aborted) await showRun(text, isAccepted, given, signal);
   } catch (error) {
-    await recover(error);
+    if (signal.aborted) return;
+    if (!(error instanceof Told)) throw error;
+    showNoGraph(error.message);
+  } finally {
+    if (running?.signal === signal) running = null;
   }
-}
-
-/** After an error the module is loaded again, since what it holds may be anything. */
-async function recover(error) {
-  if (!(error instanceof Stopped || error instanceof Failed)) throw error;
-  showNothing();
-  const stopped = `This is an error of the page: ${error.message}. What you typed stays: change it to go on.`;
-  judge("bad", error instanceof Stopped ? stopped : `The library could not do it: ${error.message}.`);
-  say("state", "No run.");
-  await load();
-}
-
-async function load() {
-  library = await Library.load(await unpacked(by("module").textContent), MOST_MEMORY);
 }
 
 /** Keeps the fields in the page's address, so that they can be bookmarked and sent. */
 function remember() {
+  const values = Object.keys(host.fields).map((name) => [name, by(name).value]);
   clearTimeout(timer);
-  timer = setTimeout(() => history.replaceState(null, "", `#${new URLSearchParams(FIELDS.map((name) => [name, by(name).value]))}`), QUIET);
+  timer = setTimeout(() => history.replaceState(null, "", `#${new URLSearchParams(values)}`), QUIET);
 }
 
 function fill(values) {
-  for (const name of FIELDS) by(name).value = values[name] ?? (name === "reduction" ? "0" : "");
+  for (const [name, otherwise] of Object.entries(host.fields)) {
+    const field = by(name);
+    field.value = values[name] ?? otherwise ?? field.value;
+    // An address may have a choice that there is not.
+    if (field.selectedIndex === -1) field.selectedIndex = 0;
+  }
 }
 
-/** Fills the fields with what the address has: an example's name, or the fields, or else the first example. */
+/** Fills the fields with what the address has: an example's name, or the fields, or else the first example and the fields that it does not have. */
 function fillFromAddress() {
   const words = new URLSearchParams(location.hash.slice(1)), named = EXAMPLES.find(({ name }) => name === words.get("example"));
   const own = words.has("program") ? { name: OWN, ...Object.fromEntries(words) } : null, taken = own ?? named ?? EXAMPLES[0];
   by("example").value = taken.name;
-  fill(taken);
+  fill({ ...Object.fromEntries(words), ...taken });
+  return show();
+}
+
+/** Fills the fields with an example, or with what else the host offers there. */
+async function choose() {
+  const { value } = by("example");
+  const chosen = EXAMPLES.find(({ name }) => name === value) ?? (value === OWN ? null : await host.choose(value));
+  if (chosen) fill(chosen);
+  remember();
   return show();
 }
 
 function listen() {
-  by("example").append(...EXAMPLES.map(({ name }) => make("option", { value: name }, name)), make("option", { value: OWN }, OWN));
-  by("example").addEventListener("change", () => {
-    const chosen = EXAMPLES.find(({ name }) => name === by("example").value);
-    if (chosen) fill(chosen);
-    remember();
-    return show();
-  });
-  for (const name of FIELDS) by(name).addEventListener("input", () => {
+  by("example").prepend(...EXAMPLES.map(({ name }) => make("option", { value: name }, name)), make("option", { value: OWN }, OWN));
+  by("example").addEventListener("change", choose);
+  for (const name of Object.keys(host.fields)) by(name).addEventListener("input", () => {
     by("example").value = OWN;
     remember();
     return show();
   });
   addEventListener("hashchange", fillFromAddress);
+  host.listen(show, () => running === null);
 }
 
-async function begin() {
+export async function begin(one) {
+  host = one;
   try {
-    await load();
+    await host.load();
   } catch (error) {
-    return judge("bad", `This browser cannot run the page, which needs WebAssembly with numbers of 64 bits, and DecompressionStream: ${error.message}`);
+    if (!(error instanceof Told)) throw error;
+    return judge("bad", error.message);
   }
   listen();
   await fillFromAddress();
   document.body.dataset.shown = "yes";
 }
-
-begin();

@@ -1,10 +1,12 @@
 // What a person typed, as arrays; and an explanation of the library, by lines of the program's text.
 
 const MOST_EDGES = 4096, MOST_VERTICES = 65536, MOST_ARGUMENT = 240, MOST_COLUMNS = 8, EDGE_BYTES = 16, COLUMN_BYTES = 16;
-const WIDE = 0x18, UNIT = 8;
 
 /** What is wrong with a field, in words. */
 export class Wrong extends Error {}
+
+/** What a host could not do, in words for the reader. */
+export class Told extends Error {}
 
 const withoutComment = (line) => line.replace(/[;#].*/, "").trim();
 
@@ -46,6 +48,20 @@ export function readColumns(text) {
   return columns;
 }
 
+/** The names of columns that a service has. */
+export function readNames(text) {
+  const names = text.split(/[\s,]+/).filter(Boolean), wrong = names.find((name) => !/^[A-Za-z_][A-Za-z0-9_-]{0,63}$/.test(name));
+  if (wrong !== undefined) throw new Wrong(`${wrong} is no name of a column.`);
+  if (names.length > MOST_COLUMNS) throw new Wrong(`There are ${MOST_COLUMNS} columns at most.`);
+  return names;
+}
+
+/** A vertex of a service's graph. The service knows how many it has. */
+export function readVertex(text) {
+  if (!/^\d{1,9}$/.test(text.trim())) throw new Wrong("A vertex is a whole number from 0 on.");
+  return Number(text);
+}
+
 /** Tells if a column has not exactly one number for each vertex. */
 export function testColumns(columns, vertices) {
   columns.forEach((column, place) => {
@@ -54,27 +70,27 @@ export function testColumns(columns, vertices) {
   });
 }
 
-/** How long the record of a run is, and what stands where in it, in words. */
+/** How long the record of a run with so many columns is, and what stands where in it, in words. */
 export function recordOf(argument, columns) {
-  const length = EDGE_BYTES + argument.length + COLUMN_BYTES * columns.length;
+  const length = EDGE_BYTES + argument.length + COLUMN_BYTES * columns;
   const parts = ["the edge's source at 0, its target at 4, the target's place among the source's neighbours at 8, and how many these are at 12"];
   if (argument.length > 0) parts.push(`the argument from ${EDGE_BYTES} on`);
-  columns.forEach((_, place) => {
+  for (let place = 0; place < columns; place++) {
     const at = EDGE_BYTES + argument.length + COLUMN_BYTES * place;
     parts.push(`of column ${place + 1} the source's number at ${at} and the target's at ${at + 8}, eight bytes each`);
-  });
+  }
   return { length, words: `A record has ${length} bytes: ${parts.join("; ")}.` };
 }
 
 /** For each unit of the code at which an instruction begins, the line of the text that it is of, from 1, and its statement. */
-export function linesOfUnits(text, code) {
+export function linesOfUnits(text) {
   const statements = text.split("\n").map((line, place) => ({ line: place + 1, statement: line.replace(/;.*/, "").trim() }))
     .filter(({ statement }) => statement !== "" && !/^[A-Za-z_]\w*:$/.test(statement));
   const found = new Map();
   let unit = 0;
   for (const each of statements) {
     found.set(unit, each);
-    unit += code[unit * UNIT] === WIDE ? 2 : 1;
+    unit += /^lddw\b/.test(each.statement) ? 2 : 1;
   }
   return found;
 }
