@@ -10,7 +10,10 @@
 extern "C" {
 #endif
 
-/* What a call returns: 0 if it is done, else why nothing was done. */
+/* What a call returns: 0 if it is done, else why it is not. Then each handle holds what it held before, and each output is as it was, but for
+   three: `verdict` has the cause after REFUSED, `assembled` the line and the fault after WRONG_TEXT, and `assembled` and `count` what is needed
+   after LENGTHS. After any other status nothing is said of these three. NO_MEMORY may come in place of some: of
+   TOO_MANY_EDITS, VERTEX_RANGE, LOG_FULL and FEED of a batch, of REFUSED and WRONG_TEXT, and of LENGTHS if code or an explanation is written. */
 enum {
     EDGEBPF_DONE = 0,
     EDGEBPF_NO_MEMORY = 1,
@@ -66,10 +69,18 @@ static inline const char *edgebpf_words(uint32_t status) {
 }
 
 /* Pointers. None is NULL, neither a handle's, nor an output's, nor that of an array without a place: such a call is undefined. Each is aligned
-   as its type, and what a call writes to lies apart from all else that it is given. A call asks first whether each handle holds something
+   as its type, and what a call writes to lies apart from all else that it is given. No array has more than PTRDIFF_MAX bytes. A call asks first whether each handle holds something
    (EMPTY), then whether that is of its kind (OTHER_KIND), and then what its own line says.
    An array is a pointer and a count. This is one without a byte. */
 #define EDGEBPF_NO_BYTES ((const uint8_t *)"")
+
+/* Memory. The library takes it by three functions. heap.c, a member of libedgebpf.a, defines them over malloc; a host with a heap of its own
+   defines them in its place, with `typedef struct { bool is_there; void *at; } block;`:
+   `block rattle_alloc(size_t size, size_t align)`,
+   `block rattle_realloc(void *at, size_t kept, size_t size, size_t align)` and
+   `void rattle_dealloc(void *at)`.
+   `is_there` is false if a request is refused, and then what rattle_realloc was given stays as it is. No alignment above 16 is asked for,
+   and a size may be 0. Threads that are in calls at once call them at once. They throw nothing, and call nothing of the library. */
 
 /* Limits. */
 #define EDGEBPF_MOST_VERTICES 268435456u
@@ -159,7 +170,8 @@ uint32_t edgebpf_version_has_edge(edgebpf_version *version, uint32_t source, uin
 uint32_t edgebpf_version_neighbour(edgebpf_version *version, uint32_t vertex, uint32_t place, uint32_t *neighbour);
 
 /* The slices in which a vertex's neighbours lie, as many as there is room for: if `lent` is less than `room`, these are
-   all. Nobody may write to them, and they end with the last handle of the version. */
+   all. Nobody may write to them, and they end with the last handle of the version. That a slice lies in the version and stays so long is
+   tested; the contracts say that its address is one of a word equal to its first. */
 uint32_t edgebpf_version_lend(edgebpf_version *version, uint32_t vertex, edgebpf_slice *slices, size_t room, size_t *lent);
 
 /* The same from the neighbour at a place on, from 0: where there was too little room, go on at the place after the last neighbour
@@ -200,8 +212,8 @@ uint32_t edgebpf_assemble(const uint8_t *text, size_t text_length, uint8_t *code
 uint32_t edgebpf_explain(uint16_t record_length, const uint8_t *code, size_t code_length, const uint8_t *table,
                          size_t table_length, uint8_t *text, size_t room, size_t *count);
 
-/* Runs a program on each edge of the vertices of a frontier, which may name vertices in any order, at most 268,435,456 of them.
-   `values` has one place for each: the reduction over its edges. A vertex without neighbours, or outside the graph, has 0, and
+/* Runs a program on each edge of the vertices of a frontier, which may name vertices in any order and more than once, at most 268,435,456 of
+   them. `values` has one place for each: the reduction over its edges. A vertex without neighbours, or outside the graph, has 0, and
    2^64 - 1 for MIN. REDUCTION, LENGTHS, ARGUMENT_LENGTH, tested in this order. */
 uint32_t edgebpf_run(edgebpf_version *version, edgebpf_program *program, const uint8_t *argument, size_t argument_length,
                      const uint32_t *frontier, size_t frontier_count, uint32_t reduction, uint64_t *values,

@@ -42,6 +42,19 @@ The clauses (`requires`, `ensures`) stand in the source, under the signature. Th
 - A law is a call that does nothing: its contract states a theorem. A law of calls only makes public calls, often at their limits, and
   is proved from their contracts.
 - A value whose type has private fields was made by one of the calls below, and keeps the invariant that its source states, if any.
+
+Some words say more than their clauses:
+
+| Call | No clause says |
+|---|---|
+| `Publisher::step` | that the batch which is taken waits longest. `Publisher::finish` says it at the end, of each feed |
+| `Reader::pin` | that the version is shown at a moment of the call; of a version of a later epoch, that its base continues what was seen |
+| `lend_held`, `lend_from_held`, `edgebpf_version_lend`, `edgebpf_version_lend_from` | that slices stay; they are tested |
+| `Session::perform` | what a session holds after `Store` of a batch, and that another batch than the held one is answered so |
+| `do_job` | which part of the frontier a worker has, and what it does where no thread can be started; that threads are inside at once is tested |
+| `Refusal::rule_or_memory` | that a refusal for any other cause is no error |
+| `source_lines` | that each line is an instruction of the code |
+| `explain` | that the values of a program that is refused by cause 6 are those before the instruction that it names: they are not |
 """
 
 DEFINITIONS_HEAD = f"""\
@@ -58,7 +71,7 @@ CRATES_HEAD = f"""\
 `{COMMAND}` writes this page of `crates.txt` and the first lines of each crate. [ARCHITECTURE.md](ARCHITECTURE.md) says how they work together.
 
 Programs stand on `bpf_isa`, the store on `past_model`, and neither knows the other. A crate stands above all that it uses, so a change
-proves the crates above it again, and none beside it.
+proves the crates above it again, and none beside it. No program has `stream_core`, the store's events as one machine: tests run it.
 """
 
 # What a tower stands on.

@@ -1,12 +1,13 @@
 /* Runs a program of two instructions over a graph of 300 vertices with 200 neighbours each, as a run and as numbers. The gate counts the
-   instructions of both calls: each edge's number is right also where no block of edges is used. */
+   instructions of both calls: each edge's number is right also where no block of edges is used. Before that the same handle runs over two
+   vertices of three neighbours, which fill no block. */
 #include "check.h"
 
 enum { VERTICES = 4096, SOURCES = 300, DEGREE = 200, EDGES = SOURCES * DEGREE };
 
 static uint32_t sources[EDGES], targets[EDGES], frontier[SOURCES];
 static uint8_t removes[EDGES];
-static uint64_t numbers[EDGES], values[SOURCES];
+static uint64_t numbers[EDGES + 6], values[SOURCES];
 
 int main(void) {
     edgebpf_store store = {{0}};
@@ -24,10 +25,15 @@ int main(void) {
     CHECK(edgebpf_store_new(VERTICES, &store) == EDGEBPF_DONE);
     CHECK(edgebpf_store_apply(&store, 0, sources, EDGES, targets, EDGES, removes, EDGES, &change) == EDGEBPF_DONE);
     CHECK(change.added == EDGES);
+    const uint32_t few_sources[] = {VERTICES - 2, VERTICES - 2, VERTICES - 2, VERTICES - 1, VERTICES - 1, VERTICES - 1}, few_targets[] = {0, 1, 2, 0, 1, 2};
+    CHECK(edgebpf_store_apply(&store, 0, few_sources, 6, few_targets, 6, removes, 6, &change) == EDGEBPF_DONE);
     CHECK(edgebpf_store_pin(&store, &version) == EDGEBPF_DONE);
     CHECK(edgebpf_program_new(16, target_code, sizeof target_code, EDGEBPF_NO_BYTES, 0, &verdict, &program) == EDGEBPF_DONE);
+    const uint32_t first[] = {VERTICES - 2, VERTICES - 1};
+    CHECK(edgebpf_run(&version, &program, EDGEBPF_NO_BYTES, 0, first, 2, EDGEBPF_SUM, values, 2, &totals) == EDGEBPF_DONE);
+    CHECK(totals.edges == 6 && totals.total == 6 && values[0] == 3 && values[1] == 3);
     CHECK(edgebpf_run(&version, &program, EDGEBPF_NO_BYTES, 0, frontier, SOURCES, EDGEBPF_SUM, values, SOURCES, &totals) == EDGEBPF_DONE);
-    CHECK(edgebpf_numbers(&version, &program, EDGEBPF_NO_BYTES, 0, numbers, EDGES) == EDGEBPF_DONE);
+    CHECK(edgebpf_numbers(&version, &program, EDGEBPF_NO_BYTES, 0, numbers, EDGES + 6) == EDGEBPF_DONE);
     for (uint32_t at = 0; at < EDGES; at++) sum += numbers[at];
     CHECK(totals.edges == EDGES && totals.total == sum);
     edgebpf_close_program(&program);

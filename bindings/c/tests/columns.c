@@ -68,6 +68,20 @@ static void pulls_the_rows(void) {
     for (int vertex = 0; vertex < VERTICES; vertex++) CHECK(values[vertex] == degrees[vertex] * x[vertex]);
 }
 
+/* A program that writes where its record has the numbers: each edge finds its own, and `x`, which is constant, is not written. */
+static void stores_into_the_ends(void) {
+    /* ldxdw r0, [r1+24]; stdw [r1+16], 7; stdw [r1+24], 9; exit */
+    static const uint8_t code[] = {0x79, 0x10, 24, 0, 0, 0, 0, 0, 0x7a, 1, 16, 0, 7, 0, 0, 0, 0x7a, 1, 24, 0, 9, 0, 0, 0, 0x95, 0, 0, 0, 0, 0, 0, 0};
+    static const uint64_t sums[VERTICES] = {50, 40, 70, 80, 40, 70, 60, 0};
+    uint64_t values[VERTICES];
+    edgebpf_program writes = {{0}};
+    edgebpf_totals totals;
+    loads(code, sizeof code, 32, &writes);
+    CHECK(pulls(&writes, all, VERTICES, EDGEBPF_SUM, values, &totals) == EDGEBPF_DONE && !memcmp(values, sums, sizeof sums));
+    for (uint64_t vertex = 0; vertex < VERTICES; vertex++) CHECK(x[vertex] == 10 * (vertex + 1));
+    edgebpf_close_program(&writes);
+}
+
 static void scores_by_two_columns(void) {
     static const uint64_t risk[VERTICES] = {3, 9, 4, 7, 1, 8, 2, 6}, land[VERTICES] = {1, 1, 2, 2, 1, 1, 3, 3};
     static const uint64_t greatest[VERTICES] = {9, 8, 18, 4, 14, 0, 16, 0}, sums[VERTICES] = {17, 8, 25, 4, 14, 0, 16, 0};
@@ -240,6 +254,7 @@ static void pulls_a_hub(void) {
 int main(void) {
     builds_the_graph();
     pulls_the_rows();
+    stores_into_the_ends();
     scores_by_two_columns();
     ranks_by_rounds();
     labels_components();

@@ -126,6 +126,9 @@ static void runs_programs(void) {
     CHECK(values[0] == 3 && values[1] == 1 && values[2] == UINT64_MAX && totals.total == 1);
     CHECK(edgebpf_run(&last, &targets_of, EDGEBPF_NO_BYTES, 0, frontier, 3, EDGEBPF_MAX, values, 3, &totals) == EDGEBPF_DONE);
     CHECK(values[1] == 3 && values[2] == 0 && totals.total == 3);
+    const uint32_t twice[] = {3, 1, 3};
+    CHECK(edgebpf_run(&last, &targets_of, EDGEBPF_NO_BYTES, 0, twice, 3, EDGEBPF_SUM, values, 3, &totals) == EDGEBPF_DONE);
+    CHECK(values[0] == 3 && values[1] == 0 && values[2] == 3 && totals.edges == 2 && totals.total == 6);
     totals.total = 7;
     CHECK(edgebpf_run(&last, &targets_of, EDGEBPF_NO_BYTES, 0, frontier, 3, 3, values, 3, &totals) == EDGEBPF_REDUCTION);
     CHECK(edgebpf_run(&last, &targets_of, EDGEBPF_NO_BYTES, 0, frontier, 3, EDGEBPF_SUM, values, 2, &totals) == EDGEBPF_LENGTHS);
@@ -528,6 +531,12 @@ static void tells_what_handles_hold(void) {
     CHECK(edgebpf_version_share((edgebpf_version *)&store, &out) == EDGEBPF_OTHER_KIND);
     CHECK(edgebpf_version_degree((edgebpf_version *)&targets_of, 0, &answer) == EDGEBPF_OTHER_KIND);
     CHECK(edgebpf_run(&last, (edgebpf_program *)&store, EDGEBPF_NO_BYTES, 0, &one, 1, 0, &value, 1, &totals) == EDGEBPF_OTHER_KIND);
+    /* What handles hold is asked before all else, and of two handles first whether each holds something. */
+    CHECK(edgebpf_store_apply(&none, 9, &one, 0, &one, 1, &mark, 1, &change) == EDGEBPF_EMPTY);
+    CHECK(edgebpf_store_apply((edgebpf_store *)&last, 9, &one, 0, &one, 1, &mark, 1, &change) == EDGEBPF_OTHER_KIND);
+    CHECK(edgebpf_run((edgebpf_version *)&store, (edgebpf_program *)&none, EDGEBPF_NO_BYTES, 0, &one, 1, 7, &value, 0, &totals) == EDGEBPF_EMPTY);
+    CHECK(edgebpf_run((edgebpf_version *)&store, &targets_of, EDGEBPF_NO_BYTES, 0, &one, 1, 7, &value, 0, &totals) == EDGEBPF_OTHER_KIND);
+    CHECK(edgebpf_run(&last, (edgebpf_program *)&store, EDGEBPF_NO_BYTES, 0, &one, 1, 7, &value, 0, &totals) == EDGEBPF_OTHER_KIND);
     CHECK(edgebpf_version_info(&last, &info) == EDGEBPF_DONE && info.number == 2);
     CHECK(edgebpf_store_new(0, &none) == EDGEBPF_VERTEX_COUNT && !none.handle.at);
     CHECK(edgebpf_store_new(EDGEBPF_MOST_VERTICES + 1, &none) == EDGEBPF_VERTEX_COUNT && !none.handle.at);

@@ -20,14 +20,14 @@ from edgebpf.from_c import compile_c
 from edgebpf.from_files import read_edges
 from edgebpf.live import Live
 from edgebpf.native import Store, Version
-from edgebpf.programs import Program, assemble
+from edgebpf.programs import Program, assemble, explain
 from edgebpf.steps import NumbersRun, PairsRun, Push, Run, Steps
-from edgebpf.store import Counts, Pushed, Result, connect
+from edgebpf.store import Counts, Pushed, Result, Visited, connect
 
 __version__ = "0.1.0"
 
 __all__ = [
     "ArgumentLength", "Closed", "Counts", "EpochsFull", "Error", "Live", "LogFull", "NoMemory", "NotHere", "NumbersRun", "PairsRun", "Program",
     "Push", "Pushed", "Refused", "Result", "Run", "Steps", "Store", "TimedOut", "TooManyEdits", "TooManyNames", "Version", "VertexRange",
-    "WrongText", "algorithms", "assemble", "compile_c", "connect", "read_edges",
+    "Visited", "WrongText", "algorithms", "assemble", "compile_c", "connect", "explain", "read_edges",
 ]

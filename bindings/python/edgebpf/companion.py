@@ -337,6 +337,8 @@ class Task(Generic[Answer]):
 def finished(pieces: Pieces[Answer], progress: Progress | None, seconds: float | None) -> Answer:
     """The answer of work in pieces. Between them `progress` is called with how much is done, and of how much; what it raises ends the
     work, and so does a Ctrl-C. After so many seconds it raises `TimedOut`."""
+    if progress is not None and not callable(progress):
+        raise TypeError(f"progress is a function of two numbers, not {type(progress).__name__}")
     end = end_after(seconds)
     task = Task(pieces)
     while not task.done:

@@ -80,6 +80,7 @@ uint32_t edgebpf_is_independent_set(handle *, const uint8_t *, size_t, uint32_t 
 uint32_t edgebpf_program_new(uint16_t, const uint8_t *, size_t, const uint8_t *, size_t, verdict *, handle *);
 uint32_t edgebpf_program_share(handle *, handle *);
 uint32_t edgebpf_assemble(const uint8_t *, size_t, uint8_t *, size_t, assembled *);
+uint32_t edgebpf_explain(uint16_t, const uint8_t *, size_t, const uint8_t *, size_t, uint8_t *, size_t, size_t *);
 uint32_t edgebpf_pull_some(
     handle *, handle *, const uint8_t *, size_t, const column *, size_t, const uint32_t *, size_t, uint32_t, progress *, uint64_t *, size_t);
 uint32_t edgebpf_push_some(
@@ -91,6 +92,8 @@ uint32_t edgebpf_pairs_of(
     uint64_t *, size_t);
 void edgebpf_close(handle *);
 """
+# Held while the types of calls are made: those of one making are not those of another.
+MAKING = threading.Lock()
 
 
 def in_checkout(name: str = "libedgebpf", source: pathlib.Path = DIST / "libedgebpf.s") -> str | None:
@@ -130,7 +133,13 @@ def path() -> str | None:
 
 @functools.cache
 def foreign() -> Any:
-    """The types of the library's calls."""
+    """The types of the library's calls, the same for all threads, also where some ask for them first at the same time."""
+    with MAKING:
+        return made_foreign()
+
+
+@functools.cache
+def made_foreign() -> Any:
     types = cffi.FFI()
     types.cdef(DECLARATIONS)
     return types

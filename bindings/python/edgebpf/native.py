@@ -18,7 +18,8 @@ from edgebpf.given import (
 from edgebpf.parts import Parts
 from edgebpf.programs import Program, argument_of, handle_of
 from edgebpf.steps import FIRST_BUDGET, LEAST_NUMBERS, End, Frontier, Inputs, NumbersRun, PairsRun, Push, Run, Windows, end_after
-from edgebpf.store import MOST_EDITS, Counts, Pushed, Result, described
+from edgebpf.store import MOST_EDITS, Counts, Pushed, Result, Visited, described
+from edgebpf.store import REDUCTIONS as JOINS
 
 # Most lists lie in one slice. `lend` fills the room if there may be more.
 LEAST_ROOM, MORE_ROOM = 2, 64
@@ -304,6 +305,22 @@ class Version:
         # The values are as many as the vertices, so an array of these may be, too.
         vertices = np.arange(chosen.start, chosen.stop, dtype=U32) if isinstance(chosen, range) else chosen
         return Push(self, program, reduction_of(reduction), vertices, inputs, values)
+
+    def each(
+        self, program: Program, reduction: str = "sum", frontier: npt.ArrayLike | None = None, argument: bytes = b"", *, into: Numbers,
+        columns: Columns = NO_COLUMNS, changed: bool = False,
+    ) -> Visited:
+        """Runs a program once for each vertex of a frontier, on the record of the pair of the vertex with itself, whose number becomes the
+        vertex's value: what `pairs` gives of these pairs. into, changed: as for `push`. reduction: of all the numbers, for the total."""
+        self._open()
+        start, combine = JOINS[reduction_of(reduction)]
+        values, given = values_into(into, self.vertices, columns_of(columns, self.vertices)), self._frontier(frontier)
+        chosen = np.asarray(given, U32)
+        numbers = self.pairs(program, chosen, chosen, argument, columns=columns)
+        before = values.copy() if changed else None
+        values[chosen] = numbers
+        others = None if before is None else np.flatnonzero(before != values).astype(U32)
+        return Visited(len(chosen), int(combine.reduce(numbers, initial=np.uint64(start))), others)
 
     def numbers(
         self, program: Program, argument: bytes = b"", frontier: npt.ArrayLike | None = None, *, columns: Columns = NO_COLUMNS,

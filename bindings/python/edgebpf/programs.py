@@ -24,6 +24,8 @@ MOST_RECORD = 256
 UNIT = 8
 MOST_UNITS = 4_096
 MOST_TABLE = 4_096
+# An explanation that has more bytes is asked for twice.
+FIRST_ROOM = 65_536
 # The opcode of a call; one of a function of the program's own has a 1 as its source.
 CALL = 0x85
 WRONG_CODE = "code has 1 to 4,096 whole units of 8 bytes"
@@ -177,13 +179,7 @@ class Program:
         """The code of the program, in units of 8 bytes; the library assembles it if the program was made of a text."""
         if self.code is not None:
             return self.code
-        calls, text = library.load(), (self.text or "").encode()
-        assembled, code = library.new("assembled *"), library.foreign().new("uint8_t[]", UNIT * MOST_UNITS)
-        status = calls.edgebpf_assemble(text, len(text), code, len(code), assembled)
-        if status == library.WRONG_TEXT:
-            raise WrongText(assembled.cause, assembled.line)
-        library.check(status)
-        return bytes(library.foreign().buffer(code, assembled.length))
+        return code_of_text(self.text or "")
 
     def _lines(self, name: str) -> bytes:
         """The lines of a script that load the program under a name. They have the code of a text that the library assembled: some of its
@@ -202,6 +198,17 @@ class Program:
         given = None if self.text is None else self.text + "\n"
         run = subprocess.run(words, input=given, capture_output=True, text=True)
         return run.stdout or run.stderr
+
+
+def code_of_text(text: str) -> bytes:
+    """The code that a text means, which is not verified. Raises `WrongText`."""
+    calls, given = library.load(), text.encode()
+    assembled, code = library.new("assembled *"), library.foreign().new("uint8_t[]", UNIT * MOST_UNITS)
+    status = calls.edgebpf_assemble(given, len(given), code, len(code), assembled)
+    if status == library.WRONG_TEXT:
+        raise WrongText(assembled.cause, assembled.line)
+    library.check(status)
+    return bytes(library.foreign().buffer(code, assembled.length))
 
 
 def calls_helpers(code: bytes) -> bool:
@@ -249,6 +256,11 @@ def assemble(text: str | Sequence[str], record: int = EDGE_BYTES, table: bytes =
 
     Raises `WrongText`, also of a statement after `;`, where earlier releases took one, and `Refused`.
     """
+    return Program._of_text(tested_text(text), record, table)
+
+
+def tested_text(text: str | Sequence[str]) -> str:
+    """A text of lines, none of which a script or an earlier release would take for something else."""
     lines = lines_of(text)
     if any(line.strip() == "end" for line in lines):
         raise ValueError("a line `end` would end the program; a label of that name is written `end:`")
@@ -257,4 +269,24 @@ def assemble(text: str | Sequence[str], record: int = EDGE_BYTES, table: bytes =
     for number, line in enumerate(lines, 1):
         if any(map(STATEMENT.fullmatch, line.split(";")[1:])):
             raise WrongText(STATEMENT_IN_COMMENT, number)
-    return Program._of_text("\n".join(lines), record, table)
+    return "\n".join(lines)
+
+
+def explain(program: bytes | str | Sequence[str], record: int = EDGE_BYTES, table: bytes = b"") -> str:
+    """The verifier's state before each instruction of a program, as text, whether it is accepted or refused; and of a refused one the rule
+    that failed, and the usual fix. It needs the library in this process.
+
+    program: code, or a text as `assemble` takes it. Raises `WrongText`.
+    """
+    is_code = isinstance(program, (bytes, bytearray, memoryview))
+    code = bytes(program) if is_code else code_of_text(tested_text(program))  # type: ignore[arg-type]
+    calls, given, length = library.load(), bytes_of(table, "table"), record_of(record)
+    room, count = FIRST_ROOM, library.new("size_t *")
+    while True:
+        text = library.foreign().new("uint8_t[]", room)
+        status = calls.edgebpf_explain(length, code, len(code), given, len(given), text, room, count)
+        if status != library.LENGTHS or count[0] <= room:
+            break
+        room = count[0]
+    library.check(status)
+    return bytes(library.foreign().buffer(text, count[0])).decode()

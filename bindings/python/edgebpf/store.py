@@ -71,6 +71,24 @@ class Pushed(NamedTuple):
     changed: Vertices | None = None
 
 
+class Given(NamedTuple):
+    """What a command that writes a column is given beside its program, reduction and frontier."""
+
+    argument: bytes
+    columns: Columns
+    into: Numbers
+    changed: bool
+
+
+class Visited(NamedTuple):
+    """What `each` gave beside what it wrote: the number of runs, the reduction of all their numbers, and, if that was asked for, the
+    vertices whose value is another than before, ascending."""
+
+    vertices: int
+    total: int
+    changed: Vertices | None = None
+
+
 def described(version: Any, is_closed: bool) -> str:
     """What `repr` says of a version."""
     about = f"epoch {version.epoch}, number {version.number}, {version.vertices} vertices, {version.edges} edges"
@@ -337,24 +355,43 @@ class Version:
         """
         if seconds is not None:
             raise NotHere("an edgebpf process has no limit of time: use edgebpf.Store")
+        edges, total, others = self._written("push", program, reduction, frontier, Given(argument, columns, into, changed))
+        return Pushed(edges, total, others)
+
+    def each(
+        self, program: Program, reduction: str = "sum", frontier: npt.ArrayLike | None = None, argument: bytes = b"", *, into: Numbers,
+        columns: Columns = NO_COLUMNS, changed: bool = False,
+    ) -> Visited:
+        """Runs a program once for each vertex of a frontier, on the record of the pair of the vertex with itself, whose number becomes the
+        vertex's value.
+
+        Source and target are the vertex, and so are both numbers of a column; the place is that of the edge from the vertex to itself, or
+        the degree without one. into: as for `push`; what is not of the frontier keeps its value. reduction: of all the numbers, for the total.
+        """
+        return Visited(*self._written("each", program, reduction, frontier, Given(argument, columns, into, changed)))
+
+    def _written(
+        self, command: str, program: Program, reduction: str, frontier: npt.ArrayLike | None, given: Given,
+    ) -> tuple[int, int, Vertices | None]:
+        """Sends a command that writes a column: how many runs it made, their total, and where a value is another one, if that was asked for."""
         start, combine = REDUCTIONS[reduction_of(reduction)]
-        lent = columns_of(columns, self.vertices)
-        values, digits, edges, total = values_into(into, self.vertices, lent), self._argument(program, argument, len(lent)), 0, start
+        lent = columns_of(given.columns, self.vertices)
+        values, digits, runs, total = values_into(given.into, self.vertices, lent), self._argument(program, given.argument, len(lent)), 0, start
         name, parts, before = self._store._name_of(program), list(self._parts(frontier)), values.copy()
         with self._store._lent([*lent, values]) as names:
             *read, written = names
-            run = f"push {name} {self._name} {reduction} {digits} {','.join(read) or '-'} {written}"
+            run = f"{command} {name} {self._name} {reduction} {digits} {','.join(read) or '-'} {written}"
             for number, words in enumerate(parts, 1):
                 # The last of them is asked for the values, too.
                 is_last = number == len(parts)
                 text = f"{run}{words}\n" + (f"values {written}\n" if is_last else "")
                 head, rows = self._store._process.ask(text.encode(), has_rows=is_last)
-                edges, total = edges + int(head[4]), int(combine(np.uint64(total), np.uint64(int(head[6]))))
+                runs, total = runs + int(head[4]), int(combine(np.uint64(total), np.uint64(int(head[6]))))
                 if is_last:
                     shown = numbers_in(rows, b"value ", 2)
                     values.fill(0)
                     values[shown[:, 0].astype(np.int64)] = shown[:, 1]
-        return Pushed(edges, total, np.flatnonzero(before != values).astype(np.uint32) if changed else None)
+        return runs, total, np.flatnonzero(before != values).astype(np.uint32) if given.changed else None
 
     def pairs(self, *_: Any, **__: Any) -> NoReturn:
         """Raises `NotHere`."""

@@ -225,6 +225,8 @@ class Refused(WithStores):
             (TypeError, "version", lambda: algorithms.bfs("v", 0)),
             (TypeError, "version", lambda: algorithms.components(None)),
             (TypeError, "version", lambda: algorithms.LiveRank(7)),
+            (TypeError, "progress is a function of two numbers, not int", lambda: algorithms.components(version, progress=3)),
+            (TypeError, "progress is a function", lambda: algorithms.LiveComponents(version).update(version, progress=[])),
             (ValueError, "damping", lambda: algorithms.pagerank(version, 1.5)),
             (ValueError, "damping", lambda: algorithms.pagerank(version, float("nan"))),
             (TypeError, "damping", lambda: algorithms.pagerank(version, "0.85")),

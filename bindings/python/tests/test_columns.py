@@ -58,6 +58,18 @@ class Columns(unittest.TestCase):
         for reduction, values in ("max", [9, 8, 18, 4, 14, 0, 16, 0]), ("sum", [17, 8, 25, 4, 14, 0, 16, 0]):
             self.assertEqual(self.version.run(score, reduction, argument=least, columns=[risk, land]).values.tolist(), values)
 
+    def test_stores_into_the_ends(self):
+        """A program may write where its record has the numbers: each edge finds its own there, and no column is written."""
+        writes = edgebpf.assemble("ldxdw r0, [r1+24]\nstdw [r1+16], 7\nstdw [r1+24], 9\nexit", record=32)
+        into = np.zeros(8, np.uint64)
+        self.assertEqual(self.version.run(writes, columns=[self.x]).values.tolist(), [50, 40, 70, 80, 40, 70, 60, 0])
+        self.assertEqual(self.version.numbers(writes, frontier=[2, 0], columns=[self.x]).tolist(), [10, 20, 40, 20, 30])
+        self.assertEqual(self.version.pairs(writes, [0, 7], [3, 0], columns=[self.x]).tolist(), [40, 10])
+        self.version.push(writes, into=into, columns=[self.x])
+        # Each edge brings its target's own number.
+        self.assertEqual(into.tolist(), [20, 40, 90, 80, 50, 60, 70, 0])
+        self.assertEqual(self.x.tolist(), list(range(10, 90, 10)))
+
     def test_ranks(self):
         one, degree, rank = 10**9, self.version.degrees().astype(np.uint64), np.full(8, 125_000_000, np.uint64)
         after = {}

@@ -22,8 +22,7 @@ from test_package import FOLDER, TARGET, TOP, edgebpf, np, told
 @unittest.skipIf(np is not None and edgebpf.library.path() is None, "not there: cffi, or libedgebpf.so, which make -C dist makes")
 class Native(test_package.Package):
     # These are of a process, or of the package as it lies on disk.
-    test_ended = test_killed = test_interrupted = test_cookbook = test_first_runs_at_once = test_from_c = test_installed = None
-    test_compilers_that_go_on = test_wrong_words_of_compile_c = None
+    test_ended = test_killed = test_interrupted = test_cookbook = test_first_runs_at_once = None
     test_interrupted_at_a_terminal = test_near_the_root = test_not_here = None
 
     def store(self, vertices, workers=1):
@@ -44,6 +43,22 @@ class Native(test_package.Package):
                 edgebpf.Store(vertices)
         with self.assertRaises(TypeError):
             edgebpf.Store(4.0)
+
+    def test_feeds(self):
+        """The library gets the numbers of the header, 0 to 3. No call of it tells a feed, so they are looked at on their way."""
+        store, real, sent = self.store(2), edgebpf.library.load(), []
+
+        class Recorder:
+            def __getattr__(self, name):
+                return getattr(real, name)
+
+            def edgebpf_store_apply(self, handle, feed, *more):
+                sent.append(feed)
+                return real.edgebpf_store_apply(handle, feed, *more)
+
+        with unittest.mock.patch.object(edgebpf.library, "load", return_value=Recorder()):
+            self.assertEqual([store.batch(feed).version for feed in "ABCD"], [1, 2, 3, 4])
+        self.assertEqual(sent, [0, 1, 2, 3])
 
     def test_sorted_edges(self):
         """Sorted arrays are the edges, with no batch before; they are those that `csr` gives, and what is wrong is said."""
@@ -272,7 +287,7 @@ def work():
     try:
         edgebpf.assemble("ldxw r0, [r1+13]\\nexit")
     except edgebpf.Refused as refused:
-        found.append(refused.cause)
+        found.append((refused.cause, "rule 11" in edgebpf.explain("ldxw r0, [r1+13]\\nexit")))
 for size in (SIZE, 0):
     threading.stack_size(size)
     thread = threading.Thread(target=work)
@@ -282,7 +297,27 @@ print(found, threading.stack_size())
 """
         for size in (64 << 10, 128 << 10, 300 << 10):
             run = subprocess.run([sys.executable, "-c", code.replace("SIZE", str(size))], env={**os.environ, "PYTHONPATH": str(FOLDER)}, capture_output=True, text=True)
-            self.assertEqual((run.stdout, run.stderr, run.returncode), ("[(3, 3, 9), 11, (3, 3, 9), 11] 0\n", "", 0))
+            self.assertEqual((run.stdout, run.stderr, run.returncode), ("[(3, 3, 9), (11, True), (3, 3, 9), (11, True)] 0\n", "", 0))
+
+    def test_types_of_threads(self):
+        """Threads that use the library first at the same time have the same types: handles of one kind of types are refused by another."""
+        code = """
+import sys, threading
+from edgebpf import library
+sys.setswitchinterval(1e-6)
+found, at = [], threading.Barrier(8)
+def look():
+    at.wait()
+    found.append(library.foreign())
+threads = [threading.Thread(target=look) for _ in range(8)]
+for thread in threads:
+    thread.start()
+for thread in threads:
+    thread.join()
+print(len(found), len({id(types) for types in found}))
+"""
+        run = subprocess.run([sys.executable, "-c", code], env={**os.environ, "PYTHONPATH": str(FOLDER)}, capture_output=True, text=True)
+        self.assertEqual((run.stdout, run.stderr, run.returncode), ("8 1\n", "", 0))
 
     def test_no_thread_for_a_small_stack(self):
         """Where the thread with enough stack cannot be started, nothing is verified."""

@@ -73,6 +73,53 @@ class Pushes(unittest.TestCase):
             rounds += 1
         self.assertEqual((np.flatnonzero(is_there).tolist(), rounds), ([0, 1, 2], 2))
 
+    def test_each(self):
+        """A program at each vertex, by this process and by one of its own: degrees, places, and numbers of columns, by hand."""
+        degree, place = edgebpf.assemble("ldxw r0, [r1+12]\nexit"), edgebpf.assemble("ldxw r0, [r1+8]\nexit")
+        both = edgebpf.assemble("ldxdw r0, [r1+24]\nldxdw r2, [r1+32]\nadd r0, r2\nldxdw r2, [r1+16]\nadd r0, r2\nexit", record=40)
+        x, one = np.arange(10, 90, 10, dtype=np.uint64), (1).to_bytes(8, "little")
+        with edgebpf.connect(8) as other:
+            for store in (self.store, other):
+                if store is other:
+                    store.batch("A", edges=EDGES)
+                version, into = store.pin(), np.full(8, 9, np.uint64)
+                self.assertEqual(version.each(degree, into=into), (8, 12, None))
+                self.assertEqual(into.tolist(), [2, 2, 3, 2, 1, 1, 1, 0])
+                found = version.each(both, "max", [1, 3], one, into=into, columns=[x], changed=True)
+                self.assertEqual((found[:2], found.changed.tolist(), into.tolist()), ((2, 81), [1, 3], [2, 41, 3, 81, 1, 1, 1, 0]))
+                self.assertEqual(version.each(both, "min", [], one, into=into, columns=[x]), (0, MOST, None))
+                # Without an edge to itself a vertex has its degree as the place, and with one that of the edge.
+                store.batch("A", edges=[(2, 2)])
+                self.assertEqual(store.pin().each(place, frontier=[2, 3], into=into), (2, 4, None))
+                self.assertEqual((into.tolist(), x.tolist()), ([2, 41, 2, 2, 1, 1, 1, 0], list(range(10, 90, 10))))
+                for error, words, call in (
+                        (ValueError, "into and column 0 share", lambda: version.each(both, into=x, columns=[x], argument=one)),
+                        (ValueError, "reduction", lambda: version.each(degree, "mean", into=into)), (TypeError, "into", lambda: version.each(degree, into=[0] * 8)),
+                        (edgebpf.ArgumentLength, "8", lambda: version.each(degree, argument=one, into=into)),
+                        (edgebpf.VertexRange, "8", lambda: version.each(degree, frontier=[8], into=into))):
+                    with self.assertRaisesRegex(error, words):
+                        call()
+                version.close()
+                with self.assertRaises(edgebpf.Closed):
+                    version.each(degree, into=into)
+                self.assertEqual(into.tolist(), [2, 41, 2, 2, 1, 1, 1, 0])
+
+    def test_each_of_random_columns(self):
+        """What a process gives is what numpy computes, also for frontiers longer than a line."""
+        chance, count = np.random.default_rng(6), 30_000
+        sums = edgebpf.assemble("ldxdw r0, [r1+16]\nldxdw r2, [r1+32]\nadd r0, r2\nexit", record=48)
+        columns = [chance.integers(0, 1 << 64, count, np.uint64) for _ in range(2)]
+        with edgebpf.connect(count) as store:
+            version = store.pin()
+            for frontier in (None, np.unique(chance.integers(0, count, 25_000))):
+                for reduction, join in (("sum", np.add), ("min", np.minimum), ("max", np.maximum)):
+                    into = chance.integers(0, 1 << 64, count, np.uint64)
+                    chosen, wanted = slice(None) if frontier is None else frontier, into.copy()
+                    wanted[chosen] = (columns[0] + columns[1])[chosen]
+                    found = version.each(sums, reduction, frontier, into=into, columns=columns)
+                    self.assertTrue((into == wanted).all())
+                    self.assertEqual(found, (len(wanted[chosen]), int(join.reduce(wanted[chosen])), None))
+
     def test_steps(self):
         for budget in (0, 1, 10, 1_000, None):
             into = np.zeros(4, np.uint64)

@@ -90,3 +90,14 @@ impl FromIterator<(u32, u32)> for Batch {
         batch
     }
 }
+
+#[cfg(test)]
+mod tests {
+    use super::Feed;
+
+    /// No call of the library tells a feed, so only its number shows that two are not exchanged.
+    #[test]
+    fn feeds_have_the_numbers_of_the_header() {
+        assert_eq!([Feed::A, Feed::B, Feed::C, Feed::D].map(Feed::number), [0, 1, 2, 3]);
+    }
+}

@@ -74,6 +74,51 @@ fn scores_by_two_columns() {
     assert_eq!(lent.run(&score, &[], &ALL, Reduction::Max, &mut values), Err(Error::ArgumentLength));
 }
 
+/// In whole numbers, one is 10^9: a rank is 15 parts of 100 shared by all, and 85 of those that lead to it.
+#[test]
+fn ranks_by_rounds() {
+    const ONE: u64 = 1_000_000_000;
+    let (version, of_target) = (graph(), of_target());
+    let mut ranks = [ONE / 8; 8];
+    for (rounds, wanted) in [
+        (1, [107291666, 107291666, 178125000, 160416666, 71875000, 125000000, 125000000, 18750000]),
+        (2, [118016274, 118016274, 171727862, 143106769, 74132812, 125000000, 125000000, 18750000]),
+        (17, [119882822, 119882822, 177149872, 132846313, 75238138, 125000000, 125000000, 18750000]),
+    ] {
+        for _ in 0..rounds {
+            let (mut gives, mut taken) = ([0; 8], [0; 8]);
+            for vertex in 0..8 {
+                let degree = u64::from(version.degree(vertex));
+                gives[vertex as usize] = if degree == 0 { 0 } else { ranks[vertex as usize] * 85 / (100 * degree) };
+            }
+            let columns = [&gives[..]];
+            version.with_columns(&columns).unwrap().run(&of_target, &[], &ALL, Reduction::Sum, &mut taken).unwrap();
+            ranks = taken.map(|number| 15 * ONE / 800 + number);
+        }
+        assert_eq!(ranks, wanted);
+    }
+}
+
+/// The least label of a component reaches all of it.
+#[test]
+fn labels_components() {
+    let (version, of_target) = (graph(), of_target());
+    let (mut labels, mut rounds) = ([0, 1, 2, 3, 4, 5, 6, 7], 0);
+    loop {
+        let (before, mut least) = (labels, [0; 8]);
+        let columns = [&before[..]];
+        version.with_columns(&columns).unwrap().run(&of_target, &[], &ALL, Reduction::Min, &mut least).unwrap();
+        rounds += 1;
+        for (label, number) in labels.iter_mut().zip(least) {
+            *label = number.min(*label);
+        }
+        if labels == before {
+            break;
+        }
+    }
+    assert_eq!((labels, rounds), ([0, 0, 0, 0, 0, 5, 5, 7], 4));
+}
+
 #[test]
 fn goes_on_and_numbers_edges_and_pairs() {
     let (version, columns, of_target) = (graph(), [&X[..]], of_target());

@@ -60,18 +60,66 @@ fn goes_on_from_a_progress() {
     assert_eq!(values, [0, 1, 1011, 0]);
 }
 
-#[test]
-fn searches_by_levels() {
+fn mirrored() -> Version {
     let ends = [(0, 1), (0, 2), (1, 2), (2, 3), (3, 4), (5, 6)];
     let both: Vec<_> = ends.iter().flat_map(|&(source, target)| [(source, target), (target, source)]).collect();
-    let (version, of_argument) = (graph(8, &both), first_number(24));
+    graph(8, &both)
+}
+
+/// Those whose value is another one than before.
+fn changed(before: [u64; 8], values: [u64; 8]) -> Vec<u32> {
+    (0..8).filter(|&vertex| before[vertex as usize] != values[vertex as usize]).collect()
+}
+
+#[test]
+fn labels_components_by_pushes() {
+    let (version, of_source) = (mirrored(), first_number(32));
+    let (mut labels, mut front, mut fronts) = ([0, 1, 2, 3, 4, 5, 6, 7], (0..8).collect::<Vec<u32>>(), vec![]);
+    while !front.is_empty() {
+        let before = labels;
+        let columns = [&before[..]];
+        version.with_columns(&columns).unwrap().push(&of_source, &[], &front, Reduction::Min, &mut labels).unwrap();
+        front = changed(before, labels);
+        fronts.push(front.clone());
+    }
+    assert_eq!(labels, [0, 0, 0, 0, 0, 5, 5, 7]);
+    assert_eq!(fronts, [vec![1, 2, 3, 4, 6], vec![3, 4], vec![4], vec![]]);
+}
+
+/// What is left where every vertex has two neighbours at least.
+#[test]
+fn takes_out_all_but_the_core() {
+    let (version, one) = (mirrored(), Program::verify(16, &assemble("mov r0, 1\nexit").unwrap()).unwrap());
+    let mut left: Vec<u64> = (0..8).map(|vertex| u64::from(version.degree(vertex))).collect();
+    let (mut is_there, mut rounds) = ([true; 8], 0);
+    loop {
+        let gone: Vec<u32> = (0..8).filter(|&vertex| is_there[vertex as usize] && left[vertex as usize] < 2).collect();
+        if gone.is_empty() {
+            break;
+        }
+        let mut lost = [0; 8];
+        version.push(&one, &[], &gone, Reduction::Sum, &mut lost).unwrap();
+        for &vertex in &gone {
+            is_there[vertex as usize] = false;
+        }
+        for (number, lost) in left.iter_mut().zip(lost) {
+            *number -= lost;
+        }
+        rounds += 1;
+    }
+    assert_eq!((is_there, rounds), ([true, true, true, false, false, false, false, false], 2));
+}
+
+#[test]
+fn searches_by_levels() {
+    let (version, of_argument) = (mirrored(), first_number(24));
     let (mut hops, mut front, mut level) = ([u64::MAX; 8], vec![0], 0u64);
     hops[0] = 0;
     while !front.is_empty() {
         level += 1;
         let before = hops;
         version.push(&of_argument, &level.to_le_bytes(), &front, Reduction::Min, &mut hops).unwrap();
-        front = (0..8).filter(|&vertex| before[vertex as usize] != hops[vertex as usize]).collect();
+        front = changed(before, hops);
     }
     assert_eq!((hops, level), ([0, 1, 1, 2, 3, u64::MAX, u64::MAX, u64::MAX], 4));
 }
