@@ -142,19 +142,20 @@ class Forms:
         return ranks
 
     def by_rounds(self):
-        """What is ready made, and the same by rounds of programs, as the cookbook has them."""
+        """What is ready made, the same by rounds of programs, as the cookbook has them, and what igraph has."""
         import pushes
         import rounds
 
-        a, v = self.algorithms, self.version
+        a, v, peer = self.algorithms, self.version, self.peer
         return [
-            (f"PageRank in whole numbers, {ROUNDS_OF_RANKS} rounds", lambda: a.pagerank_fixed(v, ROUNDS_OF_RANKS), lambda: rounds.ranks(v, ROUNDS_OF_RANKS)),
-            ("search, by runs", lambda: a.bfs(v, self.hub).levels, lambda: rounds.levels(v, self.hub)),
-            ("search, by pushes", lambda: a.bfs(v, self.hub).levels, lambda: pushes.hops(v, self.hub).astype(np.int64)),
-            ("components, by runs", lambda: a.components(v), lambda: rounds.components(v)),
-            ("components, by pushes", lambda: a.components(v), lambda: pushes.components(v)),
-            ("cores, by pushes", lambda: a.cores(v, assume_mirrored=True), lambda: pushes.cores(v)),
-            ("independent set, by pushes", lambda: a.independent_set(v, assume_mirrored=True), lambda: pushes.independent(v)),
+            (f"PageRank in whole numbers, {ROUNDS_OF_RANKS} rounds", lambda: a.pagerank_fixed(v, ROUNDS_OF_RANKS), lambda: rounds.ranks(v, ROUNDS_OF_RANKS), None),
+            ("search, by runs", lambda: a.bfs(v, self.hub).levels, lambda: rounds.levels(v, self.hub), lambda: peer.bfs(self.hub)),
+            ("search, by pushes", lambda: a.bfs(v, self.hub).levels, lambda: pushes.hops(v, self.hub).astype(np.int64),
+             lambda: peer.bfs(self.hub)),
+            ("components, by runs", lambda: a.components(v), lambda: rounds.components(v), lambda: peer.connected_components().membership),
+            ("components, by pushes", lambda: a.components(v), lambda: pushes.components(v), lambda: peer.connected_components().membership),
+            ("cores, by pushes", lambda: a.cores(v, assume_mirrored=True), lambda: pushes.cores(v), peer.coreness),
+            ("independent set, by pushes", lambda: a.independent_set(v, assume_mirrored=True), lambda: pushes.independent(v), None),
         ]
 
     def searches(self, found):
@@ -201,23 +202,35 @@ def counted(version, call):
     return len(calls)
 
 
+# The whole of an algorithm by rounds is to take at most so many times what igraph takes.
+MOST_BESIDE_IGRAPH = 3
+
+
 def beside_rounds(forms, rounds):
-    """For each algorithm the least times of both forms, and of how many runs or pushes the second is."""
-    for title, ready, by_rounds in forms.by_rounds():
+    """For each algorithm the least times of both forms and of igraph, and of how many runs or pushes the second is."""
+    for title, ready, by_rounds, peer in forms.by_rounds():
         agree(title, ready(), by_rounds())
-        least = [min(timed(call)[0] for _ in range(rounds)) for call in (ready, by_rounds)]
+        least = [min(timed(call)[0] for _ in range(rounds)) if call else None for call in (ready, by_rounds, peer)]
         yield title, (*least, counted(forms.version, by_rounds))
 
 
 def rounds_table(found):
-    lines = ["", "The same by rounds of programs, as the cookbook has them, with equal answers; a round is a run or a push:", "",
-             "| CPU seconds | ready made | by rounds | rounds | a round, milliseconds |", "|---|---|---|---|---|"]
+    lines = ["", "The same by rounds of programs, as the cookbook has them, with equal answers; a round is a run or a push. A bold figure is above three",
+             "times igraph's:", "",
+             "| CPU seconds | ready made | by rounds | igraph | by rounds : igraph | rounds | a round, milliseconds |", "|---|---|---|---|---|---|---|"]
     for title, graphs in found.items():
-        cells = [
-            "; ".join(two_digits(ready) for ready, _, _ in graphs), "; ".join(two_digits(by_rounds) for _, by_rounds, _ in graphs),
-            "; ".join(str(count) for *_, count in graphs), "; ".join(two_digits(1_000 * by_rounds / count) for _, by_rounds, count in graphs)]
-        lines.append(f"| {title} | {' | '.join(cells)} |")
+        lines.append(f"| {title} | {' | '.join('; '.join(cells) for cells in zip(*map(rounds_cells, graphs)))} |")
     return lines
+
+
+def rounds_cells(figures):
+    ready, by_rounds, peer, count = figures
+    beside = ["", ""] if peer is None else [two_digits(peer), ratio(by_rounds / peer)]
+    return [two_digits(ready), two_digits(by_rounds), *beside, str(count), two_digits(1_000 * by_rounds / count)]
+
+
+def ratio(number):
+    return f"**{two_digits(number)}**" if number > MOST_BESIDE_IGRAPH else two_digits(number)
 
 
 def batch_of(chance, version, count):

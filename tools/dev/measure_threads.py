@@ -21,6 +21,9 @@ FILTER = ("code filter 32 6113000000000000611404000000000061150c0000000000611610
           "0000ad650b0000000000bf30000000000000af400000000000005f700000000000001500040000000000270000001f0000000f800000000000007700"
           "0000030000000500020000000000bf5000000000000067000000040000000f400000000000009500000000000000")
 RUN = "run filter a sum 100000000f000000e803000000000000"
+# The number that a column has for an edge's target, and commands that lend the column, each with the program.
+NUMBER = "code number 32 79101800000000009500000000000000"
+LENDING = ("pull", "push", "each")
 
 
 class Served:
@@ -89,6 +92,17 @@ def run_seconds(program, workers, vertices):
     return statistics.median(times)
 
 
+def lending_seconds(program, workers, command):
+    """A command that reads a column and writes another."""
+    times = []
+    with loaded(program, workers, VERTICES) as served:
+        served.send(NUMBER, f"column x 0 {' '.join(map(str, range(SOURCES)))}", "column y 0 0")
+        for _ in range(RUNS):
+            served.rest()
+            times.append(served.seconds(f"{command} number a sum - x y", command.encode()))
+    return statistics.median(times)
+
+
 def publication_seconds(program, workers):
     """Each batch has as many edits in each range."""
     choice, edits = random.Random(2), MOST_EDITS * RANGE // VERTICES
@@ -107,6 +121,7 @@ def measure(program):
     for what, seconds in (
         (f"a filter over {SOURCES * TARGETS:,} edges of {SOURCES:,} vertices", lambda workers: run_seconds(program, workers, SOURCES)),
         (f"the same, of {VERTICES:,} vertices", lambda workers: run_seconds(program, workers, VERTICES)),
+        *((f"a {command} of a column of these", lambda workers, command=command: lending_seconds(program, workers, command)) for command in LENDING),
         (f"the publication of {MOST_EDITS:,} edits in all ranges", lambda workers: publication_seconds(program, workers)),
     ):
         found = [seconds(workers) for workers in WORKERS]

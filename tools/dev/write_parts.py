@@ -11,6 +11,7 @@
     made: modules CRATE      the first sentence of each module of a crate, from its `//!`
     made: classes PATH       the classes of a file in Python, with what they say
     made: reading            the reading list, of count_reading.py
+    made: rounds PATH COLUMN MARK BEGIN  the frontier and a column of a script, round by round
     made: follow WORD ..     the files that name the words, with the definitions and functions that do, by crate
 """
 import ast
@@ -18,6 +19,8 @@ import re
 import subprocess
 import sys
 import textwrap
+
+from write_rounds import rounds
 
 MADE = re.compile(r"(^<!-- made: (\w+)(?: ([^\n]*))? -->\n).*?(?=^<!-- end -->)", re.S | re.M)
 LANGUAGES = {".py": "python", ".c": "c", ".h": "c", ".rs": "rust", ".rt": "rust"}
@@ -256,7 +259,7 @@ def follow(pages, words):
     return ["", *lines, *([pages.wrapped(f"- outside: {', '.join(outside)}", "  ")] if outside else []), ""]
 
 
-KINDS = {"calls": calls, "crate": crate, "file": file, "part": part, "clauses": clauses, "edits": edits, "programs": programs, "modules": modules, "classes": classes, "times": times, "reading": reading, "follow": follow}
+KINDS = {"calls": calls, "crate": crate, "file": file, "part": part, "clauses": clauses, "edits": edits, "programs": programs, "modules": modules, "classes": classes, "times": times, "reading": reading, "rounds": rounds, "follow": follow}
 
 
 def written(pages, text):

@@ -89,6 +89,8 @@ def walk(code, length, table):
 
 OBSTACLES = {"store": "stores to memory", "local": "calls a function", "helper": "calls gather"}
 GATHER = 5
+# Too many live functions, instructions, and pairs: rules that no single instruction breaks.
+OF_THE_WHOLE = (6, 7, 18)
 SLOTS_BYTES = 128
 
 
@@ -123,7 +125,8 @@ def main(length, code, table=b""):
         bound, frames, _ = verify(code, length, table)
     except Refused as refused:
         instruction, state = walk(code, length, table)
-        print(f"refused at {refused.pc}: {instruction}\nrule {refused.cause}: {CAUSES[refused.cause]}")
+        place = "as a whole" if refused.cause in OF_THE_WHOLE else f"at {refused.pc}: {instruction}"
+        print(f"refused {place}\nrule {refused.cause}: {CAUSES[refused.cause]}")
         for register in operands(instruction) if instruction else ():
             value = state.registers[register]
             print(f"known of r{register}: {'nothing' if value == UNSET else value_text(value)}")

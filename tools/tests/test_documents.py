@@ -150,3 +150,16 @@ class ProgramsOfTheDocuments(unittest.TestCase):
         run = run_tool(tool.removeprefix("tools/"), str(self.source), *words, "--on", str(self.graph))
         # Twice the source, exclusive or twice the degree of the target: 0 ^ 2, 0 ^ 0 and 2 ^ 0.
         self.assertIn("run t last edges 3 total 4\nrow 0 2\nrow 1 2\n", run.stdout)
+
+    def test_the_program_with_columns(self):
+        self.source.write_text("#include <edgebpf.h>\n" + "\n".join(BLOCKS))
+        words = ["--argument", (4).to_bytes(8, "little").hex()]
+        for name, numbers in (("risk", "3 9 4 7"), ("land", "1 1 2 2")):
+            path = self.source.with_name(name)
+            path.write_text(numbers.replace(" ", "\n") + "\n")
+            words += ["--column", f"{name}={path}"]
+        run = run_tool("edgebpf-c", str(self.source), "scored_risk", "56", *words, "--on", str(self.graph))
+        # 9 and twice 4 of vertex 0, and twice 4 of vertex 1.
+        self.assertIn(" total 25\nrow 0 17\nrow 1 8\n", run.stdout, run.stderr)
+        run = run_tool("edgebpf-c", str(self.source), "scored_risk", "40", *words, "--on", str(self.graph))
+        self.assertEqual((run.stdout, run.returncode), ("", 1))

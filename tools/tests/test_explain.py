@@ -4,13 +4,20 @@ import html.parser
 import os
 import pathlib
 import stat
+import sys
 import tempfile
 import unittest
+import unittest.mock
 
 from tools_here import TOOLS, run_tool
 
-from edgebpf_tools.explain_page import labels, page, read, ways
-from edgebpf_tools.words import CAUSES, HELP, in_words, words_of
+sys.path.append(str(TOOLS.parent / "tests/second_implementation"))
+
+from assembler import assemble  # noqa: E402
+
+from edgebpf_tools.explain import without_states  # noqa: E402
+from edgebpf_tools.explain_page import labels, page, read, ways  # noqa: E402
+from edgebpf_tools.words import CAUSES, HELP, in_words, words_of  # noqa: E402
 
 # A program that answers what it was asked, and with this text.
 STAND_IN = """#!/bin/sh
@@ -28,6 +35,9 @@ echo "rule 4: asked with $# words, $2, and the text $(tr '\\n' '/')"
 echo "what helps: a & b"
 exit 1
 """
+# Nine functions, each of which calls the next. The first instruction reads R1, which is 5 where the last passage ends.
+NEST = ("ldxw r3, [r1+0]\nmov r1, 5\njeq r3, 0, end\ncalllocal f1\nend:\nmov r0, 0\nexit\n"
+        + "".join(f"f{number}:\ncalllocal f{number + 1}\nexit\n" for number in range(1, 8)) + "f8:\nmov r0, 0\nexit\n")
 IN_BLOCKS = "runs in blocks of edges, edge by edge where one gives up"
 SOURCE = "lddw r6, 7\ncalllocal f  ; a call\n\nexit\nf:\njlt r1, 2 < 3\n"
 
@@ -148,6 +158,12 @@ class Explain(unittest.TestCase):
             self.assertEqual(read(text).end, ["accepted, bound 2, frames 1", pace])
             self.assertIn(f'<div class="verdict"><p>accepted, bound 2, frames 1</p><p>{pace}</p></div>', page(text))
 
+    def test_refused_as_a_whole(self):
+        """No value breaks such a rule, so none is shown, whatever the program tells."""
+        head, end = "program of 1 units, records of 16 bytes\n0: exit\n", "rule 6: too deep\nknown of r1: 5\nknown of frame 0: no byte is set\nwhat helps: x\n"
+        self.assertEqual(without_states(f"{head}refused as a whole\n{end}"), f"{head}refused as a whole\nrule 6: too deep\nwhat helps: x\n")
+        self.assertEqual(without_states(f"{head}refused at 0: exit\n{end}"), f"{head}refused at 0: exit\n{end}")
+
     def test_from_the_shell(self):
         """The last program of a name, refused or not, by its code or its text."""
         sent = "graph 4\ncode c 16 61100d00000000009500000000000000\nprogram p 17\nmov r0, 7\nexit\nend\n"
@@ -176,6 +192,15 @@ class RealRefusals(unittest.TestCase):
             self.assertIn(f"\nrefused at {place}: ldxw r0, [r1+13]\nrule 11: ", run.stdout)
             self.assertIn("\nknown of r1: record+0\nwhat helps: ", run.stdout)
             self.assertTrue(run.stdout.splitlines()[-1].startswith("what helps: "), run.stdout)
+
+    def test_a_nest_of_nine_functions(self):
+        """It is refused as a whole, as the second implementation has it, and no register is shown."""
+        said = run_tool("edgebpf-explain", "16", text=NEST).stdout.splitlines()
+        self.assertEqual(said[-3:-1], ["refused as a whole", f"rule 6: {CAUSES[6]}"])
+        code = assemble(NEST).hex()
+        with unittest.mock.patch.dict(os.environ, {"EDGEBPF_EXPLAIN": str(TOOLS / "tests" / "second_explain.py")}):
+            second = run_tool("edgebpf-explain", "16", code).stdout.splitlines()
+        self.assertEqual(second[-3:-1], said[-3:-1])
 
     def test_how_edges_run(self):
         """What blocks cannot do, the first of it by its unit; and a switch of which a run passes over most."""

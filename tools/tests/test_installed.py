@@ -91,6 +91,31 @@ class Built(unittest.TestCase):
             self.assertIn(f"./link edgebpf {here}/edgebpf\n", make("-n", "-B", f"MACHINE={machine}", f"{here}/edgebpf"))
 
     @unittest.skipUnless(shutil.which("cc"), "there is no cc")
+    def test_a_text_that_was_not_proved(self):
+        """It is named, and nothing is made of it: neither a changed text, nor one whose sum PROVED has for another name."""
+        machine = "-aarch64" if platform.machine() == "aarch64" else ""
+        for name in ("libedgebpf", "edgebpf"):
+            text = f"{name}{machine}.s"
+            for is_changed in (True, False):
+                folder = self.room / f"{name}{is_changed}"
+                folder.mkdir()
+                for path in (TOP / "dist").iterdir():
+                    (folder / path.name).symlink_to(path)
+                for copied in ("link", "PROVED", text):
+                    (folder / copied).unlink()
+                    shutil.copy(TOP / "dist" / copied, folder / copied)
+                if is_changed:
+                    with open(folder / text, "a") as stream:
+                        stream.write("# one line more\n")
+                else:
+                    proved = (folder / "PROVED").read_text()
+                    (folder / "PROVED").write_text(re.sub(rf"^text of {text[:-2]}: \w+$", f"text of {text[:-2]}: {'0' * 64}", proved, flags=re.M))
+                run = subprocess.run([folder / "link", name, self.room / "made.so"], capture_output=True, text=True)
+                told = f"{name}: dist/{text} is not the file that dist/PROVED names, so it is not built\n"
+                self.assertEqual((run.stdout, run.stderr, run.returncode), ("", told, 1))
+                self.assertFalse((self.room / "made.so").exists())
+
+    @unittest.skipUnless(shutil.which("cc"), "there is no cc")
     def test_a_compiler_with_more_words(self):
         for compiler in ("env cc", " cc -g0"):
             made = self.room / f"{len(compiler)}.so"

@@ -10,6 +10,7 @@ sys.path.insert(0, str(TOOLS / "dev"))
 import write_manual  # noqa: E402
 import write_pages  # noqa: E402
 import write_parts  # noqa: E402
+import write_rounds  # noqa: E402
 
 
 class Manual(unittest.TestCase):
@@ -37,6 +38,16 @@ class Parts(unittest.TestCase):
     def test_a_file_from_a_line_to_another(self):
         shown = write_parts.file(write_pages, "examples/first.script batch A ... + 0 2")
         self.assertEqual(shown, ["```", "batch A", "+ 0 1", "+ 0 2", "```"])
+
+    def test_the_rounds_of_a_script(self):
+        """By hand: the steps from vertex 0 over 0-1, 0-2, 1-3, 2-3 and 3-0, and the vertices that go if each has to keep two neighbours."""
+        shown = write_parts.KINDS["rounds"](write_pages, "examples/search.script steps - push")
+        self.assertEqual([line.split() for line in shown[1:-1]], [
+            ["round", "frontier", *"01234"], ["0", *"0----"], ["1", "0", "0", "+1", "+1", "-", "-"], ["2", "1", "2", "0", "1", "1", "+2", "-"], ["3", "3", *"0112-"],
+        ])
+        shown = write_parts.KINDS["rounds"](write_pages, "examples/cores.script left gone each goes")
+        frontiers = [line[7:7 + write_rounds.FRONTIER_WIDTH].strip() for line in shown[3:-1]]
+        self.assertEqual(frontiers, ["7", "4 5 6", "3", "none", "0 1 2"])
 
     def test_a_part_of_a_file_by_its_name(self):
         shown = write_parts.part(write_pages, "examples/refused.c data")

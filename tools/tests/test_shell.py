@@ -1,8 +1,11 @@
 """edgebpf-shell: what it tells of lines before they are sent, what it sends, and how a session is taken up again."""
+import functools
 import importlib.util
+import itertools
 import os
 import pathlib
 import pty
+import resource
 import select
 import signal
 import subprocess
@@ -391,6 +394,23 @@ class EdgebpfShell(unittest.TestCase):
         run = run_tool("edgebpf-shell", "--journal", str(self.folder / "journal"), text="")
         self.assertEqual((run.stdout, run.returncode, len(run.stderr.splitlines())), ("", 1, 1))
         self.assertIn("no journal that can be taken up", run.stderr)
+
+    def test_a_journal_that_becomes_too_long(self):
+        """It keeps the whole commands before the one that has no room, however much of that was written, and is taken up again."""
+        journal, batch = self.folder / "journal", "batch A\n+ 0 1\nend\n"
+        commands = [BEGUN.partition("pin")[0], "pin a\n", *[batch] * 30]
+        for most in (40, len(BEGUN), 200, 333, 512):
+            journal.write_text("")
+            run = run_tool("edgebpf-shell", "--journal", str(journal), text="".join(commands),
+                           preexec_fn=functools.partial(resource.setrlimit, resource.RLIMIT_FSIZE, (most, most)))
+            self.assertEqual((run.stderr, run.returncode), ("", 1))
+            self.assertIn(f"{journal}: File too large; the session goes on without its journal\n", run.stdout)
+            self.assertIn("batch A version 31 added 0 removed 0\n", run.stdout)
+            ends = itertools.accumulate(("graph 4\n", "batch A\n+ 0 1\n+ 0 2\n+ 1 2\nend\n", *commands[1:]))
+            kept = [text for text in ends if len(text) <= most]
+            self.assertEqual(journal.read_text(), kept[-1])
+            again = self.said("home 0\n", "--journal", str(journal))
+            self.assertIn(f"taken up again: {kept[-1].count(chr(10))} lines of {journal}\n", again)
 
     def test_store_that_ends(self):
         (self.folder / "store").write_text("#!/bin/sh\nread line\necho \"$line\"\nexit 3\n")

@@ -169,6 +169,14 @@ class EdgebpfSpread(unittest.TestCase):
         own = self.spread(graph=graph, program=OWN_DEGREE)
         self.assertEqual((own.stdout, own.stderr), ("run o last edges 3 total 5\nrow 0 4\nrow 299 1\n", ""))
 
+    def test_many_sources_with_long_numbers(self):
+        """12,000 vertices of seven digits: they are more than a line of a run may have."""
+        sources = range(1_000_000, 1_012_000)
+        graph = "graph 1048576\nbatch A\n" + "".join(f"+ {source} {source % 7}\n" for source in sources) + "end\n"
+        whole = self.spread("--whole", "--processes", "1", graph=graph).stdout.splitlines()
+        self.assertEqual(whole[0], f"run t last edges 12000 total {sum(source % 7 for source in sources)}")
+        self.assertEqual(whole[1:], [f"row {source} {source % 7}" for source in sources])
+
     def test_errors(self):
         self.assertIn("line 2: `pin` makes no graph", self.spread(graph="graph 3\npin a\n").stderr)
         self.assertIn("no line makes a graph", self.spread(graph="# nothing\n").stderr)
