@@ -35,13 +35,7 @@ def explain(length, code=None, text=None, is_asked_for=False, table=None):
         run = subprocess.run([*command(), *words], input=text or "", stdout=subprocess.PIPE, text=True, env=environment)
     except OSError as error:
         raise Refusal(f"{error.filename}: {error.strerror}") from None
-    return without_states(run.stdout), run.returncode
-
-
-def without_states(told):
-    """What is told, less what is known of registers where a program is refused as a whole: no value breaks such a rule."""
-    head, whole, end = told.partition("\nrefused as a whole\n")
-    return head + whole + "".join(line for line in end.splitlines(keepends=True) if not line.startswith("known of "))
+    return run.stdout, run.returncode
 
 
 def arguments(words):

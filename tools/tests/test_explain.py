@@ -15,7 +15,6 @@ sys.path.append(str(TOOLS.parent / "tests/second_implementation"))
 
 from assembler import assemble  # noqa: E402
 
-from edgebpf_tools.explain import without_states  # noqa: E402
 from edgebpf_tools.explain_page import labels, page, read, ways  # noqa: E402
 from edgebpf_tools.words import CAUSES, HELP, in_words, words_of  # noqa: E402
 
@@ -157,12 +156,6 @@ class Explain(unittest.TestCase):
             text = f"program of 2 units, records of 16 bytes\n0: mov r0, 1\n1: exit\naccepted, bound 2, frames 1\n{pace}\n"
             self.assertEqual(read(text).end, ["accepted, bound 2, frames 1", pace])
             self.assertIn(f'<div class="verdict"><p>accepted, bound 2, frames 1</p><p>{pace}</p></div>', page(text))
-
-    def test_refused_as_a_whole(self):
-        """No value breaks such a rule, so none is shown, whatever the program tells."""
-        head, end = "program of 1 units, records of 16 bytes\n0: exit\n", "rule 6: too deep\nknown of r1: 5\nknown of frame 0: no byte is set\nwhat helps: x\n"
-        self.assertEqual(without_states(f"{head}refused as a whole\n{end}"), f"{head}refused as a whole\nrule 6: too deep\nwhat helps: x\n")
-        self.assertEqual(without_states(f"{head}refused at 0: exit\n{end}"), f"{head}refused at 0: exit\n{end}")
 
     def test_from_the_shell(self):
         """The last program of a name, refused or not, by its code or its text."""

@@ -34,7 +34,7 @@ use Rattle.explanation.specs.declared.judgement.Judgement.TheVariants.{Accepted,
 use Rattle.explanation.specs.declared.labels.Label.TheVariants as labels
 use Rattle.explanation.specs.Labels.{label_text}
 use Rattle.explanation.specs.Starts.{starts_below}
-use Rattle.explanation.specs.Judging.{lists_states, is_of_the_whole}
+use Rattle.explanation.specs.Judging.{judges_values, lists_states, is_of_the_whole}
 use Rattle.explanation.specs.Advice.{advice_for}
 use Rattle.explanation.specs.Pieces.{newline, pieces_to}
 use Rattle.explanation.specs.Values.{state_text, frame_text, register_line}
@@ -172,7 +172,7 @@ rule_line cause = codes "rule " ++ decimal (cause_number cause) ++ codes ": " ++
 abbrev pub advice_line : Advice → List ℕ
 advice_line advice = label_text labels.Help ++ advice_text advice ++ newline
 
--- what is known where the last passage ends: a rule of values is broken there
+-- what is known where the last passage ends
 abbrev pub end_state : Option KnownPassage → Option AbstractState
 end_state None = None
 end_state (Some t) = state_at t.states.items t.last
@@ -180,9 +180,13 @@ end_state (Some t) = state_at t.states.items t.last
 abbrev pub broken_state : List KnownPassage → Option AbstractState
 broken_state passages = end_state (slice_get passages (length passages - 1))
 
+-- what a broken rule looks at: where the last passage ends, if it is a rule of values
+abbrev pub judged_state : Cause → List KnownPassage → Option AbstractState
+judged_state cause passages = if judges_values cause then broken_state passages else None
+
 abbrev pub refused_text : Program → List SourceLine → List KnownPassage → Refusal → List ℕ
 refused_text p source passages r =
-    refused_line p source r ++ (rule_line r.cause ++ (broken_lines r.cause (decoded_at p r.pc) (broken_state passages) ++ advice_line (advice_for r.cause (decoded_at p r.pc) (broken_state passages))))
+    refused_line p source r ++ (rule_line r.cause ++ (broken_lines r.cause (decoded_at p r.pc) (judged_state r.cause passages) ++ advice_line (advice_for r.cause (decoded_at p r.pc) (judged_state r.cause passages))))
 
 abbrev pub accepted_text : (bound frames : ℕ) → List ℕ
 accepted_text bound frames = label_text labels.Accepted ++ decimal bound ++ label_text labels.Frames ++ decimal frames ++ newline

@@ -16,6 +16,7 @@ ghost use Rattle.explanation.specs.Explanation.{
   set_bytes_piece,
   frame_lines,
   broken_lines,
+  judged_state,
   refused_line,
   rule_line,
   advice_line,
@@ -27,7 +28,7 @@ ghost use Rattle.explanation.specs.Explanation.{
 use crate::advice::{Advice, advice_at};
 use crate::cursor::Cursor;
 use crate::instructions::{decoded, put_instruction};
-use crate::judgement::{Judgement, is_of_the_whole};
+use crate::judgement::{Judgement, is_of_the_whole, judges_values};
 use crate::labels::{Label, words_of_label};
 use crate::listing::known_at_end;
 use crate::source::SourceLine;
@@ -288,6 +289,17 @@ fn put_advice(text: &mut String, advice: Advice) -> Result<(), AllocError>
     put(text, "\n")
 }
 
+/// What a broken rule looks at: what is known where the last passage ends, if it is a rule of values.
+fn judged(cause: Cause, passages: &[KnownPassage]) -> Option<&AbstractState>
+    ensures { option_map (λ s. s.now) result ≡ judged_state cause passages.now }
+{
+    if judges_values(cause) {
+        known_at_end(passages)
+    } else {
+        None
+    }
+}
+
 /// Writes why a program is refused.
 fn put_refusal(
     text: &mut String,
@@ -301,7 +313,7 @@ fn put_refusal(
         ≡ string_bytes text.old ++ refused_text image.now source.now passages.now refusal) }
 {
     let instruction = decoded(image, refusal.pc);
-    let state = known_at_end(passages);
+    let state = judged(refusal.cause, passages);
     put_refused_place(text, image, source, refusal)?;
     put_rule(text, refusal.cause)?;
     put_broken(text, refusal.cause, instruction, state)?;

@@ -14,7 +14,7 @@ write_all-requires-in-Err c =
     let image : IsImage c.args.image = c.code-code.ensures.image in
     let some : 0 < units c.args.image = (let one = image.code.some in omega (arith, one)) in
     let refused : verdict c.args.image ≡ verdicts.Refused c.in-Err.refusal = (elim c.in-Err.ensures.exact [
-      | inl memory ↦ absurd (c.in_ok-rule_or_memory-in-Err.ensures memory)
+      | inl memory ↦ absurd (c.in_ok-rule_or_memory-in-Err.ensures.rule memory)
       | inr rule ↦ rule
     ]) in
     let inside : c.in-Err.refusal.pc < units c.args.image = refused_inside c.args.image c.in-Err.refusal some refused in
@@ -23,7 +23,7 @@ write_all-requires-in-Err c =
 pub returns : goal.returns
 returns c =
     let refused : verdict c.args.image ≡ verdicts.Refused c.in-Err.refusal = (elim c.in-Err.ensures.exact [
-      | inl memory ↦ absurd (c.in_ok-rule_or_memory-in-Err.ensures memory)
+      | inl memory ↦ absurd (c.in_ok-rule_or_memory-in-Err.ensures.rule memory)
       | inr rule ↦ rule
     ]) in
     let told : string_bytes c.in_ok-text-in-Err.text ≡ explanation_text c.in-Err.image c.args.source.now c.deref-in-Err.result.now (Refused c.in-Err.refusal) = c.in_ok-text-in-Err.ensures in
