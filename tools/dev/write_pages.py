@@ -52,9 +52,7 @@ Some words say more than their clauses:
 | `lend_held`, `lend_from_held`, `edgebpf_version_lend`, `edgebpf_version_lend_from` | that slices stay; they are tested |
 | `Session::perform` | what a session holds after `Store` of a batch, and that another batch than the held one is answered so |
 | `do_job` | which part of the frontier a worker has, and what it does where no thread can be started; that threads are inside at once is tested |
-| `Refusal::rule_or_memory` | that a refusal for any other cause is no error |
 | `source_lines` | that each line is an instruction of the code |
-| `explain` | that the values of a program that is refused by cause 6 are those before the instruction that it names: they are not |
 """
 
 DEFINITIONS_HEAD = f"""\

@@ -44,6 +44,5 @@ pub use parts::map_some;
 pub use pushes::{push_some, push_whole};
 pub use reducing::{combine, nothing};
 pub use rows::Rows;
-pub use running::number_for_edge;
 pub use verifier::Verified;
 pub use version::Version;

@@ -8,14 +8,12 @@ ghost use Rattle.map_model.specs.declared.limits.TheConstants.{EDGE_BYTES, COLUM
 ghost use Rattle.verifier.specs.Walks.{longest};
 ghost use Rattle.verifier.specs.Writing.{KeepsRecords};
 ghost use Rattle.edge_fold.specs.Numbers.{record_bytes, BeginAlike, span_numbers};
-ghost use Rattle.edge_fold.specs.Kept.{IsFor};
 ghost use Rattle.bpf_runs.specs.Held.{HoldsTable};
 ghost use Rattle.edge_fold.specs.Inputs.{inputs_of, end_bytes, edge_bytes};
 
 use crate::edge::Edge;
 use crate::ends::write_ends;
 use crate::mapped::Mapped;
-use crate::memory::Memory;
 use crate::reducing::{combine, nothing};
 use crate::span::Span;
 use bpf_runs::{RECORD_ROOM, run_in_memory};
@@ -176,17 +174,4 @@ pub(crate) fn number_alone(mapped: &Mapped<'_>, memory: &mut bpf_runs::Memory, e
         targets: &targets,
     };
     fold_span(mapped, memory, Reduction::Max, span)
-}
-
-/// The exit number of an edge of a version. Its record is written into the memory that is lent, which is one for this program;
-/// what else that memory held before does not matter. The call allocates nothing.
-pub fn number_for_edge(mapped: &Mapped<'_>, memory: &mut Memory, edge: Edge) -> u64
-    requires degree { edge.degree ≡ degree (graph_of mapped.now.version.now) edge.source }
-    requires memory { IsFor mapped.now.program.now memory.old }
-    ensures number { let m = mapped.now in let p = m.program.now in let g = graph_of m.version.now in
-        let bytes = input_record g edge.source edge.target edge.place (inputs_of m) in
-        number_for p (longest p) g bytes ≡ Some result }
-    ensures memory { IsFor mapped.now.program.now memory.new }
-{
-    number_alone(mapped, &mut memory.run, edge)
 }

@@ -80,7 +80,7 @@ returns-in-Err-clause-stopped c =
     let lt : c.loop-pc.pc < function_end c.args.image.now c.args.entry = omega (arith, end, c.loop-pc-test.true) in
     let below : c.loop-pc.pc < units c.args.image.now = omega (arith, lt, most) in
     elim (c.in-Err.ensures.gone (passage_at c.args.entry c.args.frame c.args.known) [] (c.from-end.result - 1) refl c.loop-pc.invariant.1 c.loop-pc.invariant.0) [
-      | inl memory ↦ absurd (c.in_ok-rule_or_memory-in-Err.ensures memory)
+      | inl memory ↦ absurd (c.in_ok-rule_or_memory-in-Err.ensures.rule memory)
       | inr here ↦ done_broken c.args.image.now (passage_at c.args.entry c.args.frame c.args.known) c.loop-pc.pc c.in-Err.refusal below here
     ]
 
@@ -139,7 +139,7 @@ returns-in-Err-go_through-clause-stopped c =
     let h : IsAtCall c.args.image.now (calls_of c.args.image.now (passage_at c.args.entry c.args.frame c.args.known)) (passage_at c.args.entry c.args.frame c.args.known) [] c.loop-pc.pc (function_end c.args.image.now c.args.entry - 1) c.visit.new.states.items c.visit.new.exits c.in-Some.begins c.in-Some.known = rw (end, c.in-Some.is) at (c.in-Ok.ensures.gone (passage_at c.args.entry c.args.frame c.args.known) [] (c.from-end.result - 1) refl c.loop-pc.invariant.1 c.loop-pc.invariant.0) in
     let begins = callee_begins c.args.image.now (calls_of c.args.image.now (passage_at c.args.entry c.args.frame c.args.known)) (passage_at c.args.entry c.args.frame c.args.known) [] c.visit.new.states.items c.loop-pc.pc c.in-Some.begins c.visit.new.exits c.in-Some.known passed c.requires.inside c.loop-pc.invariant.1 lt h in
     elim c.in-Err-go_through.ensures.comes [
-      | inl memory ↦ absurd (c.in_ok-rule_or_memory-in-Err-go_through.ensures memory)
+      | inl memory ↦ absurd (c.in_ok-rule_or_memory-in-Err-go_through.ensures.rule memory)
       | inr is ↦ broken_by c.args.image.now (passage_at c.args.entry c.args.frame c.args.known) [] c.visit.new.states.items c.loop-pc.pc (function_end c.args.image.now c.args.entry - 1) c.in-Some.begins (c.args.frame + 1) c.visit.new.exits c.in-Some.known c.in_ok-again.again c.in-Err-go_through.refusal below h refl begins.0 c.in_ok-again.ensures is
     ]
 
