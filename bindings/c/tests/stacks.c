@@ -1,7 +1,8 @@
 /* What each call takes of a thread's stack, which is painted before: at most 220 KB to make or to share a program, 20 KB for any other, and 4 KB
-   more for a range. The graph has a list of each home, and programs call eight functions and run by blocks. */
+   more for a range. A program keeps at most 100 KB of memory. The graph has a list of each home, and programs call eight functions and run by blocks. */
 #define _GNU_SOURCE
 #include "check.h"
+#include <malloc.h>
 #include <pthread.h>
 
 enum { STACK = 1 << 20, PAINT = 0xa5, TO_MAKE = 220 << 10, ELSE = 20 << 10, TO_RANGE = ELSE + sizeof(uint32_t[EDGEBPF_WINDOW]) };
@@ -131,6 +132,14 @@ static void begin_all(void) {
 
 typedef struct { const char *name; call *call, *after; size_t most; } row;
 
+/* A program keeps its code, and what its runs work on. */
+static void keeps_little(void) {
+    const size_t before = mallinfo2().uordblks;
+    share_program();
+    CHECK(mallinfo2().uordblks - before <= 100 << 10);
+    edgebpf_close_program(&again);
+}
+
 int main(void) {
     const row rows[] = {
         {"store_new", make_store, close_store, ELSE}, {"store_of", branch, close_store, ELSE}, {"copy", copy, nothing, ELSE},
@@ -149,6 +158,7 @@ int main(void) {
     };
     size_t most = 0, made_of = 0;
     begin_all();
+    keeps_little();
     /* The first thread finds the system's functions. */
     taken(nothing);
     const size_t none = taken(nothing);
