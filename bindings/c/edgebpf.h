@@ -197,7 +197,7 @@ uint32_t edgebpf_version_lists(edgebpf_version *version, const uint32_t *frontie
 
 /* Verifies a program for records of 16 to 256 bytes. Its runs read the table of 1 to 4,096 bytes from the address that R3 holds when
    they begin; with EDGEBPF_NO_BYTES and 0 there is none. RECORD_LENGTH, CODE_LENGTH, TABLE_LENGTH, REFUSED (then `verdict` says
-   why), tested in this order. This call and the next one take 192 KB of the thread's stack. */
+   why), tested in this order. This call and the next one take 220 KB of the thread's stack. */
 uint32_t edgebpf_program_new(uint16_t record_length, const uint8_t *code, size_t code_length, const uint8_t *table,
                              size_t table_length, edgebpf_verdict *verdict, edgebpf_program *out);
 

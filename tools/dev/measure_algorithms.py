@@ -1,11 +1,12 @@
 #!/usr/bin/python3
 """Measures `edgebpf.algorithms` beside scipy and igraph in one process, and what an update after a batch costs beside the whole answer.
 
-    tools/dev/measure_algorithms.py [--scales 18,20] [--rounds 3] [--only WORD]   prints the tables
-    tools/dev/measure_algorithms.py --write                                       and writes them into docs/SPEED.md, with date and commit
+    tools/dev/measure_algorithms.py [--graphs 18:7.63,20:7.63] [--rounds 3] [--only WORD]   prints the tables
+    tools/dev/measure_algorithms.py --by-rounds [--graphs 20:3.815,20:15.26]                 prints the table of rounds of programs
+    .. --write                                                                and writes what it prints into docs/SPEED.md, with date and commit
 
-Graphs are recursive matrices (57, 19, 19 and 5 %) whose vertices' numbers were mixed, mirrored and without loops: 2^18 vertices with some
-2,000,000 edges, or 2^20 with 8,000,000. Times are CPU time of this process, the least of some rounds in which each form has its turn. Each answer
+Graphs are recursive matrices (57, 19, 19 and 5 %) whose vertices' numbers were mixed, mirrored and without loops, each told by the power of two that
+it has vertices, and its edges for each vertex: 20:7.63 has 1,048,576 and 8,000,000. Times are CPU time of this process, the least of some rounds in which each form has its turn. Each answer
 is compared with the peer's. Debian's packages: python3-numpy python3-cffi python3-scipy python3-igraph.
 """
 import argparse
@@ -23,18 +24,19 @@ import numpy as np
 sys.dont_write_bytecode = True
 TOP = pathlib.Path(__file__).resolve().parent.parent.parent
 sys.path[:0] = [str(TOP / "bindings" / "python"), str(TOP / "examples" / "cookbook")]
-EDGES_OF_A_VERTEX = 7.63
+GRAPHS, GRAPHS_OF_ROUNDS = "18:7.63,20:7.63", "20:3.815,20:15.26"
 # Where the shares of the quarters end: top left, top right, bottom left.
 QUARTERS = (0.57, 0.76, 0.95)
 BATCH, ROUNDS_OF_RANKS = 65_536, 20
 BEGIN, END = "<!-- measured by tools/dev/measure_algorithms.py -->\n", "<!-- end of the measured tables -->\n"
+BEGIN_ROUNDS, END_ROUNDS = "<!-- measured by tools/dev/measure_algorithms.py --by-rounds -->\n", "<!-- end of the measured rounds -->\n"
 EDITS = (10, 100, 1_000, 10_000)
 
 
-def graph_of(scale, seed=1):
+def graph_of(scale, edges_of_a_vertex, seed=1):
     """The ends of a mirrored graph, each edge once."""
     chance, count = np.random.default_rng(seed), 1 << scale
-    wanted, keys = int(count * EDGES_OF_A_VERTEX / 2), np.empty(0, np.int64)
+    wanted, keys = int(count * edges_of_a_vertex / 2), np.empty(0, np.int64)
     mixed = chance.permutation(count)
     while len(keys) < wanted:
         sources, targets = np.zeros((2, wanted), np.int64)
@@ -92,6 +94,10 @@ class Forms:
         self.ends = np.column_stack([self.sources[keep], targets[keep]])
         self.peer = igraph.Graph(n=self.count, edges=self.ends)
         self.hub = int(np.argmax(np.diff(starts)))
+
+    def words(self):
+        degrees = self.version.degrees()
+        return (f"{self.count:,} vertices, {self.version.edges:,} edges, at most {degrees.max():,} of a vertex, {int((degrees == 0).sum()):,} without one")
 
     def rows(self):
         a, v, matrix, peer = self.algorithms, self.version, self.matrix, self.peer
@@ -214,15 +220,6 @@ def beside_rounds(forms, rounds):
         yield title, (*least, counted(forms.version, by_rounds))
 
 
-def rounds_table(found):
-    lines = ["", "The same by rounds of programs, as the cookbook has them, with equal answers; a round is a run or a push. A bold figure is above three",
-             "times igraph's:", "",
-             "| CPU seconds | ready made | by rounds | igraph | by rounds : igraph | rounds | a round, milliseconds |", "|---|---|---|---|---|---|---|"]
-    for title, graphs in found.items():
-        lines.append(f"| {title} | {' | '.join('; '.join(cells) for cells in zip(*map(rounds_cells, graphs)))} |")
-    return lines
-
-
 def rounds_cells(figures):
     ready, by_rounds, peer, count = figures
     beside = ["", ""] if peer is None else [two_digits(peer), ratio(by_rounds / peer)]
@@ -281,32 +278,32 @@ def two_digits(number):
     return f"{number:.0f}" if number >= 10 else f"{number:.2g}"
 
 
-def tables(scales, rounds, only):
-    columns, beside, sizes, updates = {}, {}, [], {}
+def made(graphs):
+    """For each graph its power of two, its store and its forms. What it is goes to standard error too."""
     # The companion is loaded before the clock starts.
     import edgebpf
 
     edgebpf.algorithms.bfs(edgebpf.Store(1).pin(), 0)
-    for scale in scales:
-        sources, targets = graph_of(scale)
-        store, version = stored(sources, targets, 1 << scale)
-        degrees = version.degrees()
-        sizes.append(f"{version.vertices:,} vertices, {version.edges:,} edges, at most {degrees.max():,} of a vertex, "
-                     f"{int((degrees == 0).sum()):,} without one")
-        print(sizes[-1], file=sys.stderr, flush=True)
+    for graph in graphs.split(","):
+        scale, edges_of_a_vertex = graph.split(":")
+        store, version = stored(*graph_of(int(scale), float(edges_of_a_vertex)), 1 << int(scale))
         forms = Forms(version)
+        print(forms.words(), file=sys.stderr, flush=True)
+        yield int(scale), store, forms
+
+
+def tables(graphs, rounds, only):
+    columns, sizes, updates = {}, [], {}
+    for scale, store, forms in made(graphs):
+        sizes.append(forms.words())
         for title, least in measure(forms, rounds, only):
             columns.setdefault(title, []).append(least)
-        if not only or only == "rounds of programs":
-            for title, figures in beside_rounds(forms, rounds):
-                beside.setdefault(title, []).append(figures)
         if not only or only == "update":
-            updates[scale] = after_batches(store, version, 2 * rounds + 1, 1e-4)
+            updates[scale] = after_batches(store, forms.version, 2 * rounds + 1, 1e-4)
     lines = [f"On {'; '.join(sizes)}:", "", "| CPU seconds | edgebpf | scipy | igraph |", "|---|---|---|---|"]
     for title, least in columns.items():
         cells = ["; ".join(two_digits(one[name]) if name in one else "" for one in least).strip("; ") for name in ("edgebpf", "scipy", "igraph")]
         lines.append(f"| {title} | {' | '.join(cells)} |")
-    lines += rounds_table(beside) if beside else []
     for scale, spent in updates.items():
         heads = " | ".join(f"{count:,}" for count in EDITS)
         lines += ["", f"After a batch on the graph of {1 << scale:,} vertices, the middle of some:", ""]
@@ -318,21 +315,43 @@ def tables(scales, rounds, only):
     return "\n".join(lines) + "\n"
 
 
+def rounds_table(graphs, rounds):
+    found, sizes = {}, []
+    for _, _, forms in made(graphs):
+        sizes.append(forms.words())
+        for title, figures in beside_rounds(forms, rounds):
+            print(f"  {title}: {figures}", file=sys.stderr, flush=True)
+            found.setdefault(title, []).append(figures)
+    lines = [f"On {'; '.join(sizes)}:", "",
+             "| CPU seconds | ready made | by rounds | igraph | by rounds : igraph | rounds | a round, milliseconds |", "|---|---|---|---|---|---|---|"]
+    for title, figures in found.items():
+        lines.append(f"| {title} | {' | '.join('; '.join(cells).strip('; ') for cells in zip(*map(rounds_cells, figures)))} |")
+    return "\n".join(lines) + "\n"
+
+
 def main():
     parser = argparse.ArgumentParser(description=__doc__, formatter_class=argparse.RawDescriptionHelpFormatter)
-    parser.add_argument("--scales", default="18,20")
+    parser.add_argument("--graphs")
     parser.add_argument("--rounds", type=int, default=3)
     parser.add_argument("--only", help="rows with this word alone; update for what follows a batch")
+    parser.add_argument("--by-rounds", action="store_true")
     parser.add_argument("--write", action="store_true")
     options = parser.parse_args()
-    made = tables([int(scale) for scale in options.scales.split(",")], options.rounds, options.only)
+    if options.by_rounds:
+        text, marks = rounds_table(options.graphs or GRAPHS_OF_ROUNDS, options.rounds), (BEGIN_ROUNDS, END_ROUNDS)
+    else:
+        text, marks = tables(options.graphs or GRAPHS, options.rounds, options.only), (BEGIN, END)
     commit = subprocess.run(["git", "describe", "--always", "--dirty", "--abbrev=8", "--exclude", "*"], cwd=TOP, capture_output=True, text=True).stdout.strip()
-    said = f"Measured on {datetime.date.today()}, commit {commit}, load {os.getloadavg()[0]:.0f} on {os.cpu_count()} processors.\n\n{made}"
+    said = f"Measured on {datetime.date.today()}, commit {commit}, load {os.getloadavg()[0]:.0f} on {os.cpu_count()} processors.\n\n{text}"
     print(said)
     if options.write:
-        page = TOP / "docs" / "SPEED.md"
-        text = page.read_text()
-        page.write_text(re.sub(re.escape(BEGIN) + ".*?" + re.escape(END), lambda _: f"{BEGIN}\n{said}\n{END}", text, flags=re.S))
+        write(said, *marks)
+
+
+def write(said, begin, end):
+    page = TOP / "docs" / "SPEED.md"
+    text = page.read_text()
+    page.write_text(re.sub(re.escape(begin) + ".*?" + re.escape(end), lambda _: f"{begin}\n{said}\n{end}", text, flags=re.S))
 
 
 if __name__ == "__main__":

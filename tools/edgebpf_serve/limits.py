@@ -106,7 +106,7 @@ HELP = {
     "queue_bytes": (1, 1 << 40, "bytes of batches that may wait"),
     "group_batches": (1, 1 << 16, "batches that one sync covers at most"),
     "group_bytes": (1, 1 << 30, "bytes of batches that one sync covers at most"),
-    "programs": (1, 100_000, "programs in all; each takes 83 KB for each thread that runs it"),
+    "programs": (1, 100_000, "programs in all; each takes 100 KB for each thread that runs it"),
     "columns": (1, 10_000, "columns in all"),
     "scan_seconds": (0.0, 3_600.0, "the least seconds between two events of /watch that read the whole graph"),
 }

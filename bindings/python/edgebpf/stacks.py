@@ -1,4 +1,4 @@
-"""Calls that take more of the stack than a thread may have: 192 KB, where threads of a host may have 64 KB."""
+"""Calls that take more of the stack than a thread may have: 220 KB, where threads of a host may have 64 KB."""
 from __future__ import annotations
 
 import ctypes

@@ -1,9 +1,9 @@
 #!/usr/bin/python3
 """Random batches and programs through `edgebpf.Store`, beside sets, scipy and the second implementation. By hand:
 
-    random_stores.py [--batches N] [--seed S]
+    random_stores.py [--batches N] [--seed S] [--vertices N]
 
-Some batches come after a rebase, in a branch of the last version, or in a store of its sorted edges. After each batch the counts are those of a set, the arrays those of scipy, and one random program, half of the
+Stores have 1 to 300 vertices, or so many as are asked for, of which some 300 have edges then. Some batches come after a rebase, in a branch of the last version, or in a store of its sorted edges. After each batch the counts are those of a set, the arrays those of scipy, and one random program, half of the
 time with a table, is verified, run and asked for each edge's number, all as the second implementation has it. It ends with status 1 at the first
 difference.
 """
@@ -25,6 +25,7 @@ from programs import Programs
 from verifier import judged
 
 EDGE = 16
+FEW = (1, 2, 5, 20, 60, 300)
 # Longer programs are verified and not run: the second implementation is slow.
 MOST_STEPS = 300
 REDUCE = {"sum": lambda numbers: sum(numbers) % 2**64, "min": lambda numbers: min(numbers, default=2**64 - 1), "max": lambda numbers: max(numbers, default=0)}
@@ -39,6 +40,11 @@ def same(what, here, there):
         raise Difference(f"{what}: {str(here)[:300]} and {str(there)[:300]}")
 
 
+def same_array(what, here, there):
+    if not np.array_equal(here, there):
+        raise Difference(f"{what}: {str(here)[:300]} and {str(there)[:300]}")
+
+
 def record_of(edge, place, degree, argument):
     return b"".join(number.to_bytes(4, "little") for number in (*edge, place, degree)) + argument
 
@@ -46,14 +52,16 @@ def record_of(edge, place, degree, argument):
 class Trial:
     """One store with the set of its edges."""
 
-    def __init__(self, chance):
-        self.chance, self.vertices = chance, chance.choice([1, 2, 5, 20, 60, 300])
+    def __init__(self, chance, vertices=None):
+        self.chance, self.vertices = chance, vertices or chance.choice(FEW)
+        # The last one is always among those that have edges.
+        self.chosen = range(self.vertices) if self.vertices <= FEW[-1] else [*chance.sample(range(self.vertices - 1), FEW[-1] - 1), self.vertices - 1]
         self.store, self.edges, self.epoch, self.number = edgebpf.Store(self.vertices), set(), 0, 0
         self.programs = Programs(chance)
 
     def some_edges(self):
         most = self.chance.choice([0, 1, 8, 60])
-        return [(self.chance.randrange(self.vertices), self.chance.randrange(self.vertices)) for _ in range(self.chance.randint(0, most))]
+        return [(self.chance.choice(self.chosen), self.chance.choice(self.chosen)) for _ in range(self.chance.randint(0, most))]
 
     def begin_anew(self):
         """Goes on in a branch of the last version, or in a store of the set's edges, sorted."""
@@ -106,19 +114,18 @@ class Trial:
         matrix = sparse.csr_array((np.ones(len(self.edges), np.int8), rows), shape=(self.vertices, self.vertices))
         matrix.sort_indices()
         starts, targets = version.csr()
-        same("starts", starts.tolist(), matrix.indptr.tolist())
-        same("targets", targets.tolist(), matrix.indices.tolist())
-        vertex = self.chance.randrange(self.vertices)
+        same_array("starts", starts, matrix.indptr)
+        same_array("targets", targets, matrix.indices)
+        vertex = self.chance.choice(self.chosen)
         same("neighbours", version.neighbours(vertex).tolist(), matrix.indices[matrix.indptr[vertex]:matrix.indptr[vertex + 1]].tolist())
-        frontier = [self.chance.randrange(self.vertices) for _ in range(self.chance.choice([0, 1, 5, 2 * self.vertices]))]
+        frontier = [self.chance.choice(self.chosen) for _ in range(self.chance.choice([0, 1, 5, 2 * len(self.chosen)]))]
         chosen = matrix[frontier] if frontier else sparse.csr_array((0, self.vertices), dtype=np.int8)
         starts, targets = version.lists(frontier)
         same("starts of a frontier", starts.tolist(), chosen.indptr.tolist())
         same("lists of a frontier", targets.tolist(), chosen.indices.tolist())
         same("degrees", version.degrees(frontier).tolist(), np.diff(chosen.indptr).tolist())
-        same("all degrees", version.degrees().tolist(), np.diff(matrix.indptr).tolist())
-
-        others = [(self.chance.randrange(self.vertices), self.chance.randrange(self.vertices)) for _ in range(5)]
+        same_array("all degrees", version.degrees(), np.diff(matrix.indptr))
+        others = [(self.chance.choice(self.chosen), self.chance.choice(self.chosen)) for _ in range(5)]
         same("has_edge", [version.has_edge(*edge) for edge in others], [edge in self.edges for edge in others])
         same("neighbour", [version.neighbour(vertex, place) for place in range(version.degree(vertex))], version.neighbours(vertex).tolist())
 
@@ -147,7 +154,10 @@ class Trial:
         same("numbers", version.numbers(program, argument).tolist(), flat)
         reduction = self.chance.choice(list(REDUCE))
         result = version.run(program, reduction, argument=argument)
-        same("values", result.values.tolist(), [REDUCE[reduction](numbers.get(vertex, [])) for vertex in range(self.vertices)])
+        values = np.full(self.vertices, REDUCE[reduction]([]), np.uint64)
+        for vertex, all_of in numbers.items():
+            values[vertex] = REDUCE[reduction](all_of)
+        same_array("values", result.values, values)
         same("total", (result.edges, result.total), (len(flat), REDUCE[reduction](flat)))
 
 
@@ -155,10 +165,11 @@ def main():
     parser = argparse.ArgumentParser(description=__doc__, formatter_class=argparse.RawDescriptionHelpFormatter)
     parser.add_argument("--batches", type=int, default=1_000)
     parser.add_argument("--seed", type=int, default=1)
+    parser.add_argument("--vertices", type=int)
     options = parser.parse_args()
     done, seed = 0, options.seed
     while done < options.batches:
-        trial = Trial(random.Random(seed))
+        trial = Trial(random.Random(seed), options.vertices)
         for _ in range(min(trial.chance.randint(1, 60), options.batches - done)):
             try:
                 trial.batch()

@@ -44,6 +44,22 @@ class Native(test_package.Package):
         with self.assertRaises(TypeError):
             edgebpf.Store(4.0)
 
+    def test_greatest_graphs(self):
+        """More vertices than a script has, and as many as there may be: an edge from the last one to itself."""
+        program = edgebpf.assemble(TARGET)
+        for vertices in ((1 << 20) + 1, 1 << 28):
+            last = vertices - 1
+            with edgebpf.Store(vertices) as store:
+                self.assertEqual(store.apply([last], [last]).added, 1)
+                with self.assertRaises(edgebpf.VertexRange):
+                    store.apply([last], [vertices])
+                version = store.pin()
+                self.assertEqual((version.vertices, version.edges, version.degree(last), version.neighbour(last, 0)), (vertices, 1, 1, last))
+                self.assertEqual((version.has_edge(last, last), version.has_edge(last, last - 1)), (True, False))
+                self.assertEqual(version.neighbours(last).tolist(), [last])
+                result = version.run(program, "sum", frontier=[last, 0])
+                self.assertEqual((result.edges, result.total, result.values.tolist()), (1, last, [last, 0]))
+
     def test_feeds(self):
         """The library gets the numbers of the header, 0 to 3. No call of it tells a feed, so they are looked at on their way."""
         store, real, sent = self.store(2), edgebpf.library.load(), []

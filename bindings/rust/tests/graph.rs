@@ -197,6 +197,23 @@ fn lists_of_many_vertices_come_in_one_call() {
 }
 
 #[test]
+fn the_last_vertex_of_the_greatest_graphs() {
+    for vertices in [(1 << 20) + 1, MOST_VERTICES] {
+        let last = vertices - 1;
+        let mut store = Store::new(vertices).unwrap();
+        assert_eq!(store.apply(Feed::A, Batch::new().insert(last, last)).unwrap().added, 1);
+        assert_eq!(store.apply(Feed::A, Batch::new().insert(last, vertices)), Err(Error::VertexRange));
+        let version = store.pin().unwrap();
+        assert_eq!((version.vertices(), version.edges(), version.degree(last)), (vertices, 1, 1));
+        assert!(version.has_edge(last, last) && !version.has_edge(last, last - 1));
+        assert_eq!(version.neighbours(last).collect::<Vec<_>>(), [last]);
+        let mut values = [9, 9];
+        let totals = version.run(&program(TARGET, 16), &[], &[last, 0], Reduction::Sum, &mut values).unwrap();
+        assert_eq!((totals.edges, totals.total, values), (1, u64::from(last), [u64::from(last), 0]));
+    }
+}
+
+#[test]
 fn errors_are_told_and_change_nothing() {
     // `unwrap_err` needs a store that can be shown.
     assert_eq!(Store::new(0).unwrap_err(), Error::VertexCount);
