@@ -8,6 +8,8 @@ mod edits;
 #[cfg(test)]
 mod events;
 #[cfg(test)]
+mod gates;
+#[cfg(test)]
 mod homes;
 #[cfg(test)]
 mod maps;

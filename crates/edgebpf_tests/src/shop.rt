@@ -9,8 +9,8 @@ use std::sync::Wait;
 use std::test::Fail;
 use std::thread::Threads;
 use store::{
-    Batch, Edit, Ends, Feed, Finished, OpenGate, Pin, PinError, PublishError, Publisher, Reader,
-    Receipt, Store, StoreError, SubmitCause, SubmitError, Workers,
+    Batch, Edit, Ends, Feed, Finished, Gate, OpenGate, Pin, PinError, PublishError, Publisher,
+    Reader, Receipt, Store, StoreError, SubmitCause, SubmitError, Workers,
 };
 
 /// Whoever opens one has to close it.
@@ -76,6 +76,16 @@ impl Shop {
         rt: &R,
     ) -> Result<Option<Receipt>, PublishError> {
         self.publisher.step(rt, Workers::one(), &OpenGate)
+    }
+
+    /// Publishes one batch by workers that a gate lets in.
+    pub(crate) fn step_by<G: Gate, R: Threads + Wait>(
+        &mut self,
+        rt: &R,
+        workers: Workers,
+        gate: &G,
+    ) -> Result<Option<Receipt>, PublishError> {
+        self.publisher.step(rt, workers, gate)
     }
 
     /// Submits a batch, publishes one, and learns of it.
