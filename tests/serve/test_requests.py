@@ -753,7 +753,11 @@ class Ends(WithService):
             client.batch([(0, 1)])
             self.assertEqual(client.json("GET", "/readyz")["version"], 1)
             told = client.json("GET", "/openapi.json")
-            self.assertIn("/batches", told["paths"])
+            batches, pairs = told["paths"]["/batches"]["post"], told["paths"]["/pairs"]["post"]
+            self.assertEqual([one["name"] for one in batches["parameters"] if one["in"] == "header"], ["Idempotency-Key"])
+            self.assertEqual({one["name"] for one in pairs["parameters"]}, {"version", "format", "program", "argument", "columns"})
+            for one in (batches, pairs):
+                self.assertEqual(set(one["requestBody"]["content"]), {"application/json", "application/octet-stream"})
             text = client.ask("GET", "/metrics")[1].decode()
             counted = 'edgebpf_requests_total{route="/batches",status="200"} 1.0'
             for line in ("edgebpf_version 1.0", "edgebpf_edges 1.0", "edgebpf_sync_seconds_count 1.0", counted):
