@@ -43,10 +43,12 @@ static uint32_t live_show(struct live *live) {
     return status;
 }
 
-/* Applies a batch. A rebase that is refused, as the 1,025th is, is tried again at the next one: there is room for 4,096 batches. */
+/* Applies a batch. A rebase for which there is no memory is tried again at the next one: there is room for 4,096 batches. EDGEBPF_NO_MEMORY may
+   also come where the batch was applied, and its version is shown with the next one: `change->added` is then no longer UINT64_MAX. */
 static uint32_t live_apply(struct live *live, uint8_t feed, const struct edits *edits, edgebpf_change *change) {
     uint64_t epoch;
     size_t count = edits->count;
+    change->added = UINT64_MAX;
     pthread_mutex_lock(&live->writing);
     if ((live->batches >= live->most_batches || live->edits >= live->most_edits) && !edgebpf_store_rebase(&live->store, &epoch))
         live->batches = live->edits = 0;

@@ -13,7 +13,9 @@ import argparse
 import array
 import http.client
 import json
+import operator
 import os
+import pathlib
 import random
 import socket
 import sys
@@ -24,7 +26,12 @@ import urllib.parse
 import uuid
 
 MOST_EDITS = 65_536
-REMOVE = 1 << 31
+# An edit has 32 bits for each vertex, and the highest one of its source takes the edge out.
+EDIT_BYTES, REMOVE = 8, 1 << 31
+# The greatest number of 64 bits has so many digits.
+MOST_DIGITS = 20
+# Of a wrong word so many characters are shown.
+MOST_SHOWN = 40
 JSON, BYTES = "application/json", "application/octet-stream"
 # Statuses that ask to come again.
 LATER = (429, 503, 507)
@@ -86,7 +93,8 @@ class Client:
     def __init__(self, url, token=None, timeout=60.0, tries=8):
         self.url, self.token, self.timeout, self.tries = url, token, timeout, tries
         self.own = threading.local()
-        if not url.startswith("unix:") and urllib.parse.urlsplit(url).scheme not in ("http", "https"):
+        parts = urllib.parse.urlsplit(url)
+        if not url.startswith("unix:") and (parts.scheme not in ("http", "https") or not parts.hostname):
             raise ValueError("url is http://HOST:PORT, https://HOST:PORT or unix:PATH")
 
     # Changes
@@ -94,11 +102,8 @@ class Client:
     def batch(self, edits, key=None):
         """Edits in their order: (source, target), or (source, target, 1) to take the edge out; or bytes as the service takes them. A long
         list goes as several batches of 65,536. Returns the `Outcome` of each. key: the id, to which each further batch adds its number."""
-        if isinstance(edits, (bytes, bytearray, memoryview)):
-            data = bytes(edits)
-        else:
-            data = packed([number for edit in edits for number in (edit[0] | (REMOVE if len(edit) > 2 and edit[2] else 0), edit[1])])
-        key, size = key or uuid.uuid4().hex, 8 * MOST_EDITS
+        data = bytes(edits) if isinstance(edits, (bytes, bytearray, memoryview)) else packed_edits(edits)
+        key, size = key or uuid.uuid4().hex, EDIT_BYTES * MOST_EDITS
         parts = [data[place:place + size] for place in range(0, len(data), size)] or [b""]
         return [self._batch(part, key if number == 0 else f"{key}-{number}") for number, part in enumerate(parts)]
 
@@ -118,8 +123,7 @@ class Client:
 
     def column(self, name, numbers):
         """Puts a number for each vertex: a list, or an array of numpy or `array` with 64-bit numbers."""
-        data = numbers.astype("<u8").tobytes() if hasattr(numbers, "astype") else packed(numbers, "Q")
-        return self.json("PUT", f"/columns/{quoted(name)}", data)
+        return self.json("PUT", f"/columns/{quoted(name)}", packed_column(numbers))
 
     def drop_column(self, name):
         return self.json("DELETE", f"/columns/{quoted(name)}")
@@ -131,25 +135,27 @@ class Client:
 
     def run(self, program, reduction="sum", frontier=None, argument=b"", **more):
         """A run over a frontier, or all vertices. program: the name of a kept one, or `brought` one. more: columns (names), version."""
-        asked = {**named(program), "reduction": reduction, "frontier": listed(frontier), "argument": bytes(argument).hex()}
+        asked = {**named(program), "reduction": reduction, "frontier": listed(frontier, "frontier"), "argument": digits_of(argument, "argument")}
         return self._ask("/runs", asked, **more)
 
     def numbers(self, program, frontier, argument=b"", **more):
         """The number of each edge of a frontier: `starts`, `targets` and `numbers`."""
-        return self._ask("/numbers", {**named(program), "frontier": listed(frontier), "argument": bytes(argument).hex()}, **more)
+        asked = {**named(program), "frontier": listed(frontier, "frontier"), "argument": digits_of(argument, "argument")}
+        return self._ask("/numbers", asked, **more)
 
     def pairs(self, program, pairs, argument=b"", **more):
         """The number of each pair, which need not be an edge."""
-        return self._ask("/pairs", {**named(program), "pairs": [list(pair) for pair in pairs], "argument": bytes(argument).hex()}, **more)
+        asked = {**named(program), "pairs": [listed(pair, "pairs") for pair in pairs], "argument": digits_of(argument, "argument")}
+        return self._ask("/pairs", asked, **more)
 
     def _ask(self, path, asked, columns=(), version=None):
         return self.json("POST", path + ("" if version is None else f"?version={version}"), {**asked, "columns": list(columns)})
 
     def neighbours(self, vertex, direction="out", version=None):
         """All targets of a vertex, page by page; its sources by direction "in"."""
-        found, query = [], {"direction": direction} | ({} if version is None else {"version": version})
+        number, found, query = whole(vertex, "vertex"), [], {"direction": direction} | ({} if version is None else {"version": version})
         while True:
-            page = self.json("GET", f"/neighbours/{int(vertex)}?{urllib.parse.urlencode(query)}")
+            page = self.json("GET", f"/neighbours/{number}?{urllib.parse.urlencode(query)}")
             found += page["neighbours"]
             if "next" not in page:
                 return found
@@ -159,11 +165,11 @@ class Client:
     def around(self, vertex, steps=1, limit=24, version=None):
         """The nearest vertices that are reached from one, the edges between them, and their degrees."""
         query = {"steps": steps, "limit": limit} | ({} if version is None else {"version": version})
-        return self.json("GET", f"/around/{int(vertex)}?{urllib.parse.urlencode(query)}")
+        return self.json("GET", f"/around/{whole(vertex, 'vertex')}?{urllib.parse.urlencode(query)}")
 
     def expand(self, vertices, steps=1, limit=10_000, version=None):
         path = "/expand" + ("" if version is None else f"?version={version}")
-        return self.json("POST", path, {"vertices": listed(vertices), "steps": steps, "limit": limit})
+        return self.json("POST", path, {"vertices": listed(vertices, "vertices"), "steps": steps, "limit": limit})
 
     def edges(self, version=None):
         """All edges: (version, starts, targets), two arrays; those of vertex `u` are `targets[starts[u]:starts[u + 1]]`."""
@@ -184,7 +190,7 @@ class Client:
 
     def watch(self, program, reduction="sum", argument=b"", columns=(), after=None):
         """Events without end: all rows, then what batches changed. It connects again after a lost connection, and goes on where it was."""
-        query = {"program": program, "reduction": reduction, "argument": bytes(argument).hex(), "columns": ",".join(columns)}
+        query = {"program": program, "reduction": reduction, "argument": digits_of(argument, "argument"), "columns": ",".join(columns)}
         pause = FIRST_PAUSE
         while True:
             try:
@@ -275,8 +281,8 @@ class Client:
 
 def brought(text=None, code=None, record=16, table=b""):
     """A program that goes with a request, as text (lines, or one text) or as code. `run`, `numbers` and `pairs` take it in place of a name."""
-    form = {"text": text} if code is None else {"code": bytes(code).hex()}
-    return {**form, "record": record, "table": bytes(table).hex()}
+    form = {"text": text} if code is None else {"code": digits_of(code, "code")}
+    return {**form, "record": record, "table": digits_of(table, "table")}
 
 
 def named(program):
@@ -287,12 +293,66 @@ def quoted(name):
     return urllib.parse.quote(str(name), safe="")
 
 
-def packed(numbers, kind="I"):
-    """Numbers as bytes, the lowest byte first."""
-    data = array.array(kind, numbers)
+def whole(number, name):
+    """A number that is whole by its type. `name` is what the caller calls it."""
+    try:
+        return operator.index(number)
+    except TypeError:
+        raise TypeError(f"{name}: a whole number is wanted, not {type(number).__name__}") from None
+
+
+def digits_of(data, name):
+    """The bytes of an argument, a code or a table as hexadecimal digits."""
+    try:
+        return memoryview(data).tobytes().hex()
+    except TypeError:
+        raise TypeError(f"{name} is bytes, not {type(data).__name__}") from None
+
+
+def words_of(numbers, kind, name):
+    """An array of whole numbers of 32 or 64 bits."""
+    try:
+        return array.array(kind, numbers)
+    except TypeError:
+        raise TypeError(f"{name} are whole numbers") from None
+    except OverflowError:
+        raise ValueError(f"{name}: a number is not from 0 to 2^{32 if kind == 'I' else 64} - 1") from None
+
+
+def packed(words):
+    """The bytes of an array, the lowest byte of each number first."""
     if sys.byteorder == "big":
-        data.byteswap()
-    return data.tobytes()
+        words.byteswap()
+    return words.tobytes()
+
+
+def packed_edits(edits):
+    """Edits as bytes."""
+    edits = list(edits)
+    if not all(2 <= len(edit) <= 3 for edit in edits):
+        raise ValueError("edits: each is a source, a target, and 1 if the edge is taken out")
+    sources, targets = (words_of([edit[end] for edit in edits], "I", "the vertices of edits") for end in (0, 1))
+    if edits and max(sources) >= REMOVE:
+        raise ValueError(f"edits: the vertex {max(sources)} is not below 2^31")
+    for place, edit in enumerate(edits):
+        if len(edit) == 3 and edit[2]:
+            if edit[2] != 1:
+                raise ValueError("edits: the third number of an edit is 0 or 1")
+            sources[place] |= REMOVE
+    words = array.array("I", bytes(EDIT_BYTES * len(edits)))
+    words[0::2], words[1::2] = sources, targets
+    return packed(words)
+
+
+def packed_column(numbers):
+    """A column as bytes. An array of numpy gives them all at once."""
+    if not hasattr(numbers, "astype"):
+        return packed(words_of(numbers, "Q", "numbers"))
+    if numbers.dtype.kind not in "biu":
+        raise TypeError(f"numbers are whole numbers, not {numbers.dtype}")
+    if numbers.size and numbers.min() < 0:
+        raise ValueError("numbers: a number is not from 0 to 2^64 - 1")
+    return numbers.astype("<u8").tobytes()
 
 
 def unpacked(data, kind):
@@ -303,9 +363,9 @@ def unpacked(data, kind):
     return numbers
 
 
-def listed(numbers):
-    """A list of whole numbers, also of an array."""
-    return numbers if numbers is None else [int(number) for number in numbers]
+def listed(numbers, name):
+    """A list of whole numbers, also of an array. `name` is what the caller calls it."""
+    return numbers if numbers is None else [whole(number, name) for number in numbers]
 
 
 def told_by(content):
@@ -358,6 +418,21 @@ HELP = """talks to edgebpf-serve
 The service is --url, or EDGEBPF_URL; the token is EDGEBPF_TOKEN."""
 
 
+def is_whole(word):
+    return word.isascii() and word.isdigit() and len(word) <= MOST_DIGITS
+
+
+def whole_of(word, name):
+    """The number that a word is."""
+    if not is_whole(word):
+        raise ValueError(f"{name} is a whole number, not {word[:MOST_SHOWN]!r}")
+    return int(word)
+
+
+def vertices_of(words):
+    return [whole_of(word, "VERTEX") for word in words]
+
+
 def lines_of_numbers(count, has_marks=False):
     """The numbers of standard input's lines, each so many; an edit may begin with `-`."""
     found = []
@@ -367,8 +442,8 @@ def lines_of_numbers(count, has_marks=False):
             continue
         is_out = has_marks and words[0] == "-"
         words = words[1:] if is_out else words
-        if len(words) != count or not all(word.isascii() and word.isdigit() for word in words):
-            raise ValueError(f"line {number}: {count} whole numbers are wanted")
+        if len(words) != count or not all(map(is_whole, words)):
+            raise ValueError(f"line {number}: {count} whole {'number is' if count == 1 else 'numbers are'} wanted")
         found.append([*map(int, words), 1] if is_out else [*map(int, words)])
     return found
 
@@ -379,18 +454,24 @@ def command_batch(client, given):
 
 
 def command_program(client, given):
-    with open(given.words[1], encoding="utf-8") as file:
-        told = client.program(given.words[0], file.read(), record=given.record)
+    try:
+        text = pathlib.Path(given.words[1]).read_text("utf-8")
+    except UnicodeDecodeError:
+        raise ValueError(f"{given.words[1]} is no text") from None
+    told = client.program(given.words[0], text, record=given.record)
     print(f"program {told['name']} bound {told['bound']} frames {told['frames']} asks {told['asks']}")
 
 
 def asked_of(given):
-    return {"argument": bytes.fromhex(given.argument), "columns": given.column}
+    try:
+        return {"argument": bytes.fromhex(given.argument), "columns": given.column}
+    except ValueError:
+        raise ValueError("--argument is hexadecimal digits, two for a byte") from None
 
 
 def command_run(client, given):
     name, *vertices = given.words
-    frontier = [int(word) for word in vertices] or None
+    frontier = vertices_of(vertices) or None
     told = client.run(name, given.reduction, frontier, **asked_of(given))
     for vertex, value in zip(frontier or range(len(told["values"])), told["values"]):
         print(vertex, value)
@@ -399,7 +480,7 @@ def command_run(client, given):
 
 def command_numbers(client, given):
     name, *vertices = given.words
-    told = client.numbers(name, [int(word) for word in vertices], **asked_of(given))
+    told = client.numbers(name, vertices_of(vertices), **asked_of(given))
     for place, vertex in enumerate(vertices):
         for edge in range(told["starts"][place], told["starts"][place + 1]):
             print(vertex, told["targets"][edge], told["numbers"][edge])
@@ -421,13 +502,19 @@ def command_watch(client, given):
             print(event.version, vertex, value, flush=True)
 
 
+def command_expand(client, given):
+    steps, *vertices = given.words
+    print(*client.expand(vertices_of(vertices), whole_of(steps, "STEPS"))["vertices"])
+
+
+# Of each the least and the most words that it takes, and what it does.
 COMMANDS = {
-    "status": (0, lambda client, given: print(*(f"{name} {value}" for name, value in client.status().items()))),
-    "batch": (0, command_batch), "program": (2, command_program), "run": (1, command_run), "numbers": (2, command_numbers), "pairs": (1, command_pairs),
-    "neighbours": (1, lambda client, given: print(*client.neighbours(int(given.words[0])))),
-    "expand": (2, lambda client, given: print(*client.expand([int(word) for word in given.words[1:]], int(given.words[0]))["vertices"])),
-    "column": (1, command_column), "watch": (1, command_watch), "snapshot": (0, lambda client, given: print(f"version {client.snapshot()}")),
-    "backup": (1, lambda client, given: print(f"version {client.json('POST', '/backups', {'name': given.words[0]})['version']}")),
+    "status": (0, 0, lambda client, given: print(*(f"{name} {value}" for name, value in client.status().items()))),
+    "batch": (0, 0, command_batch), "program": (2, 2, command_program), "run": (1, None, command_run), "numbers": (2, None, command_numbers),
+    "pairs": (1, 1, command_pairs), "neighbours": (1, 1, lambda client, given: print(*client.neighbours(*vertices_of(given.words)))),
+    "expand": (2, None, command_expand), "column": (1, 1, command_column), "watch": (1, 1, command_watch),
+    "snapshot": (0, 0, lambda client, given: print(f"version {client.snapshot()}")),
+    "backup": (1, 1, lambda client, given: print(f"version {client.json('POST', '/backups', {'name': given.words[0]})['version']}")),
 }
 
 
@@ -441,9 +528,9 @@ def main():
     parser.add_argument("--column", action="append", default=[], metavar="NAME", help="a column of a run; may be said again")
     parser.add_argument("--record", type=int, default=16, metavar="BYTES", help="the length of a program's record")
     given = parser.parse_intermixed_args()
-    count, call = COMMANDS[given.command]
-    if len(given.words) < count:
-        parser.error(f"{given.command} wants {count} more words at least; see --help")
+    least, most, call = COMMANDS[given.command]
+    if not least <= len(given.words) <= (len(given.words) if most is None else most):
+        parser.error(f"{given.command} takes {least} more words{' at least' if most is None else ''}; see --help")
     try:
         with Client(given.url, os.environ.get("EDGEBPF_TOKEN")) as client:
             call(client, given)

@@ -753,12 +753,27 @@ class Ends(WithService):
             client.batch([(0, 1)])
             self.assertEqual(client.json("GET", "/readyz")["version"], 1)
             told = client.json("GET", "/openapi.json")
-            self.assertIn("/batches", told["paths"])
+            batches, pairs = told["paths"]["/batches"]["post"], told["paths"]["/pairs"]["post"]
+            self.assertEqual([one["name"] for one in batches["parameters"] if one["in"] == "header"], ["Idempotency-Key"])
+            self.assertEqual({one["name"] for one in pairs["parameters"]}, {"version", "format", "program", "argument", "columns"})
+            for one in (batches, pairs):
+                self.assertEqual(set(one["requestBody"]["content"]), {"application/json", "application/octet-stream"})
             text = client.ask("GET", "/metrics")[1].decode()
             counted = 'edgebpf_requests_total{route="/batches",status="200"} 1.0'
             for line in ("edgebpf_version 1.0", "edgebpf_edges 1.0", "edgebpf_sync_seconds_count 1.0", counted):
                 self.assertIn(line, text)
+            files = [pathlib.Path(self.data) / name for name in ("serve.db", "serve.db-wal")]
+            self.assertEqual(self.gauge(client, "journal_bytes"), sum(file.stat().st_size for file in files))
+            self.assertEqual(self.gauge(client, "snapshot_time_seconds"), 0)
+            begun = time.time()
+            client.snapshot()
+            self.assertTrue(begun - 1 <= self.gauge(client, "snapshot_time_seconds") <= time.time() + 1)
             self.assertIn(b"Programs on this graph", client.ask("GET", "/")[1])
+
+    def gauge(self, client, name):
+        """A number of /metrics."""
+        lines = client.ask("GET", "/metrics")[1].decode().splitlines()
+        return float(next(line.split()[1] for line in lines if line.startswith(f"edgebpf_{name} ")))
 
 
 def http_of(path):

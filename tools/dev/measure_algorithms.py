@@ -127,7 +127,18 @@ class Forms:
             ("labels, up to 20 rounds; igraph: in random order",
              {ours: mine("label_propagation"), igraph: peer.community_label_propagation}, None),
             ("common neighbours of 100,000 edges", {ours: mine("pair_scores", self.sources[:100_000], targets[:100_000], "common")}, None),
+            *self.proved_tests(),
         ]
+
+    def proved_tests(self):
+        """What it takes to ask whether answers are right, by the tests that are proved."""
+        a, v = self.algorithms, self.version
+        search, chosen = a.bfs(v, self.hub), a.independent_set(v, assume_mirrored=True)
+        asked = {
+            "proved test of a search": lambda: v.is_search(self.hub, search.levels, search.parents),
+            "proved test of an independent set": lambda: v.is_independent_set(chosen),
+        }
+        return [(name, {"edgebpf": call}, lambda found: agree("tests", found["edgebpf"], True)) for name, call in asked.items()]
 
     def copy(self):
         """As `csr` makes it, which keeps it."""

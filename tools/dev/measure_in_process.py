@@ -3,11 +3,13 @@
 
     tools/dev/measure_in_process.py [--batches N] [--peers scipy,igraph,networkx]
 
-Times are CPU time of this process, the best of some tries. Debian's packages: python3-numpy python3-scipy python3-igraph python3-networkx.
+Times are CPU time of this process, the best of some tries. Below the table stands how long a thread takes to get the last version of a `Live` while
+another one applies batches: 99 of 100 times within so much, by the clock. Debian's packages: python3-numpy python3-scipy python3-igraph python3-networkx.
 """
 import argparse
 import pathlib
 import sys
+import threading
 import time
 
 import numpy as np
@@ -15,6 +17,8 @@ import numpy as np
 TOP = pathlib.Path(__file__).resolve().parent.parent.parent
 sys.path.insert(0, str(TOP / "bindings" / "python"))
 VERTICES, EDITS, ASKED = 1 << 18, 65_536, 2_000
+# So often the last version is asked for beside batches, with a pause of so many seconds between.
+LOOKS, PAUSE = 10_000, 1e-4
 TARGET = "ldxw r0, [r1+4]\nexit"
 BACK = "ldxw r2, [r1+0]\nldxw r1, [r1+4]\ncall 2\nexit"
 ROWS = {
@@ -83,6 +87,38 @@ def of_edgebpf(edges, asked):
     assert int(numbers.sum()) == result.total
     assert len(targets) == degrees.sum() and (targets == np.concatenate(views)).all()
     return times, (version.edges, int(result.total), int(mutual.total))
+
+
+def beside_batches(edges):
+    """The seconds within which 99 of 100 calls get the last version, and a share of it, while another thread applies batches."""
+    import edgebpf
+
+    with edgebpf.Live(VERTICES) as live:
+        is_over = threading.Event()
+
+        def write():
+            while not is_over.is_set():
+                for sources, targets in edges:
+                    live.apply(sources, targets)
+
+        writer = threading.Thread(target=write)
+        writer.start()
+        try:
+            return [most_of(call) for call in (live.latest, lambda: live.latest().share())]
+        finally:
+            is_over.set()
+            writer.join()
+
+
+def most_of(call):
+    """The seconds within which 99 of 100 calls return."""
+    times = []
+    for _ in range(LOOKS):
+        begun = time.perf_counter()
+        call()
+        times.append(time.perf_counter() - begun)
+        time.sleep(PAUSE)
+    return sorted(times)[LOOKS * 99 // 100]
 
 
 def of_scipy(edges, asked):
@@ -169,6 +205,7 @@ def main():
     print("|---|" + "---|" * len(measured))
     for key, words in ROWS.items():
         print(f"| {words} |" + "".join(f" {shown(times.get(key))} |" for times in measured.values()))
+    print("beside batches, 99 of 100 times: the last version within {}, a share of it within {}".format(*map(shown, beside_batches(edges))))
 
 
 if __name__ == "__main__":

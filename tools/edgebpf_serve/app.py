@@ -12,7 +12,7 @@ import urllib.parse
 import edgebpf
 from aiohttp import web
 
-from edgebpf_serve.asked import Unfit
+from edgebpf_serve.asked import Unfit, look_at_query, said_media
 from edgebpf_serve.backup import remove_drafts
 from edgebpf_serve.connections import Connections, feed_watchdog, notify
 from edgebpf_serve.engine import Busy, NoRoom, OtherBatch, Stopped
@@ -100,6 +100,8 @@ async def made(service, request, route):
 async def answered(service, request, route):
     try:
         token = request["token"] = allow(service, request, route)
+        if route.query is not None and request.query_string:
+            look_at_query(request, route.query_of(said_media(request)))
         response = await route.handler(service, request, token)
     except (Gone, ConnectionError):
         response = None
@@ -183,12 +185,13 @@ async def page(service, request, token):
 def all_routes():
     return [
         *ROUTES,
-        Route("GET", "/healthz", health, None, "Whether the process is alive."),
-        Route("GET", "/readyz", ready, None, "Whether it takes batches.", (200, 503)),
-        Route("GET", "/metrics", metrics, "read", "Numbers for Prometheus."),
-        Route("GET", "/openapi.json", openapi, None, "This description."),
-        Route("GET", "/token", token_of, ANY_TOKEN, "The token's name, and what it may do."),
-        Route("GET", "/", page, None, "A page that tries programs on the graph."),
+        # Those who watch a service, and browsers, may add what they like.
+        Route("GET", "/healthz", health, None, "Whether the process is alive.", query=None),
+        Route("GET", "/readyz", ready, None, "Whether it takes batches.", (200, 503), query=None),
+        Route("GET", "/metrics", metrics, "read", "Numbers for Prometheus.", query=None),
+        Route("GET", "/openapi.json", openapi, None, "This description.", query=None),
+        Route("GET", "/token", token_of, ANY_TOKEN, "The token's name, and what it may do.", query=None),
+        Route("GET", "/", page, None, "A page that tries programs on the graph.", query=None),
     ]
 
 

@@ -18,13 +18,28 @@ class Unfit(Exception):
     """A request that is understood, and cannot be done: 422."""
 
 
+def said_media(request):
+    """The type that a request says its body has."""
+    # What aiohttp has for that takes a third of a millisecond.
+    return request.headers.get("Content-Type", "").partition(";")[0].strip().lower()
+
+
 def media_of(request, *allowed):
     """The type of a request's body. It has to be said: a body of JSON must not be taken for edits."""
-    # What aiohttp has for that takes a third of a millisecond.
-    media = request.headers.get("Content-Type", "").partition(";")[0].strip().lower()
+    media = said_media(request)
     if media not in allowed:
         raise web.HTTPUnsupportedMediaType(text=f"Content-Type is {' or '.join(allowed)}")
     return media
+
+
+def look_at_query(request, fields):
+    """Raises an error if the query has other fields than these, or one twice: what is misspelt must not be left out in silence."""
+    for name in request.query:
+        if name not in fields:
+            told = f"there are {', '.join(fields)}" if fields else "it has none"
+            raise ValueError(f"there is no field {name[:64]!r} in the query; {told}")
+        if len(request.query.getall(name)) > 1:
+            raise ValueError(f"{name} stands twice in the query")
 
 
 def object_of(body):

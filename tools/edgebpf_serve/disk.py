@@ -154,6 +154,19 @@ class Disk:
                 raise Damaged(f"the result of batch {first + place} is missing")
         return found
 
+    def journal_bytes(self):
+        """How large `serve.db` is, which has the journal, with the log that SQLite keeps beside it."""
+        return sum(path.stat().st_size for path in self.folder.glob(f"{NAME}*") if not path.name.endswith("-shm"))
+
+    def snapshot_time(self):
+        """When the newest snapshot was written, in seconds since 1970; 0 if there is none."""
+        times = [0.0]
+        for path in self.folder.glob("snapshot-*.csr"):
+            # An older one may be removed meanwhile.
+            with contextlib.suppress(FileNotFoundError):
+                times.append(path.stat().st_mtime)
+        return max(times)
+
     def cut(self, seq):
         """Deletes the first batches up to a number, within a transaction, but not so many that writers wait long. Returns whether all are gone."""
         last, size, is_all = 0, 0, True

@@ -77,6 +77,8 @@ class Service:
             ("rebases", "rebases since the start", lambda: engine.graph.rebases),
             ("snapshot_version", "the version of the newest snapshot", lambda: engine.snapshot_seq),
             ("journal_batches", "batches since the newest snapshot", lambda: engine.latest.seq - engine.snapshot_seq),
+            ("journal_bytes", "bytes of serve.db and its log, which have the journal", self.disk.journal_bytes),
+            ("snapshot_time_seconds", "when the newest snapshot was written, 0 without one", self.disk.snapshot_time),
             ("disk_is_full", "whether the last group was refused by a full disk", lambda: int(engine.is_full)),
             ("recovery_seconds", "how long the start took to recover the graph", lambda: engine.recovery_seconds),
             ("watches", "subscribers of /watch", lambda: sum(query.subscribers for query in self.standing.values())),

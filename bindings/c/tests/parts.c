@@ -307,6 +307,53 @@ static void refuses_a_long_frontier(void) {
     free(many);
 }
 
+/* A program with a bound of 946,010 instructions by local calls, all of which each run takes: functions of 21 calls, three deep, and one of 101
+   instructions. Its number is 7. */
+static void takes_the_hostile_program(edgebpf_program *program) {
+    enum { LEVELS = 3, CALLS = 21, LAST = 100 };
+    char text[8192];
+    uint8_t code[8 * 256];
+    size_t length = 0;
+    edgebpf_assembled assembled;
+    edgebpf_verdict verdict;
+    for (int level = 0; level < LEVELS; level++) {
+        length += (size_t)sprintf(text + length, "f%d:\n", level);
+        for (int call = 0; call < CALLS; call++) length += (size_t)sprintf(text + length, "calllocal f%d\n", level + 1);
+        length += (size_t)sprintf(text + length, "mov r0, 7\nexit\n");
+    }
+    length += (size_t)sprintf(text + length, "f%d:\n", LEVELS);
+    for (int place = 0; place < LAST; place++) length += (size_t)sprintf(text + length, "mov r0, 1\n");
+    length += (size_t)sprintf(text + length, "exit\n");
+    CHECK(length < sizeof text);
+    CHECK(edgebpf_assemble((const uint8_t *)text, length, code, sizeof code, &assembled) == EDGEBPF_DONE);
+    CHECK(edgebpf_program_new(16, code, assembled.length, EDGEBPF_NO_BYTES, 0, &verdict, program) == EDGEBPF_DONE);
+    CHECK(verdict.bound == 946010 && verdict.frames == 4);
+}
+
+/* A run that takes a million instructions an edge is paused after each edge, billed for it, left where it is, and ended where another one goes on. */
+static void pauses_a_hostile_program(void) {
+    const uint64_t an_edge = 946010 + 4, wanted[VERTICES] = {14, 14, 21, 14, 7, 7, 7, 0};
+    edgebpf_program hostile = {{0}};
+    edgebpf_progress at = {0}, kept;
+    uint64_t values[VERTICES];
+    takes_the_hostile_program(&hostile);
+    for (uint64_t edges = 1; edges <= 4; edges++) {
+        at.budget = 1;
+        CHECK(edgebpf_run_some(&graph, &hostile, EDGEBPF_NO_BYTES, 0, all, VERTICES, EDGEBPF_SUM, &at, values, VERTICES) == EDGEBPF_DONE);
+        CHECK(at.budget == 0 && at.edges == edges && at.total == 7 * edges);
+    }
+    at.budget = 3 * an_edge;
+    CHECK(edgebpf_run_some(&graph, &hostile, EDGEBPF_NO_BYTES, 0, all, VERTICES, EDGEBPF_SUM, &at, values, VERTICES) == EDGEBPF_DONE);
+    CHECK(at.budget == 0 && at.edges >= 7 && at.edges < 12 && at.total == 7 * at.edges);
+    /* Whoever calls no more has cancelled it. It may also be kept, and go on later: all that is left costs no more than its edges and vertices. */
+    kept = at;
+    kept.budget = 12 * an_edge;
+    CHECK(edgebpf_run_some(&graph, &hostile, EDGEBPF_NO_BYTES, 0, all, VERTICES, EDGEBPF_SUM, &kept, values, VERTICES) == EDGEBPF_DONE);
+    CHECK(stands(&kept, VERTICES, 0, 12, 84) && !memcmp(values, wanted, sizeof wanted));
+    CHECK(12 * an_edge - kept.budget <= (12 - at.edges) * an_edge + 16 * (VERTICES - at.vertex));
+    edgebpf_close_program(&hostile);
+}
+
 int main(void) {
     builds_the_graph();
     runs_edge_by_edge();
@@ -320,6 +367,7 @@ int main(void) {
     refuses_places();
     refuses_the_rest();
     refuses_a_long_frontier();
+    pauses_a_hostile_program();
     edgebpf_close_version(&graph);
     edgebpf_close_store(&store);
     edgebpf_close_program(&targets_of);

@@ -63,7 +63,11 @@ def to_scipy(version: Read, dtype: npt.DTypeLike) -> Any:
     starts, targets = version.csr()
     # Its graph functions take 32-bit indices alone.
     kind = np.int32 if version.edges <= MOST_INT32 else np.int64
-    ones, shape = np.ones(version.edges, dtype), (version.vertices, version.vertices)
+    try:
+        ones = np.ones(version.edges, dtype)
+    except (TypeError, ValueError) as error:
+        raise TypeError(f"dtype is a type of numpy's: {error}") from None
+    shape = version.vertices, version.vertices
     return package("scipy.sparse").csr_array((ones, targets.astype(kind), starts.astype(kind)), shape=shape)
 
 

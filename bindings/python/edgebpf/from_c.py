@@ -59,7 +59,8 @@ def made_line(words: Sequence[str], folder: str, cwd: str | None, seconds: float
     if status is None:
         raise Error(f"the compiler took more than {seconds:g} seconds")
     with open(f"{folder}/said", "rb") as stream:
-        said = stream.read(SAID_BYTES).decode(errors="replace").strip()
+        # A text has no folder to who gave it.
+        said = stream.read(SAID_BYTES).decode(errors="replace").strip().replace(f"{folder}/", "")
     line = pathlib.Path(folder, "out").read_text().split()
     if status or not line:
         if any(sign in said for sign in SHORT_OF_MEMORY):
@@ -76,8 +77,9 @@ def compile_c(
     marked `TABLE`, if there is one.
 
     path: the source's file, or an object file; or text: the source itself in its place. timeout: how many seconds the compiler may take;
-    it is killed then, with all that it started. Each of its processes has 1 GB of memory at most, and no file is left. Raises `Error`
-    with the compiler's or the linker's words, and `Refused`.
+    it is killed then, with all that it started. Each of its processes has 1 GB of memory at most, and no file is left. The compiler
+    reads any file that this process may read, where the source says so, and its words show lines of such a file: of strangers take code,
+    and no source. Raises `Error` with the compiler's or the linker's words, and `Refused`.
     """
     if (path is None) == (text is None):
         raise TypeError("compile_c takes either path or text")

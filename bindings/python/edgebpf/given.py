@@ -49,9 +49,12 @@ def bytes_of(value: Any, name: str) -> bytes:
     if type(value) is bytes:
         return value
     try:
-        return memoryview(value).tobytes()
-    except TypeError:
+        view = memoryview(value)
+    except (TypeError, ValueError, BufferError):
         raise TypeError(f"{name} is bytes, or an array, not {type(value).__name__}") from None
+    if "O" in view.format:
+        raise TypeError(f"{name} is bytes, or an array of numbers, not of objects")
+    return view.tobytes()
 
 
 def vertex_count(vertices: int, most: int) -> int:
@@ -129,7 +132,7 @@ def looks_like_pairs(edges: Any) -> bool:
 
 def ends_of(edges: Edges, count: int, name: str) -> Ends:
     """The sources and the targets of some edges, as many of each, if all are in the graph. `name` is what the caller calls them."""
-    if not isinstance(edges, (tuple, list, np.ndarray)) or len(edges) != 2:
+    if not isinstance(edges, (tuple, list, np.ndarray)) or getattr(edges, "ndim", 1) == 0 or len(edges) != 2:
         raise ValueError(f"{name} are a pair of arrays, the sources and the targets; for a list of pairs there is edges=")
     if looks_like_pairs(edges):
         raise ValueError(f"{name} are a pair of arrays, the sources and the targets, and this may be two edges: pass a list of pairs by edges=")
@@ -227,7 +230,7 @@ def columns_of(columns: Columns, count: int) -> list[Numbers]:
 
 def found_of(entries: npt.ArrayLike, name: str) -> Vertices:
     """What an algorithm found for each vertex, as words of 32 bits; -1 is the greatest of them, which says that there is nothing."""
-    array = np.asarray(entries)
+    array = given_array(entries, name)
     if array.ndim != 1:
         raise ValueError(f"{name} has one dimension, not {array.ndim}")
     if array.size and array.dtype.kind not in "iu":
@@ -239,7 +242,7 @@ def found_of(entries: npt.ArrayLike, name: str) -> Vertices:
 
 def members_of(marks: npt.ArrayLike, name: str) -> npt.NDArray[np.uint8]:
     """A mark for each vertex, 1 where it is true or not 0."""
-    array = np.asarray(marks)
+    array = given_array(marks, name)
     if array.ndim != 1:
         raise ValueError(f"{name} has one dimension, not {array.ndim}")
     if array.size and array.dtype.kind not in "biu":

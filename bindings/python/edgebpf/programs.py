@@ -241,7 +241,10 @@ def lines_of(text: str | Sequence[str]) -> list[str]:
         return text.replace("\r\n", "\n").split("\n")
     if isinstance(text, (bytes, bytearray)):
         raise TypeError("text is a str, or a list of lines")
-    lines = list(text)
+    try:
+        lines = list(text)
+    except TypeError:
+        raise TypeError(f"text is a str, or a list of lines, not {type(text).__name__}") from None
     if not all(isinstance(line, str) for line in lines):
         raise TypeError("text is a str, or a list of lines, each a str")
     lines = [line.removesuffix("\n").removesuffix("\r") for line in lines]

@@ -111,6 +111,9 @@ class Adapters(unittest.TestCase):
             with self.subTest(words), self.assertRaisesRegex(error, words):
                 ask()
         version = self.version({(0, 1)}, 2)
+        for wrong in ("x", 5, [1]):
+            with self.assertRaisesRegex(TypeError, "^dtype"):
+                version.to_scipy(wrong)
         version.close()
         for ask in (version.to_scipy, version.to_igraph, version.to_networkx):
             with self.assertRaises(edgebpf.Closed):

@@ -163,6 +163,10 @@ class Answers(unittest.TestCase):
         for wrong in ([0.0, 1.0, 2.0], ["0", "1", "2"]):
             with self.assertRaisesRegex(TypeError, "levels"):
                 version.is_search(0, wrong, [0, 0, 0])
+        with self.assertRaisesRegex(TypeError, "^levels are no array"):
+            version.is_search(0, [[0], [1, 2], 3], [0, 0, 0])
+        with self.assertRaisesRegex(TypeError, "^marks are no array"):
+            version.is_independent_set([[0], [1, 2], 3])
         for wrong in ([0, 1, -2], [0, 1, 1 << 32], [[0, 1, -1]]):
             with self.assertRaisesRegex(ValueError, "parents"):
                 version.is_search(0, [0, 1, -1], wrong)

@@ -50,6 +50,24 @@ class Compiled(unittest.TestCase):
         self.assertEqual(store.pin().run(mutual).values.tolist(), [1, 1, 0])
         self.assertEqual(store.pin().numbers(weighed).tolist(), [1, 3, 3])
 
+    def test_a_source_reads_files(self):
+        """What the pages say of strangers' sources is so; and no word names a folder that the caller does not know."""
+        if shutil.which("clang-19") is None:
+            self.skipTest("not there: clang-19, which knows #embed")
+        begin, end = "#include <edgebpf.h>\nTABLE static const u8 of[4] = {", "};\nu64 f(struct edge *edge, u64 length, const u8 table[4]) { return table[edge->target & 3]; }\n"
+        with tempfile.NamedTemporaryFile("w") as file:
+            file.write("word")
+            file.flush()
+            source = f'{begin}\n#embed "{file.name}"\n{end}'
+            self.assertEqual(edgebpf.compile_c(text=source, function="f").table, b"word")
+            with self.assertRaisesRegex(edgebpf.Error, "word"):
+                edgebpf.compile_c(text=f'#include "{file.name}"\n', function="f")
+        for page in (edgebpf.compile_c.__doc__, (FOLDER / "README.md").read_text()):
+            self.assertIn("any file", page)
+        with self.assertRaises(edgebpf.Error) as told:
+            edgebpf.compile_c(text=f"{begin}1, 2, 3, 4{end.replace('table[edge', 'of[edge')}", function="f")
+        self.assertRegex(str(told.exception), "^edgebpf-c: program.c:")
+
     def processes_of(self, folder):
         """The processes whose temporary files are in a folder."""
         found = []

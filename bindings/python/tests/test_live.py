@@ -89,6 +89,21 @@ class Live(unittest.TestCase):
                 live.batch("A", ([2], [2]))
         self.assertEqual((live.batch("A", ([3], [3])).version, live.numbered()[0], live.latest().has_edge(2, 2)), (4_099, 4_099, True))
 
+    def test_no_memory_after_a_rebase(self):
+        """A rebase that cannot be shown does not keep the batch from being applied, and shown."""
+        live, pinned, refused = edgebpf.Live(4, batches=1), edgebpf.Store._pinned, ["the version of the rebase"]
+        live.batch("A", ([0], [1]))
+
+        def pins(store):
+            if refused:
+                raise edgebpf.NoMemory(refused.pop())
+            return pinned(store)
+
+        with unittest.mock.patch.object(edgebpf.Store, "_pinned", pins):
+            self.assertEqual(live.batch("A", ([1], [1])), edgebpf.Counts(2, 1, 0))
+        self.assertEqual((refused, live.numbered()[0], live.latest().epoch), ([], 2, 1))
+        self.assertEqual(self.edges_of(live.latest()), [(0, 1), (1, 1)])
+
     def test_wrong_arguments(self):
         for words, error, call in (
             ("batches is 1 to 4096", ValueError, lambda: edgebpf.Live(4, batches=0)), ("batches is 1 to 4096", ValueError, lambda: edgebpf.Live(4, 4_097)),

@@ -272,12 +272,15 @@ class Package(unittest.TestCase):
             ("a program is made by", lambda: version.run(TARGET)), ("a program is made by", lambda: version.numbers(None)),
             ("vertices is a whole number", lambda: self.store("4")), ("sources are an array", lambda: store.batch("A", ([0.5], [1]))),
             ("targets are an array", lambda: store.batch("A", ([0], ["1"]))), ("targets are no array", lambda: store.batch("A", ([0], [[0], [1, 2]]))),
+            ("text is a str", lambda: edgebpf.assemble(7)), ("text is a str", lambda: edgebpf.assemble(None)),
+            ("table is bytes", lambda: edgebpf.assemble(TARGET, table=np.array([store, None]))), ("table is bytes", lambda: edgebpf.Program(bytes(8), 16, np.array(["2026"], "M8[Y]"))),
         ):
             with self.assertRaisesRegex(TypeError, f"^{words}"):
                 call()
         for words, call in (
             ("a reduction is", lambda: version.run(target, ["sum"])), ("a reduction is", lambda: version.run(target, 0)), ("a feed is", lambda: store.batch(["A"])),
-            ("a feed is", lambda: store.batch(0)), ("inserts are", lambda: store.batch("A", 5)), ("removes are", lambda: store.batch("A", removes=None)),
+            ("a feed is", lambda: store.batch(0)), ("inserts are", lambda: store.batch("A", 5)), ("inserts are", lambda: store.batch("A", np.array(5))),
+            ("removes are", lambda: store.batch("A", removes=None)),
         ):
             with self.assertRaisesRegex(ValueError, f"^{words}"):
                 call()

@@ -90,7 +90,9 @@ impl Live {
                 writer.before += writer.since;
                 writer.since = 0;
                 writer.edited = 0;
-                self.show(writer)
+                // The graph is the same, so readers may have the version before until the batch is shown, which is not applied yet.
+                let _ = self.show(writer);
+                Ok(())
             }
             Err(Error::NoMemory) if writer.since < MOST_BATCHES => Ok(()),
             Err(error) => Err(error),
