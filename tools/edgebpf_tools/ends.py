@@ -50,21 +50,21 @@ class Signals:
                 cls.take(number, None)
 
 
-def handle(handler):
-    """Sets the handler of all signals that end a process, but of those that it was started to ignore."""
-    for number in SIGNALS:
+def handle(handler, numbers=SIGNALS):
+    """Sets the handler of signals that end a process, but of those that it was started to ignore."""
+    for number in numbers:
         if signal.getsignal(number) != signal.SIG_IGN:
             signal.signal(number, handler)
 
 
-def begin(program):
-    """Has a signal end the process with its line while modules are still being imported and there is nothing to clean up."""
+def begin(program, numbers=SIGNALS):
+    """Has signals end the process with their line while modules are still being imported and there is nothing to clean up."""
 
     def end(number, _):
         os.write(2, f"{program}: {SIGNALS[number]}\n".encode())
         os._exit(SIGNALLED + number)
 
-    handle(end)
+    handle(end, numbers)
     # The tool was started with this one waiting.
     signal.pthread_sigmask(signal.SIG_UNBLOCK, {signal.SIGINT})
 
