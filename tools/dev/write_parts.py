@@ -11,6 +11,8 @@
     made: modules CRATE      the first sentence of each module of a crate, from its `//!`
     made: classes PATH       the classes of a file in Python, with what they say
     made: reading            the reading list, of count_reading.py
+    made: figures NAME       a table of docs/figures, with when it was measured
+    made: quote PATH HEAD | .. [: ROW | ..]  of the table of a document with these heads the columns below them, or of it the rows that begin so
     made: rounds PATH COLUMN MARK BEGIN  the frontier and a column of a script, round by round
     made: follow WORD ..     the files that name the words, with the definitions and functions that do, by crate
 """
@@ -20,6 +22,7 @@ import subprocess
 import sys
 import textwrap
 
+import figures as measured
 from write_rounds import rounds
 
 MADE = re.compile(r"(^<!-- made: (\w+)(?: ([^\n]*))? -->\n).*?(?=^<!-- end -->)", re.S | re.M)
@@ -201,6 +204,35 @@ def two_digits(cell):
     return cell if not cell or cell.startswith("over") else f"{float(cell):.2g}" if float(cell) < 10 else f"{float(cell):.0f}"
 
 
+def table(heads, rows):
+    return [f"| {' | '.join(heads)} |", "|---" * len(heads) + "|", *(f"| {' | '.join(cells)} |" for cells in rows)]
+
+
+def figures(pages, name):
+    when, heads, rows = measured.read(name)
+    return ["", f"Measured on {when}:", "", *table(heads, rows), ""]
+
+
+def tables_of(text):
+    """The tables of a document: for each its heads, and its rows."""
+    for found in re.findall(r"(?:^\|.*\|\n){2,}", text, re.M):
+        heads, _, *rows = [[cell.strip() for cell in line.strip("|").split(" | ")] for line in found.splitlines()]
+        yield heads, rows
+
+
+def quote(pages, words):
+    """Columns of another document's table, so that nobody types its figures again."""
+    name, _, asked = words.partition(" ")
+    heads, _, firsts = (part.strip() for part in asked.partition(" : "))
+    wanted, firsts = heads.split(" | "), [first for first in firsts.split(" | ") if first]
+    known, rows = next((known, rows) for known, rows in tables_of((pages.TOP / name).read_text()) if set(wanted) <= set(known))
+    places = [known.index(head) for head in wanted]
+    taken = [row for row in rows if not firsts or row[0].startswith(tuple(firsts))]
+    if len(taken) < len(firsts):
+        raise LookupError(f"{name} has not all rows that begin with {', '.join(firsts)}")
+    return ["", *table(wanted, [[row[place] for place in places] for row in taken]), ""]
+
+
 def reading(pages, _):
     run = subprocess.run([sys.executable, pages.TOP / "tools" / "dev" / "count_reading.py"], check=True, capture_output=True, text=True)
     return ["", *run.stdout.splitlines(), ""]
@@ -259,7 +291,7 @@ def follow(pages, words):
     return ["", *lines, *([pages.wrapped(f"- outside: {', '.join(outside)}", "  ")] if outside else []), ""]
 
 
-KINDS = {"calls": calls, "crate": crate, "file": file, "part": part, "clauses": clauses, "edits": edits, "programs": programs, "modules": modules, "classes": classes, "times": times, "reading": reading, "rounds": rounds, "follow": follow}
+KINDS = {"calls": calls, "crate": crate, "file": file, "part": part, "clauses": clauses, "edits": edits, "programs": programs, "modules": modules, "classes": classes, "times": times, "figures": figures, "quote": quote, "reading": reading, "rounds": rounds, "follow": follow}
 
 
 def written(pages, text):

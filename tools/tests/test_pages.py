@@ -1,12 +1,16 @@
 """The parts of documents that are written from the sources (`tools/dev/write_parts.py`)."""
+import pathlib
 import re
 import sys
+import tempfile
 import unittest
+import unittest.mock
 
 from tools_here import TOOLS
 
 sys.path.insert(0, str(TOOLS / "dev"))
 
+import figures  # noqa: E402
 import write_manual  # noqa: E402
 import write_pages  # noqa: E402
 import write_parts  # noqa: E402
@@ -48,6 +52,29 @@ class Parts(unittest.TestCase):
         shown = write_parts.KINDS["rounds"](write_pages, "examples/cores.script left gone each goes")
         frontiers = [line[7:7 + write_rounds.FRONTIER_WIDTH].strip() for line in shown[3:-1]]
         self.assertEqual(frontiers, ["7", "4 5 6", "3", "none", "0 1 2"])
+
+    def test_figures_of_a_file(self):
+        with tempfile.TemporaryDirectory() as folder, unittest.mock.patch.object(figures, "FIGURES", pathlib.Path(folder)):
+            figures.write("one", ("What", "Seconds"), [("a run", "0.5"), ("a list", "2")], "2026-11-30, commit 12345678, load 2")
+            shown = write_parts.figures(write_pages, "one")
+            self.assertEqual(shown, ["", "Measured on 2026-11-30, commit 12345678, load 2:", "", "| What | Seconds |", "|---|---|", "| a run | 0.5 |", "| a list | 2 |", ""])
+            figures.write("one", ("What", "Seconds"), [("a run",)])
+            self.assertRegex((pathlib.Path(folder) / "one.txt").read_text(), r"^20\d\d-\d\d-\d\d, commit [0-9a-f]{8,}, load \d+\nWhat \| Seconds\na run\n$")
+            with self.assertRaisesRegex(ValueError, "a run has not as many cells"):
+                figures.read("one")
+
+    def test_quoted_rows(self):
+        """Columns of another page's table, in the order that is asked for, and of them the rows that begin so."""
+        page = "| A | B | C |\n|---|---|---|\n| one | 1 | `x` |\n| two | 2 | y |\n\n| B | D |\n|---|---|\n| 7 | 8 |\n"
+        with tempfile.TemporaryDirectory() as folder:
+            pathlib.Path(folder, "page.md").write_text(page)
+            pages = unittest.mock.Mock(TOP=pathlib.Path(folder))
+            self.assertEqual(write_parts.quote(pages, "page.md C | A"), ["", "| C | A |", "|---|---|", "| `x` | one |", "| y | two |", ""])
+            self.assertEqual(write_parts.quote(pages, "page.md A | B : two")[3:-1], ["| two | 2 |"])
+            self.assertEqual(write_parts.quote(pages, "page.md B | D")[3:-1], ["| 7 | 8 |"])
+            for wrong in ("page.md A | B : three", "page.md A | D"):
+                with self.assertRaises((LookupError, StopIteration)):
+                    write_parts.quote(pages, wrong)
 
     def test_a_part_of_a_file_by_its_name(self):
         shown = write_parts.part(write_pages, "examples/refused.c data")
