@@ -70,6 +70,7 @@ OWN = {
         "MOST_REACHED": ("vertices of an answer of `/expand`", "400"),
         "MOST_PAGE": ("neighbours of one page", "400"),
         "MOST_IDS": ("batches whose ids are known, so that each takes effect once", "the oldest ids are forgotten"),
+        "MOST_KEPT_VERSIONS": ("versions that a service keeps", "the oldest is dropped"),
         "MOST_TRIED": ("programs that nobody keeps and that stay verified", "the oldest is verified again"),
     },
     "bindings/python/edgebpf/given.py": {"MOST_THREADS": ("`threads=` of a call in Python", "`ValueError`")},

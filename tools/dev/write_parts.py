@@ -230,7 +230,8 @@ def quote(pages, words):
     taken = [row for row in rows if not firsts or row[0].startswith(tuple(firsts))]
     if len(taken) < len(firsts):
         raise LookupError(f"{name} has not all rows that begin with {', '.join(firsts)}")
-    return ["", *table(wanted, [[row[place] for place in places] for row in taken]), ""]
+    # What a bold figure misses is said at the table that is quoted.
+    return ["", *table(wanted, [[row[place].replace("**", "") for place in places] for row in taken]), ""]
 
 
 def reading(pages, _):
