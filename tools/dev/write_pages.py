@@ -271,13 +271,18 @@ def about(crate):
     return head_of(path).replace("|", "\\|")
 
 
-def towers():
-    """The page on crates: the towers level by level, and a row for each crate."""
+def placed():
+    """Of each crate its level, and its tower."""
     level, below = {}, {}
     for crate, used in uses().items():
         level[crate] = 1 + max((level[one] for one in used), default=0)
         below[crate] = {crate}.union(*(below[one] for one in used))
-    tower = {crate: TOWERS[PROGRAMS in all_of, STORE in all_of] for crate, all_of in below.items()}
+    return level, {crate: TOWERS[PROGRAMS in all_of, STORE in all_of] for crate, all_of in below.items()}
+
+
+def towers():
+    """The page on crates: the towers level by level, and a row for each crate."""
+    level, tower = placed()
     page = [CRATES_HEAD, "## Towers", "", f"| Level | {' | '.join(TOWERS.values())} |", "|---|---|---|---|---|"]
     for height in range(max(level.values()), 0, -1):
         cells = [", ".join(f"`{crate}`" for crate in level if level[crate] == height and tower[crate] == name) for name in TOWERS.values()]

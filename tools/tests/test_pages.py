@@ -5,11 +5,13 @@ import sys
 import tempfile
 import unittest
 import unittest.mock
+import xml.etree.ElementTree
 
 from tools_here import TOOLS
 
 sys.path.insert(0, str(TOOLS / "dev"))
 
+import draw_house  # noqa: E402
 import figures  # noqa: E402
 import write_manual  # noqa: E402
 import write_pages  # noqa: E402
@@ -20,6 +22,50 @@ import write_rounds  # noqa: E402
 class Manual(unittest.TestCase):
     def test_code_within_strong_words(self):
         self.assertEqual(write_manual.inline("**8 `UnsetRegister`.** It reads `r0`."), r"\fB8 UnsetRegister.\fR It reads \fBr0\fR.")
+
+
+class House(unittest.TestCase):
+    """The picture of the crates, by what it has: boxes with names, and lines."""
+
+    @classmethod
+    def setUpClass(cls):
+        cls.uses = write_pages.uses()
+        cls.boxes, _, cls.size = draw_house.house()
+        cls.lines = draw_house.reduced(cls.uses)
+
+    def test_each_crate_has_a_box_above_what_it_uses(self):
+        top = xml.etree.ElementTree.fromstring(draw_house.picture())
+        names = [text.text for text in top.iter("{http://www.w3.org/2000/svg}text") if "class" not in text.attrib]
+        self.assertEqual(sorted(names), sorted(self.uses))
+        self.assertEqual({crate for crate, used in self.uses.items() for one in used if self.boxes[crate].y >= self.boxes[one].y}, set())
+
+    def test_no_box_lies_over_another_or_outside(self):
+        boxes = list(self.boxes.values())
+        for place, one in enumerate(boxes):
+            self.assertTrue(0 <= one.x and one.x + one.width <= self.size[0] and 0 <= one.y and one.y + draw_house.BOX_HEIGHT <= self.size[1], one.name)
+            for other in boxes[place + 1:]:
+                self.assertTrue(one.y != other.y or one.x + one.width <= other.x or other.x + other.width <= one.x, f"{one.name} and {other.name}")
+
+    def test_lines_lead_to_all_that_is_used_and_to_nothing_else(self):
+        def reached(crate, lines):
+            return set(lines[crate]).union(*(reached(one, lines) for one in lines[crate]))
+
+        for crate, used in self.uses.items():
+            self.assertEqual(reached(crate, self.lines), reached(crate, self.uses), crate)
+            self.assertLessEqual(set(self.lines[crate]), set(used))
+        self.assertEqual(draw_house.picture().count("<path "), sum(map(len, self.lines.values())))
+        # By hand: service has script, which has all else that it uses; script_model has session_model alone of its own.
+        self.assertEqual((self.lines["service"], self.lines["script_model"]), (["script"], ["session_model"]))
+
+    def test_kinds(self):
+        kinds = {crate: draw_house.kind_of(crate) for crate in self.uses}
+        self.assertEqual({crate for crate, kind in kinds.items() if kind == "ends"}, {"edgebpf", "edgebpf_explain", "edgebpf_c"})
+        self.assertEqual({crate for crate, kind in kinds.items() if kind == "tests"}, {"edgebpf_tests", "program_rows", "script_rows", "refused_calls"})
+
+    def test_parts_of_the_architecture(self):
+        """Its table names each crate once."""
+        page = (TOOLS.parent / "docs/ARCHITECTURE.md").read_text().partition("## What exists")[2].partition("\n## ")[0]
+        self.assertEqual(sorted(re.findall(r"`(\w+)`", page)), sorted(self.uses))
 
 
 class Parts(unittest.TestCase):
