@@ -104,6 +104,9 @@ class Parts(unittest.TestCase):
             figures.write("one", ("What", "Seconds"), [("a run", "0.5"), ("a list", "2")], "2026-11-30, commit 12345678, load 2")
             shown = write_parts.figures(write_pages, "one")
             self.assertEqual(shown, ["", "Measured on 2026-11-30, commit 12345678, load 2:", "", "| What | Seconds |", "|---|---|", "| a run | 0.5 |", "| a list | 2 |", ""])
+            figures.add("one", ["a pin", ""])
+            self.assertTrue((pathlib.Path(folder) / "one.txt").read_text().endswith("\na list | 2\na pin | -\n"))
+            self.assertEqual(figures.read("one")[2], [["a run", "0.5"], ["a list", "2"], ["a pin", ""]])
             figures.write("one", ("What", "Seconds"), [("a run",)])
             self.assertRegex((pathlib.Path(folder) / "one.txt").read_text(), r"^20\d\d-\d\d-\d\d, commit [0-9a-f]{8,}, load \d+\nWhat \| Seconds\na run\n$")
             with self.assertRaisesRegex(ValueError, "a run has not as many cells"):
