@@ -1,8 +1,14 @@
-"""Figures that were measured: files of docs/figures/, of which `write_pages.py` makes the tables in documents.
+#!/usr/bin/env python3
+"""Figures that were measured or counted: files of docs/figures/, of which `write_pages.py` makes the tables in documents.
 
-The first line of a file says when and on what, such as `2026-11-29, commit 282f5499, load 2`. The second one has the heads of the columns, and each
-further one a row, with ` | ` between two cells and `-` as an empty one. A script that measures writes the whole file by `write`; nobody types a figure into a document.
+    tools/dev/figures.py count NAME ROW NUMBER [--newer]   adds a number to a count of NAME.txt, in the row that begins with ROW, with today's date
+
+The first line of a file says when and on what, such as `2026-11-29, commit 282f5499, load 2`, or that each row has its day. The second one has the heads
+of the columns, and each further one a row, with ` | ` between two cells and `-` as an empty one. A script that measures writes the whole file by `write`,
+and what grows is counted by the command; nobody types a figure into a document. With --newer the code has changed since the last count, so that what
+was counted before is of older code.
 """
+import argparse
 import datetime
 import os
 import subprocess
@@ -44,3 +50,38 @@ def read(name):
     if wrong:
         raise ValueError(f"docs/figures/{name}.txt: {BETWEEN.join(wrong[0])} has not as many cells as there are columns")
     return when, heads, rows
+
+
+def added(cell, number):
+    """A count with so many more."""
+    return f"{int(cell.replace(',', '') or 0) + number:,}"
+
+
+def count(name, begins, number, is_newer):
+    """Adds to a count, whose columns are what, all, those on the newest code, and when. Where no number is of the newest code, all are."""
+    when, heads, rows = read(name)
+    found = [row for row in rows if row[0].startswith(begins)]
+    if len(found) != 1:
+        raise SystemExit(f"figures.py: {len(found)} rows of docs/figures/{name}.txt begin with {begins!r}")
+    row = found[0]
+    try:
+        newest = added("", number) if is_newer else added(row[2], number) if row[2] else ""
+        row[1:4] = [added(row[1], number), newest, str(datetime.date.today())]
+    except ValueError:
+        raise SystemExit(f"figures.py: {row[1]} and {row[2]} are no counts that a number is added to: change the file by hand") from None
+    write(name, heads, rows, when)
+
+
+def main():
+    parser = argparse.ArgumentParser(description=__doc__, formatter_class=argparse.RawDescriptionHelpFormatter)
+    parser.add_argument("command", choices=["count"])
+    parser.add_argument("name")
+    parser.add_argument("row")
+    parser.add_argument("number", type=int)
+    parser.add_argument("--newer", action="store_true")
+    options = parser.parse_args()
+    count(options.name, options.row, options.number, options.newer)
+
+
+if __name__ == "__main__":
+    main()

@@ -210,7 +210,7 @@ def table(heads, rows):
 
 def figures(pages, name):
     when, heads, rows = measured.read(name)
-    return ["", f"Measured on {when}:", "", *table(heads, rows), ""]
+    return ["", f"Measured on {when}:" if when[0].isdigit() else f"{when}:", "", *table(heads, rows), ""]
 
 
 def tables_of(text):

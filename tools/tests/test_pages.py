@@ -1,4 +1,5 @@
 """The parts of documents that are written from the sources (`tools/dev/write_parts.py`)."""
+import datetime
 import pathlib
 import re
 import sys
@@ -104,6 +105,8 @@ class Parts(unittest.TestCase):
             figures.write("one", ("What", "Seconds"), [("a run", "0.5"), ("a list", "2")], "2026-11-30, commit 12345678, load 2")
             shown = write_parts.figures(write_pages, "one")
             self.assertEqual(shown, ["", "Measured on 2026-11-30, commit 12345678, load 2:", "", "| What | Seconds |", "|---|---|", "| a run | 0.5 |", "| a list | 2 |", ""])
+            figures.write("two", ("What",), [("a run",)], "Each row has its day")
+            self.assertEqual(write_parts.figures(write_pages, "two"), ["", "Each row has its day:", "", "| What |", "|---|", "| a run |", ""])
             figures.add("one", ["a pin", ""])
             self.assertTrue((pathlib.Path(folder) / "one.txt").read_text().endswith("\na list | 2\na pin | -\n"))
             self.assertEqual(figures.read("one")[2], [["a run", "0.5"], ["a list", "2"], ["a pin", ""]])
@@ -111,6 +114,19 @@ class Parts(unittest.TestCase):
             self.assertRegex((pathlib.Path(folder) / "one.txt").read_text(), r"^20\d\d-\d\d-\d\d, commit [0-9a-f]{8,}, load \d+\nWhat \| Seconds\na run\n$")
             with self.assertRaisesRegex(ValueError, "a run has not as many cells"):
                 figures.read("one")
+
+    def test_counts_grow(self):
+        heads, rows = ("Test", "Count", "Of them", "Last", "By"), [("a script", "1,500", "", "2026-11-29", "x"), ("a store", "9", "4", "2026-11-29", "y"), ("a call", "2 million", "", "", "")]
+        with tempfile.TemporaryDirectory() as folder, unittest.mock.patch.object(figures, "FIGURES", pathlib.Path(folder)):
+            figures.write("some", heads, rows, "then")
+            today = str(datetime.date.today())
+            for row, number, newer, found in (("a script", 500, False, ["2,000", ""]), ("a store", 1, False, ["10", "5"]), ("a store", 7, True, ["17", "7"]), ("a script", 8, True, ["2,008", "8"])):
+                figures.count("some", row, number, newer)
+                self.assertIn([row, *found, today], [cells[:4] for cells in figures.read("some")[2]])
+            for row, words in (("a", "3 rows"), ("none", "0 rows"), ("a call", "no counts")):
+                with self.assertRaisesRegex(SystemExit, words):
+                    figures.count("some", row, 1, False)
+            self.assertEqual(figures.read("some")[0], "then")
 
     def test_quoted_rows(self):
         """Columns of another page's table, in the order that is asked for, and of them the rows that begin so."""
