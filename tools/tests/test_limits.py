@@ -1,13 +1,16 @@
 """Limits: docs/LIMITS.md says what a user meets at each, and here each cell about scripts is tried, at the limit and one past it. The numbers are those
 of the crates (`tools/dev/write_limits.py`), and what repeats them elsewhere is found by the constants' names and compared."""
+import importlib.util
 import os
+import pathlib
 import re
 import subprocess
 import sys
+import tempfile
 import unittest
 
 import documents
-from tools_here import TOOLS
+from tools_here import TOOLS, run_tool
 
 sys.path.insert(0, str(TOOLS / "dev"))
 sys.path.insert(0, str(TOOLS.parent / "tests/second_implementation"))
@@ -20,6 +23,7 @@ from script import serve  # noqa: E402
 TOP = TOOLS.parent
 PROGRAM = os.environ.get("EDGEBPF") or str(TOP / "crates/edgebpf/out/edgebpf")
 IS_BUILT = os.access(PROGRAM, os.X_OK)
+SECOND_STORE = str(TOOLS / "tests" / "second_store.py")
 # Numbers that stand in the words of statuses, and are no limits: the least number of anything, and the bytes of a unit.
 ONE, UNIT = 1, 8
 REFUSALS = re.compile(r"^(?:fault|refused|image|assembler) .*", re.M)
@@ -104,6 +108,41 @@ class Scripts(unittest.TestCase):
         for count, status in ((most, 0), (most + 1, 2)):
             run = subprocess.run([PROGRAM, "--workers", str(count)], input="graph 1\n", capture_output=True, text=True)
             self.assertEqual(run.returncode, status, run.stderr)
+
+
+class Companions(unittest.TestCase):
+    """Limits that the companions have besides those of the crates."""
+
+    def number(self, path, name):
+        return write_limits.own_number(f"tools/edgebpf_tools/{path}", name)
+
+    def test_processes(self):
+        most = self.number("spread.py", "MOST_PROCESSES")
+        run = run_tool("edgebpf-spread", "--processes", str(most + 1), "none", "none")
+        self.assertEqual((run.returncode, run.stdout), (1, ""))
+        self.assertIn(f"--processes is 1 to {most}, not {most + 1}", run.stderr)
+
+    @unittest.skipUnless(importlib.util.find_spec("numpy"), "there is no numpy")
+    def test_names(self):
+        most = self.number("named_edges.py", "MOST_NAME_BYTES")
+        with tempfile.TemporaryDirectory() as folder:
+            path = pathlib.Path(folder) / "edges"
+            for count, status, words in ((most, 0, "2 vertices, 1 edges"), (most + 1, 1, f"line 1: a name has more than {most} bytes")):
+                path.write_text("a" * count + " b\n")
+                run = run_tool("edgebpf-import", "--names", str(path))
+                self.assertEqual(run.returncode, status, run.stderr)
+                self.assertIn(words, run.stderr)
+
+    def test_files(self):
+        most = self.number("shell.py", "MOST_FILES")
+        with tempfile.TemporaryDirectory() as folder:
+            for place in range(most + 1):
+                (pathlib.Path(folder) / f"{place}").write_text(f".read {folder}/{place + 1}\n")
+            (pathlib.Path(folder) / f"{most + 1}").write_text("graph 7\n")
+            for first, is_read in ((2, True), (1, False)):
+                run = run_tool("edgebpf-shell", text=f".read {folder}/{first}\n", env=os.environ | {"EDGEBPF": PROGRAM if IS_BUILT else SECOND_STORE})
+                self.assertEqual("graph 7" in run.stdout.splitlines(), is_read, run.stdout + run.stderr)
+                self.assertEqual(f"at most {most} files" in run.stdout + run.stderr, not is_read)
 
 
 class Elsewhere(unittest.TestCase):
