@@ -334,7 +334,7 @@ def definitions():
 
 def by_hand():
     """Prints how many bytes of each document are kept by hand: all but the pages that are written whole and the made parts with their marks."""
-    whole = [TOP / "docs" / f"{name}.md" for name in ("CONTRACTS", "DEFINITIONS", "CRATES", "TRANSCRIPT")]
+    whole = [TOP / "docs" / f"{name}.md" for name in ("CONTRACTS", "DEFINITIONS", "CRATES", "LIMITS", "TRANSCRIPT")]
     texts = {path: write_parts.MADE.sub("", path.read_text()).replace("<!-- end -->\n", "") for path in write_parts.tracked(THIS) if path not in whole}
     sizes = {path: len(text.encode()) for path, text in texts.items()}
     for path, size in sorted(sizes.items(), key=lambda row: row[1]):
