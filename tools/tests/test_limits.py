@@ -210,7 +210,7 @@ class Elsewhere(unittest.TestCase):
     def test_numbers_of_readme(self):
         """Each number in the table of limits is one of the page."""
         known = set(self.known.values())
-        table = documents.rows(documents.between(documents.README, "\n## Limits\n", "\n[docs/SPEED.md]"))
+        table = documents.rows(documents.between(documents.README, "\n## Limits\n", "\n[docs/LIMITS.md]"))
         numbers = [int(number.replace(",", "")) for _, cell in table[1:] for number in re.findall(r"(?<![\w^-])[0-9][0-9,]*\b(?!-)", re.sub(r"\([^)]*\)", "", cell))]
         self.assertGreater(len(numbers), 15)
         self.assertLessEqual(set(numbers) - {0}, known)

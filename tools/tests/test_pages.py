@@ -116,11 +116,14 @@ class Parts(unittest.TestCase):
                 figures.read("one")
 
     def test_counts_grow(self):
-        heads, rows = ("Test", "Count", "Of them", "Last", "By"), [("a script", "1,500", "", "2026-11-29", "x"), ("a store", "9", "4", "2026-11-29", "y"), ("a call", "2 million", "", "", "")]
+        heads = ("Test", "Count", "Of them", "Last", "By")
+        rows = [("a script", "1,500", "", "2026-11-29", "x"), ("a store", "9", "4", "2026-11-29", "y"), ("a call", "2 million", "", "", "")]
         with tempfile.TemporaryDirectory() as folder, unittest.mock.patch.object(figures, "FIGURES", pathlib.Path(folder)):
             figures.write("some", heads, rows, "then")
             today = str(datetime.date.today())
-            for row, number, newer, found in (("a script", 500, False, ["2,000", ""]), ("a store", 1, False, ["10", "5"]), ("a store", 7, True, ["17", "7"]), ("a script", 8, True, ["2,008", "8"])):
+            for row, number, newer, found in (
+                ("a script", 500, False, ["2,000", ""]), ("a store", 1, False, ["10", "5"]), ("a store", 7, True, ["17", "7"]), ("a script", 8, True, ["2,008", "8"]),
+            ):
                 figures.count("some", row, number, newer)
                 self.assertIn([row, *found, today], [cells[:4] for cells in figures.read("some")[2]])
             for row, words in (("a", "3 rows"), ("none", "0 rows"), ("a call", "no counts")):
