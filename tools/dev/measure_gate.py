@@ -71,7 +71,7 @@ def write(sums, seconds):
     figures.write("gate_crates", ("Crate", "Proof, CPU seconds", "Edits, CPU seconds", "Edits tried"), rows_of(sums), when)
     figures.add("gate_runs", [
         "`rt ci`", f"{day}, {commit}", f"{os.cpu_count()} cores, {load}", str(edits),
-        f"{sum(minutes):.0f}: {minutes[0]:.0f} for proofs and tests, {minutes[1]:.0f} for edits", str(datetime.timedelta(seconds=round(seconds)))])
+        f"{sum(minutes):.0f} ({minutes[0]:.0f} for proofs and tests, {minutes[1]:.0f} for edits)", str(datetime.timedelta(seconds=round(seconds)))])
 
 
 def main():

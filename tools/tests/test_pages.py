@@ -115,6 +115,18 @@ class Parts(unittest.TestCase):
             with self.assertRaisesRegex(ValueError, "a run has not as many cells"):
                 figures.read("one")
 
+    def test_figures_that_miss_a_limit(self):
+        heads, rows = ["What", "Time", "Ratio"], [["a run of 90", "1,000.5 and 7", "0.31"], ["a list", "2:30", "0.2: 5 of `x9`"], ["a list again", "", "0.5"]]
+        for limit, found in (
+            ("@ Ratio <= 0.30", [["1,000.5 and 7", "**0.31**"], ["2:30", "0.2: **5** of `x9`"], ["", "**0.5**"]]),
+            ("a run <= 7", [["**1,000.5** and 7", "0.31"], ["2:30", "0.2: 5 of `x9`"], ["", "0.5"]]),
+            ("a list @ Ratio <= 0.4", [["1,000.5 and 7", "0.31"], ["2:30", "0.2: **5** of `x9`"], ["", "**0.5**"]]),
+        ):
+            self.assertEqual(write_parts.judged(heads, rows, limit), [[row[0], *cells] for row, cells in zip(rows, found)], limit)
+        for limit in ("@ Speed <= 1", "a pin <= 1"):
+            with self.assertRaisesRegex(LookupError, "no figure is judged"):
+                write_parts.judged(heads, rows, limit)
+
     def test_counts_grow(self):
         heads = ("Test", "Count", "Of them", "Last", "By")
         rows = [("a script", "1,500", "", "2026-11-29", "x"), ("a store", "9", "4", "2026-11-29", "y"), ("a call", "2 million", "", "", "")]
