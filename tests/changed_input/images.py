@@ -19,9 +19,9 @@ from programs import Programs
 from verifier import Refused, judged
 
 PROGRAM = ROOT / "crates/edgebpf/out/edgebpf"
-MOST_UNITS = MOST_TABLE = 4096
+MOST_UNITS = MOST_TABLE_LENGTH = 4096
 RECORD_LENGTHS = [16, 16, 17, 20, 24, 32, 255, 256]
-TABLE_LENGTHS = [1, 2, 3, 4, 8, 16, 255, 256, 257, 1000, MOST_TABLE - 1, MOST_TABLE]
+TABLE_LENGTHS = [1, 2, 3, 4, 8, 16, 255, 256, 257, 1000, MOST_TABLE_LENGTH - 1, MOST_TABLE_LENGTH]
 # Numbers for a field of the front: the limits, the numbers beside them, and the ends of two bytes.
 FIELD_NUMBERS = [0, 1, 15, 16, 17, 255, 256, 257, MOST_UNITS - 1, MOST_UNITS, MOST_UNITS + 1, 65535]
 MARKS = [b"BPE1", b"BPE2", b"BPE0", b"BPE3", b"bpe1", b"BPE\0", b"\0\0\0\0", b"2EPB"]
@@ -76,7 +76,7 @@ class Images:
                 return length, code, table
 
     def table(self):
-        return self.choice.randbytes(self.choice.choice([*TABLE_LENGTHS, self.choice.randrange(1, MOST_TABLE + 1)]))
+        return self.choice.randbytes(self.choice.choice([*TABLE_LENGTHS, self.choice.randrange(1, MOST_TABLE_LENGTH + 1)]))
 
     def valid(self):
         """The parts of a valid image: one of the repository, or a random one that is accepted."""
@@ -122,7 +122,7 @@ class Images:
         if kind in (1, 3):
             code = self.choice.choice([b"", *(lengthened(code, MOST_UNITS + step) for step in (-1, 0, 0, 1))])
         if kind in (2, 3):
-            size = self.choice.choice([0, 1, MOST_TABLE - 1, MOST_TABLE, MOST_TABLE, MOST_TABLE + 1])
+            size = self.choice.choice([0, 1, MOST_TABLE_LENGTH - 1, MOST_TABLE_LENGTH, MOST_TABLE_LENGTH, MOST_TABLE_LENGTH + 1])
             table = (table + self.choice.randbytes(size))[:size]
             return bytes_of(b"BPE2", [length, len(code) // 8, len(table)], code, table)
         return image_of(length, code, table)

@@ -13,6 +13,7 @@ STORES = {"stb": 0x72, "sth": 0x6A, "stw": 0x62, "stdw": 0x7A}
 REGISTER_STORES = {"stxb": 0x73, "stxh": 0x6B, "stxw": 0x63, "stxdw": 0x7B}
 EXTENSIONS = {"movsx8": (0xBF, 8), "movsx16": (0xBF, 16), "movsx32": (0xBF, 32), "mov32sx8": (0xBC, 8), "mov32sx16": (0xBC, 16)}
 SWAPS = {"le": 0xD4, "be": 0xDC, "swap": 0xD7}
+MOST_UNITS, MOST_NAME_BYTES = 4096, 32
 GOING = {"ja": (0x05, 15), "ja32": (0x06, 31), "calllocal": (0x85, 31)}
 
 # The kinds of arguments of each word: r a register, n a number, m a place in memory, l a label.
@@ -35,7 +36,7 @@ def is_register(text):
 
 
 def is_name(text):
-    return re.fullmatch(r"[A-Za-z_][A-Za-z0-9_]{0,31}", text) is not None and not is_register(text)
+    return re.fullmatch(rf"[A-Za-z_][A-Za-z0-9_]{{0,{MOST_NAME_BYTES - 1}}}", text) is not None and not is_register(text)
 
 
 def argument(text):
@@ -141,7 +142,7 @@ def assemble(text):
                 raise Fault(NUMBER_RANGE, line)
             statements.append((line, units, found))
             units += 2 if found[0] == "lddw" else 1
-            if units > 4096:
+            if units > MOST_UNITS:
                 raise Fault(TOO_LONG, line)
     code = b""
     for line, pc, (word, kinds, values) in statements:

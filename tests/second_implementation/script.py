@@ -5,7 +5,7 @@ import sys
 from collections import Counter
 
 from assembler import Fault as TextFault
-from assembler import assemble
+from assembler import MOST_NAME_BYTES, MOST_UNITS, assemble
 from bpf import BITS_64, Graph, run
 from verifier import Refused, judged
 
@@ -14,7 +14,13 @@ sys.set_int_max_str_digits(0)
 
 LONG_LINE, WORDS, ORDER, RANGE, NAME, ARGUMENT, FRONTIER, TOO_MANY, LOG_FULL, OPEN_BLOCK, EPOCHS_FULL = range(1, 12)
 FEEDS = ("A", "B", "C", "D")
-MOST_COLUMNS, MOST_LENT = 64, 8
+# By the names that the crates have for them, so that tools/tests/test_limits.py compares the numbers.
+SERVED_VERTICES, MOST_EDITS, MOST_BATCHES, SERVED_EPOCHS = 1048576, 65536, 4096, 1024
+MOST_LINE_BYTES, MOST_PROGRAM_LINES = 80000, 65536
+MOST_KEPT, MOST_KEPT_COLUMNS, MOST_COLUMNS = 256, 64, 8
+LEAST_RECORD_LENGTH, MOST_RECORD_LENGTH, MOST_TABLE_LENGTH = 16, 256, 4096
+EDGE_BYTES, COLUMN_BYTES = 16, 16
+BLOCK_MOST, BLOCK_RETURN, ARRAY_MOST, ARRAY_RETURN = 12, 8, 1024, 768
 REDUCTIONS = {
     "min": lambda numbers: min(numbers, default=BITS_64),
     "max": lambda numbers: max(numbers, default=0),
@@ -38,9 +44,9 @@ def image_of(data):
     front = 10 if has_table else 8
     stop(len(data) < front, 2)
     length, units, table = (int.from_bytes(data[place : place + 2], "little") for place in (4, 6, 8))
-    stop(not 16 <= length <= 256, 3)
-    stop(not 1 <= units <= 4096, 4)
-    stop(has_table and not 1 <= table <= 4096, 6)
+    stop(not LEAST_RECORD_LENGTH <= length <= MOST_RECORD_LENGTH, 3)
+    stop(not 1 <= units <= MOST_UNITS, 4)
+    stop(has_table and not 1 <= table <= MOST_TABLE_LENGTH, 6)
     code, rest = data[front : front + 8 * units], data[front + 8 * units :]
     stop(len(code) != 8 * units or len(rest) != (table if has_table else 0), 2)
     return length, code, rest
@@ -67,7 +73,7 @@ def are_numbers(words):
 
 
 def are_names(words):
-    return all(re.fullmatch(r"[A-Za-z0-9_-]{1,32}", word) for word in words)
+    return all(re.fullmatch(rf"[A-Za-z0-9_-]{{1,{MOST_NAME_BYTES}}}", word) for word in words)
 
 
 def are_columns(words):
@@ -120,8 +126,8 @@ def is_command(command, words):
 
 def home_after(home, degree):
     """The home of a list with so many targets, by its home before."""
-    block = 12 if home == "block" else 8
-    array = 768 if home == "tree" else 1024
+    block = BLOCK_MOST if home == "block" else BLOCK_RETURN
+    array = ARRAY_RETURN if home == "tree" else ARRAY_MOST
     return "block" if degree <= block else "gapped" if degree <= array else "tree"
 
 
@@ -139,7 +145,7 @@ class Session:
 
     def batch_line(self, words):
         if words == ["end"]:
-            test(self.batches >= 4096, LOG_FULL)
+            test(self.batches >= MOST_BATCHES, LOG_FULL)
             # The last edit that names an edge decides.
             last = {}
             for (source, target), stays in self.block["edits"]:
@@ -163,7 +169,7 @@ class Session:
         test(len(words) != 3 or words[0] not in ("+", "-") or not are_numbers(words[1:]), WORDS)
         edge = (int(words[1]), int(words[2]))
         test(max(edge) >= self.vertices, RANGE)
-        test(len(self.block["edits"]) >= 65536, TOO_MANY)
+        test(len(self.block["edits"]) >= MOST_EDITS, TOO_MANY)
         self.block["edits"].append((edge, words[0] == "+"))
 
     def move(self, vertex, degree):
@@ -190,7 +196,7 @@ class Session:
 
     def program_line(self, line, words):
         if words != ["end"]:
-            test(len(self.block["lines"]) >= 65536, TOO_MANY)
+            test(len(self.block["lines"]) >= MOST_PROGRAM_LINES, TOO_MANY)
             self.block["lines"].append(line)
             return
         block, self.block = self.block, None
@@ -202,9 +208,9 @@ class Session:
         self.offer(block["name"], block["length"], code)
 
     def new_program(self, name, length):
-        test(not 16 <= length <= 256, RANGE)
+        test(not LEAST_RECORD_LENGTH <= length <= MOST_RECORD_LENGTH, RANGE)
         test(name in self.programs, NAME)
-        test(len(self.programs) >= 256, TOO_MANY)
+        test(len(self.programs) >= MOST_KEPT, TOO_MANY)
 
     def numbers(self, program, pin, argument, source, columns=()):
         """The targets of a vertex, each with the number of its edge, whose record has its ends' numbers of columns."""
@@ -219,7 +225,7 @@ class Session:
 
     def list_edges(self, program, pin, argument):
         test(program not in self.programs or pin not in self.pins, NAME)
-        test(len(hexadecimal(argument)) != self.programs[program][0] - 16, ARGUMENT)
+        test(len(hexadecimal(argument)) != self.programs[program][0] - EDGE_BYTES, ARGUMENT)
         self.said.append(f"list {program} {pin} edges {self.pins[pin].count}")
         for source in self.pins[pin].sources():
             self.said += [f"edge {source} {target} {number}" for target, number in self.numbers(program, pin, argument, source)]
@@ -228,7 +234,7 @@ class Session:
         frontier = [int(vertex) for vertex in frontier]
         test(any(vertex >= self.vertices for vertex in frontier), RANGE)
         test(program not in self.programs or pin not in self.pins, NAME)
-        test(len(hexadecimal(argument)) != self.programs[program][0] - 16, ARGUMENT)
+        test(len(hexadecimal(argument)) != self.programs[program][0] - EDGE_BYTES, ARGUMENT)
         test(any(low >= high for low, high in zip(frontier, frontier[1:])), FRONTIER)
         numbers, rows = [], []
         for source in frontier or self.pins[pin].sources():
@@ -242,7 +248,7 @@ class Session:
     def set_column(self, name, first, *numbers):
         first, numbers = int(first), [min(int(number), BITS_64) for number in numbers]
         test(first >= self.vertices or first + len(numbers) > self.vertices, RANGE)
-        test(name not in self.columns and len(self.columns) >= MOST_COLUMNS, TOO_MANY)
+        test(name not in self.columns and len(self.columns) >= MOST_KEPT_COLUMNS, TOO_MANY)
         self.columns.setdefault(name, [0] * self.vertices)[first : first + len(numbers)] = numbers
         self.said.append(f"column {name} set {len(numbers)}")
 
@@ -260,9 +266,9 @@ class Session:
         test(any(vertex >= self.vertices for vertex in frontier), RANGE)
         test(program not in self.programs or pin not in self.pins, NAME)
         test(any(name not in self.columns for name in names) or into != "-" and into not in self.columns, NAME)
-        test(len(hexadecimal(argument)) + 16 * len(names) != self.programs[program][0] - 16, ARGUMENT)
+        test(len(hexadecimal(argument)) + COLUMN_BYTES * len(names) != self.programs[program][0] - EDGE_BYTES, ARGUMENT)
         test(any(low >= high for low, high in zip(frontier, frontier[1:])), FRONTIER)
-        test(len(names) > MOST_LENT, TOO_MANY)
+        test(len(names) > MOST_COLUMNS, TOO_MANY)
         return [self.columns[name] for name in names]
 
     def write(self, command, said, into, after):
@@ -318,7 +324,7 @@ class Session:
         test(not is_command(command, words), WORDS)
         test((command == "graph") != (self.vertices is None), ORDER)
         if command == "graph":
-            test(not 1 <= int(words[0]) <= 1048576, RANGE)
+            test(not 1 <= int(words[0]) <= SERVED_VERTICES, RANGE)
             self.vertices = int(words[0])
             self.said.append(f"graph {self.vertices}")
         elif command == "batch":
@@ -339,7 +345,7 @@ class Session:
             self.block = {"line": line_number, "name": words[0], "length": int(words[1]), "lines": []}
         elif command == "pin":
             test(words[0] in self.pins, NAME)
-            test(len(self.pins) >= 256, TOO_MANY)
+            test(len(self.pins) >= MOST_KEPT, TOO_MANY)
             self.pins[words[0]] = Graph(self.vertices, self.targets, self.edge_count)
             self.said.append(f"pin {words[0]} version {self.batches} edges {self.edge_count}")
         elif command == "home":
@@ -347,7 +353,7 @@ class Session:
             test(vertex >= self.vertices, RANGE)
             self.said.append(f"home {vertex} {self.homes.get(vertex, 'block')} degree {len(self.targets.get(vertex, ()))}")
         elif command == "rebase":
-            test(self.epoch >= 1024, EPOCHS_FULL)
+            test(self.epoch >= SERVED_EPOCHS, EPOCHS_FULL)
             self.batches, self.epoch = 0, self.epoch + 1
             self.said.append(f"rebase epoch {self.epoch} edges {self.edge_count}")
         elif command in ("pull", "push"):
@@ -358,7 +364,7 @@ class Session:
             {"run": self.run, "list": self.list_edges, "column": self.set_column, "values": self.show_values}[command](*words)
 
     def line(self, line, line_number):
-        test(len(line) > 80000, LONG_LINE)
+        test(len(line) > MOST_LINE_BYTES, LONG_LINE)
         test(any(not 32 <= byte <= 126 and byte != 9 for byte in line), WORDS)
         line = line.decode()
         words = line.replace("\t", " ").split()

@@ -20,7 +20,7 @@ import time
 from harness import Client, Error, Fault, Forks, NoAnswer, folder, require
 from model import Graph, random_edits
 
-VERTICES, DISK, LEFT, MOST_EDITS, MOST_TRIES = 60, 24 << 20, 200_000, 4_000, 100
+VERTICES, DISK, LEFT, LARGEST_BATCH, MOST_TRIES = 60, 24 << 20, 200_000, 4_000, 100
 OPTIONS = {"vertices": VERTICES, "rebase_batches": 7, "snapshot_batches": 60, "kept_bytes": 1 << 20, "reserve_bytes": 1 << 19}
 INSIDE = "SERVE_FULL_DISK_INSIDE"
 
@@ -60,7 +60,7 @@ class Writer:
     def write(self, client):
         """Sends a batch, and returns whether it was taken."""
         self.number += 1
-        key, edits = f"b{self.number}", random_edits(self.chance, VERTICES, MOST_EDITS)
+        key, edits = f"b{self.number}", random_edits(self.chance, VERTICES, LARGEST_BATCH)
         try:
             outcome, = client.batch(edits, key=key)
         except Error as error:

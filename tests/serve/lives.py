@@ -11,7 +11,7 @@ from harness import ALL_ROLES, Client, Error, NoAnswer, require, status_of, toke
 from model import KINDS, Graph, random_edits, seeded, table_of
 
 VERTICES, IDS = 60, 400
-WRITERS, READERS, OLD_BATCHES, MOST_EDITS = 4, 2, 8, 40
+WRITERS, READERS, OLD_BATCHES, LARGEST_BATCH = 4, 2, 8, 40
 # Limits so small that each life sees rebases and snapshots.
 OPTIONS = {"vertices": VERTICES, "mirror": True, "rebase_batches": 7, "snapshot_batches": 30, "kept_bytes": 1 << 20, "group_batches": 8, "scan_seconds": 0.01}
 WATCHED = ("target", "mutual", "next")
@@ -86,7 +86,7 @@ class Life:
         for place in range(10**6):
             if self.ending.is_set():
                 return
-            key, edits = f"{self.world.life}-{number}-{place}", random_edits(chance, VERTICES, MOST_EDITS)
+            key, edits = f"{self.world.life}-{number}-{place}", random_edits(chance, VERTICES, LARGEST_BATCH)
             self.doubt[key] = edits
             try:
                 outcome, = client.batch(edits, key=key)

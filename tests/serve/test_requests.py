@@ -20,7 +20,7 @@ sys.path.insert(0, str(HERE))
 
 from harness import TOOLS, Client, Error, Forks, folder, missing, served  # noqa: E402
 from model import KINDS, Graph, random_edits, seeded, table_of  # noqa: E402
-from wrong_forms import VERTICES, WRONG_FORMS  # noqa: E402
+from wrong_forms import PAST_LIMITS, VERTICES, WRONG_FORMS, write_limits  # noqa: E402
 
 MISSING = missing()
 # A program that takes some 0.4 ms an edge, and one that takes as long as it may.
@@ -345,6 +345,11 @@ class WrongForms(WithService):
                     self.assertIn(word, refused.words)
                     self.assertEqual(self.state_of(client), before)
             self.assertEqual((client.status()["version"], client.neighbours(0)), (1, [1]))
+
+    def test_limits_of_the_page(self):
+        """docs/LIMITS.md has a status for each limit that is tried, and no other."""
+        tried = {key: "; ".join(str(form[4]) for form in forms) for key, forms in PAST_LIMITS.items()}
+        self.assertEqual(tried, {key: met.http for key, met in write_limits.MET.items() if met.http})
 
     def state_of(self, client):
         """All that a client can change: the graph, programs and columns."""

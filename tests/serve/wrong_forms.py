@@ -1,5 +1,13 @@
 """Requests with a wrong form: (method, path, body, heads, status, a word of the answer)."""
+import pathlib
 import struct
+import sys
+
+TOP = pathlib.Path(__file__).resolve().parent.parent.parent
+sys.path[:0] = [str(TOP / "tools/dev"), str(TOP / "tools/tests")]
+
+import write_limits  # noqa: E402
+from limit_scripts import NEXT, lines_of  # noqa: E402
 
 VERTICES = 60
 TEXT = {"Content-Type": "text/plain"}
@@ -16,8 +24,7 @@ def run(fields, status=400, word="", path="/runs"):
 WRONG_FORMS = [
     batch(5), batch([5]), batch([[0]]), batch([[0, 1, 2]]), batch([[0, 1, 1, 1]]), batch([[0.0, 1]]), batch([["0", 1]]), batch([[True, 1]]),
     batch([[0, None]]), batch({}), batch(None), batch([[0, VERTICES]], 422), batch([[-1, 0]], 422), batch([[0, 2**70]], 422),
-    batch([[0, 1]] * 65_537, 422, "65536"),
-    ("POST", "/batches", {"edits": [], "feed": "A"}, {}, 400, "feed"), ("POST", "/batches", {}, {}, 400, "edits"),
+        ("POST", "/batches", {"edits": [], "feed": "A"}, {}, 400, "feed"), ("POST", "/batches", {}, {}, 400, "edits"),
     ("POST", "/batches", b"\0" * 9, {}, 400, "8 bytes"), ("POST", "/batches", struct.pack("<2I", VERTICES, 0), {}, 422, "edits"),
     ("POST", "/batches", b"{", {"Content-Type": "application/json"}, 400, "JSON"),
     ("POST", "/batches", b"[" * 100_000, {"Content-Type": "application/json"}, 400, "JSON"),
@@ -48,7 +55,7 @@ WRONG_FORMS = [
     ("POST", "/programs", {"name": "x", "text": "exit", "record": "16"}, {}, 400, "record"),
     ("POST", "/programs", {"name": "x", "text": "fly r0\nexit"}, {}, 422, "line 1"), ("POST", "/programs", {"name": "x", "text": "ä"}, {}, 400, "ASCII"),
     ("POST", "/programs", {"name": "x", "code": "95"}, {}, 400, "code"), ("POST", "/programs", {"name": "x", "code": "zz"}, {}, 400, "code"),
-    ("POST", "/programs", {"name": "x", "text": "mov r0, 1\nexit", "table": "00" * 4097}, {}, 400, "table"),
+    ("POST", "/programs", {"name": "x", "text": "mov r0, 1\nexit", "table": "0"}, {}, 400, "table"),
     ("DELETE", "/programs/none", None, {}, 404, "none"), ("GET", "/programs/none", None, {}, 404, "none"),
     ("PUT", "/columns/risk", b"\0" * 8, {}, 422, "column"), ("PUT", "/columns/-", b"\0" * 8 * VERTICES, {}, 400, "name"),
     ("PUT", "/columns/risk", {"numbers": [1]}, {}, 422, "numbers"), ("PUT", "/columns/risk", {"numbers": [2**64] * VERTICES}, {}, 400, "numbers"),
@@ -73,3 +80,39 @@ WRONG_FORMS = [
     ("GET", "/watch?program=target&columns=risk", None, {}, 404, "risk"), ("GET", "/watch?program=target", None, {"Last-Event-ID": "x"}, 400, "Last-Event-ID"),
     ("POST", "/backups", {"name": "../x"}, {}, 400, "name"), ("GET", "/none", None, {}, 404, ""), ("PUT", "/batches", {}, {}, 405, ""),
 ]
+
+
+def program(fields, status, word):
+    return "POST", "/programs", {"name": "x", **fields}, {}, status, word
+
+
+def refused_text(key, word):
+    """A program whose text is past a limit."""
+    most = write_limits.of_key(key).value
+    return program({"text": lines_of(key, NEXT.get(key, lambda number: number + 1)(most))}, 422, word)
+
+
+MOVE, EXIT = "b700000000000000", "9500000000000000"
+ACCEPTED = "mov r0, 1\nexit"
+LIMITS = write_limits.by_name(write_limits.MET)
+# By the constant of a limit, what is asked past it: docs/LIMITS.md has the statuses.
+PAST_LIMITS = {
+    "past_model::MOST_EDITS": [batch([[0, 1]] * (LIMITS["MOST_EDITS"] + 1), 422, str(LIMITS["MOST_EDITS"]))],
+    "bpf_isa::MOST_UNITS": [
+        program({"code": MOVE * LIMITS["MOST_UNITS"] + EXIT}, 400, "code"), refused_text("bpf_isa::MOST_UNITS", f"line {LIMITS['MOST_UNITS'] + 1}"),
+    ],
+    "bpf_image::LEAST_RECORD_LENGTH": [program({"text": ACCEPTED, "record": LIMITS["LEAST_RECORD_LENGTH"] - 1}, 400, "record")],
+    "bpf_image::MOST_RECORD_LENGTH": [program({"text": ACCEPTED, "record": LIMITS["MOST_RECORD_LENGTH"] + 1}, 400, "record")],
+    "bpf_image::MOST_TABLE_LENGTH": [program({"text": ACCEPTED, "table": "00" * (LIMITS["MOST_TABLE_LENGTH"] + 1)}, 400, "table")],
+    "bpf_blocks::MOST_ARGUMENT": [
+        ("POST", "/runs", {"text": ACCEPTED, "record": LIMITS["MOST_RECORD_LENGTH"], "argument": "00" * (LIMITS["MOST_ARGUMENT"] + 1)}, {}, 422, "argument"),
+    ],
+    "map_model::MOST_COLUMNS": [run({"columns": ["kept"] * (LIMITS["MOST_COLUMNS"] + 1)}, 400, "columns")],
+    "bpf_asm::MOST_NAME_BYTES": [refused_text("bpf_asm::MOST_NAME_BYTES", "line")],
+    "verifier::MOST_COUNTED": [refused_text("verifier::MOST_COUNTED", "may run")],
+    "verifier::MOST_PAIRS": [refused_text("verifier::MOST_PAIRS", "to be verified")],
+    "bpf_model::MOST_FRAMES": [refused_text("bpf_model::MOST_FRAMES", "may be live")],
+    "bpf_model::FRAME_BYTES": [refused_text("bpf_model::FRAME_BYTES", "outside")],
+    "bpf_model::MOST_GATHER_BYTES": [refused_text("bpf_model::MOST_GATHER_BYTES", "helper")],
+}
+WRONG_FORMS += [form for forms in PAST_LIMITS.values() for form in forms]

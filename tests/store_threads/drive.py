@@ -22,7 +22,7 @@ USED = ["past_model", "store"]
 FEEDS = 4
 PLACES = 16
 MOST_BATCHES = 4096
-MOST_EPOCHS = 1024
+SERVED_EPOCHS = 1024
 OUTSIDE = 16
 MASK = 2**64 - 1
 FACTOR = 0x9E3779B97F4A7C15
@@ -245,7 +245,7 @@ class Replay:
     def rebase(self, epoch, number):
         self.place = (self.place[0] + 1, 0)
         self.expect("a rebase's epoch and number", (epoch, number), self.place)
-        if epoch > MOST_EPOCHS:
+        if epoch > SERVED_EPOCHS:
             raise Different(f"epoch {epoch}")
         self.counts["rebases"] += 1
         self.begin_version()
@@ -255,7 +255,7 @@ class Replay:
         self.counts["full logs"] += 1
 
     def epochs_full(self):
-        self.expect("the last epoch", self.place[0], MOST_EPOCHS)
+        self.expect("the last epoch", self.place[0], SERVED_EPOCHS)
         self.counts["last epochs"] += 1
 
     def pin(self, reader, epoch, number, edges, word):

@@ -21,8 +21,8 @@ def batches(vertices, count, seed):
 def count_batches(program):
     for vertices, earlier in ROWS:
         graph = [f"graph {vertices}", *batches(vertices, earlier, len(SEEDS) + 1)]
-        each = mean(program, graph, lambda seed: batches(vertices, MEASURED, seed), MEASURED)
-        print(f"{vertices:,} vertices, {MEASURED:,} batches after {earlier:,}: {each}", flush=True)
+        middle, each = mean(program, graph, lambda seed: batches(vertices, MEASURED, seed), MEASURED)
+        print(f"{vertices:,} vertices, {MEASURED:,} batches after {earlier:,}: {middle:,} a batch, by seed {each}", flush=True)
 
 
 if __name__ == "__main__":

@@ -1,8 +1,8 @@
 #!/usr/bin/env python3
-"""Counts by callgrind what a batch at a vertex of many neighbours costs: count_hubs.py [PROGRAM]
+"""Counts by callgrind what a batch at a vertex of many neighbours costs: count_hubs.py [PROGRAM] [--write]
 
 A count is the instructions of a script less those of the same script without the measured batches, so it has their text, too. The same seed
-makes the same script.
+makes the same script. With --write the counts go into docs/figures/hubs.txt.
 """
 import pathlib
 import random
@@ -10,8 +10,11 @@ import re
 import subprocess
 import sys
 
+import figures
+
 PROGRAM = pathlib.Path(__file__).resolve().parent.parent.parent / "dist/build/edgebpf"
 VERTICES, MOST_EDITS = 1_048_576, 65_536
+DEGREES = (10_000, 100_000, 500_000, 1_000_000)
 SEEDS = (1, 2, 3)
 
 
@@ -55,20 +58,33 @@ def half_changing(degree, count, size, seed):
 
 
 def mean(program, graph, batches, count):
-    """The instructions of a batch with each seed's batches, and of them the mean."""
+    """The mean of the instructions of a batch with each seed's batches, and these."""
     before = instructions([program], graph)
     each = [(instructions([program], graph + batches(seed)) - before) // count for seed in SEEDS]
-    return f"{sum(each) // len(each):,} a batch, by seed {each}"
+    return sum(each) // len(each), each
 
 
 def count_hubs(program):
-    for size, count in ((1, 64), (64, 16)):
-        for degree in (10_000, 100_000, 500_000, 1_000_000):
-            each = mean(program, hub(degree), lambda seed: hub_batches(degree, count, size, seed), count)
-            print(f"{size} edits at {degree:,} targets: {each}", flush=True)
-    each = mean(program, hub(1_000_000), lambda seed: half_changing(1_000_000, 16, 64, seed), 16)
-    print(f"64 edits at 1,000,000 targets, of which half change the tree: {each}", flush=True)
+    """The rows of the table, which are printed as they come."""
+    for name, size, count in (("one edit", 1, 64), ("64 edits", 64, 16)):
+        row = [name]
+        for degree in DEGREES:
+            row.append(f"{mean(program, hub(degree), lambda seed: hub_batches(degree, count, size, seed), count)[0]:,}")
+        print(figures.line_of(row), flush=True)
+        yield row
+    middle, each = mean(program, hub(DEGREES[-1]), lambda seed: half_changing(DEGREES[-1], 16, 64, seed), 16)
+    name, empty = "64 edits, of which half change the tree", [""] * (len(DEGREES) - 1)
+    for row in ([name, *empty, f"{middle:,}"], [f"{name}, the seed that costs most", *empty, f"{max(each):,}"]):
+        print(figures.line_of(row), flush=True)
+        yield row
+
+
+def main():
+    words = [word for word in sys.argv[1:] if word != "--write"]
+    rows = list(count_hubs(words[0] if words else PROGRAM))
+    if "--write" in sys.argv:
+        figures.write("hubs", ("Batch at a vertex of so many targets", *(f"{degree:,}" for degree in DEGREES)), rows, figures.now(has_load=False))
 
 
 if __name__ == "__main__":
-    count_hubs(sys.argv[1] if len(sys.argv) > 1 else PROGRAM)
+    main()

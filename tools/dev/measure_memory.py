@@ -2,7 +2,7 @@
 """Measures the memory that a store holds, by the calls of malloc and free, and its log's peak: measure_memory.py [PROGRAM]
 
 A library that is loaded before the C library's counts the bytes that are held, and writes them to standard error at a signal. The log's
-rows take 4 GB of memory and minutes.
+rows take 4 GB of memory and minutes. The figures go into docs/figures/memory.txt, and by write_pages.py into docs/SPEED.md.
 """
 import pathlib
 import random
@@ -11,10 +11,12 @@ import subprocess
 import sys
 import tempfile
 
+import figures
 from count_hubs import MOST_EDITS, PROGRAM, VERTICES, batch
 from measure_threads import Served
 
 BATCHES, MOST_BATCHES = 64, 4_096
+ROUNDS = 100
 HUB_TARGETS, VERSIONS = 1_000_000, 64
 SHIM = r"""
 #include <errno.h>
@@ -95,7 +97,7 @@ def rebase(served):
 
 def measure_rebases(program, shim):
     """The batches of the second store are those of the first, with a rebase after each."""
-    for rebases, told in ((1, "64 batches, then a rebase"), (BATCHES, "a rebase after each of 64 batches")):
+    for rebases in (1, BATCHES):
         choice = random.Random(1)
         with Counted(program, shim) as served:
             served.send(f"graph {VERTICES}")
@@ -104,7 +106,9 @@ def measure_rebases(program, shim):
                 before = served.held()
                 if (number + 1) % (BATCHES // rebases) == 0:
                     rebase(served)
-            print(f"{VERTICES:,} vertices, {told}: {before / 1e6:.1f} MB before the last rebase, {served.held() / 1e6:.1f} after it", flush=True)
+            if rebases == 1:
+                yield f"{VERTICES:,} vertices, after {BATCHES} batches of {MOST_EDITS:,} insertions", f"{before / 1e6:.1f}"
+            yield "the same, after a rebase" if rebases == 1 else "the same edges, with a rebase after each batch", f"{served.held() / 1e6:.1f}"
 
 
 def in_and_out(choice, vertices):
@@ -118,13 +122,14 @@ def measure_turns(program, shim):
         vertices = 65_536
         served.send(f"graph {vertices}")
         texts = in_and_out(random.Random(2), vertices)
-        for times in range(1, 101):
+        for times in range(1, ROUNDS + 1):
             for number in range(BATCHES):
                 served.send(texts[number % 2])
                 served.until(b"batch ")
             rebase(served)
-            if times in (1, 100):
-                print(f"{vertices:,} vertices, {times} times 64 batches in and out and a rebase: {served.held() / 1e6:.2f} MB", flush=True)
+            if times == 1:
+                yield f"{vertices:,} vertices, {BATCHES} batches that put edges in and take them out again, and a rebase", f"{served.held() / 1e6:.2f}"
+        yield f"the same after {ROUNDS} such rounds", f"{served.held() / 1e6:.2f}"
 
 
 def measure_hub_versions(program, shim):
@@ -137,7 +142,7 @@ def measure_hub_versions(program, shim):
         for number, target in enumerate(choice.sample(range(HUB_TARGETS), VERSIONS)):
             served.send(f"pin p{number}")
             served.publish([f"- 7 {target}"])
-        print(f"{VERSIONS} pinned versions of {HUB_TARGETS:,} targets, one fewer each: {(served.held() - before) / 1e3:.0f} KB", flush=True)
+        yield f"{VERSIONS} pinned versions of a vertex of {HUB_TARGETS:,} targets, each with one target fewer", f"{(served.held() - before) / 1e6:.3f}"
 
 
 def peak(process):
@@ -145,26 +150,29 @@ def peak(process):
     return int(status.partition("VmHWM:")[2].split()[0]) / 1024
 
 
-def measure_log(program, count):
-    with Served(program) as served:
-        served.send("graph 65536")
-        texts = in_and_out(random.Random(4), 65_536)
-        for number in range(count):
-            served.send(texts[number % 2])
-            served.until(b"batch ")
-        print(f"the peak of {count:,} batches of 65,536 edits: {peak(served.process):,.0f} MB", flush=True)
+def measure_log(program):
+    for count in (BATCHES, MOST_BATCHES):
+        with Served(program) as served:
+            vertices = 65_536
+            served.send(f"graph {vertices}")
+            texts = in_and_out(random.Random(4), vertices)
+            for number in range(count):
+                served.send(texts[number % 2])
+                served.until(b"batch ")
+            first = f"peak of {count} batches of {MOST_EDITS:,} edits, on {vertices:,} vertices"
+            yield first if count == BATCHES else f"peak of {count:,} of them", f"{peak(served.process):,.0f}"
 
 
 def main():
-    program = sys.argv[1] if len(sys.argv) > 1 else PROGRAM
+    program, rows = sys.argv[1] if len(sys.argv) > 1 else PROGRAM, []
     with tempfile.TemporaryDirectory() as folder:
         shim = f"{folder}/counting.so"
         subprocess.run(["cc", "-O1", "-shared", "-fPIC", "-o", shim, "-x", "c", "-"], input=SHIM.encode(), check=True)
-        measure_rebases(program, shim)
-        measure_turns(program, shim)
-        measure_hub_versions(program, shim)
-    for count in (BATCHES, MOST_BATCHES):
-        measure_log(program, count)
+        for found in (measure_rebases(program, shim), measure_turns(program, shim), measure_hub_versions(program, shim), measure_log(program)):
+            for row in found:
+                print(": ".join(row), flush=True)
+                rows.append(row)
+    figures.write("memory", ("What a store holds", "Megabytes"), rows)
 
 
 if __name__ == "__main__":

@@ -1,7 +1,8 @@
 #!/usr/bin/env python3
-"""Measures what workers gain, in milliseconds of wall time: measure_threads.py [PROGRAM]. All other work of the machine has to rest.
+"""Measures what workers gain, in milliseconds of wall time: measure_threads.py [PROGRAM] [--write]. All other work of the machine has to rest.
 
-A run is timed from its line to its first line of text, and a publication from `end` to its receipt. Each figure is a median.
+A run is timed from its line to its first line of text, and a publication from `end` to its receipt. Each figure is a median. With --write the figures
+go into docs/figures/threads.txt, and the ratios of the first and the last row are a row more of threads_by_sitting.txt.
 """
 import random
 import statistics
@@ -9,6 +10,7 @@ import subprocess
 import sys
 import time
 
+import figures
 from count_hubs import MOST_EDITS, PROGRAM, VERTICES, batch
 
 WORKERS = (1, 2, 4)
@@ -118,16 +120,26 @@ def publication_seconds(program, workers):
 
 
 def measure(program):
+    """For each kind of work its words, the milliseconds by each number of workers, and the ratio of the last to the first."""
     for what, seconds in (
-        (f"a filter over {SOURCES * TARGETS:,} edges of {SOURCES:,} vertices", lambda workers: run_seconds(program, workers, SOURCES)),
-        (f"the same, of {VERTICES:,} vertices", lambda workers: run_seconds(program, workers, VERTICES)),
-        *((f"a {command} of a column of these", lambda workers, command=command: lending_seconds(program, workers, command)) for command in LENDING),
-        (f"the publication of {MOST_EDITS:,} edits in all ranges", lambda workers: publication_seconds(program, workers)),
+        (f"a run of a filter of 21 instructions over {SOURCES * TARGETS:,} edges of {SOURCES:,} vertices", lambda workers: run_seconds(program, workers, SOURCES)),
+        (f"the same over all of {VERTICES:,} vertices, of which these have edges", lambda workers: run_seconds(program, workers, VERTICES)),
+        *((f"`{command}` of a column of these", lambda workers, command=command: lending_seconds(program, workers, command)) for command in LENDING),
+        (f"the publication of a batch of {MOST_EDITS:,} edits in all {VERTICES // RANGE:,} ranges", lambda workers: publication_seconds(program, workers)),
     ):
         found = [seconds(workers) for workers in WORKERS]
-        times = ", ".join(f"{workers} {1000 * it:.1f}" for workers, it in zip(WORKERS, found))
-        print(f"{what}, ms by workers: {times}; the last by the first {found[-1] / found[0]:.2f}", flush=True)
+        row = [what, *(f"{1000 * it:.1f}" for it in found), f"{found[-1] / found[0]:.2f}"]
+        print(figures.line_of(row), flush=True)
+        yield row
+
+
+def main():
+    words = [word for word in sys.argv[1:] if word != "--write"]
+    rows, when = list(measure(words[0] if words else PROGRAM)), figures.now()
+    if "--write" in sys.argv:
+        figures.write("threads", ("Milliseconds of wall time", "1 worker", *map(str, WORKERS[1:]), f"{WORKERS[-1]} by 1"), rows, when)
+        figures.add("threads_by_sitting", [when, rows[0][-1], rows[-1][-1], rows[-1][1]])
 
 
 if __name__ == "__main__":
-    measure(sys.argv[1] if len(sys.argv) > 1 else PROGRAM)
+    main()

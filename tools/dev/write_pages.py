@@ -269,13 +269,18 @@ def about(crate):
     return head_of(path).replace("|", "\\|")
 
 
-def towers():
-    """The page on crates: the towers level by level, and a row for each crate."""
+def placed():
+    """Of each crate its level, and its tower."""
     level, below = {}, {}
     for crate, used in uses().items():
         level[crate] = 1 + max((level[one] for one in used), default=0)
         below[crate] = {crate}.union(*(below[one] for one in used))
-    tower = {crate: TOWERS[PROGRAMS in all_of, STORE in all_of] for crate, all_of in below.items()}
+    return level, {crate: TOWERS[PROGRAMS in all_of, STORE in all_of] for crate, all_of in below.items()}
+
+
+def towers():
+    """The page on crates: the towers level by level, and a row for each crate."""
+    level, tower = placed()
     page = [CRATES_HEAD, "## Towers", "", f"| Level | {' | '.join(TOWERS.values())} |", "|---|---|---|---|---|"]
     for height in range(max(level.values()), 0, -1):
         cells = [", ".join(f"`{crate}`" for crate in level if level[crate] == height and tower[crate] == name) for name in TOWERS.values()]
@@ -327,7 +332,7 @@ def definitions():
 
 def by_hand():
     """Prints how many bytes of each document are kept by hand: all but the pages that are written whole and the made parts with their marks."""
-    whole = [TOP / "docs" / f"{name}.md" for name in ("CONTRACTS", "DEFINITIONS", "CRATES", "TRANSCRIPT")]
+    whole = [TOP / "docs" / f"{name}.md" for name in ("CONTRACTS", "DEFINITIONS", "CRATES", "LIMITS", "TRANSCRIPT")]
     texts = {path: write_parts.MADE.sub("", path.read_text()).replace("<!-- end -->\n", "") for path in write_parts.tracked(THIS) if path not in whole}
     sizes = {path: len(text.encode()) for path, text in texts.items()}
     for path, size in sorted(sizes.items(), key=lambda row: row[1]):

@@ -11,6 +11,9 @@
     made: modules CRATE      the first sentence of each module of a crate, from its `//!`
     made: classes PATH       the classes of a file in Python, with what they say
     made: reading            the reading list, of count_reading.py
+    made: figures NAME [: [ROW] [@ COLUMN] <= NUMBER] ..  a table of docs/figures, with when it was measured; bold is what is above a number, in the rows
+                             that begin so, and in that column or in all
+    made: quote PATH HEAD | .. [: ROW | ..]  of the table of a document with these heads the columns below them, or of it the rows that begin so
     made: rounds PATH COLUMN MARK BEGIN  the frontier and a column of a script, round by round
     made: follow WORD ..     the files that name the words, with the definitions and functions that do, by crate
 """
@@ -20,6 +23,7 @@ import subprocess
 import sys
 import textwrap
 
+import figures as measured
 from write_rounds import rounds
 
 MADE = re.compile(r"(^<!-- made: (\w+)(?: ([^\n]*))? -->\n).*?(?=^<!-- end -->)", re.S | re.M)
@@ -201,6 +205,58 @@ def two_digits(cell):
     return cell if not cell or cell.startswith("over") else f"{float(cell):.2g}" if float(cell) < 10 else f"{float(cell):.0f}"
 
 
+def table(heads, rows):
+    return [f"| {' | '.join(heads)} |", "|---" * len(heads) + "|", *(f"| {' | '.join(cells)} |" for cells in rows)]
+
+
+def bold_above(text, most):
+    """A cell with its figures that are above a number in bold."""
+    def shown(found):
+        return f"**{found[0]}**" if float(found[0].replace(",", "")) > most else found[0]
+
+    return re.sub(r"(?<![\w.:`-])[0-9]+(?:,[0-9]{3})*(?:\.[0-9]+)?(?![\w:`-]|[.,]\d)", shown, text)
+
+
+def judged(heads, rows, limit):
+    """Rows of which the figures that miss a limit are bold. The first column has words, and no figures."""
+    where, _, most = limit.partition("<=")
+    first, _, column = (part.strip() for part in where.partition("@"))
+    if column and column not in heads or not any(row[0].startswith(first) for row in rows):
+        raise LookupError(f"no figure is judged by {limit.strip()}")
+    places = [place for place, head in enumerate(heads) if place and column in ("", head)]
+    number = float(most.replace(",", ""))
+    return [[bold_above(cell, number) if row[0].startswith(first) and place in places else cell for place, cell in enumerate(row)] for row in rows]
+
+
+def figures(pages, words):
+    name, *limits = words.split(" : ")
+    when, heads, rows = measured.read(name)
+    for limit in limits:
+        rows = judged(heads, rows, limit)
+    return ["", f"Measured on {when}:" if when[0].isdigit() else f"{when}:", "", *table(heads, rows), ""]
+
+
+def tables_of(text):
+    """The tables of a document: for each its heads, and its rows."""
+    for found in re.findall(r"(?:^\|.*\|\n){2,}", text, re.M):
+        heads, _, *rows = [[cell.strip() for cell in line.strip("|").split(" | ")] for line in found.splitlines()]
+        yield heads, rows
+
+
+def quote(pages, words):
+    """Columns of another document's table, so that nobody types its figures again."""
+    name, _, asked = words.partition(" ")
+    heads, _, firsts = (part.strip() for part in asked.partition(" : "))
+    wanted, firsts = heads.split(" | "), [first for first in firsts.split(" | ") if first]
+    known, rows = next((known, rows) for known, rows in tables_of((pages.TOP / name).read_text()) if set(wanted) <= set(known))
+    places = [known.index(head) for head in wanted]
+    taken = [row for row in rows if not firsts or row[0].startswith(tuple(firsts))]
+    if len(taken) < len(firsts):
+        raise LookupError(f"{name} has not all rows that begin with {', '.join(firsts)}")
+    # What a bold figure misses is said at the table that is quoted.
+    return ["", *table(wanted, [[row[place].replace("**", "") for place in places] for row in taken]), ""]
+
+
 def reading(pages, _):
     run = subprocess.run([sys.executable, pages.TOP / "tools" / "dev" / "count_reading.py"], check=True, capture_output=True, text=True)
     return ["", *run.stdout.splitlines(), ""]
@@ -259,7 +315,7 @@ def follow(pages, words):
     return ["", *lines, *([pages.wrapped(f"- outside: {', '.join(outside)}", "  ")] if outside else []), ""]
 
 
-KINDS = {"calls": calls, "crate": crate, "file": file, "part": part, "clauses": clauses, "edits": edits, "programs": programs, "modules": modules, "classes": classes, "times": times, "reading": reading, "rounds": rounds, "follow": follow}
+KINDS = {"calls": calls, "crate": crate, "file": file, "part": part, "clauses": clauses, "edits": edits, "programs": programs, "modules": modules, "classes": classes, "times": times, "figures": figures, "quote": quote, "reading": reading, "rounds": rounds, "follow": follow}
 
 
 def written(pages, text):

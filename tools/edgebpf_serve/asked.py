@@ -5,7 +5,7 @@ import re
 import numpy as np
 from aiohttp import web
 
-from edgebpf_serve.limits import EDIT_BYTES, MOST_COLUMNS_OF_RUN, MOST_EDITS, MOST_TEXT, REMOVE
+from edgebpf_serve.limits import EDIT_BYTES, MOST_COLUMNS, MOST_EDITS, MOST_TEXT, REMOVE
 
 NAME, KEY = re.compile(r"[A-Za-z_][A-Za-z0-9_-]{0,63}"), re.compile(r"[!-~]{1,128}")
 WHOLE = re.compile(r"[0-9]{1,19}")
@@ -138,8 +138,8 @@ def pairs_of(given, count):
 def columns_of(asked):
     """The names of a run's columns."""
     given = asked.get("columns", [])
-    if not isinstance(given, list) or len(given) > MOST_COLUMNS_OF_RUN:
-        raise ValueError(f"columns is a list of up to {MOST_COLUMNS_OF_RUN} names")
+    if not isinstance(given, list) or len(given) > MOST_COLUMNS:
+        raise ValueError(f"columns is a list of up to {MOST_COLUMNS} names")
     return [name_of(name, "a name of columns") for name in given]
 
 

@@ -4,7 +4,7 @@ import typing
 import edgebpf
 import numpy as np
 
-from edgebpf_serve.limits import MOST_BATCHES_OF_EPOCH, MOST_EDITS, REMOVE
+from edgebpf_serve.limits import MOST_BATCHES, MOST_EDITS, REMOVE
 
 
 class Moment(typing.NamedTuple):
@@ -30,7 +30,7 @@ class Graph:
         ends = [sources, targets]
         for store in self.stores:
             for place in range(0, len(targets), MOST_EDITS):
-                if place // MOST_EDITS % MOST_BATCHES_OF_EPOCH == MOST_BATCHES_OF_EPOCH - 1:
+                if place // MOST_EDITS % MOST_BATCHES == MOST_BATCHES - 1:
                     store.rebase()
                 store.apply(ends[0][place:place + MOST_EDITS], ends[1][place:place + MOST_EDITS])
             if len(targets):

@@ -12,8 +12,8 @@ MOST_IDS = 100_000
 EDIT_BYTES = 8
 # In an edit's source this bit takes the edge out.
 REMOVE = 1 << 31
-MOST_BATCHES_OF_EPOCH = 4_096
-MOST_COLUMNS_OF_RUN = 8
+MOST_BATCHES = 4_096
+MOST_COLUMNS = 8
 COLUMN_NUMBER_BYTES = 8
 # A run of so many units at most is made in the loop, where no other thread has to be woken, if its program is short: a step may go on
 # for a block of 64 edges after its budget.
@@ -96,7 +96,7 @@ HELP = {
     "units": (1, 2**63, "the most units of a run, of which an instruction is one"),
     "body": (1 << 16, 1 << 30, "the most bytes of a request, but for a column's"),
     "connections": (1, 100_000, "the most connections at once"),
-    "rebase_batches": (1, MOST_BATCHES_OF_EPOCH, "batches between two rebases"),
+    "rebase_batches": (1, MOST_BATCHES, "batches between two rebases"),
     "rebase_edits": (1, 1 << 32, "edits between two rebases"),
     "snapshot_bytes": (1, 1 << 40, "bytes of batches between two snapshots"),
     "snapshot_batches": (1, 1 << 40, "batches between two snapshots"),

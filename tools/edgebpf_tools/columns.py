@@ -3,11 +3,10 @@ import io
 import re
 
 from edgebpf_tools import decimals, packages
+from edgebpf_tools.limits import MOST_COLUMNS, MOST_NAME_BYTES
 from edgebpf_tools.refusal import Refusal
 
-# What a column takes of a record: the numbers of the source and of the target.
-BYTES, MOST = 16, 8
-NAME = re.compile(r"(?!-$)[A-Za-z0-9_-]{1,32}")
+NAME = re.compile(rf"(?!-$)[A-Za-z0-9_-]{{1,{MOST_NAME_BYTES}}}")
 NUMPY = b"\x93NUMPY"
 LIMIT = 1 << 64
 # With so many numbers a line of a script is not too long.
@@ -29,8 +28,8 @@ def named(options, option="--column"):
         if name in found:
             raise Refusal(f"{option} {name} is given twice")
         found[name] = _read(file)
-    if len(found) > MOST:
-        raise Refusal(f"a run is lent at most {MOST} columns, not {len(found)}")
+    if len(found) > MOST_COLUMNS:
+        raise Refusal(f"a run is lent at most {MOST_COLUMNS} columns, not {len(found)}")
     return found
 
 

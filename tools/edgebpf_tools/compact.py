@@ -1,11 +1,12 @@
 """A session in fewer lines: the graph of each pin and the last one, each by what differs from the one before, and the programs."""
 from edgebpf_tools.commands import changes
-from edgebpf_tools.language import MOST_EDITS, MOST_NAMES, Complaint
+from edgebpf_tools.language import Complaint
+from edgebpf_tools.limits import MOST_EDITS, MOST_KEPT
 from edgebpf_tools.live_store import LiveStore
 
 # It answers 0 for each edge.
 ZERO = "b7000000000000009500000000000000"
-MOST_BATCHES = 4_000
+REBASE_BATCHES = 4_000
 # So many numbers fit into a line.
 MOST_NUMBERS = 3_000
 OF_COLUMNS = ("column", "pull", "push", "each")
@@ -42,8 +43,8 @@ def compacted(sent, programs):
     every, last_of, lines = [command for command in changes(sent) if command[0].split()[0] not in OF_COLUMNS], {}, []
     pins = [command[0].split()[1] for command in every if command[0].startswith("pin")]
     last = unused(pins)
-    if len(pins) >= MOST_NAMES:
-        raise Complaint(f"there are {MOST_NAMES} pins, and the last graph needs one more to be listed")
+    if len(pins) >= MOST_KEPT:
+        raise Complaint(f"there are {MOST_KEPT} pins, and the last graph needs one more to be listed")
     for command in every:
         if command[0].split()[0] in ("code", "image", "program"):
             last_of[command[0].split()[1]] = command
@@ -56,7 +57,7 @@ def compacted(sent, programs):
             after = edges_at(scratch, pin)
             for batch in differences(before, after):
                 batches += 1
-                lines += batch if batches % MOST_BATCHES else [*batch, "rebase"]
+                lines += batch if batches % REBASE_BATCHES else [*batch, "rebase"]
             lines += [f"pin {pin}"] if pin != last else ["rebase"]
             before = after
     return lines + [line for name, command in last_of.items() if name in programs for line in command]

@@ -8,12 +8,12 @@ import tempfile
 
 from edgebpf_tools import clang, columns, ends, explain, owned, tables
 from edgebpf_tools.c_words import CWords
-from edgebpf_tools.language import LEAST_LENGTH, MOST_LENGTH
+from edgebpf_tools.limits import LEAST_RECORD_LENGTH, MOST_NAME_BYTES, MOST_RECORD_LENGTH
 from edgebpf_tools.link import ObjectFile, link
 from edgebpf_tools.refusal import Refusal
 from edgebpf_tools.run_c import asked, run_on
 
-NAME = re.compile(r"[A-Za-z0-9_-]{1,32}")
+NAME = re.compile(rf"[A-Za-z0-9_-]{{1,{MOST_NAME_BYTES}}}")
 HEADERS = pathlib.Path(__file__).resolve().parent.parent
 
 
@@ -28,7 +28,7 @@ def arguments(words):
     )
     parser.add_argument("file", metavar="FILE.c", help="the source, or an object file made with -target bpf")
     parser.add_argument("function", nargs="?", metavar="FUNCTION", help="may be left out where one is not static")
-    parser.add_argument("length", type=int, metavar="LENGTH", help="bytes of a record, 16 to 256: 16 and the argument's")
+    parser.add_argument("length", type=int, metavar="LENGTH", help=f"bytes of a record, {LEAST_RECORD_LENGTH} to {MOST_RECORD_LENGTH}: {LEAST_RECORD_LENGTH} and the argument's")
     parser.add_argument("--name", help="the program's name in the script; else the function's")
     parser.add_argument("--table", metavar="FILE", help="the bytes of a table, which the function reads by its third parameter; "
                         "else those of the object marked TABLE. The line is `image NAME HEX` then")
@@ -158,8 +158,8 @@ def read_graph(path):
 
 def perform(words):
     options = arguments(words)
-    if not LEAST_LENGTH <= options.length <= MOST_LENGTH:
-        raise Refusal(f"a record has {LEAST_LENGTH} to {MOST_LENGTH} bytes, not {options.length}")
+    if not LEAST_RECORD_LENGTH <= options.length <= MOST_RECORD_LENGTH:
+        raise Refusal(f"a record has {LEAST_RECORD_LENGTH} to {MOST_RECORD_LENGTH} bytes, not {options.length}")
     if options.file.startswith("-"):
         # clang would take it for an option.
         options.file = os.path.join(".", options.file)

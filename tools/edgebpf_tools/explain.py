@@ -6,6 +6,7 @@ import subprocess
 
 from edgebpf_tools import ends, owned
 from edgebpf_tools.explain_page import page
+from edgebpf_tools.limits import EDGE_BYTES, LEAST_RECORD_LENGTH, MOST_RECORD_LENGTH
 from edgebpf_tools.refusal import Refusal
 
 TOOLS = pathlib.Path(__file__).resolve().parent.parent
@@ -45,7 +46,7 @@ def arguments(words):
         "Without HEX it reads assembler text from standard input. The status is 1 if the program is refused, and 2 if "
         "there is none.",
     )
-    parser.add_argument("length", metavar="LENGTH", help="how many bytes a record has, from 16 to 256; of an edge it is 16 and "
+    parser.add_argument("length", metavar="LENGTH", help=f"how many bytes a record has, from {LEAST_RECORD_LENGTH} to {MOST_RECORD_LENGTH}; of an edge it is {EDGE_BYTES} and "
                         "what the run's argument has")
     parser.add_argument("code", metavar="HEX", nargs="?", help="the code in hexadecimal digits, as a script's code line has it")
     parser.add_argument("--table", metavar="HEX", help="the table that the program reads, in hexadecimal digits")

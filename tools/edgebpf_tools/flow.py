@@ -5,6 +5,7 @@ from dataclasses import dataclass, field
 from functools import lru_cache
 
 from edgebpf_tools.blocks import CALL, EXIT, JUMP, JUMP_CLASSES, LOCAL_CALL, LONG_JUMP, UNIT, WIDE, is_branch
+from edgebpf_tools.limits import LEAST_RECORD_LENGTH, MOST_GATHER_BYTES, MOST_RECORD_LENGTH
 from edgebpf_tools.values import ALL_32, ALL_64, ANYTHING, NUMBER, RECORD, STACK, UNSET, Value, computed, constant, extended, joined, narrowed, number, settled
 
 FRAME_REGISTER = 10
@@ -27,7 +28,6 @@ OPCODES |= {code << 4 | source | kind for kind in JUMP_CLASSES for code in COMPA
 OPCODES |= {0x84, 0x87, 0xD4, 0xDC, 0xD7, WIDE, JUMP, LONG_JUMP, CALL, EXIT} | {*LOADS, *SIGNED_LOADS, *STORES, *REGISTER_STORES}
 SIGN_BITS = (0, 8, 16, 32)
 GATHER = 5
-MOST_ROOM = 256
 
 
 @dataclass(frozen=True)
@@ -287,7 +287,7 @@ class Flow:
             answer = number(0, HELPER_ANSWERS.get(fields.immediate, ALL_64))
             base = state.registers[3]
             if fields.immediate == GATHER and base.kind != RECORD:
-                self._write(state, base, 0, MOST_ROOM, None)
+                self._write(state, base, 0, MOST_GATHER_BYTES, None)
         state.registers[0] = self.marked(answer)
         for register in range(1, 6):
             state.registers[register] = self.marked(Value(UNSET))
@@ -324,7 +324,7 @@ def entry_state(length=None):
     # The third argument is the address of the table, if there is one.
     registers = [Value(ANYTHING if register == 3 else UNSET, mark=-1 - register) for register in range(11)]
     registers[1] = Value(RECORD, mark=-2)
-    registers[2] = (number(16, 256) if length is None else constant(length))._replace(mark=-3)
+    registers[2] = (number(LEAST_RECORD_LENGTH, MOST_RECORD_LENGTH) if length is None else constant(length))._replace(mark=-3)
     registers[FRAME_REGISTER] = Value(STACK, mark=-20, offset=0)
     return State(registers)
 

@@ -6,22 +6,20 @@ import sys
 from edgebpf_tools import decimals, ends, owned
 from edgebpf_tools.edge_files import Text
 from edgebpf_tools.edge_runs import EdgeRuns, columns_of
+from edgebpf_tools.limits import MOST_EDITS, MOST_VERTICES, SERVED_VERTICES
 from edgebpf_tools.sorted_edges import SortedEdges
 
-# The most vertices of the graph of a script, and of a store in process.
-MOST_VERTICES, MOST_IN_PROCESS = 1_048_576, 268_435_456
-MOST_EDITS = 65_536
-# So many batches at most go by without a rebase; a log has room for 4,096.
-MOST_BATCHES = 4_000
+# So many batches at most go by without a rebase, fewer than a log has room for.
+REBASE_BATCHES = 4_000
 
 
 def arguments(words):
     parser = argparse.ArgumentParser(
         prog="edgebpf-import",
         description="Turns a list of edges (SNAP, or columns separated by blanks, tabs or commas) or a Matrix Market file into a "
-        "script: the graph, and its edges in batches of 65,536, sorted by source. The script goes to standard output.",
+        f"script: the graph, and its edges in batches of {MOST_EDITS:,}, sorted by source. The script goes to standard output.",
         epilog="Lines that begin with # or % are comments. A file that is compressed by gzip is read as what is in it. Columns after the "
-        "second are not read, and a warning on standard error says so. Ids stay if all are below 1,048,576; else they are renumbered in "
+        f"second are not read, and a warning on standard error says so. Ids stay if all are below {SERVED_VERTICES:,}; else they are renumbered in "
         "ascending order, and FILE.ids maps them back. What a gigabyte of memory does not hold is sorted in a file, in the folder that TMPDIR "
         "names, else in /var/tmp. Needs numpy: apt-get install python3-numpy",
     )
@@ -36,7 +34,7 @@ def arguments(words):
     parser.add_argument("--rectangular", choices=["same", "apart"], help="of a matrix with another number of columns than rows: row K "
                         "and column K are one vertex, or columns are vertices after those of the rows")
     parser.add_argument("--rebase", action="store_true", help="end with a rebase, so that no memory is kept for the batches: 12 bytes an "
-                        "edge. After 4,000 batches there is one without this too")
+                        f"edge. After {REBASE_BATCHES:,} batches there is one without this too")
     parser.add_argument("--store", action="store_true", help="write no script, but print how many vertices and edges the file has for a store in "
                         "process, which edgebpf.read_edges makes of it in Python, with up to 268,435,456 vertices")
     parser.add_argument("--quiet", action="store_true", help="no progress on standard error, only warnings")
@@ -52,7 +50,7 @@ def write_script(count, batches, out, ends_with_rebase):
     out.write(b"graph %d\n" % count)
     number = edges = 0
     for batch in batches:
-        if number and number % MOST_BATCHES == 0:
+        if number and number % REBASE_BATCHES == 0:
             out.write(b"rebase\n")
         out.write(b"batch A\n" + decimals.edits(*columns_of(batch)) + b"end\n")
         number, edges = number + 1, edges + len(batch)
@@ -63,7 +61,7 @@ def write_script(count, batches, out, ends_with_rebase):
 
 def read_file(options, runs):
     name = "standard input" if options.file == "-" else options.file
-    most = MOST_IN_PROCESS if options.store else MOST_VERTICES
+    most = MOST_VERTICES if options.store else SERVED_VERTICES
     if options.file == "-":
         return SortedEdges(Text(name, ends.standard_input().buffer), options, most, warn, runs)
     with open(options.file, "rb") as stream:

@@ -3,19 +3,18 @@ import re
 from dataclasses import dataclass, field
 
 from edgebpf_tools import decimals
+from edgebpf_tools.limits import (
+    COLUMN_BYTES, EDGE_BYTES, LEAST_RECORD_LENGTH, MOST_BATCHES, MOST_COLUMNS, MOST_EDITS, MOST_KEPT, MOST_KEPT_COLUMNS, MOST_LINE_BYTES, MOST_NAME_BYTES,
+    MOST_PROGRAM_LINES, MOST_RECORD_LENGTH, SERVED_EPOCHS, SERVED_VERTICES,
+)
 
-MOST_VERTICES, MOST_EDITS, MOST_BATCHES, MOST_EPOCHS, MOST_NAMES = 1_048_576, 65_536, 4_096, 1_024, 256
-MOST_BYTES, MOST_PROGRAM_LINES = 80_000, 65_536
-MOST_COLUMNS, MOST_LENT, COLUMN_BYTES = 64, 8, 16
-# The bytes of a record, of which the argument has all but the least.
-LEAST_LENGTH, MOST_LENGTH = 16, 256
 FEEDS = ("A", "B", "C", "D")
-NAME = re.compile(r"[A-Za-z0-9_-]{1,32}")
+NAME = re.compile(rf"[A-Za-z0-9_-]{{1,{MOST_NAME_BYTES}}}")
 HEX = re.compile(r"-|([0-9a-fA-F]{2})+")
 FORMS = {
-    "graph": "graph N: makes the graph of N vertices, 1 to 1,048,576",
+    "graph": f"graph N: makes the graph of N vertices, 1 to {SERVED_VERTICES:,}",
     "batch": "batch A, or B, C or D: begins a batch of that feed; + U V and - U V are its edits, end publishes it",
-    "code": "code NAME LENGTH HEX: verifies a program with records of LENGTH bytes, 16 to 256, and keeps it",
+    "code": f"code NAME LENGTH HEX: verifies a program with records of LENGTH bytes, {LEAST_RECORD_LENGTH} to {MOST_RECORD_LENGTH}, and keeps it",
     "image": "image NAME HEX: verifies the program of an image's bytes, which may have a table, and keeps it",
     "program": "program NAME LENGTH: begins a program in assembler text; end verifies it",
     "pin": "pin NAME: names the last version",
@@ -119,8 +118,8 @@ class Language:
 
     def check(self, line):
         """Complains of a line that would be a fault."""
-        if len(line) > MOST_BYTES:
-            raise Complaint(f"a line has at most {MOST_BYTES} bytes")
+        if len(line) > MOST_LINE_BYTES:
+            raise Complaint(f"a line has at most {MOST_LINE_BYTES} bytes")
         if any(not (" " <= letter <= "~" or letter == "\t") for letter in line):
             raise Complaint("a line has only printable ASCII and tabs")
         words = line.split()
@@ -155,7 +154,7 @@ class Language:
         getattr(self, f"_check_{command}")(words)
 
     def _check_graph(self, words):
-        number(words, 1, "the number of vertices", 1, MOST_VERTICES)
+        number(words, 1, "the number of vertices", 1, SERVED_VERTICES)
 
     def _check_batch(self, words):
         if words[1] not in FEEDS:
@@ -164,14 +163,14 @@ class Language:
     def _check_new_program(self, words):
         if words[1] in self.programs:
             raise Complaint("a program has this name", 1)
-        if len(self.programs) >= MOST_NAMES:
-            raise Complaint(f"{MOST_NAMES} programs are kept", 1)
+        if len(self.programs) >= MOST_KEPT:
+            raise Complaint(f"{MOST_KEPT} programs are kept", 1)
 
     def _check_program(self, words):
         name(words, 1)
         if len(words) == 4:
             digits(words, 3)
-        number(words, 2, "the length of a record", LEAST_LENGTH, MOST_LENGTH)
+        number(words, 2, "the length of a record", LEAST_RECORD_LENGTH, MOST_RECORD_LENGTH)
         self._check_new_program(words)
 
     _check_code = _check_program
@@ -185,19 +184,19 @@ class Language:
         name(words, 1)
         if words[1] in self.pins:
             raise Complaint("a pin has this name", 1)
-        if len(self.pins) >= MOST_NAMES:
-            raise Complaint(f"there are {MOST_NAMES} pins", 1)
+        if len(self.pins) >= MOST_KEPT:
+            raise Complaint(f"there are {MOST_KEPT} pins", 1)
 
     def _check_rebase(self, words):
-        if self.epochs >= MOST_EPOCHS:
-            raise Complaint(f"{MOST_EPOCHS} epochs ended", 0)
+        if self.epochs >= SERVED_EPOCHS:
+            raise Complaint(f"{SERVED_EPOCHS} epochs ended", 0)
 
     def _check_home(self, words):
         number(words, 1, "a vertex", 0, self.vertices - 1)
 
     def _check_argument(self, words, place, columns=0):
         """The names of a program and of a pin, and the argument at this place, beside so many columns."""
-        length, rest = digits(words, place), LEAST_LENGTH + COLUMN_BYTES * columns
+        length, rest = digits(words, place), EDGE_BYTES + COLUMN_BYTES * columns
         if words[1] not in self.programs:
             raise Complaint("no program has this name", 1)
         if words[2] not in self.pins:
@@ -237,8 +236,8 @@ class Language:
                 raise Complaint("a number is in decimal digits", place)
         if first + len(words) - 3 > self.vertices:
             raise Complaint(f"there are {self.vertices - first} vertices from there on", 2)
-        if words[1] not in self.columns and len(self.columns) >= MOST_COLUMNS:
-            raise Complaint(f"there are {MOST_COLUMNS} columns", 1)
+        if words[1] not in self.columns and len(self.columns) >= MOST_KEPT_COLUMNS:
+            raise Complaint(f"there are {MOST_KEPT_COLUMNS} columns", 1)
 
     def _check_values(self, words):
         column(words, 1)
@@ -251,8 +250,8 @@ class Language:
         if words[0] != "pull" or words[6] != "-":
             self._check_known([column(words, 6)], 6)
         self._check_known(names, 5)
-        if len(names) > MOST_LENT:
-            raise Complaint(f"a record has at most {MOST_LENT} columns", 5)
+        if len(names) > MOST_COLUMNS:
+            raise Complaint(f"a record has at most {MOST_COLUMNS} columns", 5)
         self._check_argument(words, 4, len(names))
         self._check_frontier(words, 7)
 

@@ -7,11 +7,11 @@ import pathlib
 from edgebpf_tools.blocks import CALL, LOCAL_CALL, UNIT, Circle, Instruction, Stray, cut, in_order, joined, placed
 from edgebpf_tools.clang import lines_of
 from edgebpf_tools.flow import Flow, called_state, entry_state, is_instruction
+from edgebpf_tools.limits import MOST_UNITS
 from edgebpf_tools.refusal import Refusal, needs_package
 from edgebpf_tools.rewriting import Rewriting
 from edgebpf_tools.tables import SECTION as TABLE_SECTION
 
-MOST_UNITS = 4096
 EM_BPF = 247
 # The flag of a section that may be written.
 WRITABLE = 1

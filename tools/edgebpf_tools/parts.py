@@ -2,11 +2,9 @@
 from dataclasses import dataclass
 
 from edgebpf_tools import decimals, packages
+from edgebpf_tools.limits import MOST_EDITS, RANGE_VERTICES, SERVED_VERTICES
 from edgebpf_tools.refusal import Refusal
 
-# Vertices follow each other in a part by ranges, as the store keeps them.
-RANGE = 256
-MOST_VERTICES, MOST_EDITS = 1_048_576, 65_536
 BITS_64 = (1 << 64) - 1
 IDENTITY = {"min": BITS_64, "max": 0, "sum": 0}
 JOIN = {"min": min, "max": max, "sum": lambda one, other: (one + other) & BITS_64}
@@ -19,7 +17,7 @@ EVERY = -1
 
 def part_of(vertex, count):
     """Which of so many parts has the edges of a vertex."""
-    return vertex // RANGE % count
+    return vertex // RANGE_VERTICES % count
 
 
 class Cutter:
@@ -28,7 +26,7 @@ class Cutter:
     def __init__(self, count, outs):
         self.numpy = packages.numpy()
         self.count, self.outs = count, outs
-        self.is_source = self.numpy.zeros(MOST_VERTICES, dtype=bool)
+        self.is_source = self.numpy.zeros(SERVED_VERTICES, dtype=bool)
         self.line, self.vertices = 0, None
         # The line that began the last batch.
         self.begun = 0
@@ -68,7 +66,7 @@ class Cutter:
         signs = letters[starts]
         sources, ends = decimals.numbers_at(letters, starts + 2)
         is_edit = ((signs == ord("+")) | (signs == ord("-"))) & (letters[starts + 1] == BLANK)
-        has_source = (ends > starts + 2) & (letters[ends] == BLANK) & (sources < MOST_VERTICES)
+        has_source = (ends > starts + 2) & (letters[ends] == BLANK) & (sources < SERVED_VERTICES)
         return sources, is_edit & has_source
 
     def _part_of_other(self, line, place):
@@ -76,7 +74,7 @@ class Cutter:
         words = line.decode("utf-8", "replace").split()
         if words and words[0] in ("+", "-") and len(words) == 3 and decimals.is_number(words[1]):
             vertex = decimals.value(words[1])
-            if vertex < MOST_VERTICES:
+            if vertex < SERVED_VERTICES:
                 self.is_source[vertex] = True
             return part_of(vertex, self.count)
         if words and words[0] not in ("graph", "batch", "end", "rebase") and not words[0].startswith("#"):
@@ -90,7 +88,7 @@ class Cutter:
         if words[:1] == ["graph"] and self.vertices is None:
             # A graph without a number, or with one that is out of range, has edgebpf's fault.
             made = decimals.value(words[1]) if len(words) == 2 and decimals.is_number(words[1]) else 0
-            self.vertices = made if made <= MOST_VERTICES else 0
+            self.vertices = made if made <= SERVED_VERTICES else 0
         return EVERY
 
     def _write(self, block, part_of_line, starts, ends):
@@ -152,7 +150,7 @@ def rows_in_order(results):
             continue
         starts = numpy.concatenate(([0], ends[:-1]))
         vertices, _ = decimals.numbers_at(letters, starts + len("row "))
-        firsts = numpy.flatnonzero(numpy.diff((vertices // RANGE).astype(numpy.int64), prepend=-1))
+        firsts = numpy.flatnonzero(numpy.diff((vertices // RANGE_VERTICES).astype(numpy.int64), prepend=-1))
         bounds = [*starts[firsts].tolist(), int(ends[-1])]
         pieces += [(vertex, result.rows[start:end]) for vertex, start, end in zip(vertices[firsts].tolist(), bounds, bounds[1:])]
     return [piece for _, piece in sorted(pieces, key=lambda piece: piece[0])]

@@ -5,21 +5,23 @@ import sys
 from dataclasses import dataclass, field
 
 from edgebpf_tools import columns, decimals, store
+from edgebpf_tools.limits import COLUMN_BYTES, EDGE_BYTES, MOST_LINE_BYTES
 from edgebpf_tools.refusal import Refusal
 from edgebpf_tools.words import in_words
 
 PIN = "last"
 FAULTS = {
-    1: "a line of more than 80,000 bytes",
+    1: f"a line of more than {MOST_LINE_BYTES:,} bytes",
     2: "a byte that no line may have, an unknown command, or wrong words",
     3: "a command before `graph`, or a second `graph`",
     4: "a number of vertices, a record length or a vertex that is out of range",
     5: "a name that is used already, or unknown",
     6: "an argument of the wrong length",
     7: "vertices that do not ascend",
-    8: "more edits, programs or pins than there may be",
+    8: "more edits, programs, pins or columns than there may be",
     9: "more batches than there may be",
     10: "a block that never ends",
+    11: "more rebases than there may be",
 }
 # What a fault of one of our own lines means, by the line's first word and the number.
 OWN_FAULTS = {
@@ -56,9 +58,9 @@ class Run:
 def asked(options, name, line):
     """The run that options ask for; refuses what would be a fault."""
     lent = columns.named(options.column)
-    room = options.length - 16 - columns.BYTES * len(lent)
+    room = options.length - EDGE_BYTES - COLUMN_BYTES * len(lent)
     if room < 0:
-        raise Refusal(f"records of {options.length} bytes have no room for {len(lent)} columns of {columns.BYTES} bytes")
+        raise Refusal(f"records of {options.length} bytes have no room for {len(lent)} columns of {COLUMN_BYTES} bytes")
     argument = options.argument
     if argument is None:
         argument = "00" * room or "-"

@@ -1,7 +1,7 @@
 """A run that a person waits for, in parts of its vertices: it ends between two of them, and shows how far it is."""
 import time
 
-from edgebpf_tools.language import MOST_BYTES
+from edgebpf_tools.limits import MOST_LINE_BYTES
 from edgebpf_tools.parts import IDENTITY, JOIN
 
 # The vertices of the first part. Later parts have more or fewer, so that one takes about a tenth of a second.
@@ -19,7 +19,7 @@ class RunInParts:
         self.rows, self.edges, self.total = [], 0, IDENTITY[words[3]]
         # A part's line holds so many vertices, however long their digits are.
         longest = max(len(str(frontier[-1])), 1) + 1
-        self.most = (MOST_BYTES - len(" ".join(self.words))) // longest
+        self.most = (MOST_LINE_BYTES - len(" ".join(self.words))) // longest
         self.said_at, self.shown = time.monotonic(), 0
 
     @classmethod

@@ -13,7 +13,8 @@ from edgebpf_tools import decimals, ends, explain, owned, tables
 from edgebpf_tools.commands import changes, is_question, whole_length
 from edgebpf_tools.compact import column_lines, compacted
 from edgebpf_tools.journal import Journal
-from edgebpf_tools.language import FORMS, MOST_BYTES, Complaint, Language
+from edgebpf_tools.language import FORMS, Complaint, Language
+from edgebpf_tools.limits import MOST_LINE_BYTES
 from edgebpf_tools.live_store import LiveStore
 from edgebpf_tools.refusal import Refusal
 from edgebpf_tools.run_in_parts import RunInParts
@@ -169,7 +170,7 @@ class Shell:
             whole, end, rest = (rest + block).rpartition(b"\n")
             number = self.some_lines((whole + end).decode("utf-8", "surrogateescape"), number, stops)
             # Of a line that is too long no more is kept than is needed to refuse it.
-            rest = rest[: MOST_BYTES + 1]
+            rest = rest[: MOST_LINE_BYTES + 1]
         if rest:
             self.some_lines(rest.decode("utf-8", "surrogateescape") + "\n", number, stops)
 
@@ -224,7 +225,7 @@ class Shell:
     def _image(self, words):
         self._wants(words, len(words) == 3)
         with open(words[2], "rb") as stream:
-            image = stream.read(MOST_BYTES)
+            image = stream.read(MOST_LINE_BYTES)
         self.command(f"image {words[1]} {image.hex() or '-'}")
 
     def _compact(self, words):

@@ -2,10 +2,10 @@
 from dataclasses import dataclass, replace
 
 from edgebpf_tools.blocks import CALL, LOCAL_CALL, UNIT, Instruction, is_branch
-from edgebpf_tools.flow import FRAME_REGISTER, GATHER, MOST_ROOM, Fields, State, access_of, may_be_handed
+from edgebpf_tools.flow import FRAME_REGISTER, GATHER, Fields, State, access_of, may_be_handed
+from edgebpf_tools.limits import FRAME_BYTES, MOST_GATHER_BYTES
 from edgebpf_tools.values import ANYTHING, STACK
 
-FRAME_BYTES = 512
 WORD = 4
 # Loads and stores of a word, each with that of a double word.
 DOUBLES = {0x61: 0x79, 0x63: 0x7B, 0x62: 0x7A}
@@ -45,7 +45,7 @@ def _base(fields, state):
     """The register, the offset and the greatest number of bytes of an access; None for any other instruction."""
     if fields.opcode == CALL and fields.source != LOCAL_CALL and fields.immediate == GATHER:
         room = state.registers[4]
-        return 3, 0, min(MOST_ROOM, room.high) if room.is_number else MOST_ROOM
+        return 3, 0, min(MOST_GATHER_BYTES, room.high) if room.is_number else MOST_GATHER_BYTES
     return access_of(fields)
 
 

@@ -9,14 +9,13 @@ import time
 from dataclasses import dataclass
 
 from edgebpf_tools import columns, decimals, ends, owned, parts, store, tables, workers
-from edgebpf_tools.language import HEX, LEAST_LENGTH, MOST_LENGTH
+from edgebpf_tools.language import HEX
+from edgebpf_tools.limits import COLUMN_BYTES, EDGE_BYTES, LEAST_RECORD_LENGTH, MOST_RECORD_LENGTH, MOST_WORKERS
 from edgebpf_tools.own_source import asks_of_others
 from edgebpf_tools.refusal import Refusal
 from edgebpf_tools.words import in_words
 
 MOST_PROCESSES = 64
-# So many threads may one edgebpf have.
-MOST_THREADS = 16
 # A line has at most 80,000 bytes, and a vertex at most 7 digits.
 VERTICES_OF_A_LINE = 8_000
 
@@ -60,8 +59,8 @@ def program_line(path):
     except ValueError:
         raise Refusal(f"{path}: the code is not pairs of hexadecimal digits") from None
     length, code = tables.parts_of(given)[:2] if len(words) == 3 else (decimals.value(words[2]), given)
-    if not LEAST_LENGTH <= length <= MOST_LENGTH:
-        raise Refusal(f"{path}: a record has {LEAST_LENGTH} to {MOST_LENGTH} bytes")
+    if not LEAST_RECORD_LENGTH <= length <= MOST_RECORD_LENGTH:
+        raise Refusal(f"{path}: a record has {LEAST_RECORD_LENGTH} to {MOST_RECORD_LENGTH} bytes")
     return words[1], length, code, lines[0]
 
 
@@ -104,9 +103,9 @@ class Asked:
         begins = columns.named([options.push], "--push")[into] if file else None
         if into in lent:
             raise Refusal(f"--push {into} is a column that the run reads; give this one another name")
-        room = length - LEAST_LENGTH - columns.BYTES * len(lent)
+        room = length - EDGE_BYTES - COLUMN_BYTES * len(lent)
         if room < 0:
-            raise Refusal(f"records of {length} bytes have no room for {len(lent)} columns of {columns.BYTES} bytes")
+            raise Refusal(f"records of {length} bytes have no room for {len(lent)} columns of {COLUMN_BYTES} bytes")
         return cls(name, line, options.reduce, options.argument or "00" * room or "-", lent, into or None, begins)
 
     @property
@@ -180,7 +179,7 @@ class Times:
         say = functools.partial(print, "edgebpf-spread:", file=sys.stderr)
         if options.timer:
             say(f"cut in {self.cut:.2f} s, workers started in {self.start:.2f} s, served in {self.serve:.2f} s")
-        if not options.scheduler and options.processes <= MOST_THREADS:
+        if not options.scheduler and options.processes <= MOST_WORKERS:
             say(
                 f"on one machine `edgebpf --workers {options.processes}` is faster: it has no graph to cut, which took "
                 f"{self.cut:.1f} s, and no worker processes to start, which took {self.start:.1f} s"

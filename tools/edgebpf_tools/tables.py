@@ -1,10 +1,10 @@
 """The read-only table of a program: of an object in C marked TABLE, or of a file."""
 import struct
 
+from edgebpf_tools.limits import MOST_TABLE_LENGTH
 from edgebpf_tools.refusal import Refusal
 
 SECTION = ".edgebpf_table"
-MOST_BYTES = 4096
 # The longest text of numbers that is read.
 MOST_TEXT = 1_000_000
 TYPES = {"u8": "<B", "u16": "<H", "u32": "<I", "u64": "<Q"}
@@ -20,7 +20,7 @@ def _number(path, line, word, form):
 
 def of_file(path, kind=None):
     """The bytes of a file, or of the numbers of its lines, each of a type."""
-    most = MOST_BYTES if kind is None else MOST_TEXT
+    most = MOST_TABLE_LENGTH if kind is None else MOST_TEXT
     try:
         with open(path, "rb") as stream:
             read = stream.read(most + 1)
@@ -46,9 +46,9 @@ def of_program(options, objects):
     else:
         table = of_file(options.table, options.table_type)
         if not table:
-            raise Refusal(f"{options.table} has no byte; a table has 1 to {MOST_BYTES}")
-    if len(table) > MOST_BYTES:
-        raise Refusal(f"the table has {len(table)} bytes; it may have 1 to {MOST_BYTES}")
+            raise Refusal(f"{options.table} has no byte; a table has 1 to {MOST_TABLE_LENGTH}")
+    if len(table) > MOST_TABLE_LENGTH:
+        raise Refusal(f"the table has {len(table)} bytes; it may have 1 to {MOST_TABLE_LENGTH}")
     return table
 
 

@@ -2,6 +2,8 @@
 import pathlib
 import re
 
+from edgebpf_tools.limits import LEAST_RECORD_LENGTH, MOST_RECORD_LENGTH, MOST_TABLE_LENGTH, MOST_UNITS
+
 TOP = pathlib.Path(__file__).resolve().parent.parent.parent
 # In a checkout, and in an installation, which has that file alone of the sources.
 PLACES = [TOP / "crates" / "explanation" / "src" / "words.rt", TOP / "words.rt"]
@@ -41,15 +43,15 @@ TEXT_ERRORS = {
     3: "an earlier line has this label",
     4: "no line has the label to which it goes",
     5: "a number is outside its range, or a label too far away",
-    6: "with this line the code has more than 4,096 units",
+    6: f"with this line the code has more than {MOST_UNITS:,} units",
     7: "there was no memory to assemble it",
 }
 IMAGE_ERRORS = {
     1: "the bytes do not begin with BPE1 or BPE2, so they are no image",
     2: "the image has more or fewer bytes than its numbers say",
-    3: "the image's record length is not 16 to 256",
-    4: "the code is not 1 to 4,096 whole units of 8 bytes",
-    6: "the table is not 1 to 4,096 bytes",
+    3: f"the image's record length is not {LEAST_RECORD_LENGTH} to {MOST_RECORD_LENGTH}",
+    4: f"the code is not 1 to {MOST_UNITS:,} whole units of 8 bytes",
+    6: f"the table is not 1 to {MOST_TABLE_LENGTH:,} bytes",
 }
 
 

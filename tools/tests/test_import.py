@@ -54,7 +54,7 @@ class EdgebpfImport(unittest.TestCase):
         from edgebpf_tools import import_edges
 
         out = io.BytesIO()
-        with unittest.mock.patch.multiple(import_edges, MOST_BATCHES=2):
+        with unittest.mock.patch.multiple(import_edges, REBASE_BATCHES=2):
             self.assertEqual(import_edges.write_script(4, numpy.array([[1], [2], [3]]), out, False), (3, 3))
         batches = [f"batch A\n+ 0 {target}\nend\n" for target in (1, 2, 3)]
         self.assertEqual(out.getvalue().decode(), "graph 4\n" + batches[0] + batches[1] + "rebase\n" + batches[2])

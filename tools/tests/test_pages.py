@@ -1,12 +1,19 @@
 """The parts of documents that are written from the sources (`tools/dev/write_parts.py`)."""
+import datetime
+import pathlib
 import re
 import sys
+import tempfile
 import unittest
+import unittest.mock
+import xml.etree.ElementTree
 
 from tools_here import TOOLS
 
 sys.path.insert(0, str(TOOLS / "dev"))
 
+import draw_house  # noqa: E402
+import figures  # noqa: E402
 import write_manual  # noqa: E402
 import write_pages  # noqa: E402
 import write_parts  # noqa: E402
@@ -16,6 +23,50 @@ import write_rounds  # noqa: E402
 class Manual(unittest.TestCase):
     def test_code_within_strong_words(self):
         self.assertEqual(write_manual.inline("**8 `UnsetRegister`.** It reads `r0`."), r"\fB8 UnsetRegister.\fR It reads \fBr0\fR.")
+
+
+class House(unittest.TestCase):
+    """The picture of the crates, by what it has: boxes with names, and lines."""
+
+    @classmethod
+    def setUpClass(cls):
+        cls.uses = write_pages.uses()
+        cls.boxes, _, cls.size = draw_house.house()
+        cls.lines = draw_house.reduced(cls.uses)
+
+    def test_each_crate_has_a_box_above_what_it_uses(self):
+        top = xml.etree.ElementTree.fromstring(draw_house.picture())
+        names = [text.text for text in top.iter("{http://www.w3.org/2000/svg}text") if "class" not in text.attrib]
+        self.assertEqual(sorted(names), sorted(self.uses))
+        self.assertEqual({crate for crate, used in self.uses.items() for one in used if self.boxes[crate].y >= self.boxes[one].y}, set())
+
+    def test_no_box_lies_over_another_or_outside(self):
+        boxes = list(self.boxes.values())
+        for place, one in enumerate(boxes):
+            self.assertTrue(0 <= one.x and one.x + one.width <= self.size[0] and 0 <= one.y and one.y + draw_house.BOX_HEIGHT <= self.size[1], one.name)
+            for other in boxes[place + 1:]:
+                self.assertTrue(one.y != other.y or one.x + one.width <= other.x or other.x + other.width <= one.x, f"{one.name} and {other.name}")
+
+    def test_lines_lead_to_all_that_is_used_and_to_nothing_else(self):
+        def reached(crate, lines):
+            return set(lines[crate]).union(*(reached(one, lines) for one in lines[crate]))
+
+        for crate, used in self.uses.items():
+            self.assertEqual(reached(crate, self.lines), reached(crate, self.uses), crate)
+            self.assertLessEqual(set(self.lines[crate]), set(used))
+        self.assertEqual(draw_house.picture().count("<path "), sum(map(len, self.lines.values())))
+        # By hand: service has script, which has all else that it uses; script_model has session_model alone of its own.
+        self.assertEqual((self.lines["service"], self.lines["script_model"]), (["script"], ["session_model"]))
+
+    def test_kinds(self):
+        kinds = {crate: draw_house.kind_of(crate) for crate in self.uses}
+        self.assertEqual({crate for crate, kind in kinds.items() if kind == "ends"}, {"edgebpf", "edgebpf_explain", "edgebpf_c"})
+        self.assertEqual({crate for crate, kind in kinds.items() if kind == "tests"}, {"edgebpf_tests", "program_rows", "script_rows", "refused_calls"})
+
+    def test_parts_of_the_architecture(self):
+        """Its table names each crate once."""
+        page = (TOOLS.parent / "docs/ARCHITECTURE.md").read_text().partition("## What exists")[2].partition("\n## ")[0]
+        self.assertEqual(sorted(re.findall(r"`(\w+)`", page)), sorted(self.uses))
 
 
 class Parts(unittest.TestCase):
@@ -48,6 +99,62 @@ class Parts(unittest.TestCase):
         shown = write_parts.KINDS["rounds"](write_pages, "examples/cores.script left gone each goes")
         frontiers = [line[7:7 + write_rounds.FRONTIER_WIDTH].strip() for line in shown[3:-1]]
         self.assertEqual(frontiers, ["7", "4 5 6", "3", "none", "0 1 2"])
+
+    def test_figures_of_a_file(self):
+        with tempfile.TemporaryDirectory() as folder, unittest.mock.patch.object(figures, "FIGURES", pathlib.Path(folder)):
+            figures.write("one", ("What", "Seconds"), [("a run", "0.5"), ("a list", "2")], "2026-11-30, commit 12345678, load 2")
+            shown = write_parts.figures(write_pages, "one")
+            self.assertEqual(shown, ["", "Measured on 2026-11-30, commit 12345678, load 2:", "", "| What | Seconds |", "|---|---|", "| a run | 0.5 |", "| a list | 2 |", ""])
+            figures.write("two", ("What",), [("a run",)], "Each row has its day")
+            self.assertEqual(write_parts.figures(write_pages, "two"), ["", "Each row has its day:", "", "| What |", "|---|", "| a run |", ""])
+            figures.add("one", ["a pin", ""])
+            self.assertTrue((pathlib.Path(folder) / "one.txt").read_text().endswith("\na list | 2\na pin | -\n"))
+            self.assertEqual(figures.read("one")[2], [["a run", "0.5"], ["a list", "2"], ["a pin", ""]])
+            figures.write("one", ("What", "Seconds"), [("a run",)])
+            self.assertRegex((pathlib.Path(folder) / "one.txt").read_text(), r"^20\d\d-\d\d-\d\d, commit [0-9a-f]{8,}, load \d+\nWhat \| Seconds\na run\n$")
+            with self.assertRaisesRegex(ValueError, "a run has not as many cells"):
+                figures.read("one")
+
+    def test_figures_that_miss_a_limit(self):
+        heads, rows = ["What", "Time", "Ratio"], [["a run of 90", "1,000.5 and 7", "0.31"], ["a list", "2:30", "0.2: 5 of `x9`"], ["a list again", "", "0.5"]]
+        for limit, found in (
+            ("@ Ratio <= 0.30", [["1,000.5 and 7", "**0.31**"], ["2:30", "0.2: **5** of `x9`"], ["", "**0.5**"]]),
+            ("a run <= 7", [["**1,000.5** and 7", "0.31"], ["2:30", "0.2: 5 of `x9`"], ["", "0.5"]]),
+            ("a list @ Ratio <= 0.4", [["1,000.5 and 7", "0.31"], ["2:30", "0.2: **5** of `x9`"], ["", "**0.5**"]]),
+        ):
+            self.assertEqual(write_parts.judged(heads, rows, limit), [[row[0], *cells] for row, cells in zip(rows, found)], limit)
+        for limit in ("@ Speed <= 1", "a pin <= 1"):
+            with self.assertRaisesRegex(LookupError, "no figure is judged"):
+                write_parts.judged(heads, rows, limit)
+
+    def test_counts_grow(self):
+        heads = ("Test", "Count", "Of them", "Last", "By")
+        rows = [("a script", "1,500", "", "2026-11-29", "x"), ("a store", "9", "4", "2026-11-29", "y"), ("a call", "2 million", "", "", "")]
+        with tempfile.TemporaryDirectory() as folder, unittest.mock.patch.object(figures, "FIGURES", pathlib.Path(folder)):
+            figures.write("some", heads, rows, "then")
+            today = str(datetime.date.today())
+            for row, number, newer, found in (
+                ("a script", 500, False, ["2,000", ""]), ("a store", 1, False, ["10", "5"]), ("a store", 7, True, ["17", "7"]), ("a script", 8, True, ["2,008", "8"]),
+            ):
+                figures.count("some", row, number, newer)
+                self.assertIn([row, *found, today], [cells[:4] for cells in figures.read("some")[2]])
+            for row, words in (("a", "3 rows"), ("none", "0 rows"), ("a call", "no counts")):
+                with self.assertRaisesRegex(SystemExit, words):
+                    figures.count("some", row, 1, False)
+            self.assertEqual(figures.read("some")[0], "then")
+
+    def test_quoted_rows(self):
+        """Columns of another page's table, in the order that is asked for, and of them the rows that begin so."""
+        page = "| A | B | C |\n|---|---|---|\n| one | 1 | `x` |\n| two | 2 | y |\n\n| B | D |\n|---|---|\n| 7 | 8 |\n"
+        with tempfile.TemporaryDirectory() as folder:
+            pathlib.Path(folder, "page.md").write_text(page)
+            pages = unittest.mock.Mock(TOP=pathlib.Path(folder))
+            self.assertEqual(write_parts.quote(pages, "page.md C | A"), ["", "| C | A |", "|---|---|", "| `x` | one |", "| y | two |", ""])
+            self.assertEqual(write_parts.quote(pages, "page.md A | B : two")[3:-1], ["| two | 2 |"])
+            self.assertEqual(write_parts.quote(pages, "page.md B | D")[3:-1], ["| 7 | 8 |"])
+            for wrong in ("page.md A | B : three", "page.md A | D"):
+                with self.assertRaises((LookupError, StopIteration)):
+                    write_parts.quote(pages, wrong)
 
     def test_a_part_of_a_file_by_its_name(self):
         shown = write_parts.part(write_pages, "examples/refused.c data")

@@ -10,9 +10,10 @@ import numpy.typing as npt
 
 from edgebpf.errors import Error
 from edgebpf.given import Vertices
+from edgebpf.limits import MOST_EDITS
 
-# Edges of a batch, and batches between two rebases, so that no log grows large.
-BATCH, BATCHES = 65_536, 256
+# Batches between two rebases, so that no log grows large.
+BATCHES = 256
 # The greatest number of edges that 32-bit indices of scipy count.
 MOST_INT32 = 2**31 - 1
 
@@ -88,8 +89,8 @@ def to_networkx(version: Read, directed: bool) -> Any:
 
 def put(store: Edited, sources: npt.NDArray[Any], targets: npt.NDArray[Any]) -> None:
     """Puts edges into a store, in batches that it then forgets."""
-    for number, begin in enumerate(range(0, len(sources), BATCH), 1):
-        store.batch("A", inserts=(sources[begin:begin + BATCH], targets[begin:begin + BATCH]))
+    for number, begin in enumerate(range(0, len(sources), MOST_EDITS), 1):
+        store.batch("A", inserts=(sources[begin:begin + MOST_EDITS], targets[begin:begin + MOST_EDITS]))
         if number % BATCHES == 0:
             store.rebase()
     store.rebase()

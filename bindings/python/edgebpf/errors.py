@@ -3,6 +3,8 @@ from __future__ import annotations
 
 import typing
 
+from edgebpf.limits import MOST_COUNTED, MOST_PAIRS, MOST_UNITS
+
 if typing.TYPE_CHECKING:
     from edgebpf.companion import Task
     from edgebpf.programs import Program
@@ -15,7 +17,7 @@ CAUSES = {
     4: "a call goes to no instruction after itself",
     5: "a function does not end in an exit",
     6: "more than eight functions may be live at once",
-    7: "more than 1,000,000 instructions may run",
+    7: f"more than {MOST_COUNTED:,} instructions may run",
     8: "a register is read of which nothing is known: it may be unset, or the ways that lead here set it to unlike values",
     9: "the frame register r10 is written",
     10: "a pointer is used where only a number may be, or a number where only a pointer may be",
@@ -26,7 +28,7 @@ CAUSES = {
     15: "a function may end with a pointer in r0",
     16: "out of memory",
     17: "a store or gather goes to the table, which is only read",
-    18: "more than 1,000,000 instructions are to be verified, a function once for each call of it",
+    18: f"more than {MOST_PAIRS:,} instructions are to be verified, a function once for each call of it",
 }
 
 # No cause of the assembler's: to it a comment is any text.
@@ -38,7 +40,7 @@ TEXT_ERRORS = {
     3: "an earlier line has this label",
     4: "no line has the label to which the statement goes",
     5: "a number is outside its range, or a label is too far away",
-    6: "the code has more than 4,096 units",
+    6: f"the code has more than {MOST_UNITS:,} units",
 }
 
 

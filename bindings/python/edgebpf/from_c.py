@@ -11,7 +11,8 @@ import time
 from collections.abc import Sequence
 
 from edgebpf.errors import Error
-from edgebpf.programs import EDGE_BYTES, Program, python_command, record_of
+from edgebpf.limits import EDGE_BYTES
+from edgebpf.programs import Program, python_command, record_of
 
 SECONDS = 10.0
 # The address space of each process, and the bytes of a file that one may write.

@@ -17,10 +17,10 @@ from typing import Any
 import numpy as np
 
 from edgebpf.errors import Error, NoMemory
-from edgebpf.given import MOST_VERTICES, vertex_count, whole
+from edgebpf.given import vertex_count, whole
+from edgebpf.limits import MOST_EDITS, MOST_VERTICES
 from edgebpf.native import Store
 from edgebpf.programs import command
-from edgebpf.store import MOST_EDITS
 
 TOOLS = "edgebpf_tools"
 # Sorted edges beyond so many bytes lie in a file.

@@ -9,17 +9,14 @@ import numpy as np
 import numpy.typing as npt
 
 from edgebpf.errors import VertexRange
+from edgebpf.limits import MOST_COLUMNS
 
-# The most vertices of a graph in this process, and of one behind a script.
-MOST_VERTICES, SERVED_VERTICES = 1 << 28, 1 << 20
 FEEDS = ("A", "B", "C", "D")
 # The number of each reduction in the library.
 REDUCTIONS = {"sum": 0, "min": 1, "max": 2}
 # Numbers and budgets are below this.
 WORD = 1 << 64
 MOST_THREADS = 64
-# A record has numbers of at most so many columns.
-MOST_COLUMNS = 8
 MOST_SECONDS = 1_000_000_000
 # Of arrays up to this length Python finds the greatest number sooner than numpy does.
 SHORT = 100

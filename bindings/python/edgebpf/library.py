@@ -15,6 +15,9 @@ from typing import Any
 import numpy.typing as npt
 
 from edgebpf.errors import ArgumentLength, Closed, EpochsFull, Error, LogFull, NoMemory, TooManyEdits, VertexRange
+from edgebpf.limits import (
+    COLUMN_BYTES, EDGE_BYTES, LEAST_RECORD_LENGTH, MOST_BATCHES, MOST_COLUMNS, MOST_EDITS, MOST_RECORD_LENGTH, MOST_TABLE_LENGTH, MOST_UNITS,
+)
 
 cffi: Any = importlib.import_module("cffi") if importlib.util.find_spec("cffi") else None
 
@@ -35,15 +38,16 @@ ERRORS: dict[int, tuple[type[Exception], str]] = {
     NO_MEMORY: (NoMemory, "there is no memory; nothing was changed"),
     EMPTY: (Closed, "it is closed"),
     VERTEX_RANGE: (VertexRange, "a vertex is not in the graph"),
-    TOO_MANY_EDITS: (TooManyEdits, "a batch has at most 65,536 edits"),
-    LOG_FULL: (LogFull, "4,096 batches were applied since the last rebase"),
+    TOO_MANY_EDITS: (TooManyEdits, f"a batch has at most {MOST_EDITS:,} edits"),
+    LOG_FULL: (LogFull, f"{MOST_BATCHES:,} batches were applied since the last rebase"),
     NO_NEIGHBOUR: (IndexError, "the vertex has no neighbour at this place"),
     EPOCHS_FULL: (EpochsFull, "as many rebases were made as 64 bits count"),
-    RECORD_LENGTH: (ValueError, "a record has 16 to 256 bytes"),
-    CODE_LENGTH: (ValueError, "code has 1 to 4,096 whole units of 8 bytes"),
-    TABLE_LENGTH: (ValueError, "a table has at most 4,096 bytes"),
-    ARGUMENT_LENGTH: (ArgumentLength, "the argument does not have the record's length less 16 bytes, and less 16 for each column"),
-    COLUMNS: (ValueError, "there are at most 8 columns, each with a number for each vertex"),
+    RECORD_LENGTH: (ValueError, f"a record has {LEAST_RECORD_LENGTH} to {MOST_RECORD_LENGTH} bytes"),
+    CODE_LENGTH: (ValueError, f"code has 1 to {MOST_UNITS:,} whole units of 8 bytes"),
+    TABLE_LENGTH: (ValueError, f"a table has at most {MOST_TABLE_LENGTH:,} bytes"),
+    ARGUMENT_LENGTH: (
+        ArgumentLength, f"the argument does not have the record's length less {EDGE_BYTES} bytes, and less {COLUMN_BYTES} for each column"),
+    COLUMNS: (ValueError, f"there are at most {MOST_COLUMNS} columns, each with a number for each vertex"),
     NOT_SORTED: (
         ValueError, "the arrays are not sorted: starts ascend from 0 to the number of targets, and the targets of each vertex ascend"),
     PROGRESS: (Error, "the progress names no place of this frontier"),

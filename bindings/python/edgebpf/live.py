@@ -11,8 +11,9 @@ import numpy.typing as npt
 
 from edgebpf.errors import Closed, NoMemory
 from edgebpf.given import FEEDS, Edges, Pairs, edits_of, edits_of_batch, feed_of, whole
+from edgebpf.limits import MOST_BATCHES
 from edgebpf.native import Store, Version
-from edgebpf.store import MOST_BATCHES, Counts
+from edgebpf.store import Counts
 
 REBASE_BATCHES, REBASE_EDITS = 1_000, 1 << 22
 

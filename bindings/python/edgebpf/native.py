@@ -12,13 +12,14 @@ import numpy.typing as npt
 from edgebpf import adapters, library
 from edgebpf.errors import Closed, TooManyEdits, VertexRange
 from edgebpf.given import (
-    MOST_VERTICES, NO_COLUMNS, REDUCTIONS, Columns, Edges, Numbers, Pairs, Vertices, columns_of, edits_of, edits_of_batch, ends_of_pairs,
+    NO_COLUMNS, REDUCTIONS, Columns, Edges, Numbers, Pairs, Vertices, columns_of, edits_of, edits_of_batch, ends_of_pairs,
     feed_of, found_of, frozen, members_of, reduction_of, starts_of, threads_of, values_into, vertex_count, vertex_of, vertices_of, whole,
 )
+from edgebpf.limits import MOST_EDITS, MOST_VERTICES
 from edgebpf.parts import Parts
 from edgebpf.programs import Program, argument_of, handle_of
 from edgebpf.steps import FIRST_BUDGET, LEAST_NUMBERS, End, Frontier, Inputs, NumbersRun, PairsRun, Push, Run, Windows, end_after
-from edgebpf.store import MOST_EDITS, Counts, Pushed, Result, Visited, described
+from edgebpf.store import Counts, Pushed, Result, Visited, described
 from edgebpf.store import REDUCTIONS as JOINS
 
 # Most lists lie in one slice. `lend` fills the room if there may be more.

@@ -16,19 +16,14 @@ from typing import Any
 from edgebpf import library, stacks
 from edgebpf.errors import STATEMENT_IN_COMMENT, ArgumentLength, Error, Refused, WrongText
 from edgebpf.given import bytes_of, whole
+from edgebpf.limits import COLUMN_BYTES, EDGE_BYTES, MOST_CODE_BYTES, MOST_RECORD_LENGTH, MOST_TABLE_LENGTH, MOST_UNITS
 
-EDGE_BYTES = 16
-# What a record has of each column: the number of the edge's source, and that of its target.
-COLUMN_BYTES = 16
-MOST_RECORD = 256
 UNIT = 8
-MOST_UNITS = 4_096
-MOST_TABLE = 4_096
 # An explanation that has more bytes is asked for twice.
 FIRST_ROOM = 65_536
 # The opcode of a call; one of a function of the program's own has a 1 as its source.
 CALL = 0x85
-WRONG_CODE = "code has 1 to 4,096 whole units of 8 bytes"
+WRONG_CODE = f"code has 1 to {MOST_UNITS:,} whole units of {UNIT} bytes"
 # The bytes of an image with a table before its code: what it begins with, and the lengths of record, code (in units) and table.
 IMAGE = struct.Struct("<4sHHH")
 IMAGE_BEGINS = b"BPE2"
@@ -75,8 +70,8 @@ def python_command(name: str) -> list[str]:
 def record_of(record: int) -> int:
     """A length that a record may have."""
     length = whole(record, "record")
-    if not EDGE_BYTES <= length <= MOST_RECORD:
-        raise ValueError(f"a record has {EDGE_BYTES} to {MOST_RECORD} bytes, not {length}")
+    if not EDGE_BYTES <= length <= MOST_RECORD_LENGTH:
+        raise ValueError(f"a record has {EDGE_BYTES} to {MOST_RECORD_LENGTH} bytes, not {length}")
     return length
 
 
@@ -114,11 +109,11 @@ class Program:
 
     def _take(self, code: bytes | None, text: str | None, record: int, table: bytes) -> None:
         record = record_of(record)
-        if code is not None and (len(code) % UNIT or not UNIT <= len(code) <= MOST_UNITS * UNIT):
+        if code is not None and (len(code) % UNIT or not UNIT <= len(code) <= MOST_CODE_BYTES):
             raise ValueError(WRONG_CODE)
         self.code, self.text, self.record, self.table = code, text, record, bytes_of(table, "table")
-        if len(self.table) > MOST_TABLE:
-            raise ValueError(f"a table has at most {MOST_TABLE} bytes, not {len(self.table)}")
+        if len(self.table) > MOST_TABLE_LENGTH:
+            raise ValueError(f"a table has at most {MOST_TABLE_LENGTH} bytes, not {len(self.table)}")
         self._shared: library.Shared | None = None
         # By this a process knows the program, and each share of it.
         self._same, self._lock, self._has_helpers = object(), threading.Lock(), False
@@ -203,7 +198,7 @@ class Program:
 def code_of_text(text: str) -> bytes:
     """The code that a text means, which is not verified. Raises `WrongText`."""
     calls, given = library.load(), text.encode()
-    assembled, code = library.new("assembled *"), library.foreign().new("uint8_t[]", UNIT * MOST_UNITS)
+    assembled, code = library.new("assembled *"), library.foreign().new("uint8_t[]", MOST_CODE_BYTES)
     status = calls.edgebpf_assemble(given, len(given), code, len(code), assembled)
     if status == library.WRONG_TEXT:
         raise WrongText(assembled.cause, assembled.line)

@@ -21,7 +21,7 @@ if TYPE_CHECKING:
 # How long a step without a budget takes, about, and the most that it does however fast the one before was: the next edges may be others.
 # A unit takes 5 ns at most, but one that calls a helper, or a pair's search for its place, some hundreds.
 STEP_SECONDS = 0.01
-MOST_UNITS, MOST_WITH_HELPERS = 4_000_000, 300_000
+MOST_OF_A_STEP, MOST_WITH_HELPERS = 4_000_000, 300_000
 # The first such step expects so many units a second, fewer than any program does. Each later one takes the rate of the one before, if that
 # is not too many times the rate that was expected.
 FIRST_RATE, GROWTH = 1e7, 4
@@ -77,7 +77,7 @@ class Steps:
         self._at = version._calls.new(version._calls.progress)
         # What all steps had as budgets, of which `_at` has what is left.
         self._granted, self._rate = 0, FIRST_RATE
-        self._most = MOST_WITH_HELPERS if program._has_helpers else MOST_UNITS
+        self._most = MOST_WITH_HELPERS if program._has_helpers else MOST_OF_A_STEP
 
     def step(self, budget: int | None = None) -> None:
         """Goes on as far as a budget of units goes, 0 to 2^64 - 1, and by one edge or one vertex at least. README has what an edge takes.

@@ -19,17 +19,14 @@ import numpy.typing as npt
 from edgebpf import adapters
 from edgebpf.errors import Closed, EpochsFull, Error, LogFull, NoMemory, NotHere, TooManyEdits, TooManyNames
 from edgebpf.given import (
-    FEEDS, NO_COLUMNS, SERVED_VERTICES, Columns, Edges, Numbers, Pairs, Vertices, columns_of, edits_of, edits_of_batch, feed_of, frozen, reduction_of,
+    FEEDS, NO_COLUMNS, Columns, Edges, Numbers, Pairs, Vertices, columns_of, edits_of, edits_of_batch, feed_of, frozen, reduction_of,
     threads_of, values_into, vertex_count, vertex_of, vertices_of, whole,
 )
+from edgebpf.limits import MOST_BATCHES, MOST_EDITS, MOST_KEPT, MOST_LINE_BYTES, SERVED_EPOCHS, SERVED_VERTICES
 from edgebpf.programs import Program, argument_of, command, said_lines
 
-MOST_EDITS = 65_536
-MOST_BATCHES = 4_096
-MOST_EPOCHS = 1_024
-MOST_NAMES = 256
-# A line of a script has at most 80,000 bytes; the vertices of a run get what its other words leave.
-FRONTIER_BYTES = 78_000
+# The vertices of a run get what its other words leave of a line of a script.
+FRONTIER_BYTES = MOST_LINE_BYTES - 2_000
 # So many numbers of a column, each of up to 20 digits, fit into a line.
 NUMBERS_OF_LINE = 3_500
 REDUCTIONS: dict[str, tuple[int, Any]] = {"sum": (0, np.add), "min": (2**64 - 1, np.minimum), "max": (0, np.maximum)}
@@ -225,8 +222,8 @@ class Store:
         numbers begin again: there is room for 4,096 batches more. A version that was pinned before keeps its batches until the store is
         closed. Raises `EpochsFull` after 1,024 rebases; then nothing was changed."""
         with self._turn:
-            if self._epoch >= MOST_EPOCHS:
-                raise EpochsFull(f"{MOST_EPOCHS} rebases were made")
+            if self._epoch >= SERVED_EPOCHS:
+                raise EpochsFull(f"{SERVED_EPOCHS} rebases were made")
             words, _ = self._process.ask(b"rebase\n")
             self._epoch, self._batches = int(words[2]), 0
             return self._epoch
@@ -236,8 +233,8 @@ class Store:
         with self._turn:
             last = self._last
             if last is None or last[1:3] != (self._epoch, self._batches):
-                if self._pins >= MOST_NAMES:
-                    raise TooManyNames(f"the process keeps at most {MOST_NAMES} pinned versions")
+                if self._pins >= MOST_KEPT:
+                    raise TooManyNames(f"the process keeps at most {MOST_KEPT} pinned versions")
                 self._pins += 1
                 name = f"v{next(self._names)}"
                 words, _ = self._process.ask(f"pin {name}\n".encode())
@@ -264,8 +261,8 @@ class Store:
             raise TypeError("a program is made by Program, assemble or compile_c")
         with self._turn:
             if program._same not in self._programs:
-                if len(self._programs) >= MOST_NAMES:
-                    raise TooManyNames(f"the process keeps at most {MOST_NAMES} programs")
+                if len(self._programs) >= MOST_KEPT:
+                    raise TooManyNames(f"the process keeps at most {MOST_KEPT} programs")
                 name = f"p{next(self._names)}"
                 words, _ = self._process.ask(program._lines(name))
                 if words[0] != "program":

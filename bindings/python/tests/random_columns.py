@@ -24,7 +24,7 @@ import bpf
 import edgebpf
 from programs import Programs
 
-EDGE, COLUMN, MOST_RECORD = 16, 16, 256
+EDGE, COLUMN, MOST_RECORD_LENGTH = 16, 16, 256
 BUDGETS = (0, 1, 10, 1_000, 10**6)
 # The second implementation runs some 300,000 instructions a second.
 MOST_INSTRUCTIONS = 200_000

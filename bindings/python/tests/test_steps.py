@@ -307,7 +307,7 @@ class Steps(unittest.TestCase):
         helper = edgebpf.assemble("mov r1, 0\ncall 1\nexit")
         self.assertEqual([program._has_helpers for program in (self.target, edgebpf.assemble(HOSTILE), helper, helper.share())], [False, False, True, True])
         for begin, most in (
-            (lambda: self.version.begin(self.target), edgebpf.steps.MOST_UNITS), (lambda: self.version.begin(helper), edgebpf.steps.MOST_WITH_HELPERS),
+            (lambda: self.version.begin(self.target), edgebpf.steps.MOST_OF_A_STEP), (lambda: self.version.begin(helper), edgebpf.steps.MOST_WITH_HELPERS),
             (lambda: self.version.begin_pairs(self.target, [0], [1]), edgebpf.steps.MOST_WITH_HELPERS),
         ):
             run, budgets = begin(), []

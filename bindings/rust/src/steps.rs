@@ -272,7 +272,7 @@ impl Pairs<'_> {
 
 impl<'c> WithColumns<'c> {
     /// A run as `run` makes it, of which nothing is done yet: each `step` of it goes on with it. `Lengths` where there are not as many values
-    /// as vertices or more than 1,048,576 of these, and `ArgumentLength`.
+    /// as vertices or more than 268,435,456 of these, and `ArgumentLength`.
     pub fn begin<'a>(
         self,
         program: &'a Program,
