@@ -26,6 +26,8 @@ class ServiceHost {
   causes = null;
   // In memory alone: the address, which may be sent, does not have it.
   #token = "";
+  // How often something was taken for a token: what was asked before says nothing of it.
+  #taken = 0;
   #show;
   #isIdle;
   // What is shown: a version, how many vertices it has, and what was run on it, or null. `#key` is what the fields had.
@@ -63,6 +65,7 @@ class ServiceHost {
 
   async #takeToken() {
     const text = by("token").value.trim();
+    this.#taken++;
     if (!/^[!-~]*$/.test(text)) return say("token-wrong", "A token has letters, digits and signs of ASCII, and no blanks.");
     this.#token = text;
     await this.#begin();
@@ -253,6 +256,7 @@ class ServiceHost {
 
   async #ask(method, path, body, signal, heads = {}) {
     const headers = { ...heads, ...(body && { "Content-Type": "application/json" }), ...(this.#token && { Authorization: `Bearer ${this.#token}` }) };
+    const taken = this.#taken;
     let answer;
     try {
       answer = await fetch(path, { method, headers, body: body && JSON.stringify(body), signal, cache: "no-store" });
@@ -260,16 +264,16 @@ class ServiceHost {
       signal?.throwIfAborted();
       throw new Told(NO_ANSWER);
     }
-    if (!answer.ok) throw await this.#refusal(answer);
+    if (!answer.ok) throw await this.#refusal(answer, taken);
     return answer;
   }
 
-  async #refusal(answer) {
+  async #refusal(answer, taken) {
     const told = await answer.json().catch(() => ({ words: `The answer has status ${answer.status}.` }));
     if (answer.status !== 401) return new Refusal(answer.status, told, `The service refuses it: ${told.words}.`);
     by("token-part").hidden = false;
     const words = this.#token ? "The service does not know this token." : "The service wants a token: type it above.";
-    say("token-wrong", this.#token ? words : "");
+    if (taken === this.#taken) say("token-wrong", this.#token ? words : "");
     return new Refusal(answer.status, told, words);
   }
 }
