@@ -1,5 +1,5 @@
 -- What changes where one vertex's run changes.
-use Rattle.std.proofs.Common.{◌≡◌, ◌≢◌, ℕ, true, false, zero, suc, ◌+◌, ◌-◌, ◌*◌, ◌/◌, ◌<◌, ◌≤◌, inl, inr, List, [], ◌∷◌, ◌++◌, length, take, drop, replicate, insert, remove, get_or, set, Option, Some, None, Ok, Err, IsNone, is_some, unwrap_or, refl, sym, ap, ap₂, subst, ◌∙◌, arith, length-set, length-append, length-drop, append_assoc}
+use Rattle.std.proofs.Common.{◌≡◌, ◌≢◌, ℕ, true, false, zero, suc, ◌+◌, ◌-◌, ◌*◌, ◌<◌, ◌≤◌, max, inl, inr, List, [], ◌∷◌, ◌++◌, length, take, drop, replicate, insert, remove, get_or, set, Option, Some, None, Ok, Err, IsNone, is_some, unwrap_or, refl, sym, ap, ap₂, subst, ◌∙◌, arith, length-set, length-append, length-drop, append_assoc}
 use Rattle.std.proofs.lemmas.Bool.{cases_lt, cases_eq, true≢false}
 use Rattle.std.proofs.lemmas.List.{length-map, length-replicate, length-take-le, take_all, take_at, drop_at, get_or-set_same, get_or-set_other, set-get_or, set-set, get_or-map, get_or_default, ext_get_or, get_or_past, get_or_append_left, length_push}
 use Rattle.std.proofs.lemmas.List.Edits.{length-insert, length-remove}
@@ -8,6 +8,7 @@ use Rattle.word_sets.specs.declared.places.TheConstants.{WORD_LIMIT}
 use Rattle.word_sets.specs.Words.{IsSet, IsPlace, has_word, with_word, without_word}
 use Rattle.word_sets.proofs.Changes.{with_present, without_absent}
 use Rattle.word_sets.proofs.Members.{IsWithin-with, IsWithin-without}
+use Rattle.word_sets.proofs.Within.{IsWithin-length}
 use Rattle.gapped_array.specs.declared.run.Run.{Run}
 use Rattle.gapped_array.specs.declared.run.TheConstants.{SEGMENT}
 use Rattle.gapped_array.specs.Cells.{piece}
@@ -128,6 +129,10 @@ no_run xs runs now v shown lt h =
 pub words_inside : (xs : List ℕ) (segments : ℕ) (r : Run) → length xs ≡ SEGMENT * segments → Fits xs segments r → SEGMENT * r.segment + r.count ≤ length xs
 words_inside xs segments r e f = omega (arith, f.inside, f.count)
 
+pub words_few : (xs : List ℕ) (segments : ℕ) (r : Run) → length xs ≡ SEGMENT * segments → Fits xs segments r → r.count ≤ WORD_LIMIT
+words_few xs segments r e f =
+    omega (arith, IsWithin-length 0 WORD_LIMIT (words_in xs r) f.words, length-piece (SEGMENT * r.segment) r.count xs (words_inside xs segments r e f))
+
 -- what is known of a run that was read from the table
 pub record RunAt (xs : List ℕ) (segments : ℕ) (runs : List (Option Run)) (v : ℕ) (r : Run) : Type 0 where
   pub listed : v < length runs
@@ -212,7 +217,7 @@ same_run r s e f g =
     ap (λ a. make a r.segments r.count) e ∙ ap (λ b. make s.segment b r.count) f ∙ ap (λ c. make s.segment s.segments c) g
 
 -- room is made for one word more
-pub room_made : (xs ys : List ℕ) (segments : ℕ) (runs : List (Option Run)) (v : ℕ) (run r : Run) → IsArray xs segments runs → v < length runs → get_or runs v None ≡ Some run → HasRoom segments run xs ys r → (later : ℕ) × IsArray ys later (set runs v (Some r)) × (words_in ys r ≡ words_in xs run) × (lists_in ys (set runs v (Some r)) ≡ lists_in xs runs)
+pub room_made : (xs ys : List ℕ) (segments : ℕ) (runs : List (Option Run)) (v : ℕ) (run r : Run) → IsArray xs segments runs → v < length runs → get_or runs v None ≡ Some run → HasRoom segments run xs ys r → (later : ℕ) × IsArray ys later (set runs v (Some r)) × (words_in ys r ≡ words_in xs run) × (lists_in ys (set runs v (Some r)) ≡ lists_in xs runs) × (later ≡ max segments (r.segment + r.segments))
 room_made xs ys segments runs v run r a lt e h =
     let in' : v < length runs = omega (arith, a.layout.table) in
     let f = a.layout.fits v run e in
@@ -228,6 +233,7 @@ room_made xs ys segments runs v run r a lt e h =
             subst Q (sym stays.0) (subst P (sym table) a),
             ap (λ l. words_in l r) stays.0 ∙ ap (words_in xs) one,
             ap (λ l. lists_in l (set runs v (Some r))) stays.0 ∙ ap (lists_in xs) table,
+            omega (arith, f.inside, stays.1, stays.2),
           ))
       | inr moves ↦ (
           let rest : List ℕ = replicate (SEGMENT * r.segments - run.count) 0 in
@@ -237,12 +243,13 @@ room_made xs ys segments runs v run r a lt e h =
             m.0,
             m.1,
             m.2 ∙ ap (λ o. set (lists_in xs runs) v o) (sym (list_of_run xs runs (lists_in xs runs) v run refl in' e)) ∙ set-get_or (lists_in xs runs) v None,
+            omega (arith, moves.1),
           ))
     ]
 
 -- a word is put in where room was made
-pub inserted : (xs ys zs : List ℕ) (segments n : ℕ) (runs : List (Option Run)) (now : List (Option (List ℕ))) (v : ℕ) (run r : Run) (at w : ℕ) → IsArray xs segments runs → lists_in xs runs ≡ now → v < length runs → get_or runs v None ≡ Some run → HasRoom segments run xs ys r → w < WORD_LIMIT → IsPlace w (words_in xs run) (Err at) → zs ≡ take (SEGMENT * r.segment) ys ++ (insert (piece (SEGMENT * r.segment) r.count ys) at w ++ drop (SEGMENT * r.segment + (r.count + 1)) ys) → n ≡ length zs → let new : Run = record { segment = r.segment; segments = r.segments; count = r.count + 1 } in IsArray zs (n / SEGMENT) (set runs v (Some new)) × (lists_in zs (set runs v (Some new)) ≡ set now v (Some (with_word w (list_at now v))))
-inserted xs ys zs segments n runs now v run r at w a shown lt e h small place is len =
+pub inserted : (xs ys zs : List ℕ) (segments later : ℕ) (runs : List (Option Run)) (now : List (Option (List ℕ))) (v : ℕ) (run r : Run) (at w : ℕ) → IsArray xs segments runs → lists_in xs runs ≡ now → v < length runs → get_or runs v None ≡ Some run → HasRoom segments run xs ys r → w < WORD_LIMIT → IsPlace w (words_in xs run) (Err at) → zs ≡ take (SEGMENT * r.segment) ys ++ (insert (piece (SEGMENT * r.segment) r.count ys) at w ++ drop (SEGMENT * r.segment + (r.count + 1)) ys) → later ≡ max segments (r.segment + r.segments) → let new : Run = record { segment = r.segment; segments = r.segments; count = r.count + 1 } in IsArray zs later (set runs v (Some new)) × (lists_in zs (set runs v (Some new)) ≡ set now v (Some (with_word w (list_at now v))))
+inserted xs ys zs segments later runs now v run r at w a shown lt e h small place is after =
     let new : Run = record { segment = r.segment; segments = r.segments; count = r.count + 1 } in
     let in' : v < length runs = omega (arith, a.layout.table) in
     let f = a.layout.fits v run e in
@@ -258,7 +265,7 @@ inserted xs ys zs segments n runs now v run r at w a shown lt e h small place is
     let behind : drop (SEGMENT * r.segment + (r.count + 1)) ys ≡ drop (SEGMENT * r.segment + length ws) ys = ap (λ k. drop (SEGMENT * r.segment + k) ys) (sym more) in
     let p = replaced ys zs m.0 (set runs v (Some r)) v r ws (r.count + 1) m.1 (omega (arith, length-set runs v (Some r))) here (omega (arith, h.room)) (omega arith) (subst IsSet (sym (whole ∙ becomes)) is_set) (is ∙ ap (λ l. take (SEGMENT * r.segment) ys ++ (ws ++ l)) behind) in
     let table : set (set runs v (Some r)) v (Some new) ≡ set runs v (Some new) = set-set runs v (Some r) (Some new) in
-    let count : n / SEGMENT ≡ m.0 = (let q : length zs ≡ SEGMENT * m.0 = p.0.layout.cells in omega arith) in
+    let count : later ≡ m.0 = after ∙ sym m.4 in
     let P : List (Option Run) → Type 0 = λ l. IsArray zs m.0 l in
     let Q : ℕ → Type 0 = λ k. IsArray zs k (set runs v (Some new)) in (
       subst Q (sym count) (subst P table p.0),

@@ -14,7 +14,7 @@ use word_sets::{WORD_LIMIT, place};
 /// order; a set is the ascending list of its words.
 pub struct GappedArray {
     cells: Vec<u32>,
-    segments: usize,
+    segments: u32,
     runs: Vec<Option<Run>>,
 }
 
@@ -139,11 +139,14 @@ impl GappedArray {
             return Ok(());
         }
         let segments = segments_for(words);
-        append(&mut self.cells, words, SEGMENT * segments)?;
+        if u32::MAX - self.segments < segments {
+            return Err(AllocError);
+        }
+        append(&mut self.cells, words, SEGMENT * segments as usize)?;
         self.runs[vertex as usize] = Some(Run {
             segment: self.segments,
             segments,
-            count: words.len(),
+            count: words.len() as u32,
         });
         self.segments += segments;
         Ok(())
@@ -188,7 +191,7 @@ impl GappedArray {
         ensures { self.new ≡ slice_set self.old vertex None }
     {
         self.runs[vertex as usize] = None;
-        if VERTICES < surplus(self.segments, &self.runs) {
+        if VERTICES < surplus(self.segments, &self.runs) as usize {
             self.segments = pack(&mut self.cells, self.segments, &mut self.runs);
         }
     }
@@ -210,8 +213,9 @@ impl GappedArray {
             return Ok(false);
         };
         let run = with_room(&mut self.cells, self.segments, run)?;
-        put_word(&mut self.cells, SEGMENT * run.segment, run.count, at, word);
-        self.segments = self.cells.len() / SEGMENT;
+        let from = SEGMENT * run.segment as usize;
+        put_word(&mut self.cells, from, run.count as usize, at, word);
+        self.segments = self.segments.max(run.segment + run.segments);
         self.runs[vertex as usize] = Some(Run {
             count: run.count + 1,
             ..run
@@ -231,7 +235,8 @@ impl GappedArray {
         let Ok(at) = place(words_of(&self.cells, run), word) else {
             return false;
         };
-        take_word(&mut self.cells, SEGMENT * run.segment, run.count, at);
+        let from = SEGMENT * run.segment as usize;
+        take_word(&mut self.cells, from, run.count as usize, at);
         self.runs[vertex as usize] = Some(Run {
             count: run.count - 1,
             ..run
@@ -241,11 +246,11 @@ impl GappedArray {
 }
 
 // How many segments a set's words fill.
-fn segments_for(words: &[u32]) -> usize
+fn segments_for(words: &[u32]) -> u32
     requires { IsSet words.now }
     ensures room { length words.now ≤ SEGMENT * result }
     ensures filled { SEGMENT * result < length words.now + SEGMENT }
     ensures fits { SEGMENT * result ≤ WORD_LIMIT }
 {
-    words.len().div_ceil(SEGMENT)
+    words.len().div_ceil(SEGMENT) as u32
 }

@@ -1,5 +1,5 @@
 //! Changes of the cells that one run has.
-ghost use Rattle.std.specs.Prelude.{◌≡◌, ◌<◌, ◌≤◌, ◌+◌, ◌-◌, ◌*◌, ◌++◌, ◌∷◌, [], length, take, drop, insert, remove, replicate, slice_index, vec_len, IfOk, OnOk, OnErr};
+ghost use Rattle.std.specs.Prelude.{◌≡◌, ◌<◌, ◌≤◌, ◌+◌, ◌-◌, ◌*◌, ◌^◌, ◌++◌, ◌∷◌, [], length, take, drop, insert, remove, replicate, slice_index, vec_len, IfOk, OnOk, OnErr};
 ghost use Rattle.gapped_array.specs.Cells.{piece};
 ghost use Rattle.gapped_array.specs.Runs.{words_in, HasRoom};
 
@@ -11,8 +11,8 @@ pub(crate) fn words_of(cells: &[u32], run: Run) -> &[u32]
     requires { SEGMENT * run.segment + run.count ≤ length cells.now }
     ensures { result.now ≡ words_in cells.now run }
 {
-    let from = SEGMENT * run.segment;
-    &cells[from..from + run.count]
+    let from = SEGMENT * run.segment as usize;
+    &cells[from..from + run.count as usize]
 }
 
 /// Puts a word at a place into the `count` cells from `from` on. The cell after them is overwritten.
@@ -72,20 +72,26 @@ pub(crate) fn append_piece(
 }
 
 /// A run with a place free for one word more: this one, or where it is full a copy of it after all segments, which
-/// has twice as many of them and one. After an error the cells are as they were.
-pub(crate) fn with_room(cells: &mut Vec<u32>, segments: usize, run: Run) -> Result<Run, AllocError>
+/// has twice as many of them and one. After an error the cells are as they were. There is none for more segments than
+/// can be numbered.
+pub(crate) fn with_room(cells: &mut Vec<u32>, segments: u32, run: Run) -> Result<Run, AllocError>
     requires cells { vec_len cells.old ≡ SEGMENT * segments }
     requires inside { run.segment + run.segments ≤ segments }
     requires count { run.count ≤ SEGMENT * run.segments }
     ensures ok { IfOk result (HasRoom segments run cells.old.items cells.new.items) }
     ensures room { IfOk result (λ r. SEGMENT * r.segment + r.count < vec_len cells.new) }
+    ensures numbered { IfOk result (λ r. r.segment + r.segments < 2 ^ 32) }
     ensures err { OnErr result (cells.new.items ≡ cells.old.items) }
 {
-    if run.count < SEGMENT * run.segments {
+    let from = SEGMENT * run.segment as usize;
+    if (run.count as usize) < SEGMENT * run.segments as usize {
         return Ok(run);
     }
     let wider = 2 * run.segments + 1;
-    append_piece(cells, SEGMENT * run.segment, run.count, SEGMENT * wider)?;
+    if u32::MAX - segments < wider {
+        return Err(AllocError);
+    }
+    append_piece(cells, from, run.count as usize, SEGMENT * wider as usize)?;
     Ok(Run {
         segment: segments,
         segments: wider,

@@ -5,7 +5,7 @@ ghost use Rattle.gapped_array.specs.Runs.{IsLayout, IsFirstBelow, lists_in, word
 use crate::run::{Run, SEGMENT};
 
 /// How many segments there are beyond twice those of the runs.
-pub(crate) fn surplus(segments: usize, runs: &[Option<Run>]) -> usize
+pub(crate) fn surplus(segments: u32, runs: &[Option<Run>]) -> u32
     ensures { result ≡ segments - 2 * live runs.now }
 {
     let mut left = segments;
@@ -20,7 +20,7 @@ pub(crate) fn surplus(segments: usize, runs: &[Option<Run>]) -> usize
 }
 
 /// The first run that begins at or after a segment and has some, with its vertex.
-fn first_from(runs: &[Option<Run>], from: usize) -> Option<(usize, Run)>
+fn first_from(runs: &[Option<Run>], from: u32) -> Option<(usize, Run)>
     ensures { IsFirstBelow (length runs.now) from runs.now result }
 {
     let mut first = None;
@@ -33,7 +33,7 @@ fn first_from(runs: &[Option<Run>], from: usize) -> Option<(usize, Run)>
 // That among the vertices up to this one, where it is known among those before.
 fn earlier(
     runs: &[Option<Run>],
-    from: usize,
+    from: u32,
     first: Option<(usize, Run)>,
     vertex: usize,
 ) -> Option<(usize, Run)>
@@ -54,18 +54,18 @@ fn earlier(
 }
 
 /// Moves the words of a run to the front of a segment.
-fn move_words(cells: &mut Vec<u32>, run: Run, segment: usize)
+fn move_words(cells: &mut Vec<u32>, run: Run, segment: u32)
     requires down { segment ≤ run.segment }
     requires within { SEGMENT * run.segment + run.count ≤ vec_len cells.old }
     ensures { cells.new.items ≡ take (SEGMENT * segment) cells.old.items ++ (words_in cells.old.items run
         ++ drop (SEGMENT * segment + run.count) cells.old.items) }
 {
-    let from = SEGMENT * run.segment;
-    cells.copy_within(from..from + run.count, SEGMENT * segment);
+    let from = SEGMENT * run.segment as usize;
+    cells.copy_within(from..from + run.count as usize, SEGMENT * segment as usize);
 }
 
 /// Moves all runs together, in their order, so that they alone have segments. Answers how many these are.
-pub(crate) fn pack(cells: &mut Vec<u32>, segments: usize, runs: &mut Vec<Option<Run>>) -> usize
+pub(crate) fn pack(cells: &mut Vec<u32>, segments: u32, runs: &mut Vec<Option<Run>>) -> u32
     requires { IsLayout cells.old.items segments runs.old.items }
     ensures layout { IsLayout cells.new.items result runs.new.items }
     ensures lists { lists_in cells.new.items runs.new.items ≡ lists_in cells.old.items runs.old.items }
@@ -80,6 +80,6 @@ pub(crate) fn pack(cells: &mut Vec<u32>, segments: usize, runs: &mut Vec<Option<
         });
         end += run.segments;
     }
-    cells.truncate(SEGMENT * end);
+    cells.truncate(SEGMENT * end as usize);
     end
 }

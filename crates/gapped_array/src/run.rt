@@ -7,12 +7,13 @@ pub const SEGMENT: usize = 32;
 pub const VERTICES: usize = 256;
 
 /// A row of neighbouring segments, filled from the left: the first `count` of its places have words.
+// Numbers of four bytes, since an array has a run or none for each of its vertices, and an edit of a page copies them all.
 #[derive(Clone, Copy)]
 pub struct Run {
     /// The number of its first segment in the array.
-    pub segment: usize,
+    pub segment: u32,
     /// How many segments it has.
-    pub segments: usize,
+    pub segments: u32,
     /// How many words it has.
-    pub count: usize,
+    pub count: u32,
 }
