@@ -25,7 +25,8 @@ use Rattle.migration.specs.Part.{Part, IsShard, AreHomes, vertex_at, row_at, hom
 use Rattle.migration.specs.Table.{IsTable, IsPartAt, part_at, home_in}
 use Rattle.migration.specs.Blocks.{AreHoused}
 use Rattle.migration.specs.Arrays.{list_of, first_home, rows_from, homes_from, part_from, AreLists, ArePartsOf, AreListsOf}
-use Rattle.migration.proofs.PageLemmas.{IsKept, kept_push, rows_push, homes_push, sizes_push}
+use Rattle.migration.proofs.BlockLemmas.{no_times, next_times, past_end}
+use Rattle.migration.proofs.PageLemmas.{AreFirst, none_first, one_first, all_first, rows_push, homes_push}
 
 abbrev Page : Type 0
 Page = Arc Lists Global
@@ -66,73 +67,52 @@ at_from f first count i d h =
 -- ---- pages
 
 -- the first pages of the lists of so many vertices from one on
-pub record AreFrom (starts targets : List ℕ) (first vertices number : ℕ) (pages : List Page) : Type 0 where
-  pub kept : AllByRecursion IsKept pages
-  pub count : length (sizes_in pages) ≡ number
-  pub sizes : (i : ℕ) → i < number → get_or (sizes_in pages) i 0 ≡ min 64 (vertices - 64 * i)
-  pub rows : rows_in pages ≡ rows_from starts targets first (min vertices (64 * number))
-  pub homes : homes_in pages ≡ homes_from starts targets first (min vertices (64 * number))
+pub record AreFrom (starts targets : List ℕ) (first w vertices number : ℕ) (pages : List Page) : Type 0 where
+  pub cut : AreFirst w vertices number pages
+  pub rows : rows_in pages ≡ rows_from starts targets first (min vertices (w * number))
+  pub homes : homes_in pages ≡ homes_from starts targets first (min vertices (w * number))
 
-pub none_from : (starts targets : List ℕ) (first vertices : ℕ) (pages : List Page) → pages ≡ [] → AreFrom starts targets first vertices 0 pages
-none_from starts targets first vertices pages is = subst (AreFrom starts targets first vertices 0) (sym is) record {
-  kept = tt;
-  count = refl;
-  sizes = λ i h. absurd (omega arith);
-  rows = ap (rows_from starts targets first) none;
-  homes = ap (homes_from starts targets first) none;
+pub none_from : (starts targets : List ℕ) (first w vertices : ℕ) (pages : List Page) → pages ≡ [] → AreFrom starts targets first w vertices 0 pages
+none_from starts targets first w vertices pages is = record {
+  cut = none_first w vertices pages is;
+  rows = ap rows_in is ∙ ap (rows_from starts targets first) none;
+  homes = ap homes_in is ∙ ap (homes_from starts targets first) none;
 }
   where
-    none : 0 ≡ min vertices (64 * 0)
-    none = omega arith
+    none : 0 ≡ min vertices (w * 0)
+    none = omega (arith, no_times w)
 
-pub page_more : (starts targets : List ℕ) (first vertices number : ℕ) (pages : List Page) (page : Page) → 64 * number < vertices → AreFrom starts targets first vertices number pages → AreKept (arc_value page)
-    → rows_of (arc_value page) ≡ rows_from starts targets (first + 64 * number) (min 64 (vertices - 64 * number))
-    → homes_of (arc_value page) ≡ homes_from starts targets (first + 64 * number) (min 64 (vertices - 64 * number))
-    → AreFrom starts targets first vertices (number + 1) (pages ++ page ∷ [])
-page_more starts targets first vertices number pages page some are kept rows homes =
-    let full : min vertices (64 * number) ≡ 64 * number = omega arith in
-    let size : ℕ = min 64 (vertices - 64 * number) in
-    let before : 64 * number + min 64 (vertices - 64 * number) ≡ min vertices (64 * (number + 1)) = omega arith in
-    let long : length (rows_of (arc_value page)) ≡ size = ap length rows ∙ length-from (list_of starts targets) (first + 64 * number) size in
-    let count = are.count in
+pub page_more : (starts targets : List ℕ) (first w vertices number : ℕ) (pages : List Page) (page : Page) → w * number < vertices → AreFrom starts targets first w vertices number pages → AreKept (arc_value page)
+    → rows_of (arc_value page) ≡ rows_from starts targets (first + w * number) (min w (vertices - w * number))
+    → homes_of (arc_value page) ≡ homes_from starts targets (first + w * number) (min w (vertices - w * number))
+    → AreFrom starts targets first w vertices (number + 1) (pages ++ page ∷ [])
+page_more starts targets first w vertices number pages page some are kept rows homes =
+    let full : min vertices (w * number) ≡ w * number = omega (arith, some) in
+    let size : ℕ = min w (vertices - w * number) in
+    let before : w * number + min w (vertices - w * number) ≡ min vertices (w * (number + 1)) = omega (arith, some, next_times w number) in
     record {
-      kept = kept_push pages page are.kept kept;
-      count = ap length (sizes_push pages page) ∙ length_push (sizes_in pages) (length (rows_of (arc_value page))) ∙ ap (λ n. n + 1) count;
-      sizes = λ i h. elim (cases_lt i number) [
-        | inl lt ↦ ap (λ l. get_or l i 0) (sizes_push pages page) ∙ get_or_append_left (sizes_in pages) (length (rows_of (arc_value page)) ∷ []) 0 i (omega arith) ∙ are.sizes i lt
-        | inr ge ↦ (
-            let same : number ≡ i = omega arith in
-            ap (λ l. get_or l i 0) (sizes_push pages page) ∙ get_or_push (sizes_in pages) (length (rows_of (arc_value page))) 0 i (count ∙ same) ∙ long ∙ ap (λ k. min 64 (vertices - 64 * k)) same)
-      ];
+      cut = one_first w vertices number pages page some are.cut kept (ap length rows ∙ length-from (list_of starts targets) (first + w * number) size);
       rows =
           rows_push pages page
           ∙ ap (λ l. l ++ rows_of (arc_value page)) (are.rows ∙ ap (rows_from starts targets first) full)
-          ∙ ap (λ l. rows_from starts targets first (64 * number) ++ l) rows
-          ∙ sym (more_from (list_of starts targets) first (64 * number) size)
+          ∙ ap (λ l. rows_from starts targets first (w * number) ++ l) rows
+          ∙ sym (more_from (list_of starts targets) first (w * number) size)
           ∙ ap (rows_from starts targets first) before;
       homes =
           homes_push pages page
           ∙ ap (λ l. l ++ homes_of (arc_value page)) (are.homes ∙ ap (homes_from starts targets first) full)
-          ∙ ap (λ l. homes_from starts targets first (64 * number) ++ l) homes
-          ∙ sym (more_from (λ v. first_home (list_of starts targets v)) first (64 * number) size)
+          ∙ ap (λ l. homes_from starts targets first (w * number) ++ l) homes
+          ∙ sym (more_from (λ v. first_home (list_of starts targets v)) first (w * number) size)
           ∙ ap (homes_from starts targets first) before;
     }
 
-pub all_from : (starts targets : List ℕ) (first vertices number : ℕ) (pages : List Page) → AreFrom starts targets first vertices number pages → vertices ≤ 64 * number → 64 * number < vertices + 64
-    → ArePages pages × (rows_in pages ≡ rows_from starts targets first vertices) × (homes_in pages ≡ homes_from starts targets first vertices)
-all_from starts targets first vertices number pages are all few =
-    let whole : min vertices (64 * number) ≡ vertices = omega arith in
-    let rows : rows_in pages ≡ rows_from starts targets first vertices = are.rows ∙ ap (rows_from starts targets first) whole in
-    let long : length (rows_in pages) ≡ vertices = ap length rows ∙ length-from (list_of starts targets) first vertices in
-    let count = are.count in (
-      record {
-        kept = are.kept;
-        cut = record {
-          pages = λ i. (λ h. omega (arith, long, count), λ h. omega (arith, long, count));
-          each = λ i h. are.sizes i (omega arith) ∙ ap (λ n. min 64 (n - 64 * i)) (sym long);
-        };
-      },
-      rows,
+pub all_from : (starts targets : List ℕ) (first w vertices number count : ℕ) (pages : List Page) → 0 < w → count ≡ vertices / w + min 1 (vertices % w) → number ≡ count → AreFrom starts targets first w vertices number pages
+    → ArePages w pages × (rows_in pages ≡ rows_from starts targets first vertices) × (homes_in pages ≡ homes_from starts targets first vertices)
+all_from starts targets first w vertices number count pages some is all are =
+    let past : vertices ≤ w * number = past_end w number vertices count some is (omega arith) in
+    let whole : min vertices (w * number) ≡ vertices = omega (arith, past) in (
+      (all_first w vertices number count pages some is all are.cut).0,
+      are.rows ∙ ap (rows_from starts targets first) whole,
       are.homes ∙ ap (homes_from starts targets first) whole,
     )
 

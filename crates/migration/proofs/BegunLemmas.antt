@@ -13,16 +13,16 @@ use Rattle.past_model.specs.Homes.{home_after}
 use Rattle.migration.specs.declared.counts.Counts.{Counts}
 use Rattle.migration.specs.declared.groups.Grouping.TheVariants.{ByVertex}
 use Rattle.migration.specs.declared.lists.Lists.{Lists}
-use Rattle.migration.specs.Begun.{IsDone, AreBegun, IsPageOf}
+use Rattle.migration.specs.Begun.{IsDone, AreBegun, IsPageOf, IsVertexOf, IsSomeVertex, IsPutLast}
 use Rattle.migration.specs.Groups.{Grouped, edits_of}
-use Rattle.migration.specs.Lists.{rows_of, homes_of, list_at, home_of}
+use Rattle.migration.specs.Lists.{IsPushed, rows_of, homes_of, list_at, home_of}
 use Rattle.migration.specs.Merge.{AreEditsFrom, IsMerged}
 use Rattle.migration.specs.Pages.{rows_in, homes_in, part_in, ArePages}
 use Rattle.migration.specs.Part.{Part, vertex_at, row_at, home_at, AreEditsOf, IsShard}
 use Rattle.migration.specs.Put.{AreOwnEdits}
 use Rattle.migration.proofs.HomeLemmas.{none_moved, one_moved, same_home}
 use Rattle.migration.proofs.PageLemmas.{row_in_page, home_in_page, page_inside, rows_push, homes_push}
-use Rattle.migration.proofs.PartLemmas.{own_edits, own_edits_from, below_graph, nothing_done, merged_own, row_in, row_kept, row_edited}
+use Rattle.migration.proofs.PartLemmas.{own_edits, own_edits_from, below_graph, few_more, nothing_done, merged_own, row_in, row_kept, row_edited}
 
 -- the edits of a group are those of a vertex
 pub edits_in : (groups : Grouped) (p : Part) (i : ℕ) → groups.grouping ≡ ByVertex → edits_of groups i ≡ own_edits p groups.edits i
@@ -76,37 +76,74 @@ page_begun es p rows homes counts first page is start none begun =
         (subst₂ (λ l m. AreBegun es p l m counts) (sym (behind rows (take k (rows_of page)) row)) (sym (behind homes (take k (homes_of page)) home))
         (one_kept es p (rows ++ take k (rows_of page)) (homes ++ take k (homes_of page)) counts row home (first + k) is.shard before (omega arith) (is.rows k inside) (is.homes k inside) (none k inside) (so_far k (omega arith))))
 
--- what is known of a list of a page after the edits that were read for it
-pub merged_of_page : (groups : Grouped) (p : Part) (page : Lists) (first place : ℕ) (own : List Edit) (row : List ℕ) (more : Counts) → groups.grouping ≡ ByVertex → IsPageOf groups.edits p first page → place < length (rows_of page) → own ≡ edits_of groups (first + place)
-    → ((u n : ℕ) (q : ℕ → Bool) → AreEditsFrom u n own → get_or (rows_of page) place [] ≡ filter q (numbers_below n) → IsMerged own u n q row more)
-    → (u n : ℕ) (q : ℕ → Bool) → AreEditsFrom u n (own_edits p groups.edits (first + place)) → row_at p (first + place) ≡ filter q (numbers_below n) → IsMerged (own_edits p groups.edits (first + place)) u n q row more
-merged_of_page groups p page first place own row more by_vertex its inside read merged =
-    merged_own groups.edits own p row more (first + place) (read ∙ edits_in groups p (first + place) by_vertex) (λ u n q from same. merged u n q from (its.rows place inside ∙ same))
-
--- the edits that were read for a list of a page are its vertex's own
-pub own_of_page : (groups : Grouped) (p : Part) (page : Lists) (first place : ℕ) (own : List Edit) → groups.grouping ≡ ByVertex → IsPageOf groups.edits p first page → place < length (rows_of page) → own ≡ edits_of groups (first + place) → AreOwnEdits own (get_or (rows_of page) place [])
-own_of_page groups p page first place own by_vertex its inside read =
+-- a vertex of a page is one of the shard
+pub vertex_of_page : (es : List Edit) (p : Part) (first place : ℕ) (page : Lists) → IsPageOf es p first page → place < length (rows_of page) → IsVertexOf es p (first + place) (get_or (rows_of page) place []) (get_or (homes_of page) place Block)
+vertex_of_page es p first place page its inside =
     let within = its.within in
+    record {
+      shard = its.shard;
+      own = its.own;
+      within = omega arith;
+      own_row = its.rows place inside;
+      own_home = its.homes place inside;
+    }
+
+-- the edits of a vertex, as they were read, are edits of its list
+pub own_of_vertex : (groups : Grouped) (vertex : ℕ) (row : List ℕ) (home : Home) (own : List Edit) → groups.grouping ≡ ByVertex → IsSomeVertex groups.edits vertex row home → own ≡ edits_of groups vertex → AreOwnEdits own row
+own_of_vertex groups vertex row home own by_vertex some read =
+    let p = some.part in
+    let its = some.its in
     let shard = its.shard in
     let g = shard.graph in
-    let v = vertex_at p (first + place) in
+    let v = vertex_at p vertex in
     record {
       vertex = v;
       limit = g.vertex_count;
       has_target = g.has_edge v;
       small = shard.small;
-      edits = subst (AreEditsFrom v g.vertex_count) (sym (read ∙ edits_in groups p (first + place) by_vertex)) (own_edits_from g.vertex_count p groups.edits (first + place) shard.few its.own (below_graph g.vertex_count p groups.edits shard.small shard.part.within its.own));
-      list = row_in g p (first + place) (get_or (rows_of page) place []) shard.part (omega arith) (its.rows place inside);
+      edits = subst (AreEditsFrom v g.vertex_count) (sym (read ∙ edits_in groups p vertex by_vertex)) (own_edits_from g.vertex_count p groups.edits vertex shard.few its.own (below_graph g.vertex_count p groups.edits shard.small shard.part.within its.own));
+      list = row_in g p vertex row shard.part its.within its.own_row;
     }
 
+-- and what is known of its list after them
+pub merged_of_vertex : (groups : Grouped) (p : Part) (vertex : ℕ) (row : List ℕ) (home : Home) (own : List Edit) (after : List ℕ) (more : Counts) → groups.grouping ≡ ByVertex → IsVertexOf groups.edits p vertex row home → own ≡ edits_of groups vertex
+    → ((u n : ℕ) (q : ℕ → Bool) → AreEditsFrom u n own → row ≡ filter q (numbers_below n) → IsMerged own u n q after more)
+    → (u n : ℕ) (q : ℕ → Bool) → AreEditsFrom u n (own_edits p groups.edits vertex) → row_at p vertex ≡ filter q (numbers_below n) → IsMerged (own_edits p groups.edits vertex) u n q after more
+merged_of_vertex groups p vertex row home own after more by_vertex its read merged =
+    merged_own groups.edits own p after more vertex (read ∙ edits_in groups p vertex by_vertex) (λ u n q from same. merged u n q from (its.own_row ∙ same))
+
+-- the same for a list of a page
+pub merged_of_page : (groups : Grouped) (p : Part) (page : Lists) (first place : ℕ) (own : List Edit) (row : List ℕ) (more : Counts) → groups.grouping ≡ ByVertex → IsPageOf groups.edits p first page → place < length (rows_of page) → own ≡ edits_of groups (first + place)
+    → ((u n : ℕ) (q : ℕ → Bool) → AreEditsFrom u n own → get_or (rows_of page) place [] ≡ filter q (numbers_below n) → IsMerged own u n q row more)
+    → (u n : ℕ) (q : ℕ → Bool) → AreEditsFrom u n (own_edits p groups.edits (first + place)) → row_at p (first + place) ≡ filter q (numbers_below n) → IsMerged (own_edits p groups.edits (first + place)) u n q row more
+merged_of_page groups p page first place own row more by_vertex its inside read merged =
+    merged_of_vertex groups p (first + place) (get_or (rows_of page) place []) (get_or (homes_of page) place Block) own row more by_vertex (vertex_of_page groups.edits p first place page its inside) read merged
+
+pub own_of_page : (groups : Grouped) (p : Part) (page : Lists) (first place : ℕ) (own : List Edit) → groups.grouping ≡ ByVertex → IsPageOf groups.edits p first page → place < length (rows_of page) → own ≡ edits_of groups (first + place) → AreOwnEdits own (get_or (rows_of page) place [])
+own_of_page groups p page first place own by_vertex its inside read =
+    own_of_vertex groups (first + place) (get_or (rows_of page) place []) (get_or (homes_of page) place Block) own by_vertex record { part = p; its = vertex_of_page groups.edits p first place page its inside } read
+
 -- a page of a shard, from its first vertex on
-pub page_of_shard : (es : List Edit) (range : ℕ) (pages : List (Arc Lists Global)) (i : ℕ) (d : Arc Lists Global) → ArePages pages → IsShard (part_in range pages) → AreEditsOf (part_in range pages) es → i < length pages → IsPageOf es (part_in range pages) (64 * i) (arc_value (get_or pages i d))
-page_of_shard es range pages i d are shard own h = record {
+pub page_of_shard : (es : List Edit) (range w : ℕ) (pages : List (Arc Lists Global)) (i : ℕ) (d : Arc Lists Global) → ArePages w pages → IsShard (part_in range pages) → AreEditsOf (part_in range pages) es → i < length pages → IsPageOf es (part_in range pages) (w * i) (arc_value (get_or pages i d))
+page_of_shard es range w pages i d are shard own h = record {
   shard = shard;
   own = own;
-  within = page_inside pages i d are h;
-  rows = λ k within. sym (row_in_page pages i k d are h within);
-  homes = λ k within. sym (home_in_page pages i k d are h within);
+  within = page_inside w pages i d are h;
+  rows = λ k within. sym (row_in_page w pages i k d are h within);
+  homes = λ k within. sym (home_in_page w pages i k d are h within);
+}
+
+-- a list that stands last is put there after the edits of its vertex, which were merged with what it was
+pub put_last : (es : List Edit) (vertex : ℕ) (row after : List ℕ) (home to : Home) (more : Counts) (old new : Lists) → IsPushed old new after to
+    → ((p : Part) → IsVertexOf es p vertex row home → to ≡ home_after (home_at p vertex) (length after))
+    → ((p : Part) → IsVertexOf es p vertex row home → (u n : ℕ) (q : ℕ → Bool) → AreEditsFrom u n (own_edits p es vertex) → row_at p vertex ≡ filter q (numbers_below n) → IsMerged (own_edits p es vertex) u n q after more)
+    → IsPutLast es vertex row home more old new
+put_last es vertex row after home to more old new pushed moved merged = record {
+  after = after;
+  to = to;
+  pushed = pushed;
+  few = λ p rows homes counts its start begun. few_more es p rows after counts more vertex its.shard its.own start its.within begun.done (merged p its);
+  begun = λ p rows homes counts its start begun. one_edited es p rows homes counts more after to vertex its.shard its.own start its.within (moved p its) (merged p its) begun;
 }
 
 -- a page more

@@ -1,8 +1,9 @@
 -- Where a part stands in the blocks of a table.
-use Rattle.std.proofs.Common.{◌≡◌, ℕ, zero, suc, ◌+◌, ◌*◌, ◌/◌, ◌%◌, ◌<◌, ◌≤◌, min, List, [], ◌∷◌, ◌++◌, length, get_or, take, refl, sym, ap, subst, ◌∙◌, inl, inr, length-append, arith}
+use Rattle.std.proofs.Common.{◌≡◌, ℕ, zero, suc, ◌+◌, ◌*◌, ◌/◌, ◌%◌, ◌<◌, ◌≤◌, min, List, [], ◌∷◌, ◌++◌, length, map, get_or, take, refl, sym, ap, subst, ◌∙◌, inl, inr, length-append, arith}
 use Rattle.std.specs.declared.sync.Arc.{Arc}
 use Rattle.std.specs.declared.alloc.Global.{Global}
 use Rattle.std.specs.Arc.{arc_value}
+use Rattle.std.specs.List.{flat_map}
 use Rattle.std.proofs.lemmas.Bool.{cases_lt}
 use Rattle.std.proofs.lemmas.List.{length-map, map_push, take-map, get_or-map, flat_map_more}
 use Rattle.std.proofs.lemmas.List.Concat.{get_or-flat_map, flat_map-cons}
@@ -17,14 +18,14 @@ use Rattle.migration.specs.Blocks.{ArePartsFrom, parts_in, sizes_of, AreFull}
 abbrev Blocks : Type 0
 Blocks = List (Arc (List Part) Global)
 
-abbrev total : List ℕ → ℕ
+abbrev pub total : List ℕ → ℕ
 total [] = 0
 total (size ∷ sizes) = size + total sizes
 
 next : (w i : ℕ) → w * suc i ≡ w + w * i
 next w i = omega arith
 
-no_times : (w : ℕ) → w * 0 ≡ 0
+pub no_times : (w : ℕ) → w * 0 ≡ 0
 no_times w = omega arith
 
 -- so many blocks begin before the end
@@ -66,7 +67,7 @@ starts w (size ∷ sizes) (suc i) all h =
     omega (arith, first, rest, next w i)
 
 -- past all blocks
-past_blocks : (w : ℕ) (sizes : List ℕ) (i : ℕ) → AreFull w sizes → length sizes ≤ i → total sizes ≤ w * i
+pub past_blocks : (w : ℕ) (sizes : List ℕ) (i : ℕ) → AreFull w sizes → length sizes ≤ i → total sizes ≤ w * i
 past_blocks w [] i all h = omega arith
 past_blocks w (size ∷ sizes) zero all h = absurd (omega arith)
 past_blocks w (size ∷ sizes) (suc i) all h =
@@ -75,7 +76,7 @@ past_blocks w (size ∷ sizes) (suc i) all h =
     omega (arith, first, rest, next w i)
 
 -- past the last part of a block that is not full
-past_block : (w : ℕ) (sizes : List ℕ) (i k : ℕ) → AreFull w sizes → i < length sizes → get_or sizes i 0 ≤ k → k < w → total sizes ≤ w * i + k
+pub past_block : (w : ℕ) (sizes : List ℕ) (i k : ℕ) → AreFull w sizes → i < length sizes → get_or sizes i 0 ≤ k → k < w → total sizes ≤ w * i + k
 past_block w [] i k all h past small = absurd (omega arith)
 past_block w (size ∷ sizes) zero k all h past small =
     elim (cases_lt 0 (length sizes)) [
@@ -170,3 +171,21 @@ block_parts w g blocks i d all h table = record {
 -- a block's parts are among all
 pub block_inside : (w : ℕ) (blocks : Blocks) (i : ℕ) (d : Arc (List Part) Global) → AreFull w (sizes_of blocks) → i < length blocks → w * i + length (arc_value (get_or blocks i d)) ≤ length (parts_in blocks)
 block_inside w blocks i d all h = omega (arith, start_of w blocks i all h, length-flat_map-take arc_value blocks i d h)
+
+-- other owners of the same blocks show the same parts
+flat_map_values : (xs ys : Blocks) → map arc_value xs ≡ map arc_value ys → flat_map arc_value xs ≡ flat_map arc_value ys
+flat_map_values xs ys same = sym (flat_map_map xs) ∙ ap (flat_map (λ (l : List Part). l)) same ∙ flat_map_map ys
+  where
+    flat_map_map : (zs : Blocks) → flat_map (λ (l : List Part). l) (map arc_value zs) ≡ flat_map arc_value zs
+    flat_map_map [] = refl
+    flat_map_map (z ∷ zs) = ap (λ l. arc_value z ++ l) (flat_map_map zs)
+
+pub same_parts : (xs ys : Blocks) → map arc_value xs ≡ map arc_value ys → parts_in xs ≡ parts_in ys
+same_parts xs ys same = flat_map_values xs ys same
+
+pub same_sizes : (xs ys : Blocks) → map arc_value xs ≡ map arc_value ys → sizes_of xs ≡ sizes_of ys
+same_sizes xs ys same = sym (lengths xs) ∙ ap (map length) same ∙ lengths ys
+  where
+    lengths : (zs : Blocks) → map length (map arc_value zs) ≡ sizes_of zs
+    lengths [] = refl
+    lengths (z ∷ zs) = ap (λ l. length (arc_value z) ∷ l) (lengths zs)

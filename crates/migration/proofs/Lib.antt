@@ -1,5 +1,6 @@
 pub mod GroupLemmas
 pub mod MergeLemmas
+pub mod SingleLemmas
 pub mod WordLemmas
 pub mod PartLemmas
 pub mod SearchLemmas
@@ -14,6 +15,7 @@ pub mod ReplacedLemmas
 pub mod RunLemmas
 pub mod PageLemmas
 pub mod BegunLemmas
+pub mod CutLemmas
 pub mod CopiedLemmas
 pub mod HomeLemmas
 pub mod PutLemmas

@@ -9,11 +9,14 @@ use Rattle.std.proofs.lemmas.Bool.{cases_lt}
 use Rattle.std.proofs.lemmas.List.Concat.{get_or-flat_map, flat_map-cons}
 use Rattle.std.proofs.lemmas.List.Folds.{length-flat_map-take}
 use Rattle.std.proofs.Math.Seq.{take-suc}
+use Rattle.std.proofs.Math.Nat.{div-add-mod}
 use Rattle.past_model.specs.declared.home.Home.{Home}
 use Rattle.past_model.specs.declared.home.Home.TheVariants.{Block}
 use Rattle.migration.specs.declared.lists.Lists.{Lists}
 use Rattle.migration.specs.Lists.{list_at, home_of, rows_of, homes_of, AreKept}
-use Rattle.migration.specs.Pages.{rows_in, homes_in, sizes_in, IsCut, ArePages}
+use Rattle.migration.specs.Blocks.{AreFull}
+use Rattle.migration.specs.Pages.{rows_in, homes_in, sizes_in, ArePages}
+use Rattle.migration.proofs.BlockLemmas.{total, starts, no_times, next_times, past_blocks, past_block, before_end, past_end}
 
 abbrev Page : Type 0
 Page = Arc Lists Global
@@ -26,35 +29,6 @@ homes_at page = homes_of (arc_value page)
 
 abbrev pub IsKept : Page → Type 0
 IsKept page = AreKept (arc_value page)
-
-abbrev total : List ℕ → ℕ
-total [] = 0
-total (size ∷ sizes) = size + total sizes
-
--- the pages after the first
-tail_cut : (count size : ℕ) (sizes : List ℕ) → IsCut count (size ∷ sizes) → IsCut (count - 64) sizes
-tail_cut count size sizes cut = record {
-  pages = λ i. (
-    λ h. (let low = (cut.pages (suc i)).0 (omega arith) in omega arith),
-    λ h. (let there = (cut.pages (suc i)).1 (omega arith) in omega arith),
-  );
-  each = λ i h. (let is = cut.each (suc i) (omega arith) in omega (arith, is));
-}
-
-first_full : (count size : ℕ) (sizes : List ℕ) (i : ℕ) → IsCut count (size ∷ sizes) → i < length sizes → size ≡ 64
-first_full count size sizes i cut h =
-    let low = (cut.pages (suc i)).0 (omega arith) in
-    let is = cut.each 0 (omega arith) in
-    omega (arith, low, is)
-
--- before page i stand 64 i lists
-starts : (sizes : List ℕ) (count i : ℕ) → IsCut count sizes → i < length sizes → total (take i sizes) ≡ 64 * i
-starts [] count i cut h = absurd (omega arith)
-starts (size ∷ sizes) count zero cut h = refl
-starts (size ∷ sizes) count (suc i) cut h =
-    let first = first_full count size sizes i cut (omega arith) in
-    let rest = starts sizes (count - 64) i (tail_cut count size sizes cut) (omega arith) in
-    omega (arith, first, rest)
 
 length-rows_in : (pages : List Page) → length (rows_in pages) ≡ total (sizes_in pages)
 length-rows_in [] = refl
@@ -72,24 +46,25 @@ same_counts_in (page ∷ pages) =
 length-sizes_in : (pages : List Page) → length (sizes_in pages) ≡ length pages
 length-sizes_in pages = length-map pages (λ page. length (rows_at page))
 
-start_of : (pages : List Page) (i : ℕ) → ArePages pages → i < length pages → length (rows_in (take i pages)) ≡ 64 * i
-start_of pages i are h =
+-- before the i-th page stand the lists of i full ones
+start_of : (w : ℕ) (pages : List Page) (i : ℕ) → ArePages w pages → i < length pages → length (rows_in (take i pages)) ≡ w * i
+start_of w pages i are h =
     length-rows_in (take i pages)
     ∙ ap total (sym (take-map (λ page. length (rows_at page)) i pages))
-    ∙ starts (sizes_in pages) (length (rows_in pages)) i are.cut (omega (arith, length-sizes_in pages))
+    ∙ starts w (sizes_in pages) i are.full (omega (arith, length-sizes_in pages))
 
 -- a page's lists, among all
-pub row_in_page : (pages : List Page) (i k : ℕ) (d : Page) → ArePages pages → i < length pages → k < length (rows_at (get_or pages i d)) → get_or (rows_in pages) (64 * i + k) [] ≡ get_or (rows_at (get_or pages i d)) k []
-row_in_page pages i k d are h within =
-    ap (λ n. get_or (rows_in pages) (n + k) []) (sym (start_of pages i are h)) ∙ get_or-flat_map rows_at pages i k d [] h within
+pub row_in_page : (w : ℕ) (pages : List Page) (i k : ℕ) (d : Page) → ArePages w pages → i < length pages → k < length (rows_at (get_or pages i d)) → get_or (rows_in pages) (w * i + k) [] ≡ get_or (rows_at (get_or pages i d)) k []
+row_in_page w pages i k d are h within =
+    ap (λ n. get_or (rows_in pages) (n + k) []) (sym (start_of w pages i are h)) ∙ get_or-flat_map rows_at pages i k d [] h within
 
-pub home_in_page : (pages : List Page) (i k : ℕ) (d : Page) → ArePages pages → i < length pages → k < length (rows_at (get_or pages i d)) → get_or (homes_in pages) (64 * i + k) Block ≡ get_or (homes_at (get_or pages i d)) k Block
-home_in_page pages i k d are h within =
-    ap (λ n. get_or (homes_in pages) (n + k) Block) (sym (same_counts_in (take i pages) ∙ start_of pages i are h))
+pub home_in_page : (w : ℕ) (pages : List Page) (i k : ℕ) (d : Page) → ArePages w pages → i < length pages → k < length (rows_at (get_or pages i d)) → get_or (homes_in pages) (w * i + k) Block ≡ get_or (homes_at (get_or pages i d)) k Block
+home_in_page w pages i k d are h within =
+    ap (λ n. get_or (homes_in pages) (n + k) Block) (sym (same_counts_in (take i pages) ∙ start_of w pages i are h))
     ∙ get_or-flat_map homes_at pages i k d Block h (omega (arith, within, same_count (arc_value (get_or pages i d))))
 
-pub page_inside : (pages : List Page) (i : ℕ) (d : Page) → ArePages pages → i < length pages → 64 * i + length (rows_at (get_or pages i d)) ≤ length (rows_in pages)
-page_inside pages i d are h = omega (arith, start_of pages i are h, length-flat_map-take rows_at pages i d h)
+pub page_inside : (w : ℕ) (pages : List Page) (i : ℕ) (d : Page) → ArePages w pages → i < length pages → w * i + length (rows_at (get_or pages i d)) ≤ length (rows_in pages)
+page_inside w pages i d are h = omega (arith, start_of w pages i are h, length-flat_map-take rows_at pages i d h)
 
 pub page_kept : (pages : List Page) (i : ℕ) (d : Page) → AllByRecursion IsKept pages → i < length pages → AreKept (arc_value (get_or pages i d))
 page_kept [] i d kept h = absurd (omega arith)
@@ -97,14 +72,24 @@ page_kept (page ∷ pages) zero d kept h = kept.0
 page_kept (page ∷ pages) (suc i) d kept h = page_kept pages i d kept.1 (omega arith)
 
 -- the page of a vertex
-pub page_there : (pages : List Page) (v : ℕ) → ArePages pages → v < length (rows_in pages) → v / 64 < length pages
-page_there pages v are h = omega (arith, (are.cut.pages (v / 64)).1 (omega arith), length-sizes_in pages)
+pub page_there : (w : ℕ) (pages : List Page) (v : ℕ) → ArePages w pages → v < length (rows_in pages) → v / w < length pages
+page_there w pages v are h = elim (cases_lt (v / w) (length pages)) [
+  | inl there ↦ there
+  | inr past ↦ (
+      let all = past_blocks w (sizes_in pages) (v / w) are.full (omega (arith, past, length-sizes_in pages)) in
+      absurd (omega (arith, all, length-rows_in pages, div-add-mod v w)))
+]
 
-pub place_there : (pages : List Page) (v : ℕ) (d : Page) → ArePages pages → v < length (rows_in pages) → v % 64 < length (rows_at (get_or pages (v / 64) d))
-place_there pages v d are h =
-    let there = page_there pages v are h in
-    let is = are.cut.each (v / 64) (omega (arith, there, length-sizes_in pages)) in
-    omega (arith, is, get_or-map (λ page. length (rows_at page)) pages (v / 64) d 0 there)
+pub place_there : (w : ℕ) (pages : List Page) (v : ℕ) (d : Page) → 0 < w → ArePages w pages → v < length (rows_in pages) → v % w < length (rows_at (get_or pages (v / w) d))
+place_there w pages v d some are h =
+    let there = page_there w pages v are h in
+    let size : get_or (sizes_in pages) (v / w) 0 ≡ length (rows_at (get_or pages (v / w) d)) = get_or-map (λ page. length (rows_at page)) pages (v / w) d 0 there in
+    elim (cases_lt (v % w) (length (rows_at (get_or pages (v / w) d)))) [
+      | inl inside ↦ inside
+      | inr past ↦ (
+          let all = past_block w (sizes_in pages) (v / w) (v % w) are.full (omega (arith, there, length-sizes_in pages)) (omega (arith, past, size)) (omega arith) in
+          absurd (omega (arith, all, length-rows_in pages, div-add-mod v w)))
+    ]
 
 -- ---- a page more
 
@@ -132,45 +117,41 @@ sizes_next new old i page d h so_far same =
     ∙ ap (λ k. take k (sizes_in old)) next
 
 -- where pages are made as far as page i, so many lists are made
-pub lists_made : (new old : List Page) (i : ℕ) → ArePages old → i < length old → sizes_in new ≡ take i (sizes_in old) → length (rows_in new) ≡ 64 * i
-lists_made new old i are h so_far =
-    omega (arith, length-rows_in new, ap total so_far, starts (sizes_in old) (length (rows_in old)) i are.cut (omega (arith, h, length-sizes_in old)))
+pub lists_made : (w : ℕ) (new old : List Page) (i : ℕ) → ArePages w old → i < length old → sizes_in new ≡ take i (sizes_in old) → length (rows_in new) ≡ w * i
+lists_made w new old i are h so_far =
+    omega (arith, length-rows_in new, ap total so_far, starts w (sizes_in old) i are.full (omega (arith, h, length-sizes_in old)))
 
 -- and where all are made, they are cut as the others
-pub all_made : (new old : List Page) (i : ℕ) → ArePages old → length old ≤ i → sizes_in new ≡ take i (sizes_in old) → AllByRecursion IsKept new → ArePages new × (length (rows_in new) ≡ length (rows_in old))
-all_made new old i are past so_far kept =
+pub all_made : (w : ℕ) (new old : List Page) (i : ℕ) → ArePages w old → length old ≤ i → sizes_in new ≡ take i (sizes_in old) → AllByRecursion IsKept new → ArePages w new × (length (rows_in new) ≡ length (rows_in old))
+all_made w new old i are past so_far kept =
     let same : sizes_in new ≡ sizes_in old = so_far ∙ take_all i (sizes_in old) (omega (arith, past, length-sizes_in old)) in
     let long : length (rows_in new) ≡ length (rows_in old) = length-rows_in new ∙ ap total same ∙ sym (length-rows_in old) in (
-      record { kept = kept; cut = subst (λ n. IsCut n (sizes_in new)) (sym long) (subst (IsCut (length (rows_in old))) (sym same) are.cut) },
+      record { kept = kept; full = subst (AreFull w) (sym same) are.full },
       long,
     )
 
--- ---- pages without an edge
+-- ---- the pages of so many vertices, one after another
 
--- the first pages of so many vertices
-pub record AreEmpty (vertices number : ℕ) (pages : List Page) : Type 0 where
+-- the first pages
+pub record AreFirst (w vertices number : ℕ) (pages : List Page) : Type 0 where
   pub kept : AllByRecursion IsKept pages
   pub count : length (sizes_in pages) ≡ number
-  pub sizes : (i : ℕ) → i < number → get_or (sizes_in pages) i 0 ≡ min 64 (vertices - 64 * i)
-  pub rows : rows_in pages ≡ replicate (min vertices (64 * number)) []
-  pub homes : homes_in pages ≡ replicate (min vertices (64 * number)) Block
+  pub sizes : (i : ℕ) → i < number → get_or (sizes_in pages) i 0 ≡ min w (vertices - w * i)
+  pub made : length (rows_in pages) ≡ min vertices (w * number)
 
-pub none_empty : (vertices : ℕ) (pages : List Page) → pages ≡ [] → AreEmpty vertices 0 pages
-none_empty vertices pages is = subst (AreEmpty vertices 0) (sym is) record {
+pub none_first : (w vertices : ℕ) (pages : List Page) → pages ≡ [] → AreFirst w vertices 0 pages
+none_first w vertices pages is = subst (AreFirst w vertices 0) (sym is) record {
   kept = tt;
   count = refl;
   sizes = λ i h. absurd (omega arith);
-  rows = ap (λ n. replicate n []) none;
-  homes = ap (λ n. replicate n Block) none;
+  made = none;
 }
   where
-    none : 0 ≡ min vertices (64 * 0)
-    none = omega arith
+    none : 0 ≡ min vertices (w * 0)
+    none = omega (arith, no_times w)
 
-pub one_empty : (vertices number : ℕ) (pages : List Page) (page : Page) → 64 * number < vertices → AreEmpty vertices number pages → AreKept (arc_value page) → rows_at page ≡ replicate (min 64 (vertices - 64 * number)) [] → homes_at page ≡ replicate (min 64 (vertices - 64 * number)) Block → AreEmpty vertices (number + 1) (pages ++ page ∷ [])
-one_empty vertices number pages page some are kept rows homes =
-    let before : min vertices (64 * number) + min 64 (vertices - 64 * number) ≡ min vertices (64 * (number + 1)) = omega arith in
-    let size : length (rows_at page) ≡ min 64 (vertices - 64 * number) = ap length rows ∙ length-replicate (min 64 (vertices - 64 * number)) [] in
+pub one_first : (w vertices number : ℕ) (pages : List Page) (page : Page) → w * number < vertices → AreFirst w vertices number pages → AreKept (arc_value page) → length (rows_at page) ≡ min w (vertices - w * number) → AreFirst w vertices (number + 1) (pages ++ page ∷ [])
+one_first w vertices number pages page some are kept size =
     let count = are.count in
     record {
       kept = kept_push pages page are.kept kept;
@@ -179,8 +160,51 @@ one_empty vertices number pages page some are kept rows homes =
         | inl lt ↦ ap (λ l. get_or l i 0) (sizes_push pages page) ∙ get_or_append_left (sizes_in pages) (length (rows_at page) ∷ []) 0 i (omega arith) ∙ are.sizes i lt
         | inr ge ↦ (
             let same : number ≡ i = omega arith in
-            ap (λ l. get_or l i 0) (sizes_push pages page) ∙ get_or_push (sizes_in pages) (length (rows_at page)) 0 i (count ∙ same) ∙ size ∙ ap (λ k. min 64 (vertices - 64 * k)) same)
+            ap (λ l. get_or l i 0) (sizes_push pages page) ∙ get_or_push (sizes_in pages) (length (rows_at page)) 0 i (count ∙ same) ∙ size ∙ ap (λ k. min w (vertices - w * k)) same)
       ];
+      made = ap length (rows_push pages page) ∙ length-append (rows_in pages) (rows_at page) ∙ omega (arith, are.made, size, next_times w number);
+    }
+
+-- all of them
+pub all_first : (w vertices number count : ℕ) (pages : List Page) → 0 < w → count ≡ vertices / w + min 1 (vertices % w) → number ≡ count → AreFirst w vertices number pages → ArePages w pages × (length (rows_in pages) ≡ vertices)
+all_first w vertices number count pages some is all are =
+    let past : vertices ≤ w * number = past_end w number vertices count some is (omega arith) in
+    let made = are.made in (
+      record {
+        kept = are.kept;
+        full = record {
+          full = λ i h. (
+              let size = are.sizes i (omega (arith, are.count)) in
+              let more : w * (i + 1) < vertices = before_end w (i + 1) vertices count some is (omega (arith, are.count)) in
+              omega (arith, size, more, next_times w i));
+          few = λ i h. (let size = are.sizes i (omega (arith, are.count)) in omega (arith, size));
+        };
+      },
+      omega (arith, past, made),
+    )
+
+-- ---- pages without an edge
+
+pub record AreEmpty (vertices number : ℕ) (pages : List Page) : Type 0 where
+  pub first : AreFirst 64 vertices number pages
+  pub rows : rows_in pages ≡ replicate (min vertices (64 * number)) []
+  pub homes : homes_in pages ≡ replicate (min vertices (64 * number)) Block
+
+pub none_empty : (vertices : ℕ) (pages : List Page) → pages ≡ [] → AreEmpty vertices 0 pages
+none_empty vertices pages is = record {
+  first = none_first 64 vertices pages is;
+  rows = ap rows_in is ∙ ap (λ n. replicate n []) none;
+  homes = ap homes_in is ∙ ap (λ n. replicate n Block) none;
+}
+  where
+    none : 0 ≡ min vertices (64 * 0)
+    none = omega arith
+
+pub one_empty : (vertices number : ℕ) (pages : List Page) (page : Page) → 64 * number < vertices → AreEmpty vertices number pages → AreKept (arc_value page) → rows_at page ≡ replicate (min 64 (vertices - 64 * number)) [] → homes_at page ≡ replicate (min 64 (vertices - 64 * number)) Block → AreEmpty vertices (number + 1) (pages ++ page ∷ [])
+one_empty vertices number pages page some are kept rows homes =
+    let before : min vertices (64 * number) + min 64 (vertices - 64 * number) ≡ min vertices (64 * (number + 1)) = omega arith in
+    record {
+      first = one_first 64 vertices number pages page some are.first kept (ap length rows ∙ length-replicate (min 64 (vertices - 64 * number)) []);
       rows =
           rows_push pages page
           ∙ ap (λ l. l ++ rows_at page) are.rows
@@ -195,20 +219,10 @@ one_empty vertices number pages page some are kept rows homes =
           ∙ ap (λ n. replicate n Block) before;
     }
 
--- all of them
-pub all_empty : (vertices number : ℕ) (pages : List Page) → AreEmpty vertices number pages → vertices ≤ 64 * number → 64 * number < vertices + 64 → ArePages pages × (rows_in pages ≡ replicate vertices []) × (homes_in pages ≡ replicate vertices Block)
-all_empty vertices number pages are all few =
-    let whole : min vertices (64 * number) ≡ vertices = omega arith in
-    let rows : rows_in pages ≡ replicate vertices [] = are.rows ∙ ap (λ n. replicate n []) whole in
-    let long : length (rows_in pages) ≡ vertices = ap length rows ∙ length-replicate vertices [] in
-    let count = are.count in (
-      record {
-        kept = are.kept;
-        cut = record {
-          pages = λ i. (λ h. omega (arith, long, count), λ h. omega (arith, long, count));
-          each = λ i h. are.sizes i (omega arith) ∙ ap (λ n. min 64 (n - 64 * i)) (sym long);
-        };
-      },
-      rows,
+pub all_empty : (vertices number count : ℕ) (pages : List Page) → count ≡ vertices / 64 + min 1 (vertices % 64) → number ≡ count → AreEmpty vertices number pages → ArePages 64 pages × (rows_in pages ≡ replicate vertices []) × (homes_in pages ≡ replicate vertices Block)
+all_empty vertices number count pages is all are =
+    let whole : min vertices (64 * number) ≡ vertices = omega arith in (
+      (all_first 64 vertices number count pages (omega arith) is all are.first).0,
+      are.rows ∙ ap (λ n. replicate n []) whole,
       are.homes ∙ ap (λ n. replicate n Block) whole,
     )

@@ -1,5 +1,5 @@
 -- A shard under edit: the lists of its first vertices are made.
-use Rattle.std.specs.Prelude.{◌≡◌, ℕ, ◌+◌, ◌<◌, ◌≤◌, List, [], ◌++◌, length, slice_index_or}
+use Rattle.std.specs.Prelude.{◌≡◌, ℕ, ◌+◌, ◌^◌, ◌<◌, ◌≤◌, List, [], ◌∷◌, ◌++◌, length, slice_index_or}
 use Rattle.past_model.specs.declared.edit.Edit.{Edit}
 use Rattle.past_model.specs.declared.home.Home.{Home}
 use Rattle.past_model.specs.declared.home.Home.TheVariants.{Block}
@@ -9,7 +9,7 @@ use Rattle.past_model.specs.Homes.{home_after}
 use Rattle.migration.specs.declared.counts.Counts.{Counts}
 use Rattle.migration.specs.declared.lists.Lists.{Lists}
 use Rattle.migration.specs.Blocks.{is_new, is_gone}
-use Rattle.migration.specs.Lists.{AreKept, rows_of, homes_of}
+use Rattle.migration.specs.Lists.{AreKept, IsPushed, rows_of, homes_of}
 use Rattle.migration.specs.Part.{Part, vertex_at, row_at, home_at, IsPart, AreEditsOf, IsShard}
 
 -- the lists of the first vertices of a part of a graph after edits, and how many edges out of them are new and are gone
@@ -52,3 +52,29 @@ pub record IsPageAfter (es : List Edit) (first : ℕ) (page : Lists) (counts : C
   pub count : length (rows_of next) ≡ length (rows_of page)
   pub begun : (p : Part) (rows : List (List ℕ)) (homes : List Home) → IsPageOf es p first page → length rows ≡ first
       → AreBegun es p rows homes counts → AreBegun es p (rows ++ rows_of next) (homes ++ homes_of next) done
+
+-- a vertex of a shard to which edits are applied, its list, and that list's home
+pub record IsVertexOf (es : List Edit) (p : Part) (vertex : ℕ) (row : List ℕ) (home : Home) : Type 0 where
+  pub shard : IsShard p
+  pub own : AreEditsOf p es
+  pub within : vertex < length p.rows
+  pub own_row : row ≡ row_at p vertex
+  pub own_home : home ≡ home_at p vertex
+
+-- of some shard
+pub record IsSomeVertex (es : List Edit) (vertex : ℕ) (row : List ℕ) (home : Home) : Type 0 where
+  pub part : Part
+  pub its : IsVertexOf es part vertex row home
+
+-- its list after the edits stands last among others, and with it one vertex more of the shard is made
+pub record IsPutLast (es : List Edit) (vertex : ℕ) (row : List ℕ) (home : Home) (more : Counts) (old new : Lists) : Type 0 where
+  pub after : List ℕ
+  pub to : Home
+  pub pushed : IsPushed old new after to
+  pub few : (p : Part) (rows : List (List ℕ)) (homes : List Home) (counts : Counts) → IsVertexOf es p vertex row home
+      → length rows ≡ vertex → AreBegun es p rows homes counts
+      → (counts.added + more.added < 2 ^ 64) × (counts.removed + more.removed < 2 ^ 64)
+  pub begun : (p : Part) (rows : List (List ℕ)) (homes : List Home) (counts : Counts) → IsVertexOf es p vertex row home
+      → length rows ≡ vertex → AreBegun es p rows homes counts
+      → AreBegun es p (rows ++ after ∷ []) (homes ++ to ∷ [])
+      record { added = counts.added + more.added; removed = counts.removed + more.removed }

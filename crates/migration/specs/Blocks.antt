@@ -20,7 +20,7 @@ parts_in blocks = flat_map arc_value blocks
 abbrev pub sizes_of : List (Arc (List Part) Global) → List ℕ
 sizes_of blocks = map (λ block. length (arc_value block)) blocks
 
--- each block but the last is as wide as the table says
+-- each of these sizes but the last is the width, and the last one at most that
 pub record AreFull (width : ℕ) (sizes : List ℕ) : Type 0 where
   pub full : (i : ℕ) → i + 1 < length sizes → slice_index_or sizes i 0 ≡ width
   pub few : (i : ℕ) → i < length sizes → slice_index_or sizes i 0 ≤ width

@@ -8,9 +8,10 @@ ghost use Rattle.migration.specs.Pages.{ArePages, rows_in, homes_in};
 ghost use Rattle.migration.specs.Table.{parts_of};
 
 use crate::lists::Lists;
-use crate::pages::PAGE_VERTICES;
+use crate::page_size::PageSize;
+use crate::pages::Cut;
 use crate::shard::Shard;
-use past_model::{Home, RANGE_VERTICES};
+use past_model::{ARRAY_MOST, Home, RANGE_VERTICES};
 use std::alloc::{AllocError, Global};
 use std::sync::Arc;
 
@@ -39,6 +40,20 @@ fn page_of_lists(
     page.taken(alloc)
 }
 
+// How many words the lists of so many vertices from one on have that are not at home in a tree.
+fn words_of_lists(starts: &[u64], first: usize, vertices: usize) -> usize
+    requires { first + vertices < length starts.now }
+{
+    let mut words = 0usize;
+    for vertex in first..first + vertices {
+        let degree = starts[vertex + 1].saturating_sub(starts[vertex]) as usize;
+        if degree <= ARRAY_MOST as usize {
+            words = words.saturating_add(degree);
+        }
+    }
+    words
+}
+
 /// The pages of the lists of a range's vertices, where these are so many from one on.
 pub(crate) fn pages_of_lists(
     alloc: Global,
@@ -47,23 +62,27 @@ pub(crate) fn pages_of_lists(
     first: usize,
     vertices: usize,
     page: &mut Lists,
-) -> Result<Vec<Arc<Lists>>, AllocError>
+) -> Result<Cut, AllocError>
     requires lists { AreLists starts.now targets.now }
     requires inside { first + vertices < length starts.now }
+    requires some { 0 < vertices }
     requires few { vertices ≤ RANGE_VERTICES }
-    ensures pages { IfOk result (λ pages. ArePages pages.items) }
-    ensures rows { IfOk result (λ pages. rows_in pages.items ≡ rows_from starts.now targets.now first vertices) }
-    ensures homes { IfOk result (λ pages. homes_in pages.items ≡ homes_from starts.now targets.now first vertices) }
+    ensures pages { IfOk result (λ cut. ArePages cut.size.vertices cut.pages.items) }
+    ensures rows { IfOk result (λ cut. rows_in cut.pages.items ≡ rows_from starts.now targets.now first vertices) }
+    ensures homes { IfOk result (λ cut. homes_in cut.pages.items ≡ homes_from starts.now targets.now first vertices) }
 {
-    let count = vertices.div_ceil(PAGE_VERTICES);
+    let words = words_of_lists(starts, first, vertices);
+    let size = PageSize::of(words, vertices);
+    let width = usize::from(size.vertices);
+    let count = vertices.div_ceil(width);
     let mut pages = Vec::with_capacity(alloc, count)?;
     for number in 0..count {
-        let done = PAGE_VERTICES * number;
-        let size = (vertices - done).min(PAGE_VERTICES);
-        let made = page_of_lists(alloc, starts, targets, first + done, size, page)?;
+        let done = width * number;
+        let own = (vertices - done).min(width);
+        let made = page_of_lists(alloc, starts, targets, first + done, own, page)?;
         pages.push(Arc::new(alloc, made)?)?;
     }
-    Ok(pages)
+    Ok(Cut { pages, size, words })
 }
 
 /// The shards of a graph whose vertices have these lists, one for each range. Each list is in the home to which its degree

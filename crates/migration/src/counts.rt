@@ -17,6 +17,13 @@ impl Counts {
         removed: 0,
     };
 
+    /// About how many words there are after it, where there were so many before.
+    pub(crate) fn words_after(self, words: usize) -> usize {
+        words
+            .saturating_add(self.added as usize)
+            .saturating_sub(self.removed as usize)
+    }
+
     /// What was done in two parts of a graph together.
     pub(crate) fn plus(self, more: Counts) -> Counts
         requires added { self.added + more.added < 2 ^ 64 }

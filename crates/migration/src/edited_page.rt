@@ -12,10 +12,13 @@ use crate::groups::Groups;
 use crate::lists::Lists;
 use crate::rebuilt_page::rebuilt_page;
 use crate::scratch::Scratch;
-use std::alloc::{AllocError, Global};
+use std::alloc::AllocError;
 
-/// A page in which more vertices have edits than these is rebuilt; another one is copied, and changed in the copy.
-const MOST_CHANGED: usize = 8;
+/// A page is rebuilt if more than one of so many of its vertices have edits; another one is copied, and changed in the copy.
+const VERTICES_A_CHANGE: usize = 8;
+
+/// A page of few vertices is copied all the same if no more than these have edits.
+const LEAST_CHANGED: usize = 2;
 
 /// The pages of a shard that gets more edits than these are rebuilt, too: as a rule some list gets so many that a copy would
 /// be dropped.
@@ -24,7 +27,6 @@ const MOST_EDITS: usize = 128;
 /// A page after the edits of its shard, where it begins at this vertex of it, and what the edits did to the lists up to
 /// its end, where these are the counts of those before it. A page of which few vertices have edits is copied as memory.
 pub(crate) fn edited_page(
-    alloc: Global,
     page: &Lists,
     first: usize,
     groups: &Groups<'_>,
@@ -44,17 +46,18 @@ pub(crate) fn edited_page(
 {
     // Few edits are of few vertices, which need no count.
     let edits = groups.edit_count();
-    if edits <= MOST_CHANGED
-        || edits <= MOST_EDITS && groups.count_filled(first, first + page.count()) <= MOST_CHANGED
+    let most = (page.count() / VERTICES_A_CHANGE).max(LEAST_CHANGED);
+    if edits <= most
+        || edits <= MOST_EDITS && groups.count_filled(first, first + page.count()) <= most
     {
-        if let Some(next) = copied_page(alloc, page, first, groups, counts, scratch)? {
+        if let Some(next) = copied_page(page, first, groups, counts, scratch)? {
             return Ok(next);
         }
     }
     if let Some(linked) = groups.linked() {
-        return rebuilt_page(alloc, page, first, &linked, counts, scratch);
+        return rebuilt_page(page, first, &linked, counts, scratch);
     }
-    let links = groups.link(alloc)?;
+    let links = groups.link(scratch.alloc)?;
     let linked = groups.linked_by(&links);
-    rebuilt_page(alloc, page, first, &linked, counts, scratch)
+    rebuilt_page(page, first, &linked, counts, scratch)
 }

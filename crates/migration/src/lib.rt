@@ -21,12 +21,15 @@ mod lists;
 mod lists_changed;
 mod merge;
 mod nearby;
+mod page_size;
 mod pages;
+mod put_vertex;
 mod rebuilt_page;
 mod scratch;
 mod shard;
 mod shards;
 mod short_blocks;
+mod single_edit;
 mod table;
 mod width;
 

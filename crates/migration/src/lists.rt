@@ -6,6 +6,7 @@ ghost use Rattle.past_model.specs.Homes.{IsHomeOf};
 ghost use Rattle.word_sets.specs.Words.{IsSet, has_word};
 ghost use Rattle.migration.specs.declared.lists.Place.TheVariants.{Nowhere, InShort, InBlock, InArray, InTree};
 ghost use Rattle.migration.specs.declared.short_blocks.TheConstants.{SHORT_PLACES};
+ghost use Rattle.vertex_block.specs.declared.block.TheConstants.{PLACES};
 ghost use Rattle.migration.specs.Lists.{AreKept, AreSame, IsThere, IsPushed, list_at, rows_of, homes_of, home_of};
 ghost use Rattle.migration.specs.Lent.{IsLentAt};
 ghost use Rattle.word_sets.specs.declared.places.TheConstants.{WORD_LIMIT};
@@ -133,6 +134,7 @@ impl Lists {
         requires { number < length self.now.blocks.items }
         ensures words { result.now ≡ list_at self.now (InBlock number) }
         ensures set { IsSet result.now }
+        ensures fits { length result.now ≤ PLACES }
     {
         self.blocks[usize::from(number)].as_slice()
     }
@@ -167,6 +169,22 @@ impl Lists {
             Place::InBlock(_) => None,
             Place::InArray(_) => None,
             Place::InTree(number) => Some(self.tree(number)),
+        }
+    }
+
+    /// A vertex's words, if its list is at home in its block.
+    pub(crate) fn words_in_block(&self, vertex: usize) -> Option<&[u32]>
+        requires kept { AreKept self.now }
+        requires inside { vertex < length (rows_of self.now) }
+        ensures words { IfSome result (λ words. words.now ≡ slice_index_or (rows_of self.now) vertex []) }
+        ensures few { IfSome result (λ words. length words.now ≤ PLACES) }
+    {
+        match self.place(vertex) {
+            Place::Nowhere => Some(&[]),
+            Place::InShort(number) => Some(self.short(number)),
+            Place::InBlock(number) => Some(self.block(number)),
+            Place::InArray(_) => None,
+            Place::InTree(_) => None,
         }
     }
 

@@ -6,16 +6,26 @@ ghost use Rattle.migration.specs.Lists.{AreKept, rows_of, homes_of};
 ghost use Rattle.migration.specs.Pages.{ArePages, rows_in, homes_in};
 
 use crate::lists::Lists;
+use crate::page_size::PageSize;
 use std::alloc::{AllocError, Global};
 use std::sync::Arc;
 
-/// How many vertices a full page has.
+/// How many vertices a page has at most.
 pub(crate) const PAGE_VERTICES: usize = 64;
+
+/// The pages of a range as they were just made.
+pub(crate) struct Cut {
+    pub pages: Vec<Arc<Lists>>,
+    /// How many vertices each page has but the last.
+    pub size: PageSize,
+    /// How many words they have, without those in trees.
+    pub words: usize,
+}
 
 /// The pages of so many vertices without an edge.
 pub(crate) fn empty_pages(alloc: Global, vertices: u16) -> Result<Vec<Arc<Lists>>, AllocError>
     requires few { vertices ≤ RANGE_VERTICES }
-    ensures pages { IfOk result (λ pages. ArePages pages.items) }
+    ensures pages { IfOk result (λ pages. ArePages PAGE_VERTICES pages.items) }
     ensures rows { IfOk result (λ pages. rows_in pages.items ≡ replicate vertices []) }
     ensures homes { IfOk result (λ pages. homes_in pages.items ≡ replicate vertices Block) }
 {
@@ -30,16 +40,17 @@ pub(crate) fn empty_pages(alloc: Global, vertices: u16) -> Result<Vec<Arc<Lists>
     Ok(pages)
 }
 
-/// The page in which a vertex's list stands, at the vertex's remainder by [`PAGE_VERTICES`].
-pub(crate) fn page_of(pages: &[Arc<Lists>], vertex: usize) -> &Lists
-    requires pages { ArePages pages.now }
+/// The page in which a vertex's list stands, at the vertex's remainder by the pages' size.
+pub(crate) fn page_of(pages: &[Arc<Lists>], size: PageSize, vertex: usize) -> &Lists
+    requires pages { ArePages size.vertices pages.now }
     requires inside { vertex < length (rows_in pages.now) }
     ensures kept { AreKept result.now }
-    ensures inside { vertex % PAGE_VERTICES < length (rows_of result.now) }
-    ensures row { slice_index_or (rows_of result.now) (vertex % PAGE_VERTICES) []
+    ensures inside { vertex % size.vertices < length (rows_of result.now) }
+    ensures row { slice_index_or (rows_of result.now) (vertex % size.vertices) []
         ≡ slice_index_or (rows_in pages.now) vertex [] }
-    ensures home { slice_index_or (homes_of result.now) (vertex % PAGE_VERTICES) Block
+    ensures home { slice_index_or (homes_of result.now) (vertex % size.vertices) Block
         ≡ slice_index_or (homes_in pages.now) vertex Block }
 {
-    &pages[vertex / PAGE_VERTICES]
+    let number = size.page_of(vertex);
+    &pages[number]
 }

@@ -7,16 +7,15 @@ ghost use Rattle.migration.specs.Lists.{AreKept, rows_of, homes_of};
 ghost use Rattle.migration.specs.Part.{Part};
 
 use crate::counts::Counts;
-use crate::edited_vertex::push_edited;
 use crate::linked::Linked;
 use crate::lists::Lists;
+use crate::put_vertex::put_vertex;
 use crate::scratch::Scratch;
-use std::alloc::{AllocError, Global};
+use std::alloc::AllocError;
 
 /// A page rebuilt with the edits of its shard, where it begins at this vertex of it, and what the edits did to the lists up to
 /// its end, where these are the counts of those before it. Each changed list is made once.
 pub(crate) fn rebuilt_page(
-    alloc: Global,
     page: &Lists,
     first: usize,
     groups: &Linked<'_>,
@@ -37,15 +36,9 @@ pub(crate) fn rebuilt_page(
     let mut counts = counts;
     scratch.lists.clear();
     for place in 0..page.count() {
-        let vertex = first + place;
-        if groups.is_unedited(vertex) {
-            scratch.lists.push_kept(page, place)?;
-            continue;
-        }
-        groups.read(vertex, &mut scratch.own)?;
-        let more = push_edited(alloc, page, place, scratch)?;
+        let more = put_vertex(page, place, first + place, groups, scratch)?;
         counts = counts.plus(more);
     }
-    let next = scratch.lists.taken(alloc)?;
+    let next = scratch.lists.taken(scratch.alloc)?;
     Ok((next, counts))
 }

@@ -8,6 +8,8 @@ use std::alloc::Global;
 /// Space for the pages of shards that are made one after another, so that each takes just the memory that it needs. What it
 /// holds between two shards means nothing.
 pub struct Scratch {
+    /// Where lists are made.
+    pub(crate) alloc: Global,
     /// The lists of a page.
     pub(crate) lists: Lists,
     /// The edits of a vertex.
@@ -22,6 +24,7 @@ impl Drop for Scratch {
     // Written out, so that crates above prove a call here, and not the drop of each part.
     fn drop(self) {
         let Scratch {
+            alloc: _,
             lists: _lists,
             own: _own,
             gathered: _gathered,
@@ -34,6 +37,7 @@ impl Scratch {
     /// Space that takes no memory yet: each part grows where a list needs it.
     pub fn new(alloc: Global) -> Scratch {
         Scratch {
+            alloc,
             lists: Lists::new(alloc),
             own: Vec::new(alloc),
             gathered: Vec::new(alloc),

@@ -43,6 +43,18 @@ fn spliced(
     Ok(new)
 }
 
+// The same words, with room for one more behind them. No words take no memory.
+fn with_room(alloc: Global, words: &[u32]) -> Result<Vec<u32>, AllocError>
+    ensures { IfOk result (λ copy. copy.items ≡ words.now) }
+{
+    if words.is_empty() {
+        return Ok(Vec::new(alloc));
+    }
+    let mut copy = Vec::with_capacity(alloc, words.len().saturating_add(1))?;
+    copy.extend_from_slice(words)?;
+    Ok(copy)
+}
+
 // The same ends in other memory.
 fn copied(ends: &[u16]) -> ArrayVec<u16, PAGE_VERTICES>
     requires { length ends.now ≤ PAGE_VERTICES }
@@ -99,13 +111,13 @@ impl ShortBlocks {
         })
     }
 
-    /// The same sets in other memory, in no more room than they need.
+    /// The same sets in other memory, with room for a word more: the copy's next set has one as a rule.
     pub(crate) fn copy(&self, alloc: Global) -> Result<ShortBlocks, AllocError>
         ensures words { IfOk result (λ copy. copy.words.items ≡ self.now.words.items) }
         ensures ends { IfOk result (λ copy. copy.ends.items ≡ self.now.ends.items) }
     {
         Ok(ShortBlocks {
-            words: Vec::from_slice(alloc, &self.words)?,
+            words: with_room(alloc, &self.words)?,
             ends: copied(&self.ends),
         })
     }

@@ -1,5 +1,6 @@
 //! The shards of a graph, in blocks that tables share.
-ghost use Rattle.std.specs.Prelude.{◌≡◌, ◌+◌, ◌<◌, ◌≤◌, ℕ, length, IsTrue, IfOk, MatchOption};
+ghost use Rattle.std.specs.Prelude.{◌≡◌, ◌+◌, ◌<◌, ◌≤◌, ℕ, length, map, IsTrue, IfOk, MatchOption};
+ghost use Rattle.std.specs.Arc.{arc_value};
 ghost use Rattle.past_model.specs.declared.home.Home.TheVariants.{Block as InBlock};
 ghost use Rattle.past_model.specs.declared.limits.TheConstants.{MOST_VERTICES, MOST_RANGES};
 ghost use Rattle.graph_model.specs.Graph.{Graph, empty_graph};
@@ -86,6 +87,17 @@ fn blocks_of(
         blocks.push(Arc::new(alloc, Block::of(own))?)?;
     }
     Ok(blocks)
+}
+
+// Other owners of these blocks.
+fn shared(alloc: Global, blocks: &[Arc<Block>]) -> Result<Vec<Arc<Block>>, AllocError>
+    ensures { IfOk result (λ copy. map arc_value copy.items ≡ map arc_value blocks.now) }
+{
+    let mut copy = Vec::with_capacity(alloc, blocks.len())?;
+    for block in blocks {
+        copy.push(Arc::try_clone(block)?)?;
+    }
+    Ok(copy)
 }
 
 impl Table {
@@ -249,6 +261,20 @@ impl Table {
             },
             counts,
         ))
+    }
+
+    /// Another table of the same shards. It copies the list of blocks alone.
+    pub fn share(&self, alloc: Global) -> Result<Table, AllocError>
+        ensures { IfOk result (λ table. table ≡ self.now) }
+    {
+        let blocks = shared(alloc, &self.blocks)?;
+        let count = self.count;
+        let width = self.width;
+        Ok(Table {
+            blocks,
+            count,
+            width,
+        })
     }
 
     // The shards of its blocks that no other table has, dealt in turn to so many lists.

@@ -21,16 +21,16 @@ loop-vertex-init c =
           (subst (λ n. AreCopied groups.edits first page c.args.counts n c.in_ok-lists.lists c.args.counts) (omega arith) (none_changed groups.edits first page c.in_ok-lists.lists c.args.counts c.in_ok-lists.ensures));
     }
 
-pub edit_in_place-requires-clause-edits : goal.edit_in_place-requires-clause-edits
-edit_in_place-requires-clause-edits c =
+pub edit_vertex-requires-clause-edits : goal.edit_vertex-requires-clause-edits
+edit_vertex-requires-clause-edits c =
     let groups = c.args.groups.now in
     let first = c.args.first in
     let vertex = c.loop-vertex.vertex in
     let low = c.loop-vertex.invariant.low in
     let here : vertex ≡ first + (vertex - first) = omega arith in
     let inside : vertex - first < length (rows_of c.args.page.now) = (let count = c.count.ensures.rows in let test = c.loop-vertex-test.true in omega arith) in
-    subst (AreOwnEdits c.read.new.edits.items) (sym (c.loop-vertex.invariant.copied.rows (vertex - first) (omega arith)))
-    (own_of_page groups c.requires.next.part c.args.page.now first (vertex - first) c.read.new.edits.items c.requires.vertices c.requires.next.its inside (c.in_ok-read.ensures ∙ ap (edits_of groups) here))
+    subst (AreOwnEdits (edits_of groups vertex)) (sym (c.loop-vertex.invariant.copied.rows (vertex - first) (omega arith)))
+    (own_of_page groups c.requires.next.part c.args.page.now first (vertex - first) (edits_of groups vertex) c.requires.vertices c.requires.next.its inside (ap (edits_of groups) here))
 
 -- the counts fit
 few : (c : In-Some) → (c.loop-vertex.counts.added + c.in-Some.more.added < 2 ^ 64) × (c.loop-vertex.counts.removed + c.in-Some.more.removed < 2 ^ 64)
@@ -52,7 +52,7 @@ few c =
     let inside : vertex - first < length (rows_of page) = (let count = c.count.ensures.rows in let test = c.loop-vertex-test.true in omega arith) in
     few_more groups.edits next.part (next.rows ++ take place (rows_of lists)) edited.after c.loop-vertex.counts c.in-Some.more (first + place) its.shard its.own (made next.rows lists first place next.start (omega arith)) (omega arith)
     (are.begun next.part next.rows next.homes its next.start next.begun).done
-    (merged_of_page groups next.part page first place c.read.new.edits.items edited.after c.in-Some.more c.requires.vertices its inside (c.in_ok-read.ensures ∙ ap (edits_of groups) here) (λ u n q from same. edited.merged u n q from (are.rows place (omega arith) ∙ same)))
+    (merged_of_page groups next.part page first place (edits_of groups vertex) edited.after c.in-Some.more c.requires.vertices its inside (ap (edits_of groups) here) (λ u n q from same. edited.merged u n q from (are.rows place (omega arith) ∙ same)))
 
 pub plus-counts-requires-clause-added : goal.plus-counts-requires-clause-added
 plus-counts-requires-clause-added c = (few c).0
@@ -70,7 +70,7 @@ loop-vertex-preserved c =
     let low = c.loop-vertex.invariant.low in
     let here : vertex ≡ first + (vertex - first) = omega arith in
     let lists = c.loop-vertex.lists in
-    let new = c.edit_in_place.new.lists in
+    let new = c.edit_vertex.new.lists in
     let more = c.in-Some.more in
     let are = c.loop-vertex.invariant.copied in
     let edited = rw c.in-Some.is at c.in_ok-more.ensures in
@@ -85,7 +85,7 @@ loop-vertex-preserved c =
           (subst (λ n. AreCopied groups.edits first page c.args.counts n new c.plus-counts.result) step
           (subst (AreCopied groups.edits first page c.args.counts (place + 1) new) (sym c.plus-counts.ensures)
           (one_changed groups.edits first page c.args.counts place lists new c.loop-vertex.counts more edited.after edited.to inside are edited.replaced edited.moved
-          (λ p its. merged_of_page groups p page first place c.read.new.edits.items edited.after more c.requires.vertices its inside (c.in_ok-read.ensures ∙ ap (edits_of groups) here) (λ u n q from same. edited.merged u n q from (are.rows place (omega arith) ∙ same))))));
+          (λ p its. merged_of_page groups p page first place (edits_of groups vertex) edited.after more c.requires.vertices its inside (ap (edits_of groups) here) (λ u n q from same. edited.merged u n q from (are.rows place (omega arith) ∙ same))))));
     }
 
 pub returns : goal.returns

@@ -1,4 +1,4 @@
-use Rattle.std.proofs.Common.{◌≡◌, ◌+◌, ◌-◌, ◌*◌, ◌<◌, [], min, replicate, sym, ap, subst, ◌∙◌, arith}
+use Rattle.std.proofs.Common.{◌≡◌, ◌+◌, ◌-◌, ◌*◌, ◌/◌, ◌%◌, ◌<◌, [], min, replicate, sym, ap, subst, ◌∙◌, arith}
 use Rattle.past_model.specs.declared.home.Home.TheVariants.{Block}
 use Rattle.migration.specs.Lists.{rows_of, homes_of, AreKept}
 use Rattle.migration.proofs.PageLemmas.{AreEmpty, none_empty, one_empty, all_empty}
@@ -24,10 +24,9 @@ pub returns : goal.returns
 returns c =
     let n = c.from-vertices.result in
     let same : n ≡ c.args.vertices = c.from-vertices.ensures in
-    let count = c.div_ceil-count.ensures in
     let past = c.loop-number-test.false in
     let ended = c.loop-number.auto.number-end in
-    let all = all_empty n c.loop-number.number c.loop-number.pages.items c.loop-number.invariant (omega arith) (omega arith) in
+    let all = all_empty n c.loop-number.number c.div_ceil-count.result c.loop-number.pages.items c.div_ceil-count.ensures (omega arith) c.loop-number.invariant in
     record {
       pages = all.0;
       rows = all.1 ∙ ap (λ k. replicate k []) same;

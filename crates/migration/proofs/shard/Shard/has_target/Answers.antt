@@ -1,4 +1,4 @@
-use Rattle.std.proofs.Common.{◌≡◌, ◌↔◌, ◌%◌, ◌≤◌, [], true, Contains, get_or, sym, ap, subst, subst₂, ◌∙◌, arith}
+use Rattle.std.proofs.Common.{◌≡◌, ◌↔◌, ◌≤◌, [], true, Contains, get_or, sym, ap, subst, subst₂, ◌∙◌, arith}
 use Rattle.std.proofs.lemmas.Bool.{false≢true}
 use Rattle.past_model.specs.declared.limits.TheConstants.{MOST_VERTICES}
 use Rattle.word_sets.proofs.Members.{found_members}
@@ -18,9 +18,10 @@ returns-then-target-from c =
 pub returns : goal.returns
 returns c =
     let v = c.from-vertex.result in
-    let list = get_or (rows_of c.page_of-page.result.now) (v % 64) [] in
+    let list = get_or (rows_of c.page_of-page.result.now) c.place_of.result [] in
     let row : list ≡ row_at c.args.self.now c.args.vertex =
-    c.page_of-page.ensures.row
+    ap (λ k. get_or (rows_of c.page_of-page.result.now) k []) c.place_of.ensures
+    ∙ c.page_of-page.ensures.row
     ∙ ap (λ l. get_or (rows_in l) v []) c.deref.ensures.value
     ∙ ap (λ k. get_or (rows_in c.self.inside.pages.items) k []) c.from-vertex.ensures
     ∙ ap (λ (p : Part). row_at p c.args.vertex) c.self.view_is in

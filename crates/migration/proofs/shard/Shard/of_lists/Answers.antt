@@ -11,9 +11,9 @@ invariant_of-result c =
     let targets : List ℕ = c.args.targets.now in
     let range : ℕ = c.args.range in
     let vertices : ℕ = c.args.vertices in
-    let made = c.in_ok-pages.ensures in
-    let rows : rows_in c.in_ok-pages.pages.items ≡ rows_from starts targets (256 * range) vertices = made.rows ∙ ap (rows_from starts targets (256 * range)) c.from.ensures in
-    let homes : homes_in c.in_ok-pages.pages.items ≡ homes_from starts targets (256 * range) vertices = made.homes ∙ ap (homes_from starts targets (256 * range)) c.from.ensures in (
+    let made = c.in_ok-cut.ensures in
+    let rows : rows_in c.in_ok-cut.cut.pages.items ≡ rows_from starts targets (256 * range) vertices = made.rows ∙ ap (rows_from starts targets (256 * range)) c.from.ensures in
+    let homes : homes_in c.in_ok-cut.cut.pages.items ≡ homes_from starts targets (256 * range) vertices = made.homes ∙ ap (homes_from starts targets (256 * range)) c.from.ensures in (
       made.pages,
       sym (ap length rows ∙ length-part_from starts targets range vertices),
       subst₂ (λ rows homes. IsShard record { range = range; rows = rows; homes = homes }) (sym rows) (sym homes)
