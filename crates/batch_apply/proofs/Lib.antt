@@ -2,3 +2,4 @@ pub mod Dealing
 pub mod Sorting
 pub mod Cuts
 pub mod Running
+pub mod OneRange

@@ -15,9 +15,10 @@ use workers::{Gate, Workers};
 /// The table of a graph after a batch, and what the batch did to the graph. The table stays. `TooManyEdits` exactly
 /// above 65,536 edits; else `VertexRange` exactly where an edit names a vertex that the graph does not have; then
 /// `OutOfMemory` where there is no memory, and `WorkerRefused` where a thread could not be started. The answer does not
-/// depend on the workers, the gate or the order in which threads run. The edited ranges, ascending, are dealt in turn,
-/// the j-th, from 0, to worker j modulo their number. A range's number is a piece of the gate's. With one worker no
-/// thread is started.
+/// depend on the workers, the gate or the order in which threads run. As many workers are at work as there are, as
+/// there are edited ranges, and as have the gate's `edits_a_worker` each, but one at least. The edited ranges,
+/// ascending, are dealt to these in turn, the j-th, from 0, to worker j modulo their number. A range's number is a
+/// piece of the gate's. With one worker at work no thread is started.
 pub fn apply_batch<Ga: Gate, R: Threads + Wait>(
     rt: &R,
     alloc: Global,

@@ -8,6 +8,7 @@ ghost use Rattle.workers.specs.declared.work_error.WorkError.TheVariants.{OutOfM
 ghost use Rattle.batch_apply.specs.Dealt.{IsReady, AreDealt, pieces_of};
 
 use crate::hands::{spread, work};
+use crate::one_range::{edit_range, only_range};
 use crate::pieces::Pieces;
 use migration::{Counts, EditedShard, Grouping, Groups, Table};
 use past_model::Edit;
@@ -92,9 +93,11 @@ fn edit_alone<Ga: Gate>(
 }
 
 /// The table after a batch, and what the batch did: the batch's own answer, whatever the number of workers, the
-/// gate and the order in which they come. The old table stays. The edited ranges, ascending, are dealt in turn: the
-/// j-th, from 0, to worker j modulo their number. A range's number is a piece of the gate's. `OutOfMemory` where there
-/// is no memory, `WorkerRefused` where a thread could not be started; with one worker none is.
+/// gate and the order in which they come. The old table stays. As many workers are at work as there are, as there are
+/// edited ranges, and as have the gate's `edits_a_worker` each, but one at least. The edited ranges, ascending, are dealt
+/// to these in turn: the j-th, from 0, to worker j modulo their number. A range's number is a piece of the gate's.
+/// `OutOfMemory` where there is no memory, `WorkerRefused` where a thread could not be started; with one worker at work
+/// none is.
 pub fn edit_table<Ga: Gate, R: Threads + Wait>(
     rt: &R,
     alloc: Global,
@@ -108,9 +111,17 @@ pub fn edit_table<Ga: Gate, R: Threads + Wait>(
     ensures homes { IfOk result (λ next. AreMoved table.now next.0) }
     ensures alone { workers.count ≡ 1 → IfErr result (λ e. e ≡ OutOfMemory) }
 {
+    if let Some(range) = only_range(edits) {
+        let next = edit_range(alloc, table, edits, range, gate)?;
+        return Ok(next);
+    }
     let groups = Groups::of(alloc, Grouping::ByRange, table.count(), edits)?;
     let pieces = Pieces::of(alloc, &groups, edits.len())?;
-    let hands = usize::from(workers.count()).min(pieces.len()).max(1);
+    let busy = edits.len() / gate.edits_a_worker();
+    let hands = usize::from(workers.count())
+        .min(pieces.len())
+        .min(busy)
+        .max(1);
     if hands == 1 {
         let next = edit_alone(alloc, table, &groups, &pieces, gate)?;
         return Ok(next);
@@ -131,6 +142,9 @@ pub fn edit_table_alone(
     ensures after { IfOk result (λ next. AreAfter edits.now table.now next.0 next.1) }
     ensures homes { IfOk result (λ next. AreMoved table.now next.0) }
 {
+    if let Some(range) = only_range(edits) {
+        return edit_range(alloc, table, edits, range, &OpenGate);
+    }
     let groups = Groups::of(alloc, Grouping::ByRange, table.count(), edits)?;
     let pieces = Pieces::of(alloc, &groups, edits.len())?;
     edit_alone(alloc, table, &groups, &pieces, &OpenGate)

@@ -7,6 +7,7 @@ mod edited;
 mod errors;
 mod grouped;
 mod hands;
+mod one_range;
 mod pieces;
 mod runs;
 

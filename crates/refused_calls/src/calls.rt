@@ -11,6 +11,7 @@ use std::thread::Threads;
 use store::{Ends, OpenGate, Store, Workers};
 use stream_core::{Event, Reply, run, shards};
 use verifier::verify;
+use workers::HoldingGate;
 
 // How many vertices the graphs have: three ranges.
 const VERTICES: u32 = 600;
@@ -42,7 +43,9 @@ pub(crate) fn apply<R: Threads + Wait>(rt: &R, alloc: Global) -> Result<(), Stop
     let Ok(batch) = batch_of(alloc) else {
         return Err(Stop::NotBegun);
     };
-    match apply_batch(rt, alloc, &table, &batch, two_workers(), &OpenGate) {
+    // A gate that holds nobody and lets a worker begin for each range.
+    let gate = HoldingGate::until(0);
+    match apply_batch(rt, alloc, &table, &batch, two_workers(), &gate) {
         Ok((_, counts)) if counts.added == 3 && counts.removed == 0 => Ok(()),
         Err(ApplyError::OutOfMemory | ApplyError::WorkerRefused) => Err(Stop::NotApplied),
         _ => Err(Stop::Wrong),

@@ -18,6 +18,14 @@ const VERTICES: u32 = 1200;
 // with one more.
 const DEGREES: [u32; 6] = [1100, 20, 10, 4, 0, 32];
 
+// The first vertex of another range, how many from it on have edges, and how many targets each of these has: so many that the
+// next edit of the range cuts its pages anew.
+const DENSE_FIRST: u32 = 1024;
+
+const DENSE_COUNT: u32 = 12;
+
+const DENSE_DEGREE: u32 = 240;
+
 // How many edits of the tree are put in one by one, and how many are too many for that.
 const FEW: u32 = 20;
 
@@ -54,6 +62,16 @@ fn first_edits(alloc: Global) -> Result<Batch, AllocError> {
         )?;
         source = source.saturating_add(1);
     }
+    for place in 0..DENSE_COUNT {
+        push_all(
+            &mut edits,
+            Work {
+                source: DENSE_FIRST + place,
+                from: 0,
+                below: DENSE_DEGREE,
+            },
+        )?;
+    }
     Batch::new(alloc, edits)
 }
 
@@ -74,6 +92,19 @@ fn has_first(shard: &Shard, vertex: u8, degree: u32) -> bool {
     next == degree && shard.degree(vertex) == degree
 }
 
+// Whether each vertex of the dense range has the targets that it begins with.
+fn is_first_dense(table: &Table) -> bool {
+    let Some(shard) = table.shard_of(u64::from(DENSE_FIRST)) else {
+        return false;
+    };
+    for place in 0..DENSE_COUNT {
+        if !has_first(shard, place as u8, DENSE_DEGREE) {
+            return false;
+        }
+    }
+    true
+}
+
 // Whether each vertex has the targets that it begins with.
 fn is_first(table: &Table) -> bool {
     let Some(shard) = table.shard_of(0) else {
@@ -86,7 +117,7 @@ fn is_first(table: &Table) -> bool {
         }
         vertex = vertex.saturating_add(1);
     }
-    true
+    is_first_dense(table)
 }
 
 // The table after a batch, by one worker.
@@ -124,7 +155,7 @@ fn edit<R: Threads + Wait>(rt: &R, alloc: Global, table: &Table, work: Work) -> 
     }
 }
 
-/// One edit of a list in each home, a few of the tree, and many of it.
+/// One edit of a list in each home, a few of the tree, many of it, and one by which the pages of a dense range are cut anew.
 pub(crate) fn edit_lists<R: Threads + Wait>(rt: &R, alloc: Global) -> Result<(), Stop> {
     let (Ok(empty), Ok(batch)) = (Table::empty(alloc, VERTICES), first_edits(alloc)) else {
         return Err(Stop::NotBegun);
@@ -150,5 +181,10 @@ pub(crate) fn edit_lists<R: Threads + Wait>(rt: &R, alloc: Global) -> Result<(),
         };
         edit(rt, alloc, &table, work)?;
     }
-    Ok(())
+    let work = Work {
+        source: DENSE_FIRST,
+        from: DENSE_DEGREE,
+        below: DENSE_DEGREE + 1,
+    };
+    edit(rt, alloc, &table, work)
 }
