@@ -49,8 +49,8 @@ pub fn woven_publications()
     ensures { WovenPublications }
 {}
 
-/// Whatever the order of the calls of feeds and publisher, they are a list of events, so each law of lists of events holds
-/// for them.
+/// If the queue has room for each batch and gives the first that waits, calls of feeds and publisher are a list of events,
+/// whatever their order: each law of lists of events holds for them.
 pub fn histories_are_runs()
     ensures { HistoriesAreRuns }
 {}

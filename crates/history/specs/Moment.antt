@@ -3,7 +3,7 @@ use Rattle.std.specs.Prelude.{◌≡◌, ℕ, List, [], ◌∷◌, ◌++◌, len
 use Rattle.logbook.specs.Pages.{Book}
 use Rattle.past_model.specs.declared.entry.Entry.{Entry}
 use Rattle.past_model.specs.Past.{Past, opening, longer}
-use Rattle.past_model.specs.Epochs.{rebased, IsBefore}
+use Rattle.past_model.specs.Epochs.{rebased}
 use Rattle.history.specs.declared.published.Published.{Published}
 use Rattle.history.specs.declared.published.Published.TheVariants.{Batch, Rebase}
 
@@ -28,10 +28,6 @@ after_rebase m = record { past = rebased m.past; book = m.book }
 abbrev pub OneStore : Moment → Moment → Type 0
 OneStore a b = (b.book ≡ a.book) × (b.past.vertex_count ≡ a.past.vertex_count)
 
--- b is of the same store, and no earlier
-abbrev pub Begins : Moment → Moment → Type 0
-Begins a b = OneStore a b × IsBefore a.past b.past
-
 -- what comes of a past by a publication
 abbrev pub after_one : Past → Published → Past
 after_one p (Batch e) = longer p e
@@ -41,6 +37,11 @@ after_one p Rebase = rebased p
 abbrev pub after_all : Past → List Published → Past
 after_all p [] = p
 after_all p (x ∷ xs) = after_all (after_one p x) xs
+
+-- b is of the same store, and a itself or what publications made of it: its batches follow a's, and each epoch begins with the graph
+-- that the one before it ended with
+abbrev pub Begins : Moment → Moment → Type 0
+Begins a b = OneStore a b × ((xs : List Published) × (b.past ≡ after_all a.past xs))
 
 -- the first publications of the history that a book keeps
 pub record Beginning : Type 0 where

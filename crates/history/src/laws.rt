@@ -3,7 +3,7 @@
 ghost use Rattle.std.specs.Prelude.{◌≡◌, [], ◌∷◌, IfSome};
 ghost use Rattle.history.specs.declared.published.Published.TheVariants.{Batch, Rebase};
 ghost use Rattle.history.specs.Moment.{count_of};
-ghost use Rattle.history.specs.Laws.{InOrder, GoesOn};
+ghost use Rattle.history.specs.Laws.{InOrder, GoesOn, BeginningsAreBefore, BasesGoOn};
 
 use crate::head::Head;
 use crate::known::{Known, compare};
@@ -17,6 +17,16 @@ pub fn in_order()
 /// A moment begins the one after a batch, and the one after a rebase.
 pub fn goes_on()
     ensures { GoesOn }
+{}
+
+/// A moment that begins another is before it: its log begins the other's, or its epoch has ended, and the counts go on.
+pub fn beginnings_are_before()
+    ensures { BeginningsAreBefore }
+{}
+
+/// Over epochs the earlier one's epoch ended with a log that begins with its own, and left its graph as the next base.
+pub fn bases_go_on()
+    ensures { BasesGoOn }
 {}
 
 /// A batch that was added is all that is then known.

@@ -4,6 +4,7 @@ use Rattle.past_model.specs.declared.edit.Edit.{Edit}
 use Rattle.past_model.specs.Edits.{AreEditsBelow}
 use Rattle.past_model.specs.declared.limits.TheConstants.{FEEDS}
 use Rattle.history.specs.Moment.{Moment, Begins}
+use Rattle.history.proofs.Moments.{is_before}
 use Rattle.store.specs.Ends.{Feeding, after_put}
 use Rattle.handle_model.specs.Calls.{IsSubmission, IsPublication, IsRebase, IsTaking}
 use Rattle.handle_model.proofs.Submissions.{submissions_are}
@@ -31,7 +32,7 @@ taking_is s t kept e held =
     subst (λ past. IsTaking s.moment.past s.held e past) (ap (λ (x : Storing). x.moment.past) (sym kept.after)) (takings_are s.moment.past s.held e)
 
 pub pin_is : (seen pinned : Moment) → Begins seen pinned → PinsAsEvent seen pinned
-pin_is seen pinned begins = pins_are.0 seen.past pinned.past begins.1
+pin_is seen pinned begins = pins_are.0 seen.past pinned.past (is_before seen pinned begins)
 
 -- the same of what the calls answer
 pub submitted_is : {E : Type 0} (result : Result (Unit {0}) E) (s t : Feeding) (batch : List Edit) → IfOk result (λ _. t ≡ after_put s batch)

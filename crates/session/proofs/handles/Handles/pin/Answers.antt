@@ -1,9 +1,8 @@
 use Rattle.std.proofs.Common.{◌≡◌, IfOk, IfErr, sym, ap, subst, ◌∙◌, refl, arith}
 use Rattle.past_model.specs.Past.{Past, number_of, epoch_of}
 use Rattle.past_model.specs.Epochs.{IsBefore}
-use Rattle.past_model.proofs.Epochs.{before_onwards}
 use Rattle.history.specs.Moment.{Moment, Begins}
-use Rattle.history.proofs.Moments.{begins_onwards, same_count}
+use Rattle.history.proofs.Moments.{begins_onwards, is_before, same_count}
 use Rattle.session.specs.Handles.{StoreState}
 use Rattle.session.specs.declared.error.CommandError.TheVariants as errors
 use Rattle.session.proofs.handles.Handles.pin.Goals.{then-epoch-self+then-number-self, else-epoch-self}
@@ -25,9 +24,11 @@ invariant_of-self-2 c =
 -- a hold on a version of as many epochs and batches is one on the last
 pub returns : goal.returns
 returns c =
-    let last : Past = c.self.inside.ends.publisher.moment.past in
+    let first : Moment = c.self.inside.ends.publisher.moment in
+    let last : Past = first.past in
     let pinned : Past = c.in-Ok.pin.past in
-    let before : IsBefore last pinned = before_onwards last c.self.inside.ends.reader.past pinned c.self.invariant.seen.1 c.in-Ok.ensures.begins.1 in
+    let before : IsBefore last pinned =
+    is_before first c.in-Ok.pin (begins_onwards first c.self.inside.ends.reader c.in-Ok.pin c.self.invariant.seen c.in-Ok.ensures.begins) in
     record {
       pinned = elim c.if-epoch-self.branch [
         | then-epoch-self+then-number-self w ↦ (
