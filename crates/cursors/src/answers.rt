@@ -1,5 +1,5 @@
 //! Single questions to a graph in shards.
-ghost use Rattle.std.specs.Prelude.{◌≡◌, ◌≤◌, ◌↔◌, length, slice_get, Contains, IsTrue};
+ghost use Rattle.std.specs.Prelude.{◌≡◌, ◌+◌, ◌<◌, ◌≤◌, ◌↔◌, ℕ, length, slice_get, Contains, IsTrue};
 ghost use Rattle.past_model.specs.declared.limits.TheConstants.{MOST_VERTICES};
 ghost use Rattle.graph_model.specs.Graph.{Graph, neighbours};
 ghost use Rattle.migration.specs.Table.{IsShardOf};
@@ -15,6 +15,17 @@ pub fn degree(shard: Option<&Shard>, vertex: u64) -> u32
 {
     match place_of(shard, vertex) {
         Some((shard, place)) => shard.degree(place),
+        None => 0,
+    }
+}
+
+/// How many vertices in a row have no neighbours, from one on, of those whose lists stand in its shard. A vertex outside counts
+/// for none.
+pub fn edgeless_from(shard: Option<&Shard>, vertex: u64) -> u32
+    ensures { (g : Graph) → IsShardOf g vertex shard.entry → (k : ℕ) → k < result → length (neighbours g (vertex + k)) ≡ 0 }
+{
+    match place_of(shard, vertex) {
+        Some((shard, place)) => shard.edgeless_from(place),
         None => 0,
     }
 }

@@ -7,6 +7,6 @@ mod cursor;
 mod place;
 mod words;
 
-pub use answers::{degree, has_edge, neighbour};
+pub use answers::{degree, edgeless_from, has_edge, neighbour};
 pub use cursor::Cursor;
 pub use words::gather;

@@ -1,11 +1,11 @@
 //! Vertices that have few neighbours, for the program that is run: the edges of some of them are run in one block.
-ghost use Rattle.std.specs.Prelude.{◌≡◌, ◌+◌, ◌^◌, ◌≤◌, ℕ, List, length, IfSome};
+ghost use Rattle.std.specs.Prelude.{◌≡◌, ◌+◌, ◌^◌, ◌<◌, ◌≤◌, ℕ, List, length, slice_index, IfSome};
 ghost use Rattle.past_model.specs.Past.{graph_of};
 ghost use Rattle.graph_model.specs.Graph.{Graph, degree};
 ghost use Rattle.bpf_image.specs.Program.{Program};
 ghost use Rattle.map_model.specs.EdgeMap.{reduction_of_numbers};
 ghost use Rattle.bpf_blocks.specs.declared.columns.TheConstants.{LANES};
-ghost use Rattle.edge_fold.specs.Kept.{AreNumbered, IsFor};
+ghost use Rattle.edge_fold.specs.Kept.{AreNumbered, AreSame, IsFor};
 ghost use Rattle.edge_fold.specs.Numbers.{span_numbers};
 ghost use Rattle.edge_fold.specs.Inputs.{inputs_of};
 ghost use Rattle.map_model.specs.EdgeMap.{Inputs};
@@ -47,6 +47,13 @@ pub(crate) fn are_few(neighbour_count: u32, least_alone: u32) -> bool {
 #[inline(always)]
 fn put_edges(edges: &mut Edges, first: usize, source: u32, targets: &[u32])
     requires { first + length targets.now ≤ LANES }
+    ensures sources { (k : ℕ) → k < length targets.now → slice_index edges.new.sources (first + k) ≡ source }
+    ensures targets { (k : ℕ) → k < length targets.now
+        → slice_index edges.new.targets (first + k) ≡ slice_index targets.now k }
+    ensures places { (k : ℕ) → k < length targets.now → slice_index edges.new.places (first + k) ≡ k }
+    ensures degrees { (k : ℕ) → k < length targets.now
+        → slice_index edges.new.degrees (first + k) ≡ length targets.now }
+    ensures before { (k : ℕ) → k < first → AreSame edges.old edges.new k }
 {
     'targets: for place in 0..targets.len() {
         let lane = first + place;

@@ -7,6 +7,7 @@ mod blocks;
 mod budget;
 mod counted;
 mod edge;
+mod edgeless;
 mod ends;
 mod few;
 mod fold;

@@ -9,6 +9,7 @@ ghost use Rattle.edge_fold.specs.Kept.{IsFor};
 ghost use Rattle.edge_fold.specs.Rows.{reported_rows};
 ghost use Rattle.edge_fold.specs.Inputs.{inputs_of};
 
+use crate::edgeless::pass_edgeless;
 use crate::few::{are_few, keep_next, least_alone};
 use crate::fold::fold_vertex;
 use crate::mapped::{Mapped, Request};
@@ -107,9 +108,14 @@ pub fn map_whole(
     let mut edges = 0u64;
     let mut total = nothing(reduction);
     let mut looked = 0usize;
-    'vertices: for at in 0..frontier.len() {
+    let mut at = 0usize;
+    'vertices: while at < frontier.len() {
         let vertex = frontier[at];
         let degree = mapped.version.degree(u64::from(vertex));
+        if degree == 0 {
+            at = pass_edgeless(mapped, request, values, at..frontier.len());
+            continue;
+        }
         if at >= looked && are_few(degree, least) {
             let left = frontier.get(at..).unwrap_or(&[]);
             looked = at.saturating_add(keep_next(mapped, memory, left, least));
@@ -119,6 +125,7 @@ pub fn map_whole(
         values[at] = value;
         edges += u64::from(degree);
         total = combine(reduction, total, value);
+        at += 1;
     }
     Progress {
         budget: 0,

@@ -1,10 +1,10 @@
 //! The map over a frontier in parts: each call goes on where the one before stopped.
-ghost use Rattle.std.specs.Prelude.{◌≡◌, ◌+◌, ◌-◌, ◌*◌, ◌^◌, ◌%◌, ◌<◌, ◌≤◌, ◌⊎◌, [], drop, length};
+ghost use Rattle.std.specs.Prelude.{◌≡◌, ◌+◌, ◌-◌, ◌*◌, ◌^◌, ◌%◌, ◌<◌, ◌≤◌, ◌⊎◌, [], take, drop, length, nat_lt, slice_index};
 ghost use Rattle.graph_model.specs.Graph.{degree as degree_of};
 ghost use Rattle.past_model.specs.declared.limits.TheConstants.{MOST_VERTICES};
 ghost use Rattle.past_model.specs.Past.{graph_of};
-ghost use Rattle.map_model.specs.EdgeMap.{reduction_of_numbers};
-ghost use Rattle.map_model.specs.Parts.{IsPlace, IsBefore, IsSoFar, HasBegun, cost_before};
+ghost use Rattle.map_model.specs.EdgeMap.{all_with, reduction_of_numbers};
+ghost use Rattle.map_model.specs.Parts.{IsPlace, IsBefore, IsSoFar, HasBegun, cost_before, values_for};
 ghost use Rattle.verifier.specs.Walks.{longest};
 ghost use Rattle.edge_fold.specs.declared.budget.TheConstants.{EDGE_COST, VERTEX_COST};
 ghost use Rattle.edge_fold.specs.Numbers.{combination, exits_from};
@@ -12,6 +12,7 @@ ghost use Rattle.edge_fold.specs.Kept.{AreNumbered, IsFor};
 ghost use Rattle.edge_fold.specs.Inputs.{inputs_of};
 
 use crate::budget::{VERTEX_COST, pay};
+use crate::edgeless::pass_edgeless;
 use crate::few::{are_few, keep_next, least_alone};
 use crate::mapped::{Mapped, Request};
 use crate::memory::Memory;
@@ -62,6 +63,45 @@ fn value_of(reduction: Reduction, place: u32, before: u64, next: u64) -> u64
     combine(reduction, before, next)
 }
 
+/// Passes over a vertex that has no edge, and over those after it that have none, as far as the budget goes. Returns whether any of
+/// it is left.
+fn pass_some(
+    mapped: &Mapped<'_>,
+    request: &Request<'_>,
+    progress: &mut Progress,
+    values: &mut [u64],
+) -> bool
+    requires few { length request.now.frontier.now ≤ MOST_VERTICES }
+    requires inside { progress.old.vertex < length request.now.frontier.now }
+    requires none { degree_of (graph_of mapped.now.version.now) (slice_index request.now.frontier.now progress.old.vertex) ≡ 0 }
+    requires long { length values.old ≡ length request.now.frontier.now }
+    ensures on { progress.old.vertex < progress.new.vertex }
+    ensures inside { progress.new.vertex ≤ length request.now.frontier.now }
+    ensures place { progress.new.place ≡ progress.old.place }
+    ensures edges { progress.new.edges ≡ progress.old.edges }
+    ensures total { progress.new.total ≡ progress.old.total }
+    ensures budget { progress.new.budget ≡ progress.old.budget - VERTEX_COST * (progress.new.vertex - progress.old.vertex) }
+    ensures left { result ≡ nat_lt 0 progress.new.budget }
+    // They add no number.
+    ensures numbers { let m = mapped.now in let p = m.program.now in
+        let all = all_with p (longest p) (graph_of m.version.now) (inputs_of m) in let f = request.now.frontier.now in
+        all (take progress.new.vertex f) ≡ all (take progress.old.vertex f) }
+    ensures values { let m = mapped.now in let p = m.program.now in let g = graph_of m.version.now in
+        let of = values_for p (longest p) g request.now.reduction (inputs_of m) in let f = request.now.frontier.now in
+        take progress.old.vertex values.old ≡ of (take progress.old.vertex f)
+        → take progress.new.vertex values.new ≡ of (take progress.new.vertex f) }
+    ensures rest { drop progress.new.vertex values.new ≡ drop progress.new.vertex values.old }
+    ensures long { length values.new ≡ length values.old }
+{
+    let at = progress.vertex as usize;
+    let more = (progress.budget.saturating_sub(1) / VERTEX_COST) as usize;
+    let end = request.frontier.len().min((at + 1).saturating_add(more));
+    let next = pass_edgeless(mapped, request, values, at..end);
+    pay(&mut progress.budget, VERTEX_COST * (next - at) as u64);
+    progress.vertex = next as u32;
+    progress.budget > 0
+}
+
 /// Runs a verified program on the next edges of the frontier's vertices, as far as the budget goes: one edge or vertex at least,
 /// if any is left. `values` has a place for each vertex: those that are done have their values afterwards, and the next one has
 /// that of its edges so far; the others stay as they are. A map begins where the progress is at vertex 0 and place 0, and is done
@@ -110,6 +150,10 @@ pub fn map_some(
         let at = progress.vertex as usize;
         let vertex = frontier[at];
         let degree = mapped.version.degree(u64::from(vertex));
+        if degree == 0 {
+            goes_on = pass_some(mapped, request, progress, values);
+            continue;
+        }
         if at >= looked && are_few(degree, least) {
             let end = frontier.len().min(at.saturating_add(MOST_LOOKED));
             let left = frontier.get(at..end).unwrap_or(&[]);

@@ -136,6 +136,12 @@ pub(crate) fn fold_some(
         AreNumbered m.program.now (graph_of m.version.now) (inputs_of m) memory.new.kept }
 {
     let mut so_far = nothing(reduction);
+    if place == source.degree {
+        return Part {
+            value: so_far,
+            count: 0,
+        };
+    }
     let mut cursor = mapped.version.cursor_from(source.vertex, place);
     let mut at = place;
     let mut goes_on = true;

@@ -1,6 +1,5 @@
 //! What the versions of one epoch have in common.
 ghost use Rattle.std.specs.Prelude.{◌≡◌, ◌<◌, [], ◌∷◌, ◌++◌, length, Some, None, IfOk};
-ghost use Rattle.std.specs.Arc.{arc_value};
 ghost use Rattle.past_model.specs.declared.limits.TheConstants.{MOST_EPOCHS};
 ghost use Rattle.version.specs.Ground.{ground};
 
@@ -9,24 +8,21 @@ use crate::marks::Marks;
 use migration::Table;
 use std::alloc::{AllocError, Global};
 use std::marker::Model;
-use std::sync::Arc;
 
 /// What an epoch began with: the shards of its base, and a mark of each epoch before it.
 #[derive(Drop)]
 pub struct Epoch {
     // None is the base without an edge.
-    base: Option<Arc<Table>>,
+    base: Option<Table>,
     marks: Marks,
 }
 
 impl Model for Epoch {
-    ghost use Rattle.std.specs.Prelude.{option_map};
-    ghost use Rattle.std.specs.Arc.{arc_value};
     ghost use Rattle.version.specs.Ground.{Ground, ground};
 
     ghost Value = { Ground };
 
-    ghost view = { λ e. ground (option_map arc_value e.base) e.marks };
+    ghost view = { λ e. ground e.base e.marks };
 }
 
 impl Epoch {
@@ -41,8 +37,8 @@ impl Epoch {
     }
 
     /// A first one with these shards as its base. It takes no memory.
-    pub(crate) fn based(alloc: Global, base: Arc<Table>) -> Epoch
-        ensures { result ≡ ground (Some (arc_value base)) [] }
+    pub(crate) fn based(alloc: Global, base: Table) -> Epoch
+        ensures { result ≡ ground (Some base) [] }
     {
         Epoch {
             base: Some(base),
@@ -58,14 +54,9 @@ impl Epoch {
     }
 
     /// The one after it: these shards are its base, and this is the mark of the log that ends.
-    pub(crate) fn next(
-        &self,
-        alloc: Global,
-        base: Arc<Table>,
-        mark: Mark,
-    ) -> Result<Epoch, AllocError>
+    pub(crate) fn next(&self, alloc: Global, base: Table, mark: Mark) -> Result<Epoch, AllocError>
         requires { length self.now.marks < MOST_EPOCHS }
-        ensures { IfOk result (λ next. next ≡ ground (Some (arc_value base)) (self.now.marks ++ mark ∷ [])) }
+        ensures { IfOk result (λ next. next ≡ ground (Some base) (self.now.marks ++ mark ∷ [])) }
     {
         Ok(Epoch {
             base: Some(base),

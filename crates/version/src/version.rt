@@ -1,5 +1,5 @@
 //! A version: what it answers, and the next one of it and a batch.
-ghost use Rattle.std.specs.Prelude.{◌≡◌, ◌/◌, ◌%◌, ◌<◌, ◌≤◌, drop, length, slice_get, IfOk, IfErr};
+ghost use Rattle.std.specs.Prelude.{◌≡◌, ◌+◌, ◌/◌, ◌%◌, ◌<◌, ◌≤◌, ℕ, drop, length, slice_get, IfOk, IfErr};
 ghost use Rattle.past_model.specs.declared.limits.TheConstants.{MOST_BATCHES, MOST_EPOCHS, MOST_VERTICES};
 ghost use Rattle.graph_model.specs.Graph.{neighbours, edge_count, degree};
 ghost use Rattle.past_model.specs.Edits.{AreEditsBelow, added, removed};
@@ -27,7 +27,7 @@ pub struct Version {
     vertex_count: u32,
     epoch: Arc<Epoch>,
     log: Log,
-    shards: Arc<Table>,
+    shards: Table,
     edge_count: u64,
 }
 
@@ -54,7 +54,7 @@ impl Model for Version {
 
     ghost view = { λ v. past_on v.vertex_count (arc_value v.epoch) v.log };
 
-    ghost invariant = { λ v. IsVersion (past_on v.vertex_count (arc_value v.epoch) v.log) (arc_value v.shards) v.edge_count };
+    ghost invariant = { λ v. IsVersion (past_on v.vertex_count (arc_value v.epoch) v.log) v.shards v.edge_count };
 }
 
 impl Version {
@@ -70,7 +70,7 @@ impl Version {
             vertex_count,
             epoch: Arc::new(alloc, Epoch::first(alloc))?,
             log: Log::empty(alloc),
-            shards: Arc::new(alloc, Table::empty(alloc, vertex_count)?)?,
+            shards: Table::empty(alloc, vertex_count)?,
             edge_count: 0,
         })
     }
@@ -87,9 +87,8 @@ impl Version {
         requires sorted { AreSorted vertex_count starts.now targets.now }
         ensures { IfOk result (λ version. version ≡ past_of vertex_count starts.now targets.now) }
     {
-        let table = Table::of_lists(alloc, vertex_count, starts, targets)?;
-        let shards = Arc::new(alloc, table)?;
-        let base = Arc::try_clone(&shards)?;
+        let shards = Table::of_lists(alloc, vertex_count, starts, targets)?;
+        let base = shards.share(alloc)?;
         let epoch = Arc::new(alloc, Epoch::based(alloc, base))?;
         Ok(Version {
             vertex_count,
@@ -156,6 +155,13 @@ impl Version {
     {
         // A run asks for each vertex, from more places than LLVM makes this part of by itself.
         cursors::degree(self.shards.shard_of(vertex), vertex)
+    }
+
+    /// How many vertices in a row have no neighbours, from one on. How far it looks is left open.
+    pub fn edgeless_from(&self, vertex: u64) -> u32
+        ensures { (k : ℕ) → k < result → degree (graph_of self.now) (vertex + k) ≡ 0 }
+    {
+        cursors::edgeless_from(self.shards.shard_of(vertex), vertex)
     }
 
     /// Where a vertex's neighbours are kept. A vertex outside has none, and they are in its block.
@@ -243,7 +249,7 @@ impl Version {
             vertex_count: self.vertex_count,
             epoch: Arc::try_clone(&self.epoch)?,
             log: self.log.with(alloc, entry.share()?)?,
-            shards: Arc::new(alloc, shards)?,
+            shards,
             edge_count: self.edge_count + counts.added - counts.removed,
         };
         Ok((version, counts))
@@ -254,8 +260,8 @@ impl Version {
         requires { epoch_of self.now < MOST_EPOCHS }
         ensures { IfOk result (λ version. version ≡ rebased self.now) }
     {
-        let base = Arc::try_clone(&self.shards)?;
-        let shards = Arc::try_clone(&self.shards)?;
+        let base = self.shards.share(alloc)?;
+        let shards = self.shards.share(alloc)?;
         let epoch = Arc::new(alloc, self.epoch.next(alloc, base, self.log.mark())?)?;
         Ok(Version {
             vertex_count: self.vertex_count,
@@ -271,14 +277,14 @@ impl Version {
     pub fn branched(&self, alloc: Global) -> Result<Version, AllocError>
         ensures { IfOk result (λ version. version ≡ branched self.now) }
     {
-        let own = Arc::try_clone(&self.shards)?;
+        let own = self.shards.share(alloc)?;
         let epoch = Arc::new(alloc, Epoch::based(alloc, own))?;
         let log = Log::empty(alloc);
         Ok(Version {
             vertex_count: self.vertex_count,
             epoch,
             log,
-            shards: Arc::try_clone(&self.shards)?,
+            shards: self.shards.share(alloc)?,
             edge_count: self.edge_count,
         })
     }
@@ -292,8 +298,6 @@ impl Version {
             shards,
             edge_count: _,
         } = self;
-        if let Some(shards) = Arc::into_inner(shards) {
-            shards.let_go(rt, alloc, usize::from(workers.count()));
-        }
+        shards.let_go(rt, alloc, usize::from(workers.count()));
     }
 }

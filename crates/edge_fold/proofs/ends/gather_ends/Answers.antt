@@ -1,11 +1,10 @@
-use Rattle.std.proofs.Common.{◌≡◌, ℕ, ◌+◌, ◌*◌, ◌<◌, ◌≤◌, List, [], length, take, map, set, refl, sym, ap, ap₂, ◌∙◌, rules, arith}
+use Rattle.std.proofs.Common.{◌≡◌, ℕ, ◌+◌, ◌*◌, ◌<◌, List, [], length, map, set, refl, ap, ap₂, ◌∙◌, rules, arith}
 use Rattle.std.specs.Prelude.{slice_index, slice_index_or}
 use Rattle.std.specs.Borrow.{Bor}
-use Rattle.std.proofs.lemmas.List.{length-map, take_all}
+use Rattle.std.proofs.lemmas.List.{length-map}
 use Rattle.bpf_blocks.specs.Rows.{row}
 use Rattle.bpf_blocks.specs.declared.limits.TheConstants.{MOST_ENDS}
-use Rattle.edge_fold.specs.Inputs.{ends_of}
-use Rattle.edge_fold.proofs.Gathered.{AreGathered, gathered_more, two_long}
+use Rattle.edge_fold.proofs.Gathered.{gathered_more, two_long}
 use Rattle.edge_fold.proofs.ends.gather_ends.Goals as goal
 
 pub columns-init : goal.columns-init

@@ -1,4 +1,4 @@
-use Rattle.std.proofs.Common.{◌≡◌, ◌≤◌, ℕ, List, [], Option, Some, None, MatchOption, length, refl, sym, ◌∙◌, arith}
+use Rattle.std.proofs.Common.{◌≡◌, ◌≤◌, ℕ, [], Option, Some, None, MatchOption, length, refl, sym, ◌∙◌, arith}
 use Rattle.graph_model.specs.Graph.{Graph, neighbours, degree}
 use Rattle.past_model.specs.Past.{graph_of}
 use Rattle.bpf_image.specs.Program.{Program}

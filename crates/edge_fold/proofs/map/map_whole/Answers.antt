@@ -12,6 +12,7 @@ use Rattle.edge_fold.specs.Inputs.{inputs_of}
 
 pub vertices-init : goal.vertices-init
 vertices-init c = record {
+  inside = omega arith;
   edges = search rules;
   total = search rules;
   values = search rules;
@@ -20,6 +21,20 @@ vertices-init c = record {
   kept = c.forget.ensures.numbered c.args.mapped.now.program.now (graph_of c.args.mapped.now.version.now) (inputs_of c.args.mapped.now);
   few = search rules;
 }
+
+pub vertices-preserved-then-degree-eq0 : goal.vertices-preserved-then-degree-eq0
+vertices-preserved-then-degree-eq0 c =
+    let passed = c.pass_edgeless-at.ensures in
+    record {
+      inside = passed.inside;
+      edges = c.vertices.invariant.edges ∙ sym (ap length passed.numbers);
+      total = c.vertices.invariant.total ∙ sym (ap (reduction_of_numbers c.args.request.now.reduction) passed.numbers);
+      values = passed.values c.vertices.invariant.values;
+      long = passed.long ∙ c.vertices.invariant.long;
+      memory = c.vertices.invariant.memory;
+      kept = c.vertices.invariant.kept;
+      few = omega (arith, c.vertices.invariant.few, passed.on);
+    }
 
 pub vertices-preserved : goal.vertices-preserved
 vertices-preserved c =
@@ -37,6 +52,7 @@ vertices-preserved c =
     let degree_is : c.degree-degree.result ≡ degree g v = c.degree-degree.ensures.value ∙ ap (degree g) c.from.ensures in
     let inside : i < length c.vertices.values = omega (arith, c.vertices.invariant.long, c.vertices-test.true) in
     record {
+      inside = omega (arith, c.vertices-test.true);
       edges = omega (arith, count, c.vertices.invariant.edges, c.from-edges.ensures, degree_is, c.fold_vertex-value.ensures.count);
       total = total_more r c.vertices.total c.fold_vertex-value.result c.combine-total.result (all_with p k g a early) (exits_with p k g a v) _ c.vertices.invariant.total c.fold_vertex-value.ensures.value numbers c.combine-total.ensures;
       values = take_more_set c.vertices.values i c.fold_vertex-value.result inside

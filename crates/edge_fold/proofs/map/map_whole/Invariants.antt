@@ -1,4 +1,4 @@
-use Rattle.std.proofs.Common.{◌≡◌, ◌≤◌, ◌*◌, length, take}
+use Rattle.std.proofs.Common.{◌≡◌, ◌-◌, ◌≤◌, ◌*◌, length, take}
 use Rattle.past_model.specs.declared.limits.TheConstants.{MOST_VERTICES}
 use Rattle.past_model.specs.Past.{graph_of}
 use Rattle.map_model.specs.EdgeMap.{reduction_of_numbers, all_with}
@@ -15,6 +15,7 @@ invariant-vertices l =
     let a = (inputs_of l.mapped) in
     let early = take l.at l.frontier in
     record {
+      inside : l.at ≤ length l.frontier;
       edges : l.edges ≡ length (all_with p (longest p) g a early);
       total : l.total ≡ reduction_of_numbers l.reduction (all_with p (longest p) g a early);
       values : take l.at l.values ≡ values_for p (longest p) g l.reduction a early;
@@ -23,3 +24,6 @@ invariant-vertices l =
       kept : AreNumbered p g a l.memory.kept;
       few : l.edges ≤ l.at * MOST_VERTICES;
     }
+
+abbrev pub decreases-vertices : goal.decreases-vertices
+decreases-vertices l = length l.frontier - l.at

@@ -1,4 +1,4 @@
-use Rattle.std.proofs.Common.{◌≡◌, ◌+◌, ◌<◌, ◌≤◌, ℕ, zero, suc, true, false, length, inl, inr, refl, sym, ap, ◌∙◌, lt-ltb, get_or-set_same, arith}
+use Rattle.std.proofs.Common.{◌≡◌, ◌+◌, ◌-◌, ◌<◌, ◌≤◌, ◌++◌, [], ℕ, zero, suc, true, false, length, inl, inr, refl, sym, ap, ◌∙◌, lt-ltb, get_or-set_same, arith}
 use Rattle.std.specs.Prelude.{slice_index, slice_set, nat_lt}
 use Rattle.std.proofs.lemmas.List.{length-set}
 use Rattle.graph_model.specs.Graph.{degree}
@@ -7,10 +7,11 @@ use Rattle.past_model.specs.Past.{graph_of}
 use Rattle.past_model.proofs.Pasts.{vertex_count-graph_of}
 use Rattle.map_model.specs.declared.progress.Progress.{Progress}
 use Rattle.map_model.specs.EdgeMap.{reduction_of_numbers}
-use Rattle.map_model.specs.Parts.{first_exits}
+use Rattle.map_model.specs.Parts.{first_exits, numbers_before}
 use Rattle.verifier.specs.Walks.{longest}
 use Rattle.edge_fold.specs.declared.budget.TheConstants.{EDGE_COST, VERTEX_COST}
 use Rattle.edge_fold.specs.Numbers.{combination}
+use Rattle.edge_fold.proofs.EdgelessLemmas.{cost_past_some, falls_past_some, past_later, rest_behind}
 use Rattle.edge_fold.proofs.Sofar.{begun, same_place, same_cost, next_value, gone_on, gone_past, few_before, cost_on, cost_past, same_falls, falls_on, falls_past, past_further, rest_on, rest_later}
 use Rattle.edge_fold.proofs.parts.map_some.Goals as goal
 use Rattle.edge_fold.specs.Inputs.{inputs_of}
@@ -135,3 +136,59 @@ returns-after-vertices-clause-rest c = rest_later c.vertices.values c.args.value
 
 pub returns-else-progress-frontier-clause-rest : goal.returns-else-progress-frontier-clause-rest
 returns-else-progress-frontier-clause-rest c = rest_later c.vertices.values c.args.values.now c.vertices.progress.vertex c.vertices.invariant.rest
+
+pub returns-then-progress-degree-clause-place : goal.returns-then-progress-degree-clause-place
+returns-then-progress-degree-clause-place c =
+    let g = graph_of c.args.mapped.now.version.now in
+    let f = c.args.request.now.frontier.now in
+    let at = c.vertices.progress in
+    let next = c.add.new.progress in
+    let v = slice_index f at.vertex in
+    let degree_is : c.degree-degree.result ≡ degree g v = c.degree-degree.ensures.value ∙ ap (degree g) c.from.ensures in
+    let same : degree g (slice_index f next.vertex) ≡ degree g v = ap (λ i. degree g (slice_index f i)) c.add.ensures.vertex in
+    let inside : at.vertex < length f = c.if-progress-frontier.true in
+    record {
+      inside = omega (arith, inside, c.add.ensures.vertex);
+      within = omega (arith, c.if-progress-degree.true, degree_is, same);
+      ended = λ ended. absurd (omega (arith, inside, c.add.ensures.vertex, ended));
+    }
+
+pub vertices-preserved-then-degree-eq0 : goal.vertices-preserved-then-degree-eq0
+vertices-preserved-then-degree-eq0 c =
+    let p = c.args.mapped.now.program.now in
+    let k = longest p in
+    let g = graph_of c.args.mapped.now.version.now in
+    let a = (inputs_of c.args.mapped.now) in
+    let r = c.args.request.now.reduction in
+    let f = c.args.request.now.frontier.now in
+    let at = c.vertices.progress in
+    let passed = c.pass_some-goes_on.ensures in
+    let next = c.pass_some-goes_on.new.progress in
+    let count = next.vertex - at.vertex in
+    let v = slice_index f at.vertex in
+    let degree_is : c.degree-degree.result ≡ degree g v = c.degree-degree.ensures.value ∙ ap (degree g) c.from.ensures in
+    let none : degree g v ≡ 0 = sym degree_is ∙ c.if-degree-eq0.true in
+    let first : at.place ≡ 0 = omega (arith, c.vertices.invariant.place.within, none) in
+    let start : next.place ≡ 0 = passed.place ∙ first in
+    let on : next.vertex ≡ at.vertex + count = omega (arith, passed.on) in
+    let same : numbers_before p k g a f next ≡ numbers_before p k g a f at = rw (start, first) (ap (λ l. l ++ []) passed.numbers) in
+    let further = past_later c.args.progress.now at next c.vertices.invariant.far passed.on in
+    record {
+      place = record { inside = passed.inside; within = omega (arith, start); ended = λ _. start };
+      long = passed.long ∙ c.vertices.invariant.long;
+      far = inr further;
+      used = λ is. (further, used_up next.budget (sym passed.left ∙ is));
+      so_far = λ has.
+          let so = c.vertices.invariant.so_far has in
+          record {
+            values_are = passed.values so.values_are;
+            value_is = λ some. absurd (omega (arith, some, start));
+            edges_are = passed.edges ∙ so.edges_are ∙ sym (ap length same);
+            total_is = passed.total ∙ so.total_is ∙ sym (ap (reduction_of_numbers r) same);
+          };
+      rest = passed.rest ∙ rest_behind c.vertices.values c.args.values.now at.vertex count next.vertex on c.vertices.invariant.rest;
+      cost = cost_past_some p k g a f (k + EDGE_COST) VERTEX_COST _ count at next on same passed.budget c.vertices.invariant.cost;
+      falls = falls_past_some p k g a f EDGE_COST VERTEX_COST _ count at next on same passed.budget c.vertices.invariant.falls;
+      memory = c.vertices.invariant.memory;
+      kept = c.vertices.invariant.kept;
+    }

@@ -10,16 +10,16 @@ use Rattle.version.proofs.VersionLemmas.{branched_version, base_is}
 use Rattle.version.proofs.version.Version.branched.Goals as goal
 
 -- the past of this version
-abbrev here : goal.In_ok-try_clone → Past
+abbrev here : goal.In_ok-share → Past
 here c = past_on c.self.inside.vertex_count (arc_value c.self.inside.epoch) c.self.inside.log
 
 -- what is made is the past of a branch
-same : (c : goal.In_ok-try_clone) → past_on c.self.inside.vertex_count (arc_value c.in_ok-epoch.epoch) c.empty-log.result ≡ branched (here c)
+same : (c : goal.In_ok-share) → past_on c.self.inside.vertex_count (arc_value c.in_ok-epoch.epoch) c.empty-log.result ≡ branched (here c)
 same c =
     let n : ℕ = c.self.inside.vertex_count in
-    let parts : List Part = arc_value c.self.inside.shards in
-    let base : arc_value c.in_ok-own.own ≡ parts = search rules in
-    let epoch : arc_value c.in_ok-epoch.epoch ≡ ground (Some (arc_value c.in_ok-own.own)) [] = search rules in
+    let parts : List Part = c.self.inside.shards in
+    let base : c.in_ok-own.own ≡ parts = c.in_ok-own.ensures in
+    let epoch : arc_value c.in_ok-epoch.epoch ≡ ground (Some c.in_ok-own.own) [] = search rules in
     let is : arc_value c.in_ok-epoch.epoch ≡ ground (Some parts) [] = epoch ∙ ap (λ (l : List Part). ground (Some l) []) base in
     ap (λ (g : Ground). past_on n g c.empty-log.result) is
     ∙ ap (λ (l : List Entry). past_on n (ground (Some parts) []) l) c.empty-log.ensures
@@ -27,9 +27,9 @@ same c =
 
 pub invariant_of-result : goal.invariant_of-result
 invariant_of-result c =
-    let parts : List Part = arc_value c.self.inside.shards in
-    let shards : arc_value c.in_ok-try_clone.field-0 ≡ parts = search rules in
-    subst (λ (p : Past). IsVersion p (arc_value c.in_ok-try_clone.field-0) c.self.inside.edge_count) (sym (same c))
+    let parts : List Part = c.self.inside.shards in
+    let shards : c.in_ok-share.field-0 ≡ parts = c.in_ok-share.ensures in
+    subst (λ (p : Past). IsVersion p (c.in_ok-share.field-0) c.self.inside.edge_count) (sym (same c))
     (subst (λ (l : List Part). IsVersion (branched (here c)) l c.self.inside.edge_count) (sym shards) (branched_version (here c) parts c.self.inside.edge_count c.self.invariant))
 
 pub returns : goal.returns

@@ -17,24 +17,22 @@ invariant_of-result c =
     let n : ℕ = c.args.vertex_count in
     let starts : List ℕ = c.args.starts.now in
     let targets : List ℕ = c.args.targets.now in
-    let parts : List Part = c.in_ok-table.table in
-    let shards : arc_value c.in_ok-shards.shards ≡ parts = search rules in
-    let base : arc_value c.in_ok-base.base ≡ parts = search rules in
-    let epoch : arc_value c.in_ok-epoch.epoch ≡ ground (Some (arc_value c.in_ok-base.base)) [] = search rules in
-    let table : IsTable (graph_of (past_of n starts targets)) parts = c.in_ok-table.ensures.table (graph_of (past_of n starts targets)) (graph_of_lists n starts targets c.requires.sorted) in
+    let parts : List Part = c.in_ok-shards.shards in
+    let base : c.in_ok-base.base ≡ parts = c.in_ok-base.ensures in
+    let epoch : arc_value c.in_ok-epoch.epoch ≡ ground (Some c.in_ok-base.base) [] = search rules in
+    let table : IsTable (graph_of (past_of n starts targets)) parts = c.in_ok-shards.ensures.table (graph_of (past_of n starts targets)) (graph_of_lists n starts targets c.requires.sorted) in
     let same : past_on n (arc_value c.in_ok-epoch.epoch) c.empty.result ≡ past_of n starts targets =
-    past_is n starts targets parts (arc_value c.in_ok-epoch.epoch) c.empty.result c.requires.sorted table c.in_ok-table.ensures.homes (epoch ∙ ap (λ (l : List Part). ground (Some l) []) base) c.empty.ensures in
-    subst (λ (p : Past). IsVersion p (arc_value c.in_ok-shards.shards) (length targets)) (sym same)
-    (subst (λ (l : List Part). IsVersion (past_of n starts targets) l (length targets)) (sym shards)
-    (version_of_lists n starts targets parts c.requires.count c.requires.sorted table c.in_ok-table.ensures.homes c.in_ok-table.ensures.outside))
+    past_is n starts targets parts (arc_value c.in_ok-epoch.epoch) c.empty.result c.requires.sorted table c.in_ok-shards.ensures.homes (epoch ∙ ap (λ (l : List Part). ground (Some l) []) base) c.empty.ensures in
+    subst (λ (p : Past). IsVersion p parts (length targets)) (sym same)
+    (version_of_lists n starts targets parts c.requires.count c.requires.sorted table c.in_ok-shards.ensures.homes c.in_ok-shards.ensures.outside)
 
 pub returns : goal.returns
 returns c =
     let n : ℕ = c.args.vertex_count in
     let starts : List ℕ = c.args.starts.now in
     let targets : List ℕ = c.args.targets.now in
-    let parts : List Part = c.in_ok-table.table in
-    let base : arc_value c.in_ok-base.base ≡ parts = search rules in
-    let epoch : arc_value c.in_ok-epoch.epoch ≡ ground (Some (arc_value c.in_ok-base.base)) [] = search rules in
-    let table : IsTable (graph_of (past_of n starts targets)) parts = c.in_ok-table.ensures.table (graph_of (past_of n starts targets)) (graph_of_lists n starts targets c.requires.sorted) in
-    past_is n starts targets parts (arc_value c.in_ok-epoch.epoch) c.empty.result c.requires.sorted table c.in_ok-table.ensures.homes (epoch ∙ ap (λ (l : List Part). ground (Some l) []) base) c.empty.ensures
+    let parts : List Part = c.in_ok-shards.shards in
+    let base : c.in_ok-base.base ≡ parts = c.in_ok-base.ensures in
+    let epoch : arc_value c.in_ok-epoch.epoch ≡ ground (Some c.in_ok-base.base) [] = search rules in
+    let table : IsTable (graph_of (past_of n starts targets)) parts = c.in_ok-shards.ensures.table (graph_of (past_of n starts targets)) (graph_of_lists n starts targets c.requires.sorted) in
+    past_is n starts targets parts (arc_value c.in_ok-epoch.epoch) c.empty.result c.requires.sorted table c.in_ok-shards.ensures.homes (epoch ∙ ap (λ (l : List Part). ground (Some l) []) base) c.empty.ensures

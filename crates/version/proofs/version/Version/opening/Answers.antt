@@ -2,7 +2,6 @@ use Rattle.std.proofs.Common.{[], List, ℕ, ◌≡◌, sym, ap, ◌∙◌, subs
 use Rattle.std.specs.Arc.{arc_value}
 use Rattle.past_model.specs.declared.entry.Entry.{Entry}
 use Rattle.past_model.specs.Past.{Past, opening}
-use Rattle.migration.specs.Part.{Part}
 use Rattle.version.specs.Ground.{Ground, ground, past_on}
 use Rattle.version.specs.Version.{IsVersion}
 use Rattle.version.proofs.VersionLemmas.{first_version}
@@ -14,9 +13,8 @@ invariant_of-result c =
     let epoch : arc_value c.in_ok-new.field-0 ≡ ground None [] = search rules in
     let same : past_on n (arc_value c.in_ok-new.field-0) c.empty.result ≡ opening n =
     ap (λ (g : Ground). past_on n g c.empty.result) epoch ∙ ap (λ (l : List Entry). past_on n (ground None []) l) c.empty.ensures in
-    subst (λ (p : Past). IsVersion p (arc_value c.in_ok-new-2.field-0) 0) (sym same)
-    (subst (λ (l : List Part). IsVersion (opening n) l 0) (sym c.in_ok-new-2.ensures.ok)
-    (first_version n c.in_ok-empty.field-0 c.requires c.in_ok-empty.ensures.table c.in_ok-empty.ensures.homes))
+    subst (λ (p : Past). IsVersion p c.in_ok-empty.field-0 0) (sym same)
+    (first_version n c.in_ok-empty.field-0 c.requires c.in_ok-empty.ensures.table c.in_ok-empty.ensures.homes)
 
 pub returns : goal.returns
 returns c =

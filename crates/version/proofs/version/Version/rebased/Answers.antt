@@ -18,10 +18,10 @@ here c = past_on c.self.inside.vertex_count (arc_value c.self.inside.epoch) c.se
 same : (c : goal.After-empty) → past_on c.self.inside.vertex_count (arc_value c.in_ok-epoch.epoch) c.empty.result ≡ rebased (here c)
 same c =
     let n : ℕ = c.self.inside.vertex_count in
-    let parts : List Part = arc_value c.self.inside.shards in
+    let parts : List Part = c.self.inside.shards in
     let marks : List (List ℕ) = (arc_value c.self.inside.epoch).marks in
-    let base : arc_value c.in_ok-base.base ≡ parts = search rules in
-    let epoch : arc_value c.in_ok-epoch.epoch ≡ ground (Some (arc_value c.in_ok-base.base)) (marks ++ c.mark.result ∷ []) = search rules in
+    let base : c.in_ok-base.base ≡ parts = c.in_ok-base.ensures in
+    let epoch : arc_value c.in_ok-epoch.epoch ≡ ground (Some c.in_ok-base.base) (marks ++ c.mark.result ∷ []) = search rules in
     let next : Ground = ground (Some parts) (marks ++ mark_of c.self.inside.log ∷ []) in
     let is : arc_value c.in_ok-epoch.epoch ≡ next =
     epoch ∙ ap (λ (l : List Part). ground (Some l) (marks ++ c.mark.result ∷ [])) base ∙ ap (λ (m : List ℕ). ground (Some parts) (marks ++ m ∷ [])) c.mark.ensures in
@@ -31,10 +31,10 @@ same c =
 
 pub invariant_of-result : goal.invariant_of-result
 invariant_of-result c =
-    let parts : List Part = arc_value c.self.inside.shards in
-    let shards : arc_value c.in_ok-shards.shards ≡ parts = search rules in
+    let parts : List Part = c.self.inside.shards in
+    let shards : c.in_ok-shards.shards ≡ parts = c.in_ok-shards.ensures in
     let room : epoch_of (here c) < MOST_EPOCHS = subst (λ (p : Past). epoch_of p < MOST_EPOCHS) (sym c.self.view_is) c.requires in
-    subst (λ (p : Past). IsVersion p (arc_value c.in_ok-shards.shards) c.self.inside.edge_count) (sym (same c))
+    subst (λ (p : Past). IsVersion p (c.in_ok-shards.shards) c.self.inside.edge_count) (sym (same c))
     (subst (λ (l : List Part). IsVersion (rebased (here c)) l c.self.inside.edge_count) (sym shards) (rebased_version (here c) parts c.self.inside.edge_count c.self.invariant room))
 
 pub returns : goal.returns
