@@ -24,7 +24,7 @@ DescribesLive lengths live top None memory = Unit {0}
 DescribesLive lengths live top (Some f) memory = DescribesFrame lengths live top f memory
 
 -- registers and memory of a run in which so many frames are live: the registers, the bytes of record and table, and
--- those of every live frame
+-- those of every live frame that the state has
 pub record DescribesParts (lengths : Lengths) (live : ℕ) (a : AbstractState) (registers memory : Partial) : Type 0 where
   pub values : (r : ℕ) → Describes lengths live (known_of a r) (registers r)
   pub record_set : (k : ℕ) → k < lengths.record_length → IsByteAt memory (record_base + k)

@@ -69,7 +69,7 @@ plain_follows l pc i a s most answer ws at described le lt h =
     answer_follows l pc i a a s s.memory most answer ws at described described.parts refl le lt h
 
 -- arguments are of their kinds where no rule is broken
-of_kind : {A : Type 0} (test : Bool) (r : Result A Cause) (y : A) → cond test r (failed HelperArgument) ≡ ok y → r ≡ ok y
+pub of_kind : {A : Type 0} (test : Bool) (r : Result A Cause) (y : A) → cond test r (failed HelperArgument) ≡ ok y → r ≡ ok y
 of_kind true r y h = h
 of_kind false r y h = absurd cc
 
@@ -145,18 +145,18 @@ room_follows l pc i g a s pointer value (Some room) v first p x ws short at desc
     subst (λ n. Follows l i a s ws (gather l g s v first p n)) (sym is.same) (gathers l pc i g a s pointer room v first p ws short at described base is.allowed h)
 
 -- gather's arguments
-record Asks (l : Lengths) (pc : ℕ) (a : AbstractState) (ws : Ways) : Type 0 where
-  vertex : AbstractValue
-  first : AbstractValue
-  pointer : AbstractValue
-  room : AbstractValue
-  vertex_known : known_register a R1 ≡ ok vertex
-  first_known : known_register a R2 ≡ ok first
-  pointer_known : known_register a R3 ≡ ok pointer
-  room_known : known_register a R4 ≡ ok room
-  ways : gather_ways l pc a pointer (known_room room) ≡ ok ws
+pub record Asks (l : Lengths) (pc : ℕ) (a : AbstractState) (ws : Ways) : Type 0 where
+  pub vertex : AbstractValue
+  pub first : AbstractValue
+  pub pointer : AbstractValue
+  pub room : AbstractValue
+  pub vertex_known : known_register a R1 ≡ ok vertex
+  pub first_known : known_register a R2 ≡ ok first
+  pub pointer_known : known_register a R3 ≡ ok pointer
+  pub room_known : known_register a R4 ≡ ok room
+  pub ways : gather_ways l pc a pointer (known_room room) ≡ ok ws
 
-asks : (l : Lengths) (pc : ℕ) (a : AbstractState) (ws : Ways) → gather_call l pc a ≡ ok ws → Asks l pc a ws
+pub asks : (l : Lengths) (pc : ℕ) (a : AbstractState) (ws : Ways) → gather_call l pc a ≡ ok ws → Asks l pc a ws
 asks l pc a ws h =
     let u = bind_ok (known_register a R1) (λ u. bind (known_register a R2) (λ v. bind (known_register a R3) (λ w. bind (known_register a R4) (λ room. cond (is_number u && is_number v) (gather_ways l pc a w (known_room room)) (failed HelperArgument))))) ws h in
     let v = bind_ok (known_register a R2) (λ v. bind (known_register a R3) (λ w. bind (known_register a R4) (λ room. cond (is_number u.0 && is_number v) (gather_ways l pc a w (known_room room)) (failed HelperArgument)))) ws u.2 in

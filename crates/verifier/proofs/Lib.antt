@@ -25,6 +25,7 @@ pub mod Passing
 pub mod Visits
 pub mod Joins
 pub mod Runs
+pub mod LiveFrames
 pub mod Ends
 pub mod Going
 pub mod Knowing

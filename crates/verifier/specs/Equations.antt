@@ -146,7 +146,8 @@ unless_refused_within (Some refusal) s = Err refusal
 abbrev pub outcome : Program → Calls → Passage → Outcome
 outcome p calls v = unless_refused_within (first_refusal p calls v (units p)) (exit_state p calls v (units p))
 
--- passages within passages, so deep
+-- passages within passages, so deep. A call below them leaves nothing: a program that has one is refused for its frames, before
+-- its values are looked at
 unfoldable pub called : Program → ℕ → Calls
 called p zero v = Ok None
 called p (suc n) v = outcome p (called p n) v

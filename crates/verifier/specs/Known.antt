@@ -11,7 +11,7 @@ use Rattle.verifier.specs.Equations.{Passage, main_passage, opening, calls_of, s
 use Rattle.verifier.specs.Tables.{state_at}
 use Rattle.verifier.specs.Verdict.{first_fault, decoding_fault, flow_fault, pairs_fault, rule_refusal}
 
--- the code decodes, and its jumps and calls land where they may: so there are ways to walk; and not too many of them
+-- the code decodes, and its jumps and calls land where they may: so there are ways to walk, and not too many; frames and bound are not asked
 abbrev pub is_walkable : Program → Bool
 is_walkable p = is_none (first_fault (decoding_fault p) (units p)) && is_none (first_fault (flow_fault p) (units p)) && is_none (pairs_fault p)
 

@@ -216,7 +216,8 @@ fn list_passages(
 /// person who asks why a program is refused, so a program may break rules: nothing is listed where its code does not decode
 /// or flow, or where too many instructions would be gone through. Else the main passage is listed, from the first pc on, and
 /// after it each call of a function that is open where the first rule is broken: it stands at the last pc of the passage
-/// before, and the broken rule at the last pc of the last passage.
+/// before, and the broken rule at the last pc of the last passage. Rules are those of single instructions: a program that is
+/// refused for its frames or its bound is listed as if these did not count.
 pub fn known_states(alloc: Global, image: &Image) -> Result<Vec<KnownPassage>, AllocError>
     ensures { IfOk result (λ listed. IsKnown image.now listed.items) }
 {

@@ -1,5 +1,5 @@
 //! What the abstract pass solves, for readers of the definitions.
-ghost use Rattle.verifier.specs.Laws.{AssignedSolves, OneSolution};
+ghost use Rattle.verifier.specs.Laws.{AssignedSolves, OneSolution, FramesAreLive, FramesAreDescribed};
 ghost use Rattle.verifier.specs.VerdictRows.{WorkedVerdicts};
 ghost use Rattle.verifier.specs.HelperVerdicts.{WorkedHelperVerdicts};
 ghost use Rattle.verifier.specs.LentVerdicts.{WorkedLentVerdicts};
@@ -13,6 +13,16 @@ pub fn assigned_solves()
 /// The equations have no other solution.
 pub fn one_solution()
     ensures { OneSolution }
+{}
+
+/// Where a run of a program stands, the verifier knows each frame that is live there, and no other.
+pub fn frames_are_live()
+    ensures { FramesAreLive }
+{}
+
+/// What it knows describes each of them.
+pub fn frames_are_described()
+    ensures { FramesAreDescribed }
 {}
 
 /// The verdicts on worked programs of several functions.
