@@ -12,7 +12,7 @@ extern "C" {
 
 /* What a call returns: 0 if it is done, else why it is not. Then each handle holds what it held before, and each output is as it was, but for
    three: `verdict` has the cause after REFUSED, `assembled` the line and the fault after WRONG_TEXT, and `assembled` and `count` what is needed
-   after LENGTHS. After any other status nothing is said of these three. NO_MEMORY may come in place of some: of
+   after LENGTHS. After any other error nothing is said of these three. NO_MEMORY may come in place of some: of
    TOO_MANY_EDITS, VERTEX_RANGE, LOG_FULL and FEED of a batch, of REFUSED and WRONG_TEXT, and of LENGTHS if code or an explanation is written. */
 enum {
     EDGEBPF_DONE = 0,
@@ -69,8 +69,8 @@ static inline const char *edgebpf_words(uint32_t status) {
 }
 
 /* Pointers. None is NULL, neither a handle's, nor an output's, nor that of an array without a place: such a call is undefined. Each is aligned
-   as its type, and what a call writes to lies apart from all else that it is given. No array has more than PTRDIFF_MAX bytes. A call asks first whether each handle holds something
-   (EMPTY), then whether that is of its kind (OTHER_KIND), and then what its own line says.
+   as its type, and what a call writes to lies apart from all else that it is given. No array has more than PTRDIFF_MAX bytes. A call asks
+   first whether each handle holds something (EMPTY), then whether that is of its kind (OTHER_KIND), and then what its own line says.
    An array is a pointer and a count. This is one without a byte. */
 #define EDGEBPF_NO_BYTES ((const uint8_t *)"")
 
@@ -137,8 +137,8 @@ uint32_t edgebpf_store_new(uint32_t vertices, edgebpf_store *out);
 uint32_t edgebpf_store_from(uint32_t vertices, const uint64_t *starts, size_t start_count, const uint32_t *targets, size_t target_count,
                             edgebpf_store *out);
 
-/* A branch: a store of its own whose graph is that of a version. No list is copied, so it takes some microseconds whatever the graph's
-   size. It begins anew, with version 0 of epoch 0 and room for 4,096 batches, and nothing that is done to it changes the version, or the
+/* A branch: a store of its own whose graph is that of a version. No list is copied: it takes some microseconds, and tens of them
+   with the most vertices. It begins anew, with version 0 of epoch 0 and room for 4,096 batches, and nothing that is done to it changes the version, or the
    store that the version is of; either may be closed. */
 uint32_t edgebpf_store_of(edgebpf_version *version, edgebpf_store *out);
 
@@ -221,8 +221,8 @@ uint32_t edgebpf_run(edgebpf_version *version, edgebpf_program *program, const u
 
 /* Goes on with a run over a frontier, as far as `at->budget` goes; it is done where `at->vertex` is `frontier_count`, and has then
    written what edgebpf_run writes. Each call does one edge or one vertex at least, also with a budget of 0. An edge takes at most
-   the verdict's bound and 4 from the budget, a vertex 16; a call may do more than its budget by one edge, or by the 64 edges of a
-   block. `values` has one place for each vertex, and keeps its content from call to call: those of vertices that are done are
+   the verdict's bound and 4 from the budget, a vertex 16. A call finishes the edge, or the block of up to 64 edges, that it began, also
+   past its budget: no contract says by how much. `values` has one place for each vertex, and keeps its content from call to call: those of vertices that are done are
    final. Hand in the same version (or another handle of it), program, argument, frontier and reduction each time. REDUCTION,
    LENGTHS, ARGUMENT_LENGTH, PROGRESS, tested in this order; it takes no memory. For a status other than 0 nothing is written, also
    not `at`. */
@@ -244,7 +244,7 @@ uint32_t edgebpf_numbers_some(edgebpf_version *version, edgebpf_program *program
 /* Writes a number for each pair of a source and a target, from the pair `at->vertex` on, as far as the budget goes, and for one at
    least; it is done where `at->vertex` is `source_count`. A pair need not be an edge: its record has the target's place among the
    source's neighbours, or the source's degree where it is none of them. So a pair that is an edge has the number of that edge.
-   `numbers` has one place for each pair. LENGTHS, ARGUMENT_LENGTH, PROGRESS, tested in this order. */
+   `numbers` has one place for each pair. LENGTHS (also of 2^32 pairs and more), ARGUMENT_LENGTH, PROGRESS, tested in this order. */
 uint32_t edgebpf_pairs(edgebpf_version *version, edgebpf_program *program, const uint8_t *argument, size_t argument_length,
                        const uint32_t *sources, size_t source_count, const uint32_t *targets, size_t target_count,
                        edgebpf_progress *at, uint64_t *numbers, size_t number_count);
@@ -324,9 +324,10 @@ static inline uint32_t edgebpf_pull_range(edgebpf_version *version, edgebpf_prog
    vertices that were not found have as parents does not matter.
    Of components, whatever the direction of edges: for each vertex a label, and for one that is not its own label a parent, to which an edge
    joins it in any direction, and one step more than the parent has. A 1 says that each label is the least vertex of a component.
-   Of cores: for each vertex its core number, and its place in an order in which all can be taken out, so that each then has no more edges to
-   others than its number. A 1 says that each vertex belongs to a set of vertices, of which each has at least so many edges to others of it as
-   the number says, and to no such set for more. In a graph with an edge back for each edge these are its cores.
+   Of cores: for each vertex its core number, and its place in an order. Where vertices are taken out one after another, those of lower numbers
+   first and those of one number by their places, each then has no more edges to others than its number. A 1 says that each vertex belongs to a
+   set of vertices, of which each has at least so many edges to others of it as the number says, and to no such set for more. In a graph with
+   an edge back for each edge these are its cores.
    Of an independent set: a mark for each vertex, 0 for those outside. A 1 says that no edge joins two of the set, and that an edge leads from
    each vertex outside to one of it, so that none can be added. Edges from a vertex to itself do not matter, to cores neither.
    Arrays of another length than the graph has vertices are no answer: 0. */

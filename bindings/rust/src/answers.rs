@@ -42,8 +42,8 @@ impl Version {
     }
 
     /// Whether numbers are the core numbers of the graph: for each vertex the greatest k for which it belongs to a set of vertices, of which each
-    /// has edges to at least k others of it. `places` has the place of each vertex in an order in which all can be taken out, so that each then has
-    /// no more edges to others than its number. The test is proved to be exact.
+    /// has edges to at least k others of it. `places` has the place of each vertex in an order: taken out one after another, lower numbers first and
+    /// those of one number by their places, each then has no more edges to others than its number. The test is proved to be exact.
     pub fn are_cores(&self, numbers: &[u32], places: &[u32]) -> bool {
         let mut answer = 0;
         // SAFETY: the handle holds a version, and the arrays are as long as said.

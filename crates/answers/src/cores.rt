@@ -5,8 +5,8 @@ ghost use Rattle.answers.specs.Cores.{AreCores, HasItsCore, is_after, is_at_leas
 use crate::components::entry_at;
 use graph_model::GraphView;
 
-/// The core numbers of a graph, and an order in which its vertices can be taken out one after another, so that each then has no more
-/// edges to others than its core number.
+/// The core numbers of a graph, and a place for each vertex. Taken out one after another, lower numbers first and those of one number
+/// by their places, each then has no more edges to others than its number.
 #[derive(Clone, Copy)]
 pub struct Cores<'a> {
     /// The core number of each vertex.

@@ -8,7 +8,8 @@ use embedding::{EMPTY, Handle, degrees_held, lists_held};
 use std::alloc::Global;
 
 /// The neighbours of the vertices of a frontier, one vertex after another: where each one's neighbours begin, with the end of all
-/// after the last, and the neighbours. `count` is how many they are, also where there is no room for them.
+/// after the last, and the neighbours. `count` is how many they are, also where there is no room for them,
+/// but not for a frontier that is too long.
 #[unsafe(no_mangle)]
 pub extern "C" fn edgebpf_version_lists(
     alloc: Global,

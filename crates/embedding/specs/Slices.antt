@@ -9,7 +9,7 @@ use Rattle.embedding.specs.declared.slices.Slice.{Slice}
 abbrev pub counted : List Slice → ℕ
 counted slices = sum_by (λ (s : Slice). s.count) slices
 
--- a slice has the first of some words, up to these, and begins where the first of them lies
+-- a slice has the first of some words, up to these, and has the address of a word that equals the first of them
 pub record Begins (words : List ℕ) (s : Slice) (left : List ℕ) : Type 0 where
   pub own : List ℕ
   pub cut : words ≡ own ++ left
@@ -25,7 +25,7 @@ Follow words (s ∷ ss) left = (rest : List ℕ) × Begins words s rest × Follo
 
 -- of a vertex with these neighbours: so many slices were written, from the first place on, and the places after them are as
 -- they were. Each slice has a word. Together they have no more words than there are neighbours, and fewer only if there is no
--- room left; they have them in order, and each begins where its first one lies
+-- room left; they have them in order, and each has the address of a word that equals its first
 pub record AreLent (neighbours : List ℕ) (lent : ℕ) (old new : List Slice) : Type 0 where
   pub fit : lent ≤ length new
   pub filled : All (λ (s : Slice). 0 < s.count) (take lent new)

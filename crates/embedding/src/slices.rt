@@ -56,8 +56,8 @@ fn lend(version: &Version, vertex: u32, place: u32, slices: &mut [Slice]) -> usi
     lent
 }
 
-/// Writes the slices in which a vertex's neighbours lie, in order, and returns how many it wrote: as many as there is room for,
-/// and fewer only where these are all. They stay where they are while any handle of the version is open.
+/// Writes the slices in which a vertex's neighbours lie, in order, and how many it wrote: as many as there is room for, and
+/// fewer only where these are all. They stay where they are while any handle of the version is open.
 pub fn lend_held(held: &Held, vertex: u32, slices: &mut [Slice], lent: &mut usize) -> u32
     ensures { OnVersion (Some held.now) result ((slices.new ≡ slices.old) × (lent.new ≡ lent.old))
         (λ p. (result ≡ DONE) × AreLent (neighbours (graph_of p) vertex) lent.new slices.old slices.new) }
@@ -65,7 +65,7 @@ pub fn lend_held(held: &Held, vertex: u32, slices: &mut [Slice], lent: &mut usiz
     lend_from_held(held, vertex, 0, slices, lent)
 }
 
-/// Writes the slices in which a vertex's neighbours lie from a place on, from 0, and returns how many it wrote, as `lend_held` does.
+/// Writes the slices in which a vertex's neighbours lie from a place on, from 0, and how many it wrote, as `lend_held` does.
 /// There are none past the neighbours' end.
 pub fn lend_from_held(
     held: &Held,

@@ -63,8 +63,9 @@ pub struct Explanation {
 }
 
 /// The instructions of a program, what is known before each of them, and what the verifier answers: the bound and the
-/// frames, or the first broken rule in words, with what was known of the values that broke it and with what usually
-/// helps. `source` has the lines of the text from which the code was assembled, one an instruction, or none.
+/// frames, or the first broken rule in words, with what usually helps. If it is a rule of values, what was known of those
+/// that the instruction reads stands there, too. `source` has the lines of the text from which the code was assembled, one
+/// an instruction, or none.
 pub fn explain(
     alloc: Global,
     image: Image,

@@ -57,8 +57,7 @@ fn put_statement<'a>(
     Ok(())
 }
 
-/// The lines that hold a statement, in order: those that are not empty and hold no label. Of a text that means a program
-/// each is an instruction.
+/// The lines that say something other than a label, in order, with their numbers. Comments and white space say nothing.
 pub fn source_lines(alloc: Global, text: &str) -> Result<Vec<SourceLine<'_>>, AllocError>
     ensures { IfOk result (λ lines. map as_numbered lines.items ≡ statement_lines text.now) }
 {
