@@ -46,7 +46,15 @@ class Disk:
     """A folder that this process has for itself, and makes if it is not there. `ids`: for how many batches a new folder knows their ids."""
 
     def __init__(self, folder, vertices=None, ids=MOST_IDS, reserve=0):
-        self.folder, self.ids, self.reserve = pathlib.Path(folder), ids, reserve
+        self.folder, self.ids, self.reserve, self.lock = pathlib.Path(folder), ids, reserve, None
+        try:
+            self._take(vertices)
+        except BaseException:
+            if self.lock is not None:
+                os.close(self.lock)
+            raise
+
+    def _take(self, vertices):
         try:
             self.folder.mkdir(parents=True, exist_ok=True)
             self._lock()
@@ -54,9 +62,9 @@ class Disk:
             self._begin(vertices)
         except (OSError, sqlite3.Error, OverflowError) as error:
             kind = Full if is_full(error) else Wrong
-            raise kind(f"{folder}: {'the disk is full: ' if kind is Full else ''}{error}") from None
+            raise kind(f"{self.folder}: {'the disk is full: ' if kind is Full else ''}{error}") from None
         except Damaged as error:
-            raise Wrong(f"{folder}: {error}") from None
+            raise Wrong(f"{self.folder}: {error}") from None
 
     def _lock(self):
         self.lock = os.open(self.folder / "lock", os.O_CREAT | os.O_RDWR | os.O_CLOEXEC, 0o600)

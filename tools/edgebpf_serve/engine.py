@@ -11,8 +11,8 @@ import numpy as np
 
 from edgebpf_serve.disk import transaction
 from edgebpf_serve.limits import (
-    AGAIN_SECONDS, BEAT_SECONDS, BLOCK_BYTES, BLOCK_VERTICES, BLOCKS_LOOKED_AT, COPIED_EDGES, CUT_SECONDS, MOST_CHANGED, MOST_GROUPS,
-    MOST_KEPT_VERSIONS, REMOVE, WRONG_DISK,
+    AGAIN_SECONDS, BEAT_SECONDS, COPIED_EDGES, CUT_SECONDS, MOST_CHANGED, MOST_GROUPS, MOST_KEPT_VERSIONS, PAGE_BYTES, PAGE_EDGES, PAGE_VERTICES,
+    RANGE_VERTICES, RANGES_LOOKED_AT, REMOVE, WRONG_DISK,
 )
 from edgebpf_serve.recovery import recover
 from edgebpf_serve.rows import digest_of
@@ -99,14 +99,19 @@ class Queue:
 
 
 def copied_bytes(version, changed):
-    """About how much a store copied for batches that changed the lists of some vertices: it keeps those of 64 vertices in one block, but for long
-    lists, of which it copies a part. Of many blocks some are looked at."""
-    blocks = np.unique(changed // BLOCK_VERTICES).astype(np.uint32)
-    times = -(-len(blocks) // BLOCKS_LOOKED_AT) or 1
-    blocks = blocks[::times]
-    vertices = (BLOCK_VERTICES * blocks[:, None] + np.arange(BLOCK_VERTICES, dtype=np.uint32)).ravel()
-    degrees = version.degrees(vertices[vertices < version.vertices])
-    return times * (BLOCK_BYTES * len(blocks) + 4 * int(np.minimum(degrees, COPIED_EDGES).sum(dtype=np.int64)))
+    """About how much a store copied for batches that changed the lists of some vertices: the pages in which these lists are. Of many ranges some are
+    looked at."""
+    ranges = np.unique(changed // RANGE_VERTICES)
+    times = -(-len(ranges) // RANGES_LOOKED_AT) or 1
+    cost = 0
+    for first in RANGE_VERTICES * ranges[::times].astype(np.int64):
+        degrees = np.zeros(RANGE_VERTICES, np.int64)
+        own = np.arange(first, min(first + RANGE_VERTICES, version.vertices), dtype=np.uint32)
+        degrees[: len(own)] = np.minimum(version.degrees(own), COPIED_EDGES)
+        size = PAGE_VERTICES[np.searchsorted(PAGE_EDGES, degrees.sum() / len(own), "right")]
+        pages = np.unique((changed[changed // RANGE_VERTICES == first // RANGE_VERTICES] - first) // size)
+        cost += PAGE_BYTES * len(pages) + 4 * int(degrees.reshape(-1, size)[pages].sum())
+    return times * cost
 
 
 class Shown:

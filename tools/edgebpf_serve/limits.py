@@ -27,8 +27,10 @@ CUT_ROWS, CUT_BYTES = 500, 1 << 20
 CUT_SECONDS, BEAT_SECONDS = 0.05, 1.0
 # Seconds after which a snapshot or a reserve that failed is tried again.
 AGAIN_SECONDS = 30.0
-# How the memory of a kept version is estimated: measured with graphs of 300 to 1,000,000 vertices of degrees from 4 to 100, and with hubs.
-BLOCK_VERTICES, BLOCK_BYTES, COPIED_EDGES, BLOCKS_LOOKED_AT = 64, 1_024, 1_024, 16
+# How the memory of a kept version is estimated. A store keeps the lists of a range of vertices in pages, of so many vertices below so many edges a
+# vertex, and copies each page with an edit; of a list of more edges than some it copies a part.
+RANGE_VERTICES, RANGES_LOOKED_AT = 256, 16
+PAGE_VERTICES, PAGE_EDGES, PAGE_BYTES, COPIED_EDGES = (64, 32, 16, 8, 4), (9, 40, 96, 256), 1_024, 1_024
 MOST_KEPT_VERSIONS = 1_000
 # What watchers can look back on: sources of edits, and groups of batches.
 MOST_CHANGED, MOST_GROUPS = 4_000_000, 10_000

@@ -9,13 +9,13 @@ import typing
 
 import edgebpf
 import numpy as np
+from edgebpf.own_source import asks_of
 
 from edgebpf_serve import rows
 from edgebpf_serve.disk import Wrong
 from edgebpf_serve.engine import Busy, Stopped, Task
 from edgebpf_serve.limits import MOST_TRIED
 from edgebpf_serve.rows import Damaged
-from edgebpf_tools.own_source import asks_of
 
 
 class Conflict(Exception):

@@ -1,5 +1,14 @@
-"""Whether a program asks the graph only about the source of its own edge, or only about both its ends: a walk over its code."""
+"""Whether a program asks the graph only about the source of its own edge, or only about both its ends: a walk over its code. The tools have this
+module by a link, and take nothing else of this package: they run where it is not installed."""
+from __future__ import annotations
+
 import struct
+from typing import Union
+
+# What a register holds, as said below.
+Value = Union[str, int, None]
+Registers = list[Value]
+Ends = dict[int, str]
 
 # What a register holds. A number N means the record's address plus N, and None means anything.
 SOURCE, TARGET, STACK = "the edge's source", "the edge's target", "an address in the stack"
@@ -14,12 +23,12 @@ class NotSeen(Exception):
     """The walk does not see that the program asks only about its edge's source."""
 
 
-def asks_of_others(code):
+def asks_of_others(code: bytes) -> bool:
     """False only if no run of the code, once a verifier accepted it, asks about another vertex than its edge's source."""
     return asks_of(code) != "own"
 
 
-def asks_of(code):
+def asks_of(code: bytes) -> str:
     """Which vertices runs of the code ask about, once a verifier accepted it: "own" is the edge's source alone, "target" its source and its
     target alone, and "all" may be any.
 
@@ -35,11 +44,11 @@ def asks_of(code):
     return "all"
 
 
-def _walk(code, ends):
+def _walk(code: bytes, ends: Ends) -> None:
     if not code or len(code) % 8:
         raise NotSeen
     units = len(code) // 8
-    entry = [None] * 11
+    entry: Registers = [None] * 11
     entry[1], entry[10] = 0, STACK
     known = {0: entry}
     for pc in range(units):
@@ -52,7 +61,7 @@ def _walk(code, ends):
             known[target] = [mine if mine == its else None for mine, its in zip(registers, other)]
 
 
-def _ways(code, pc, registers, ends):
+def _ways(code: bytes, pc: int, registers: Registers, ends: Ends) -> list[tuple[int, Registers]]:
     """The places where a run may go on after an instruction, with what the registers hold there."""
     opcode, both, offset, immediate = struct.unpack_from("<BBhi", code, 8 * pc)
     destination, source = both & 15, both >> 4
@@ -79,7 +88,7 @@ def _ways(code, pc, registers, ends):
     return [(pc + 1, behind)]
 
 
-def _jumped(pc, opcode, registers, offset, immediate):
+def _jumped(pc: int, opcode: int, registers: Registers, offset: int, immediate: int) -> list[tuple[int, Registers]]:
     if opcode == 0x95:
         return []
     if opcode in (0x05, 0x06):
@@ -87,10 +96,10 @@ def _jumped(pc, opcode, registers, offset, immediate):
     return [(pc + 1, registers), (pc + 1 + offset, registers)]
 
 
-def _called(pc, registers, callee, ends):
+def _called(pc: int, registers: Registers, callee: tuple[int, int], ends: Ends) -> list[tuple[int, Registers]]:
     """A call of a function of the program, or of a helper. Both leave r1 to r5 unset."""
     kind, immediate = callee
-    behind = [None] * 6 + registers[6:]
+    behind: Registers = [*[None] * 6, *registers[6:]]
     if kind == 1:
         return [(pc + 1, behind), (pc + 1 + immediate, [None, *registers[1:6], *[None] * 4, STACK])]
     if kind != 0 or immediate not in KNOWN_HELPERS:
@@ -102,7 +111,7 @@ def _called(pc, registers, callee, ends):
     return [(pc + 1, behind)]
 
 
-def _computed(opcode, registers, destination, source, offset, immediate):
+def _computed(opcode: int, registers: Registers, destination: int, source: int, offset: int, immediate: int) -> Value:
     """What an arithmetic instruction leaves in its destination."""
     if opcode == 0xBF and offset == 0:
         return registers[source]
@@ -115,7 +124,7 @@ def _computed(opcode, registers, destination, source, offset, immediate):
     return STACK if opcode in (0x07, 0x17, 0x0F, 0x1F) and old == STACK else None
 
 
-def _keeps_ends(base, offset, ends):
+def _keeps_ends(base: Value, offset: int, ends: Ends) -> None:
     """Goes on only if writing from an address on leaves these ends of the edge in the record as they are."""
     if base != STACK and not (isinstance(base, int) and base + offset >= END_BYTES * len(ends)):
         raise NotSeen

@@ -13,8 +13,10 @@ The graph of a `Store` lives in this process, in the memory of `libedgebpf.so`. 
 starts and `close` ends; batches and runs may have several workers there.
 """
 from edgebpf import algorithms
+from edgebpf.cluster import Cluster, ClusterVersion
 from edgebpf.errors import (
-    ArgumentLength, Closed, EpochsFull, Error, LogFull, NoMemory, NotHere, Refused, TimedOut, TooManyEdits, TooManyNames, VertexRange, WrongText,
+    ArgumentLength, Closed, EpochsFull, Error, LogFull, NoMemory, NotHere, PartLost, Refused, TimedOut, TooManyEdits, TooManyNames, VertexRange,
+    WrongText,
 )
 from edgebpf.from_c import compile_c
 from edgebpf.from_files import read_edges
@@ -27,7 +29,7 @@ from edgebpf.store import Counts, Pushed, Result, Visited, connect
 __version__ = "0.1.0"
 
 __all__ = [
-    "ArgumentLength", "Closed", "Counts", "EpochsFull", "Error", "Live", "LogFull", "NoMemory", "NotHere", "NumbersRun", "PairsRun", "Program",
-    "Push", "Pushed", "Refused", "Result", "Run", "Steps", "Store", "TimedOut", "TooManyEdits", "TooManyNames", "Version", "VertexRange",
-    "Visited", "WrongText", "algorithms", "assemble", "compile_c", "connect", "explain", "read_edges",
+    "ArgumentLength", "Closed", "Cluster", "ClusterVersion", "Counts", "EpochsFull", "Error", "Live", "LogFull", "NoMemory", "NotHere", "NumbersRun",
+    "PairsRun", "PartLost", "Program", "Push", "Pushed", "Refused", "Result", "Run", "Steps", "Store", "TimedOut", "TooManyEdits", "TooManyNames",
+    "Version", "VertexRange", "Visited", "WrongText", "algorithms", "assemble", "compile_c", "connect", "explain", "read_edges",
 ]

@@ -100,14 +100,19 @@ class Closed(Error):
     """The store or the version was closed, or its process has ended, as after a call that was interrupted."""
 
 
-class TimedOut(Error):
-    """The seconds that a call was given are over. `run` has what was done until then, and may be stepped on."""
+class PartLost(Error):
+    """A part of a `Cluster` was lost with its worker."""
 
-    def __init__(self, words: str, run: Steps | Task[typing.Any]) -> None:
+
+class TimedOut(Error):
+    """The seconds that a call was given are over. `run` has what was done until then, and may be stepped on; of a `Cluster` it is None."""
+
+    def __init__(self, words: str, run: Steps | Task[typing.Any] | None) -> None:
         super().__init__(words)
         self.run = run
 
 
 class NotHere(Error):
     """A version of `connect` has no steps, no limit of time, no pairs, no numbers of a frontier or with columns, and none of the
-    algorithms that read lists where they lie; one of `Store` has them."""
+    algorithms that read lists where they lie; one of `Store` has them. One of a `Cluster` runs no program that may ask about more vertices than
+    the cluster is for."""

@@ -2,13 +2,8 @@
 from __future__ import annotations
 
 import contextlib
-import functools
-import importlib
-import importlib.util
 import io
 import os
-import pathlib
-import sys
 import types
 import warnings
 from collections.abc import Iterator
@@ -16,11 +11,11 @@ from typing import Any
 
 import numpy as np
 
-from edgebpf.errors import Error, NoMemory
+from edgebpf.beside import module
+from edgebpf.errors import NoMemory
 from edgebpf.given import vertex_count, whole
 from edgebpf.limits import MOST_EDITS, MOST_VERTICES
 from edgebpf.native import Store
-from edgebpf.programs import command
 
 TOOLS = "edgebpf_tools"
 # Sorted edges beyond so many bytes lie in a file.
@@ -34,20 +29,9 @@ OPTIONS = {
 }
 
 
-@functools.cache
 def reader() -> Any:
     """The module that sorts the edges of a file."""
-    folder = pathlib.Path(os.path.realpath(command("edgebpf-import"))).parent / TOOLS
-    try:
-        if TOOLS not in sys.modules:
-            spec = importlib.util.spec_from_file_location(TOOLS, folder / "__init__.py", submodule_search_locations=[str(folder)])
-            if spec is None or spec.loader is None:
-                raise ImportError(f"{folder} is no package")
-            sys.modules[TOOLS] = importlib.util.module_from_spec(spec)
-            spec.loader.exec_module(sys.modules[TOOLS])
-        return importlib.import_module(f"{TOOLS}.sorted_edges")
-    except (ImportError, OSError) as error:
-        raise Error(f"{folder} does not read edges: {error}; take edgebpf and the package of one release") from None
+    return module(TOOLS, "sorted_edges")
 
 
 @contextlib.contextmanager
@@ -81,7 +65,7 @@ def test_options(options: types.SimpleNamespace) -> None:
 
 def loaded(edges: Any, count: int) -> Store:
     """A store of sorted edges, with no batch before."""
-    tools, kept = importlib.import_module(f"{TOOLS}.edge_runs"), np.zeros(MOST_EDITS, np.uint8)
+    tools, kept = module(TOOLS, "edge_runs"), np.zeros(MOST_EDITS, np.uint8)
     with Store(count) as store:
         for number, batch in enumerate(edges.batches(MOST_EDITS)):
             if number % REBASE_BATCHES == 0:
@@ -97,7 +81,7 @@ def loaded(edges: Any, count: int) -> Store:
 def read(path: Any, options: types.SimpleNamespace, least: int, memory: int, folder: str | None) -> tuple[Store, list[str]]:
     """A store of the edges of a file, with `least` vertices at least, and what the reader warns of."""
     sorting, said = reader(), list[str]()
-    files, sorter = (importlib.import_module(f"{TOOLS}.{name}") for name in ("edge_files", "edge_runs"))
+    files, sorter = (module(TOOLS, name) for name in ("edge_files", "edge_runs"))
     try:
         with sorter.EdgeRuns(memory, folder) as runs:
             with opened(path) as (name, stream):

@@ -466,7 +466,8 @@ class Version:
         """Whether numbers are the core numbers of the graph, whoever computed them; the test is proved.
 
         numbers: for each vertex the greatest k for which it belongs to a set of vertices, of which each has edges to at least k others of it.
-        places: for each vertex a place in an order in which all can be taken out, so that each then has no more edges to others than its number.
+        places: for each vertex a place in an order. Taken out one after another, lower numbers first and those of one number by their places,
+            each then has no more edges to others than its number.
         """
         calls, answer = self._calls, library.new("uint32_t *")
         arrays = [found_of(array, name) for array, name in ((numbers, "numbers"), (places, "places"))]
