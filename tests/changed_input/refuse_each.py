@@ -22,7 +22,7 @@ LINES = {b"edgebpf: memory\n", WORKER}
 ONE_PIECE, MOST_WORKERS = "first.script", 16
 # How many threads a script starts for two workers. Two allocations are of a start, which comes at no certain place where another thread runs
 # already; all others are of memory.
-STARTS, MOST_A_START = {"homes": 1, "ranges": 4, "epochs": 8}, 4
+STARTS, MOST_A_START = {"homes": 1, "ranges": 2, "epochs": 2}, 4
 # What is said where the words of the command line could not be read for want of memory.
 UNREAD = (2, b"", b"error: out of memory\n")
 TARGET = "code t 16 61100400000000009500000000000000"
@@ -78,8 +78,8 @@ def homes():
 
 
 def ranges():
-    """Edges in five ranges, from two feeds, and runs by one program over two pins. Each run has one piece: batches alone start threads."""
-    edits = [f"+ {256 * place} {place}" for place in range(5)] + [f"+ {256 * place + 7} {place}" for place in range(5)]
+    """Edges in five ranges, from two feeds, and runs by one program over two pins. Each run has one piece: the first batch alone starts threads."""
+    edits = [f"+ {256 * place + 7 * (target % 2)} {target}" for target in range(206) for place in range(5)]
     lines = ["graph 1280", "batch A", *edits, "end", "pin a", "batch B", "- 0 0", "- 263 1", "+ 9 9", "end", TARGET]
     return "".join(f"{line}\n" for line in [*lines, "pin b", "run t a sum - 0 256 512 768 1024", "run t b min - 0 9 263", "list t a -"]).encode()
 

@@ -1,7 +1,9 @@
 """Prints the reading list of docs/HEADLINE.md: each file with its lines, and how many of these are to be read.
 
-Run it at the top of the repository. A line is to be read if it is neither empty nor a comment, an import or an attribute.
+Run it at the top of the repository. A line is to be read if it is neither empty nor a comment, an import or an attribute, and stands outside of
+each `impl`: the calls of a type are inner.
 """
+import re
 from pathlib import Path
 
 LIST = [
@@ -10,7 +12,7 @@ LIST = [
         ("bpf_image/src/lengths.rt", "the lengths of both, as a type"),
         ("bpf_isa/src/limits.rt", "how long code is"),
         ("bpf_image/specs/Program.antt", "a program; which lengths are allowed"),
-        ("bpf_isa/src/instruction.rt", "the instructions, as types (the calls below them are inner)"),
+        ("bpf_isa/src/instruction.rt", "the instructions, as types (their calls are inner)"),
         ("bpf_isa/specs/Encoding.antt", "which bytes spell each"),
         ("bpf_isa/specs/Sizes.antt", "how many bytes loads and stores move"),
     ]),
@@ -52,10 +54,14 @@ IMPORTS = ("use ", "pub use ", "ghost use ")
 NOT_READ = ("--", "//", "#[")
 
 
+# The calls of a type, up to the brace that ends them.
+CALLS = re.compile(r"^impl\b.*?^}$", re.M | re.S)
+
+
 def to_read(text):
-    """How many lines of a file are neither empty nor a comment, an attribute or an import, which may go over several lines."""
+    """How many lines of a file are neither empty nor of calls, a comment, an attribute or an import, which may go over several lines."""
     count, inside = 0, False
-    for line in map(str.strip, text.splitlines()):
+    for line in map(str.strip, CALLS.sub("", text).splitlines()):
         if inside:
             inside = "}" not in line
         elif line.startswith(IMPORTS):

@@ -23,9 +23,11 @@ EDGES, KINDS = (4, 14, 32, 76, 200, 600), ("uniform", "skewed")
 # How many edits a batch has, how many batches are measured, and how many versions are pinned after them.
 BATCHES = (1, 2_000, 0), (64, 200, 32), (1_024, 40, 0), (65_536, 6, 0)
 VERTICES, FEWER, MANY_EDGES = 65_536, 16_384, 600
+# Wanted of uniform graphs, by the edges of a vertex: bytes that an edit of a batch of 64 copies, and KB that a version keeps.
+WANTED = {14: (5_500, 280), 32: (8_000, 420), 76: (8_000, 430), 200: (9_500, 500), 600: (13_000, 700)}
 HEAD = (
-    "| Edges a vertex | Copied an edit, in batches of 1; 64; 1,024; 65,536 | Requests of memory an edit | Microseconds an edit | A version of 64 edits keeps "
-    "| Bytes an edge |\n|---|---|---|---|---|---|"
+    "| Edges a vertex | Copied an edit, in batches of 1; 64; 1,024; 65,536 | Wanted with 64; and KB | Requests of memory an edit | Microseconds an edit "
+    "| A version of 64 edits keeps | Bytes an edge |\n|---|---|---|---|---|---|---|"
 )
 
 
@@ -45,12 +47,20 @@ def measured(program, edges, kind, batch):
     return [float(word) for word in run.stdout.split()]
 
 
+def held_to(number, wanted):
+    """A figure, bold if it misses what is wanted."""
+    text = f"{number:,.0f}"
+    return text if wanted is None or number <= wanted else f"**{text}**"
+
+
 def row(program, edges, kind):
     of_batches = [measured(program, edges, kind, batch) for batch in BATCHES]
     copied, requests, nanoseconds, kept, bytes_an_edge = zip(*of_batches)
+    most_copied, most_kept = WANTED.get(edges, (None, None)) if kind == "uniform" else (None, None)
     cells = [
-        f"{edges}, {kind}", "; ".join(f"{number:,.0f}" for number in copied), "; ".join(f"{number:.3g}" for number in requests),
-        "; ".join(f"{number / 1_000:.2g}" for number in nanoseconds), f"{max(kept) / 1_000:,.0f} KB", f"{bytes_an_edge[0]:.1f}",
+        f"{edges}, {kind}", "; ".join(held_to(number, most_copied if place == 1 else None) for place, number in enumerate(copied)),
+        f"{most_copied:,}; {most_kept}" if most_copied else "", "; ".join(f"{number:.3g}" for number in requests),
+        "; ".join(f"{number / 1_000:.2g}" for number in nanoseconds), f"{held_to(max(kept) / 1_000, most_kept)} KB", f"{bytes_an_edge[0]:.1f}",
     ]
     return f"| {' | '.join(cells)} |"
 

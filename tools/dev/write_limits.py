@@ -73,6 +73,10 @@ OWN = {
         "MOST_KEPT_VERSIONS": ("versions that a service keeps", "the oldest is dropped"),
         "MOST_TRIED": ("programs that nobody keeps and that stay verified", "the oldest is verified again"),
     },
+    "bindings/python/edgebpf/cluster.py": {
+        "MOST_PARTS": ("`parts=` of a `Cluster`", "`ValueError`"),
+        "MOST_UNDER_WAY": ("batches of a `Cluster` that are not committed", "the next one waits"),
+    },
     "bindings/python/edgebpf/given.py": {"MOST_THREADS": ("`threads=` of a call in Python", "`ValueError`")},
     "bindings/rust/src/steps.rs": {"MOST_THREADS": ("threads of a call in Rust", "as many as the limit work on it")},
     "tools/playground/reading.js": {

@@ -36,8 +36,8 @@ The clauses (`requires`, `ensures`) stand in the source, under the signature. Th
 - Other words that no clause says are about who does the work and in which order, what memory is taken, shared, copied or dropped,
   the cause of an answer such as `OutOfMemory`, `WorkerRefused` or `Full`, and what saves time. No contract says how long a call takes.
 - `edgebpf_c` has the functions that C calls. In C `alloc` is no parameter, and a slice is a pointer and a count.
-- "Takes no memory" means that the call has no allocator, and so never reports that there is none. If a call may answer out of memory, it
-  may do so at any growth. That it does so only then is not claimed.
+- "Takes no memory" means that the call has no allocator, or only keeps it, and so never reports that there is none. If a call may answer out
+  of memory, it may do so at any growth. That it does so only then is not claimed.
 - `From<AllocError>` and `From<AllocFailed<T>>` of an error make its answer for out of memory.
 - A law is a call that does nothing: its contract states a theorem. A law of calls only makes public calls, often at their limits, and
   is proved from their contracts.
@@ -47,12 +47,14 @@ Some words say more than their clauses:
 
 | Call | No clause says |
 |---|---|
-| `Publisher::step` | that the batch which is taken waits longest. `Publisher::finish` says it at the end, of each feed |
-| `Reader::pin` | that the version is shown at a moment of the call; of a version of a later epoch, that its base continues what was seen |
+| `Publisher::step` | that the batch which is taken waits longest. `Publisher::finish` says it at the end, of each feed's batches of the last epoch |
+| `Head::add`, `Head::rebase` | that nothing is added where the answer is `None`; long scripts are served as if nothing is |
+| `Publisher::finish` | that readers are answered `Closed` from then on; it is tested |
+| `Reader::pin` | that the version is shown at a moment of the call |
 | `lend_held`, `lend_from_held`, `edgebpf_version_lend`, `edgebpf_version_lend_from` | that slices stay; they are tested |
 | `Session::perform` | what a session holds after `Store` of a batch, and that another batch than the held one is answered so |
 | `do_job` | which part of the frontier a worker has, and what it does where no thread can be started; that threads are inside at once is tested |
-| `source_lines` | that each line is an instruction of the code |
+| `source_lines` | that each line of a text that means a program is one of its instructions; rows of explanations test it |
 """
 
 DEFINITIONS_HEAD = f"""\

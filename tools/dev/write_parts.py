@@ -15,7 +15,8 @@
                              that begin so, and in that column or in all
     made: quote PATH HEAD | .. [: ROW | ..]  of the table of a document with these heads the columns below them, or of it the rows that begin so
     made: rounds PATH COLUMN MARK BEGIN  the frontier and a column of a script, round by round
-    made: follow WORD ..     the files that name the words, with the definitions and functions that do, by crate
+    made: follow CRATE::WORD .. [: WORD ..]  the files that name the items, with the definitions and functions that do, by crate; then those
+                             outside of the crates that name the words
 """
 import ast
 import re
@@ -149,10 +150,14 @@ def edits(pages, _):
     return ["", *lines, ""]
 
 
+def is_python(path):
+    return path.suffix == ".py" or path.is_file() and path.read_bytes().startswith(b"#!/usr/bin/env python3")
+
+
 def first_words(path):
     """The first sentence of a program, of its docstring or its first comment, without how it is called."""
     text = path.read_text()
-    if path.suffix == ".py":
+    if is_python(path):
         said = (ast.get_docstring(ast.parse(text)) or "").split("\n\n")[0]
     else:
         said = re.match(r"/\* (.*?)(?: \*/|\Z)|// (?:Records of \d+ bytes\. )?(.*)", text, re.S)
@@ -163,7 +168,7 @@ def first_words(path):
 
 
 def programs(pages, folder):
-    paths = [path for path in sorted((pages.TOP / folder).iterdir()) if path.suffix in (".py", ".c") and not path.name.startswith(".")]
+    paths = [path for path in sorted((pages.TOP / folder).iterdir()) if (is_python(path) or path.suffix == ".c") and not path.name.startswith(".")]
     return ["", "| Program | Does |", "|---|---|", *(f"| `{path.name}` | {first_words(path)} |" for path in paths), ""]
 
 
@@ -300,19 +305,41 @@ def cells_of(folder, pattern):
     return specs + [f"`{part}`: {', '.join(names)}" for part, names in others.items() if names]
 
 
+def items_by_crate(pages, items):
+    """For each crate the words of the items that it can name: those of its own and of the crates below it. An item is CRATE::WORD."""
+    uses, above = pages.uses(), {}
+    for item in items:
+        crate, colons, word = item.partition("::")
+        if not colons or crate not in uses:
+            raise LookupError(f"{item} is no item: write CRATE::WORD")
+        for each in pages.crates():
+            if each == crate or crate in below(uses, each):
+                above.setdefault(each, []).append(word)
+    return above
+
+
+def below(uses, crate):
+    """All crates of the repository below one."""
+    return {each for name in uses[crate] if name in uses for each in {name} | below(uses, name)}
+
+
 def follow(pages, words):
-    """The places that name the words, crate by crate, and the files outside of the crates that do."""
-    words, lines = words.split(), []
-    pattern = re.compile(r"\b(?:" + "|".join(map(re.escape, words)) + r")\b")
-    for crate in pages.crates():
-        cells = cells_of(pages.CRATES / crate, pattern)
+    """The places that name the items, crate by crate, and the files outside of the crates that name the words after a colon."""
+    items, _, said = words.partition(" : ")
+    lines, named = [], items_by_crate(pages, items.split())
+    for crate in [each for each in pages.crates() if each in named]:
+        cells = cells_of(pages.CRATES / crate, any_of(named[crate]))
         if cells:
             lines.append(pages.wrapped(f"- `{crate}`: {'; '.join(cells)}", "  "))
-    outside = []
-    for name in sorted(path for folder in ("bindings", "tests", "tools") for path in (pages.TOP / folder).rglob("*")):
+    outside, pattern = [], any_of(said.split())
+    for name in sorted(path for folder in ("bindings", "tests", "tools") if said for path in (pages.TOP / folder).rglob("*")):
         if name.suffix in (".py", ".c", ".h", ".rs") and name.parent.name != "dev" and "build" not in name.parts and pattern.search(name.read_text()):
             outside.append(f"`{name.relative_to(pages.TOP)}`")
     return ["", *lines, *([pages.wrapped(f"- outside: {', '.join(outside)}", "  ")] if outside else []), ""]
+
+
+def any_of(words):
+    return re.compile(r"\b(?:" + "|".join(map(re.escape, dict.fromkeys(words))) + r")\b")
 
 
 KINDS = {"calls": calls, "crate": crate, "file": file, "part": part, "clauses": clauses, "edits": edits, "programs": programs, "modules": modules, "classes": classes, "times": times, "figures": figures, "quote": quote, "reading": reading, "rounds": rounds, "follow": follow}
