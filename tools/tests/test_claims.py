@@ -21,6 +21,8 @@ ROWS = {
 }
 # The same of script_rows.
 ROWS_OF_SCRIPTS = {"a push reduces each number into its edge's source", "a push reads what it writes", "a pull reads what it writes"}
+# So many lines of definitions are to be believed at most.
+MOST_TO_READ = 1_250
 
 
 def page(name):
@@ -94,6 +96,14 @@ class Definitions(unittest.TestCase):
             text = "".join((CRATES / path).read_text() for path in words_of(files))
             for name in words_of(names):
                 self.assertRegex(text, rf"(?m)^(unfoldable )?(abbrev pub|pub record|record pub|pub abbrev) {name}\b")
+
+    def test_the_reading_list_is_short(self):
+        """The files of the list have a number each, and are no more to read together than a person may be asked for."""
+        rows = rows_under(page("HEADLINE.md"), "<!-- made: reading -->")
+        counts = [int(to_read) for number, _, _, to_read, _ in rows if number]
+        self.assertGreater(len(counts), 30)
+        self.assertEqual([int(to_read) for _, name, _, to_read, _ in rows if name == "**In all**"], [sum(counts)])
+        self.assertLessEqual(sum(counts), MOST_TO_READ)
 
     def test_words_without_a_clause(self):
         """Each call whose words the page takes back is on it."""

@@ -17,6 +17,7 @@ sys.path.insert(0, str(TOOLS.parent / "tests/second_implementation"))
 from assembler import KINDS, assemble  # noqa: E402
 from bpf import Graph, Machine, NoInstruction, Trap, decode  # noqa: E402
 from script import serve  # noqa: E402
+from worked_rows import ROWS, found  # noqa: E402
 
 SECOND_STORE = str(TOOLS / "tests" / "second_store.py")
 BUILT = os.environ.get("EDGEBPF")
@@ -113,6 +114,14 @@ class TheDocuments(unittest.TestCase):
         # Four statements of one unit.
         self.assertEqual(len(assemble(documents.long_text())), 32)
         self.assertEqual(documents.words(), set(KINDS))
+
+
+class SecondImplementation(unittest.TestCase):
+    def test_worked_rows(self):
+        """It judges programs as was worked out by hand; some are refused as a whole, by cause 6 and by cause 18."""
+        for name, (text, wanted) in ROWS.items():
+            self.assertEqual(found(text), wanted, name)
+        self.assertLessEqual({(6, 0), (18, 0)}, {wanted for _, wanted in ROWS.values()})
 
 
 @unittest.skipIf(MISSING, f"not there: {MISSING}")

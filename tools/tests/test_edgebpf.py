@@ -58,7 +58,7 @@ class Checkout(unittest.TestCase):
         (self.top / "HANDLES").write_text("Handles allowed: none.\n")
         shutil.copy(TOOLS.parent / "edgebpf", self.top)
         (self.top / "tools").mkdir()
-        for tool in ("proved_program", "prove", "sources", "variants"):
+        for tool in ("proved_program", "prove", "kept_libraries.py", "sources", "variants"):
             shutil.copy(TOOLS / tool, self.top / "tools")
         self.commands = self.room / "commands"
         self.commands.mkdir()

@@ -13,6 +13,7 @@ from tools_here import TOOLS
 sys.path.insert(0, str(TOOLS / "dev"))
 
 import draw_house  # noqa: E402
+import draw_store  # noqa: E402
 import figures  # noqa: E402
 import write_manual  # noqa: E402
 import write_pages  # noqa: E402
@@ -161,10 +162,36 @@ class Parts(unittest.TestCase):
         self.assertEqual((shown[0], shown[1], shown[-1]), ("```c", "// no code: data", "```"))
         self.assertNotIn("// [", "\n".join(write_parts.part(write_pages, "examples/refused.c loops")))
 
+    def test_pictures_of_the_store(self):
+        """Each box is a type of the sources, within the picture, and none lies over another."""
+        for name, drawing in (("version", draw_store.version), ("threads", draw_store.threads)):
+            top = xml.etree.ElementTree.fromstring(drawing())
+            self.assertEqual(drawing(), (TOOLS.parent / "docs" / f"{name}.svg").read_text())
+            places = [tuple(int(rect.get(key)) for key in ("x", "y")) for rect in top.iter("{http://www.w3.org/2000/svg}rect") if rect.get("x")]
+            self.assertGreater(len(places), 10)
+            for x, y in places:
+                self.assertLess(x + draw_store.WIDTH, int(top.get("width")))
+                self.assertLess(y + draw_store.HEIGHT, int(top.get("height")))
+                over = [one for one in places if abs(one[0] - x) < draw_store.WIDTH and abs(one[1] - y) < draw_store.HEIGHT]
+                self.assertEqual(over, [(x, y)])
+        with self.assertRaisesRegex(LookupError, "no source of store has a type Nothing"):
+            draw_store.name_of(draw_store.Box("store::Nothing", "", 0, 0))
+
     def test_places_that_name_a_word(self):
-        shown = "\n".join(write_parts.follow(write_pages, "Move" + "Signed"))
+        shown = "\n".join(write_parts.follow(write_pages, "bpf_isa::MoveSigned : " + "mov" + "sx"))
         for said in ("- `bpf_model`: `specs/Step`: effect\n", "`specs/Encoding`: fields_of, spelling", "`src`: alu, effect\n"):
             self.assertIn(said, shown)
+        self.assertIn("\n- outside: `bindings/python/edgebpf/programs.py`", shown)
+
+    def test_places_have_the_crate_of_the_item_and_those_above(self):
+        """The word stands in crates below, beside and above: an item is looked for where it can be named."""
+        shown = "\n".join(write_parts.follow(write_pages, "script::list_of"))
+        self.assertIn("- `script`: ", shown)
+        self.assertTrue(re.search(r"\blist_of\b", (TOOLS.parent / "crates/vertex_block/src/block.rt").read_text()))
+        self.assertNotIn("vertex_block", shown)
+        for wrong in ("list_of", "no_crate::list_of"):
+            with self.assertRaises(LookupError):
+                write_parts.follow(write_pages, wrong)
 
     def test_a_part_without_words_ends_at_its_own_end(self):
         text = "<!-- made: reading -->\n<!-- end -->\nbetween\n<!-- made: file examples/first.output -->\n<!-- end -->\n"
