@@ -130,10 +130,15 @@ def readme_lines():
 
 def shown_of_examples():
     """What README and the tour say that examples write; the tour has their text from their files."""
-    for said in re.findall(r"`(run t a edges .*?|row [01] .*?)`", on_one_line(README)):
-        yield "first", said + "\n"
+    yield "first", between(README, "$ ./edgebpf < examples/first.script\n", "$ ")
     for said in re.findall(r"`(program degree bound .*?|refused careless .*?)`", on_one_line(TOUR)):
         yield "score" if "degree" in said else "weights", said + "\n"
+
+
+def explained():
+    """The words of README's explanation, and what it prints."""
+    words, said = between(README, "$ tools/edgebpf-explain ", "```").split("\n", 1)
+    return words.split(), said
 
 
 # docs/BPF.md

@@ -70,9 +70,15 @@ class TheDocuments(unittest.TestCase):
 
     def test_what_is_shown_of_examples_stands_there(self):
         shown = list(documents.shown_of_examples())
-        self.assertEqual(len(shown), 5)
+        self.assertEqual(len(shown), 3)
         for name, text in shown:
             self.assertIn(text, (documents.ROOT / "examples" / f"{name}.output").read_text())
+
+    @unittest.skipUnless(os.environ.get("EDGEBPF_EXPLAIN"), "EDGEBPF_EXPLAIN names no program")
+    def test_explanation_of_the_readme(self):
+        words, said = documents.explained()
+        run = run_tool("edgebpf-explain", *words)
+        self.assertEqual((run.stdout, run.stderr), (said, ""))
 
     def test_examples_of_crates(self):
         """The lines of an example in a crate's README stand in the test or the program that it names, in this order."""
