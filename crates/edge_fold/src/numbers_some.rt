@@ -16,7 +16,7 @@ use crate::counted::number_row;
 use crate::mapped::Mapped;
 use crate::memory::Memory;
 use crate::numbering::number_block;
-use crate::span::{Source, Span};
+use crate::span::{Source, Span, neighbours_from};
 use map_model::Progress;
 
 /// Writes the numbers of the first edges in a row, edge by edge, and answers how many: one at least, and as many as surely fit the
@@ -143,7 +143,7 @@ fn number_part(
     ensures memory { IsFor mapped.now.program.now memory.new }
 {
     let most = numbers.len().min((source.degree - place) as usize);
-    let mut cursor = mapped.version.cursor_from(source.vertex, place);
+    let mut cursor = neighbours_from(mapped.version, source.vertex, place);
     let mut written = 0usize;
     let mut goes_on = true;
     'slices: while goes_on && written < most {

@@ -22,7 +22,7 @@ use crate::parts::{MOST_LOOKED, add, begin};
 use crate::reducing::{combine, nothing};
 use crate::rounds::push_round;
 use crate::some::Part;
-use crate::span::{Rest, Source, Span};
+use crate::span::{Rest, Source, Span, neighbours_from};
 use map_model::{Progress, Reduction};
 
 /// Pushes the numbers of the first edges in a row: one edge at least, and more as far as the budget goes. Each of them has a number.
@@ -112,7 +112,7 @@ fn push_vertex(
 {
     let Rest { source, place } = rest;
     let mut so_far = nothing(reduction);
-    let mut cursor = mapped.version.cursor_from(source.vertex, place);
+    let mut cursor = neighbours_from(mapped.version, source.vertex, place);
     let mut at = place;
     let mut goes_on = true;
     'slices: while goes_on && at < source.degree {

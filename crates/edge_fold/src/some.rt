@@ -18,7 +18,7 @@ use crate::fold::LEAST_IN_BLOCK;
 use crate::mapped::Mapped;
 use crate::memory::Memory;
 use crate::reducing::{combine, nothing};
-use crate::span::{Source, Span};
+use crate::span::{Source, Span, neighbours_from};
 use bpf_blocks::LANES;
 use map_model::Reduction;
 
@@ -136,13 +136,7 @@ pub(crate) fn fold_some(
         AreNumbered m.program.now (graph_of m.version.now) (inputs_of m) memory.new.kept }
 {
     let mut so_far = nothing(reduction);
-    if place == source.degree {
-        return Part {
-            value: so_far,
-            count: 0,
-        };
-    }
-    let mut cursor = mapped.version.cursor_from(source.vertex, place);
+    let mut cursor = neighbours_from(mapped.version, source.vertex, place);
     let mut at = place;
     let mut goes_on = true;
     'slices: while goes_on && at < source.degree {

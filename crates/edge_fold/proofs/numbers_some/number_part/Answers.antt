@@ -18,7 +18,7 @@ nothing_left (Some x) P Q h none = absurd (none x refl)
 pub slices-init : goal.slices-init
 slices-init c = record {
   few = omega arith;
-  rest = λ _ _. sym c.cursor_from-cursor.ensures.left;
+  rest = λ _ _. sym c.neighbours_from-cursor.ensures;
   used = λ is. absurd cc;
   filled = none_filled c.args.mapped.now.program.now (graph_of c.args.mapped.now.version.now) (inputs_of c.args.mapped.now) c.args.source.vertex c.args.place (drop c.args.place (neighbours (graph_of c.args.mapped.now.version.now) c.args.source.vertex)) c.args.numbers.now;
   paid = omega arith;
