@@ -2,8 +2,10 @@
 import time
 
 from edgebpf_tools.limits import MOST_LINE_BYTES
-from edgebpf_tools.parts import IDENTITY, JOIN
 
+BITS_64 = (1 << 64) - 1
+IDENTITY = {"min": BITS_64, "max": 0, "sum": 0}
+JOIN = {"min": min, "max": max, "sum": lambda one, other: (one + other) & BITS_64}
 # The vertices of the first part. Later parts have more or fewer, so that one takes about a tenth of a second.
 FIRST = 1 << 10
 SHORT, LONG, FACTOR = 0.05, 0.2, 4

@@ -1,39 +1,42 @@
-"""One run over a graph in parts, each served by a process of its own, by Dask's distributed scheduler."""
+"""One run over a graph in parts, a use of `edgebpf.Cluster` on the workers of Dask's distributed scheduler."""
 import argparse
-import contextlib
+import collections
 import functools
 import os
 import pathlib
+import shutil
 import sys
 import time
 from dataclasses import dataclass
+from typing import Any, NamedTuple
 
-from edgebpf_tools import columns, decimals, ends, owned, parts, store, tables, workers
+from edgebpf_tools import columns, decimals, ends, graph_script, owned, packages, store, tables, workers
 from edgebpf_tools.language import HEX
 from edgebpf_tools.limits import COLUMN_BYTES, EDGE_BYTES, LEAST_RECORD_LENGTH, MOST_RECORD_LENGTH, MOST_WORKERS
-from edgebpf_tools.own_source import asks_of_others
 from edgebpf_tools.refusal import Refusal
+from edgebpf_tools.run_in_parts import IDENTITY
 from edgebpf_tools.words import in_words
 
 MOST_PROCESSES = 64
-# A line has at most 80,000 bytes, and a vertex at most 7 digits.
-VERTICES_OF_A_LINE = 8_000
+# So many lines are made at once.
+LINES = 1 << 16
 
 
 def arguments(words):
     parser = argparse.ArgumentParser(
         prog="edgebpf-spread",
-        description="Cuts a script that makes a graph by the sources of its edges, serves each part by an edgebpf of its "
-        "own, runs one program on all of them, and joins what they write to the lines of one run.",
+        description="Reads a script that makes a graph, keeps the graph in parts on worker processes, each of which has the edges of some sources, "
+        "runs one program on all of them, and prints the lines of one run.",
         epilog="A part has only the edges of its own sources. A program that asks the graph about another vertex than its "
         "edge's source therefore needs --whole, which is taken unless the code shows that it asks about no other, or "
-        "--own-source-only says so. Needs Dask's scheduler: apt-get install python3-distributed",
+        "--own-source-only says so. It needs the Python package edgebpf of the same release, and Dask's scheduler: "
+        "apt-get install python3-edgebpf python3-distributed. So do the workers of another scheduler.",
     )
     parser.add_argument("graph", metavar="GRAPH", help="a script that makes a graph, as edgebpf-import writes it")
     parser.add_argument("program", metavar="PROGRAM", help="a file whose line is `code NAME LENGTH HEX` or `image NAME HEX`, as of "
                         "edgebpf-c")
     parser.add_argument("--processes", type=int, default=2, metavar="K", help="how many parts, 1 to 64; else 2")
-    parser.add_argument("--reduce", default="sum", choices=sorted(parts.JOIN), help="else sum")
+    parser.add_argument("--reduce", default="sum", choices=sorted(IDENTITY), help="else sum")
     parser.add_argument("--argument", default=None, metavar="HEX", help="the record's end; else zeros")
     parser.add_argument("--column", action="append", default=[], metavar="NAME=FILE", help="a number for each vertex, of numpy's file or one on "
                         "each line, of which the record has those of the source and the target; may be said again")
@@ -43,13 +46,24 @@ def arguments(words):
     asked.add_argument("--whole", action="store_true", help="each process has the whole graph, and runs over its part's vertices")
     asked.add_argument("--own-source-only", action="store_true", help="the program asks about no vertex but its edge's source: "
                        "your word, which nothing checks")
-    parser.add_argument("--scheduler", metavar="ADDRESS", help="a scheduler that runs already, whose workers see the same files")
+    parser.add_argument("--scheduler", metavar="ADDRESS", help="a scheduler that runs already, whose workers have the Python package edgebpf of "
+                        "this release, with numpy and cffi")
     parser.add_argument("--timer", action="store_true", help="say on standard error how long what took")
     return parser.parse_args(words)
 
 
-def program_line(path):
-    """The name, the record length, the code and the line of a program."""
+class Loaded(NamedTuple):
+    """A program: its name, its line in a script, and what that line has."""
+
+    name: str
+    line: str
+    length: int
+    code: bytes
+    table: bytes
+
+
+def program_of(path):
+    """The program of a file."""
     lines = [line for line in pathlib.Path(path).read_text().splitlines() if line.strip()]
     words = lines[0].split() if len(lines) == 1 else []
     if (words[:1], len(words)) not in ((["image"], 3), (["code"], 4)) or (len(words) == 4 and not decimals.is_number(words[2])):
@@ -58,36 +72,26 @@ def program_line(path):
         given = bytes.fromhex(words[-1].replace("-", ""))
     except ValueError:
         raise Refusal(f"{path}: the code is not pairs of hexadecimal digits") from None
-    length, code = tables.parts_of(given)[:2] if len(words) == 3 else (decimals.value(words[2]), given)
+    length, code, table = tables.parts_of(given) if len(words) == 3 else (decimals.value(words[2]), given, b"")
     if not LEAST_RECORD_LENGTH <= length <= MOST_RECORD_LENGTH:
         raise Refusal(f"{path}: a record has {LEAST_RECORD_LENGTH} to {MOST_RECORD_LENGTH} bytes")
-    return words[1], length, code, lines[0]
+    return Loaded(words[1], lines[0], length, code, table)
 
 
-def takes_whole(options, name, code):
-    """Whether each process has to have the whole graph. If the code decides it, standard error says so."""
-    if options.whole or options.own_source_only or not asks_of_others(code):
+def takes_whole(options, program):
+    """Whether each part has to have the whole graph. If the code decides it, standard error says so."""
+    if options.whole or options.own_source_only or packages.own_source().asks_of(program.code) == "own":
         return options.whole
-    print(f"edgebpf-spread: {name} may ask about other vertices than its edge's source: each process has the whole graph "
+    print(f"edgebpf-spread: {program.name} may ask about other vertices than its edge's source: each process has the whole graph "
           "(--whole). --own-source-only cuts it all the same", file=sys.stderr)
     return True
 
 
-def cut_graph(options, is_whole, folder):
-    """The files of a graph's parts, the sources of each, and how many vertices there are. For whole graphs there are no files."""
-    files = [] if is_whole else [f"{folder}/part{part}.script" for part in range(options.processes)]
-    with contextlib.ExitStack() as stack:
-        cutter = parts.Cutter(options.processes, [stack.enter_context(open(file, "wb")) for file in files])
-        cutter.cut(stack.enter_context(open(options.graph, "rb")))
-    return files, cutter.sources(), cutter.vertices
-
-
 @dataclass
 class Asked:
-    """What each part is asked: the program's name and line, its run, the columns that it is lent, and the one that it pushes into."""
+    """What is asked of the graph: a program, its run, the columns that it is lent, and the one that it pushes into."""
 
-    name: str
-    program: str
+    program: Loaded
     reduction: str
     argument: str
     lent: dict
@@ -95,7 +99,7 @@ class Asked:
     begins: list | None
 
     @classmethod
-    def of(cls, options, name, length, line):
+    def of(cls, options, program):
         lent = columns.named(options.column)
         into, _, file = (options.push or "").partition("=")
         if options.push is not None and not columns.is_name(into):
@@ -103,32 +107,22 @@ class Asked:
         begins = columns.named([options.push], "--push")[into] if file else None
         if into in lent:
             raise Refusal(f"--push {into} is a column that the run reads; give this one another name")
-        room = length - EDGE_BYTES - COLUMN_BYTES * len(lent)
+        room = program.length - EDGE_BYTES - COLUMN_BYTES * len(lent)
         if room < 0:
-            raise Refusal(f"records of {length} bytes have no room for {len(lent)} columns of {COLUMN_BYTES} bytes")
-        return cls(name, line, options.reduce, options.argument or "00" * room or "-", lent, into or None, begins)
+            raise Refusal(f"records of {program.length} bytes have no room for {len(lent)} columns of {COLUMN_BYTES} bytes")
+        return cls(program, options.reduce, options.argument or "00" * room or "-", lent, into or None, begins)
 
     @property
     def command(self):
         return "push" if self.into else "pull" if self.lent else "run"
 
     @property
-    def run(self):
-        """The words of the run, without its vertices."""
+    def trial(self):
+        """A script that runs the program over a graph of one vertex, by which the program and the words are tested."""
+        numbers = dict.fromkeys([*self.lent, *([self.into] if self.into else [])], [0])
         more = f" {','.join(self.lent) or '-'} {self.into or '-'}" if self.command != "run" else ""
-        return f"{self.command} {self.name} last {self.reduction} {self.argument}{more}"
-
-    def before(self, vertices):
-        """The lines before the run, for a graph of so many vertices. A part's column begins with what no number reduces to."""
-        neutral = {self.into: [parts.IDENTITY[self.reduction]] * vertices} if self.into else {}
-        return "".join(f"{line}\n" for line in [self.program, "pin last", *columns.lines_of(self.lent | neutral)])
-
-    def after(self):
-        return f"values {self.into}\n" if self.into else ""
-
-    def for_a_graph_of_one(self):
-        """The same over a graph of one vertex, by which the program and the words are tested."""
-        return Asked(self.name, self.program, self.reduction, self.argument, dict.fromkeys(self.lent, [0]), self.into, None)
+        run = f"{self.command} {self.program.name} last {self.reduction} {self.argument}{more}"
+        return "".join(f"{line}\n" for line in ["graph 1", self.program.line, "pin last", *columns.lines_of(numbers), run])
 
     def test(self, graph_file, vertices):
         """Refuses columns that have not a number for each vertex. Without a vertex edgebpf has a fault, which is told."""
@@ -138,32 +132,47 @@ class Asked:
         if self.begins is not None:
             columns.refuse_other_lengths({self.into: self.begins}, graph_file, vertices, "--push")
 
+    def answer(self, version, program):
+        """What the run over all parts gives."""
+        numpy = packages.numpy()
+        given = {"argument": bytes.fromhex(self.argument.replace("-", "")), "columns": [numpy.array(lent, numpy.uint64) for lent in self.lent.values()]}
+        if self.into is None:
+            run = version.run(program, self.reduction, **given)
+            return Answer(run.edges, run.total, "", "row", numpy.flatnonzero(version.degrees()), run.values)
+        values = numpy.full(version.vertices, IDENTITY[self.reduction], numpy.uint64) if self.begins is None else numpy.array(self.begins, numpy.uint64)
+        push = version.push(program, self.reduction, into=values, changed=True, **given)
+        return Answer(push.edges, push.total, f" changed {len(push.changed)}", "value", numpy.flatnonzero(values), values)
 
-def runs_over(run, sources):
-    """The lines that run a program over some vertices, as many on each as a line may have."""
-    starts = range(0, len(sources), VERTICES_OF_A_LINE)
-    return "".join(f"{run} {' '.join(map(str, sources[start : start + VERTICES_OF_A_LINE]))}\n" for start in starts)
+
+class Answer(NamedTuple):
+    """What a run gave, what else its first line says, and the vertices that have a line, with the word and the number of each."""
+
+    edges: int
+    total: int
+    more: str
+    word: str
+    vertices: Any
+    values: Any
+
+    def tell(self, asked):
+        """Prints it, as one process does."""
+        print(f"{asked.command} {asked.program.name} last edges {self.edges} total {self.total}{self.more}")
+        for begin in range(0, len(self.vertices), LINES):
+            some = self.vertices[begin : begin + LINES]
+            lines = [f"{self.word} {vertex} {number}\n" for vertex, number in zip(some.tolist(), self.values[some].tolist())]
+            sys.stdout.write("".join(lines))
+        sys.stdout.flush()
 
 
 def test_program(asked):
-    """Refuses a program that cannot be run, before anything is cut. A program that is not built yet is built here."""
-    tried = asked.for_a_graph_of_one()
-    said, status = store.serve(f"graph 1\n{tried.before(1)}{tried.run}\n")
+    """Refuses a program that cannot be run, before anything is read. A program that is not built yet is built here."""
+    said, status = store.serve(asked.trial)
     answers = said.splitlines()[1:]
     meaning = in_words(answers[0]) if answers else None
     if meaning:
-        raise Refusal(f"{asked.name} is {meaning}")
+        raise Refusal(f"{asked.program.name} is {meaning}")
     if status:
-        raise Refusal(f"edgebpf cannot run {asked.name}: {answers[-1] if answers else f'status {status}'}")
-
-
-def texts_of(served):
-    """What all parts wrote; refuses one that was not served to its end."""
-    for status, text, said in served:
-        if status != 0:
-            last = (said.strip() or text.strip() or b"nothing was written").decode("utf-8", "replace").splitlines()[-1]
-            raise Refusal(f"a part was not served; edgebpf ended with status {status}: {last}")
-    return [text for _, text, _ in served]
+        raise Refusal(f"edgebpf cannot run {asked.program.name}: {answers[-1] if answers else f'status {status}'}")
 
 
 @dataclass
@@ -186,39 +195,52 @@ class Times:
             )
 
 
-def served_texts(options, folder):
-    """What each part was asked, what all parts wrote, how many vertices there are, and the times."""
-    name, length, code, line = program_line(options.program)
-    asked = Asked.of(options, name, length, line)
+def read_script(asked, path, folder):
+    """How many vertices a script's graph has, and the file of its edits with how many each batch has."""
+    script, edits = path, f"{folder}/edits"
+    if not os.path.isfile(path):
+        # It may be read once, and edgebpf may have to read it too.
+        script = f"{folder}/script"
+        with open(path, "rb") as stream, open(script, "wb") as out:
+            shutil.copyfileobj(stream, out, graph_script.BLOCK)
+    with open(script, "rb") as stream, open(edits, "wb") as out:
+        reader = graph_script.Reader(out)
+        reader.read(stream)
+    asked.test(path, reader.vertices)
+    if reader.wrong is not None:
+        graph_script.refuse(script, reader.wrong)
+    return reader.vertices, edits, reader.lengths
+
+
+def apply(cluster, batches):
+    """Applies batches, of which many may be under way."""
+    waiting = collections.deque()
+    for batch in batches:
+        waiting.append(cluster.begin(*batch))
+        while waiting and waiting[0].done():
+            waiting.popleft().result()
+    for counts in waiting:
+        counts.result()
+
+
+def served(options, folder):
+    """What is asked, what it gave, and the times."""
+    package, program = packages.edgebpf(), program_of(options.program)
+    asked = Asked.of(options, program)
     test_program(asked)
-    is_whole = takes_whole(options, name, code)
-    # Workers have folders and standard files of their own.
-    graph = os.path.abspath(options.graph)
-    if graph.startswith(("/dev/", "/proc/")):
-        graph = os.path.realpath(graph)
-    if is_whole and os.path.exists(options.graph) and not os.path.isfile(graph):
-        raise Refusal(f"{options.graph} is no file, and each process has to read the whole graph from it")
+    kinds = {"whole": takes_whole(options, program), "own_source_only": options.own_source_only}
     begun = time.monotonic()
-    files, sources, vertices = cut_graph(options, is_whole, folder)
-    asked.test(options.graph, vertices)
-    cut_in = time.monotonic() - begun
-    before, once = f"\n{asked.before(vertices)}", f"{asked.run}\n"
-    each = [(file, f"{before}{once}{asked.after()}".encode()) for file in files]
-    if is_whole:
-        each = [(graph, f"{before}{runs_over(asked.run, part)}{asked.after()}".encode()) for part in sources if part]
-        each = each or [(graph, f"{before}{once}{asked.after()}".encode())]
-    served, started_in, served_in = workers.serve_parts(store.command(), each, options, folder)
-    return asked, texts_of(served), vertices, Times(cut_in, started_in, served_in)
-
-
-def tell_pushed(asked, texts, vertices, head):
-    """Prints what a push over all parts left, as one process writes it."""
-    before = asked.begins if asked.begins is not None else [parts.IDENTITY[asked.reduction]] * vertices
-    values = before
-    for text in texts:
-        values = parts.join_values(values, text, asked.reduction)
-    print(f"{head} changed {sum(one != other for one, other in zip(values, before))}")
-    sys.stdout.write("".join(f"value {vertex} {number}\n" for vertex, number in enumerate(values) if number))
+    vertices, edits, lengths = read_script(asked, options.graph, folder)
+    cut_in, begun = time.monotonic() - begun, time.monotonic()
+    with workers.told_of_dask("a part was not served"):
+        loaded = package.Program(program.code, program.length, program.table)
+    with workers.silenced(f"{folder}/log"), workers.client_of(options, folder) as client, workers.told_of_dask("a part was not served"):
+        with package.Cluster(client, vertices, options.processes, **kinds) as cluster:
+            started_in, begun = time.monotonic() - begun, time.monotonic()
+            apply(cluster, graph_script.batches(edits, lengths))
+            with cluster.pin() as version:
+                answer = asked.answer(version, loaded)
+            return asked, answer, Times(cut_in, started_in, time.monotonic() - begun)
 
 
 def perform(words):
@@ -228,18 +250,8 @@ def perform(words):
     if options.argument is not None and not HEX.fullmatch(options.argument):
         raise Refusal("--argument is pairs of hexadecimal digits, or - for none")
     with owned.folder() as folder:
-        asked, texts, vertices, times = served_texts(options, folder)
-    results = [result for text in texts for result in parts.read_results(text, asked.command)]
-    edges, total = parts.joined(results, options.reduce)
-    head = f"{asked.command} {asked.name} last edges {edges} total {total}"
-    if asked.into:
-        tell_pushed(asked, texts, vertices, head)
-    else:
-        print(head)
-        sys.stdout.flush()
-        for piece in parts.rows_in_order(results):
-            sys.stdout.buffer.write(piece)
-    sys.stdout.flush()
+        asked, answer, times = served(options, folder)
+    answer.tell(asked)
     times.tell(options)
     return 0
 

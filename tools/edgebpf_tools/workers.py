@@ -1,54 +1,24 @@
-"""The worker processes of Dask's distributed scheduler, which serve parts of a graph. What Dask says meanwhile is not the user's."""
+"""The worker processes of Dask's distributed scheduler, which have the parts of a graph. What Dask says meanwhile is not the user's."""
 import atexit
 import contextlib
 import logging
 import multiprocessing.util
 import os
-import pathlib
 import signal
 import time
 import warnings
 
-from edgebpf_tools import ends, packages, part_server
+from edgebpf_tools import ends, packages
 from edgebpf_tools.refusal import Refusal
 
 # How long a scheduler has to answer, its own workers to start, and workers to stop what they do.
 ANSWER_SECONDS, START_SECONDS, STOP_SECONDS = 10, 60, 5
-
-
-def serve_parts(command, parts, options, folder):
-    """What `serve_part` answers for each part, a graph's file and the lines after it, and how many seconds the start of workers
-    took, and then their work. The folder is one that workers see."""
-    asked = pathlib.Path(folder) / "asked"
-    asked.touch()
-    started = time.monotonic()
-    with silenced(f"{folder}/log"), client_of(options, folder) as client:
-        begun = time.monotonic()
-        workers = [None] * len(parts) if options.scheduler else list(client.scheduler_info()["workers"])
-        futures = [
-            client.submit(part_server.serve_part, command, *part, str(asked), pure=False, workers=worker, allow_other_workers=bool(worker))
-            for part, worker in zip(parts, workers)
-        ]
-        try:
-            with told_of_dask("a part was not served"):
-                return client.gather(futures), begun - started, time.monotonic() - begun
-        except BaseException:
-            stop(futures, asked)
-            raise
-
-
-def stop(futures, asked):
-    """Has the workers stop what they serve."""
-    from distributed import wait
-
-    asked.unlink()
-    with contextlib.suppress(Exception):
-        wait(futures, timeout=STOP_SECONDS)
+NEEDED = "a worker needs the Python package edgebpf of release {}, with numpy and cffi: apt-get install python3-edgebpf"
 
 
 @contextlib.contextmanager
 def told_of_dask(what):
-    """An error of Dask, in one line."""
+    """An error of Dask or of a cluster, in one line."""
     from asyncio import CancelledError
 
     try:
@@ -75,7 +45,7 @@ def silenced(log):
 
 @contextlib.contextmanager
 def client_of(options, folder):
-    """A client of the scheduler that was named, or of one on this machine with as many worker processes."""
+    """A client of the scheduler that was named, or of one on this machine with as many worker processes. All of them can have a part."""
     distributed = packages.distributed()
     client = None
     try:
@@ -87,17 +57,26 @@ def client_of(options, folder):
                 client = client_here(distributed.Client, options, folder)
         with told_of_dask(f"the scheduler {options.scheduler} has no worker" if options.scheduler else "the workers did not start"):
             client.wait_for_workers(1 if options.scheduler else options.processes, timeout=ANSWER_SECONDS)
+        refuse_other_releases(client)
         yield client
     finally:
         with ends.Signals.held():
             close(client)
 
 
-def client_elsewhere(client_class, address):
-    import cloudpickle
+def refuse_other_releases(client):
+    """Refuses workers that lack the package, or have it of another release. All import it at the same time."""
+    release = packages.edgebpf().__version__
+    with told_of_dask("the workers do not answer"):
+        # A lambda is sent as code: workers elsewhere have no module of this folder.
+        found = client.run(lambda: __import__("edgebpf.cluster").__version__ if __import__("cffi") else None, on_error="return")
+    for worker, answer in found.items():
+        if answer != release:
+            has = f"has {answer}" if isinstance(answer, str) else f"says: {' '.join(str(answer).split())[:200]}"
+            raise Refusal(f"{NEEDED.format(release)}; {worker} {has}")
 
-    # Workers that were started elsewhere cannot import the module.
-    cloudpickle.register_pickle_by_value(part_server)
+
+def client_elsewhere(client_class, address):
     dask = packages.package("dask", "Dask", "python3-distributed")
     dask.config.set({"distributed.comm.timeouts.connect": f"{ANSWER_SECONDS}s"})
     with told_of_dask(f"the scheduler {address} does not answer"):
@@ -115,7 +94,7 @@ def client_here(client_class, options, folder):
     try:
         with told_of_dask("no scheduler can be started here"):
             return client_class(
-                n_workers=options.processes, threads_per_worker=1, processes=True, dashboard_address=None,
+                n_workers=options.processes, threads_per_worker=1, processes=True, dashboard_address=None, direct_to_workers=True,
                 local_directory=f"{folder}/workers", memory_limit=0, silence_logs=logging.CRITICAL,
             )
     finally:

@@ -9,14 +9,17 @@ import unittest
 
 from tools_here import MISSING, TOOLS
 
-sys.path.insert(0, str(TOOLS.parent / "tests/second_implementation"))
+sys.path[:0] = [str(TOOLS.parent / "tests/second_implementation"), str(TOOLS.parent / "bindings/python")]
+
+if importlib.util.find_spec("numpy") is None:
+    raise unittest.SkipTest("not there: python3-numpy")
 
 from assembler import assemble  # noqa: E402
 from bpf import Graph, Trap, run  # noqa: E402
 from verifier import judged  # noqa: E402
 
+from edgebpf.own_source import asks_of  # noqa: E402
 from edgebpf_tools.compile_c import arguments, linked  # noqa: E402
-from edgebpf_tools.own_source import asks_of, asks_of_others  # noqa: E402
 
 ASK = "ldxw r1, [r1+0]\ncall 1\nexit"
 OWN = {
@@ -91,11 +94,11 @@ class Watched(Graph):
 
 class OwnSource(unittest.TestCase):
     def test_programs(self):
-        for programs, asks in ((OWN, False), (OTHER, True)):
+        for programs, is_own in ((OWN, True), (OTHER, False)):
             for name, text in programs.items():
                 code = assemble(text)
                 self.assertIsInstance(judged(code, 16), tuple, f"{name} is refused")
-                self.assertEqual(asks_of_others(code), asks, name)
+                self.assertEqual(asks_of(code) == "own", is_own, name)
 
     def test_what_is_asked_of(self):
         for programs, asks in ((OWN, "own"), ({name: OTHER[name] for name in BOTH}, "target"), (ANY, "all")):
@@ -106,7 +109,7 @@ class OwnSource(unittest.TestCase):
 
     def test_no_programs(self):
         for digits in ("", "95", "85000000060000009500000000000000", "0500ffff00000000", "6311000000000000"):
-            self.assertTrue(asks_of_others(bytes.fromhex(digits)))
+            self.assertEqual(asks_of(bytes.fromhex(digits)), "all")
 
     def test_random_programs(self):
         """An accepted program that is said to ask about its source alone, or about both its ends, does so whenever it is run."""
@@ -136,6 +139,6 @@ class OwnSource(unittest.TestCase):
         with tempfile.TemporaryDirectory() as folder:
             source = pathlib.Path(folder) / "p.c"
             source.write_text(IN_C)
-            for name, asks in (("lead_back", True), ("next", False), ("nested", False), ("both", True)):
+            for name, asks in (("lead_back", "target"), ("next", "own"), ("nested", "own"), ("both", "target")):
                 program = linked(arguments([str(source), name, "16"]), folder)[2]
-                self.assertEqual(asks_of_others(program.code), asks, name)
+                self.assertEqual(asks_of(program.code), asks, name)

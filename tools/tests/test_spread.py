@@ -1,4 +1,4 @@
-"""edgebpf-spread: a run in parts, served by worker processes, and its errors."""
+"""edgebpf-spread: a run over a graph in parts on worker processes, and its errors."""
 import contextlib
 import importlib.util
 import os
@@ -6,11 +6,28 @@ import pathlib
 import signal
 import socket
 import subprocess
+import sys
 import tempfile
 import time
 import unittest
 
 from tools_here import PYTHON, TOOLS, run_tool
+
+# Workers of the test's own process are asked for the package, and others get its place with the path.
+sys.path[:0] = [str(TOOLS.parent / "bindings/python"), str(TOOLS.parent / "tests/second_implementation")]
+
+
+def lacking():
+    """What is not there that a run in parts needs."""
+    found = [name for name in ("numpy", "cffi", "distributed") if importlib.util.find_spec(name) is None]
+    if not found:
+        from edgebpf import library
+
+        found = [] if library.path() else ["libedgebpf.so, which make -C dist makes"]
+    return ", ".join(found)
+
+
+LACKING = lacking()
 
 # Of each edge its target, and the degree of its target by a call of the first helper.
 TARGET = "code t 16 61100400000000009500000000000000\n"
@@ -28,7 +45,7 @@ SUM = "run t last edges 4 total 10\nrow 0 1\nrow 70 2\nrow 299 7\n"
 OF_TARGET, OF_SOURCE = "code r 32 79101800000000009500000000000000\n", "code s 32 79101000000000009500000000000000\n"
 
 
-@unittest.skipIf(importlib.util.find_spec("distributed") is None, "not there: python3-distributed")
+@unittest.skipIf(LACKING, f"not there: {LACKING}")
 class EdgebpfSpread(unittest.TestCase):
     @classmethod
     def setUpClass(cls):
@@ -68,16 +85,25 @@ class EdgebpfSpread(unittest.TestCase):
         self.assertRegex(own.stderr, r"^edgebpf-spread: on one machine `edgebpf --workers 2` is faster: .*\n$")
 
     def test_where_the_graph_is(self):
-        """Workers in other folders find it by its name here. A graph that can be read once is read by this process, or not at all."""
+        """It is read here, once, so it may be a pipe; workers in other folders see no file. A fault in it is found all the same."""
         self.write()
         words = ["program", "--scheduler", self.cluster.scheduler_address]
-        run = run_tool("edgebpf-spread", "graph", *words, "--whole", cwd=self.folder)
-        self.assertEqual((run.stdout, run.stderr, run.returncode), (SUM, "", 0))
-        once = run_tool("edgebpf-spread", "/dev/stdin", *words, text=GRAPH, cwd=self.folder)
-        self.assertEqual((once.stdout, once.stderr, once.returncode), (SUM, "", 0))
-        refused = run_tool("edgebpf-spread", "/dev/stdin", *words, "--whole", text=GRAPH, cwd=self.folder)
-        said = "edgebpf-spread: /dev/stdin is no file, and each process has to read the whole graph from it\n"
-        self.assertEqual((refused.stdout, refused.stderr, refused.returncode), ("", said, 1))
+        for name, more in (("graph", []), ("graph", ["--whole"]), ("/dev/stdin", []), ("/dev/stdin", ["--whole"])):
+            run = run_tool("edgebpf-spread", name, *words, *more, text=GRAPH, cwd=self.folder)
+            self.assertEqual((run.stdout, run.stderr, run.returncode), (SUM, "", 0))
+        wrong = run_tool("edgebpf-spread", "/dev/stdin", *words, text=GRAPH + "batch\n", cwd=self.folder)
+        said = f"edgebpf-spread: a part was not served; edgebpf ended with status 1: fault 2 line {len(GRAPH.splitlines()) + 1}\n"
+        self.assertEqual((wrong.stdout, wrong.stderr, wrong.returncode), ("", said, 1))
+        none = run_tool("edgebpf-spread", "none", *words, cwd=self.folder)
+        self.assertEqual((none.stdout, none.stderr, none.returncode), ("", "edgebpf-spread: none: No such file or directory\n", 1))
+
+    def test_a_rebase(self):
+        """It changes no edge, and the log is that of one edgebpf: 4,096 batches after it, and not one more."""
+        empty = "batch A\nend\n"
+        for batches, said in ((4096, ""), (4097, "ended with status 1: fault 9 line")):
+            run = self.spread(graph=f"{GRAPH}rebase\n{empty * batches}")
+            self.assertEqual(run.stdout, "" if said else SUM, run.stderr)
+            self.assertIn(said, run.stderr)
 
     def test_tables(self):
         """A program with a table, which asks about no vertex, runs on parts."""
@@ -183,7 +209,8 @@ class EdgebpfSpread(unittest.TestCase):
         self.assertIn("has to be one line", self.spread(program="program t 16\n").stderr)
         self.assertIn("t is refused at unit 0: a register", self.spread(program="code t 16 9500000000000000\n").stderr)
         self.assertIn("cannot run t: fault 6 line 4", self.spread("--argument", "00").stderr)
-        self.assertIn("ended with status 1: fault 4 line 3", self.spread(graph="graph 3\nbatch A\n+ 0 7\nend\n").stderr)
+        for edits in ("+ 0 7", "+ 7 0", "+ 0  7", "- 0 7", "+ 0 99999999999999999999999"):
+            self.assertIn("ended with status 1: fault 4 line 3", self.spread(graph=f"graph 3\nbatch A\n{edits}\nend\n").stderr)
         self.assertIn("--processes is 1 to 64", self.spread("--processes", "0").stderr)
         half = "batch A\n" + "+ 0 1\n" * 40_000 + "+ 256 1\n" * 25_537 + "end\n"
         self.assertIn("line 65540: a batch has at most 65536 edits", self.spread("--own-source-only", graph="graph 600\n" + half).stderr)
@@ -193,24 +220,18 @@ class EdgebpfSpread(unittest.TestCase):
 
 # Seconds within which a process of a spread starts or ends, on a machine that is busy.
 LONGEST = 240
-SLOW = """#!/bin/sh
-read first
-if [ "$first" = "graph 1" ]; then { echo "$first"; cat; } | %s/second_store.py; exit; fi
-echo $$ > "%s/served.$$"
+# A worker that has used so many seconds of a processor is in the midst of a run.
+RUNS = 6
+# A program of 810,000 instructions, each of whose functions calls the next one ten times, and a graph on which it takes minutes.
+LONG = "\n".join([*("calllocal f1\n" * 10, "exit"), *(f"f{at}:\n" + f"calllocal f{at + 1}\n" * 10 + "exit" for at in (1, 2, 3)), "f4:", "mov r0, 1\n" + "add r0, 1\n" * 70 + "exit"])
+MANY = "graph 1024\n" + "".join(f"batch A\n{''.join(f'+ {source} {target}{chr(10)}' for source in range(begin, begin + 64) for target in range(1000))}end\n" for begin in range(0, 1024, 64))
+STORE = """#!/bin/sh
+if [ "$(head -n 1)" = "graph 1" ]; then echo "graph 1"; echo "program t bound 2 frames 1"; exit; fi
 %s
 """
 
 
-def commands():
-    """The words of the command lines of all processes."""
-    found = []
-    for path in pathlib.Path("/proc").glob("[0-9]*/cmdline"):
-        with contextlib.suppress(OSError):
-            found.append(path.read_text(errors="replace"))
-    return found
-
-
-@unittest.skipIf(importlib.util.find_spec("distributed") is None, "not there: python3-distributed")
+@unittest.skipIf(LACKING, f"not there: {LACKING}")
 class SpreadEnds(unittest.TestCase):
     """What goes wrong ends with one line and a status, and with no process or file that is left."""
 
@@ -220,16 +241,24 @@ class SpreadEnds(unittest.TestCase):
         self.folder = pathlib.Path(folder.name)
         self.temporary = self.folder / "temporary"
         self.temporary.mkdir()
-        self.environment = {**os.environ, "EDGEBPF": str(TOOLS / "tests" / "second_store.py"), "TMPDIR": str(self.temporary)}
+        self.environment = {**os.environ, "TMPDIR": str(self.temporary)}
         (self.folder / "graph").write_text(GRAPH)
         (self.folder / "program").write_text(TARGET)
+        self.store("exit 1")
 
     def store(self, does):
-        """A store that serves the trial of the program, and does something else with a graph."""
+        """A store that takes any program, and does something else with a graph."""
         path = self.folder / "store"
-        path.write_text(SLOW % (TOOLS / "tests", self.folder, does))
+        path.write_text(STORE % does)
         path.chmod(0o755)
         self.environment["EDGEBPF"] = str(path)
+
+    def long(self):
+        """A run of minutes."""
+        from assembler import assemble
+
+        (self.folder / "graph").write_text(MANY)
+        (self.folder / "program").write_text(f"code t 16 {assemble(LONG).hex()}\n")
 
     def started(self, *words, **options):
         command = [PYTHON, TOOLS / "edgebpf-spread", str(self.folder / "graph"), str(self.folder / "program"), *words]
@@ -241,12 +270,23 @@ class SpreadEnds(unittest.TestCase):
         self.assertEqual((out, run.returncode), ("", status), said)
         self.assertEqual(len(said.splitlines()), 1, said)
         self.assertTrue(said.startswith("edgebpf-spread: " + line), said)
+        self.assertTrue(self.is_soon(lambda: not self.processes()), self.processes())
         self.assertEqual(list(self.temporary.iterdir()), [])
-        self.assertEqual({path.name for path in self.folder.iterdir() if "served" not in path.name} - {"store"}, {"graph", "program", "temporary"})
+        self.assertEqual({path.name for path in self.folder.iterdir()}, {"graph", "program", "temporary", "store"})
 
-    def served(self):
-        """The processes that serve a graph."""
-        return [int(path.name.split(".")[1]) for path in self.folder.glob("served.*")]
+    def processes(self):
+        """The processes that were started with this test's folder for temporary files, each with the seconds of a processor that it has used."""
+        found = {}
+        for path in pathlib.Path("/proc").glob("[0-9]*"):
+            with contextlib.suppress(OSError):
+                if f"TMPDIR={self.temporary}\0".encode() in (path / "environ").read_bytes():
+                    used = (path / "stat").read_text().rpartition(")")[2].split()[11]
+                    found[int(path.name)] = int(used) / os.sysconf("SC_CLK_TCK")
+        return found
+
+    def running(self, run):
+        """The workers that are in the midst of a run."""
+        return [process for process, seconds in self.processes().items() if process != run.pid and seconds > RUNS]
 
     def is_soon(self, holds, run=None):
         """Waits until something holds, for as long as the run goes on, and at most some minutes."""
@@ -254,9 +294,6 @@ class SpreadEnds(unittest.TestCase):
         while not holds() and (run is None or run.poll() is None) and time.monotonic() < deadline:
             time.sleep(0.01)
         return holds()
-
-    def are_gone(self):
-        return self.is_soon(lambda: not any(os.path.exists(f"/proc/{process}") for process in self.served()))
 
     def test_scheduler_that_does_not_answer(self):
         self.ended(self.started("--scheduler", "tcp://127.0.0.1:9"), "the scheduler tcp://127.0.0.1:9 does not answer")
@@ -272,48 +309,76 @@ class SpreadEnds(unittest.TestCase):
             run = self.started("--scheduler", cluster.scheduler_address)
             self.ended(run, f"the scheduler {cluster.scheduler_address} has no worker")
 
-    def test_part_that_fails(self):
+    def test_workers_without_the_package(self):
+        """Their own words follow those that say what to install."""
+        from distributed import Client, LocalCluster
+
+        needed = "a worker needs the Python package edgebpf of release 0.1.0, with numpy and cffi: apt-get install python3-edgebpf; tcp://127.0.0.1:"
+        with LocalCluster(n_workers=1, protocol="tcp", dashboard_address=None, silence_logs=50) as cluster, Client(cluster) as client:
+            for spoil, words in ((lambda: setattr(__import__("edgebpf"), "__version__", "0.0.9"), r"\d+ has 0\.0\.9"),
+                                 (lambda: __import__("sys").modules.update(cffi=None), r"\d+ says: .*cffi"),
+                                 (lambda: __import__("sys").modules.update({"edgebpf": None, "cffi": __import__("sys")}), r"\d+ says: .*edgebpf")):
+                client.run(spoil)
+                run = self.started("--scheduler", cluster.scheduler_address)
+                out, said = run.communicate(timeout=LONGEST)
+                self.assertEqual((out, run.returncode, len(said.splitlines())), ("", 1, 1), said)
+                self.assertRegex(said, f"^edgebpf-spread: {needed}{words}")
+
+    def test_store_that_fails(self):
+        """What the store says of a graph that is none are its own words."""
+        (self.folder / "graph").write_text("graph 0\n")
         self.store("echo 'graph 300'; echo 'run t last edges 4 total 9'; echo 'edgebpf: memory' >&2; exit 1")
         self.ended(self.started(), "a part was not served; edgebpf ended with status 1: edgebpf: memory")
+        self.store("echo 'graph 300'; exit 0")
+        self.ended(self.started(), "line 1: edgebpf takes it, and edgebpf-spread cannot read it")
 
     def test_signals(self):
-        """While workers start, and while parts are served. What is left would be seen in the folder and among the processes."""
-        self.store("exec sleep 300")
-        for place in range(5):
+        """While the store reads, while workers start, and while they run. What is left would be seen in the folder and among the processes."""
+        self.long()
+        for place in range(6):
             run = self.started()
             self.is_soon(lambda: list(self.temporary.iterdir()), run)
-            if place < 3:
-                time.sleep(0.7 * place)
+            if place < 4:
+                time.sleep(1.5 * place)
             else:
-                self.is_soon(self.served, run)
+                self.assertTrue(self.is_soon(lambda: self.running(run), run))
             number = (signal.SIGINT, signal.SIGTERM)[place % 2]
             run.send_signal(number)
             self.ended(run, ("interrupted", "terminated")[place % 2], 128 + number)
-            self.assertTrue(self.are_gone())
-            for path in self.folder.glob("served.*"):
-                path.unlink()
-            command = str(self.folder / "graph")
-            self.assertEqual([process for process in commands() if command in process], [])
 
     def test_terminal(self):
         """A Ctrl-C at a terminal reaches the whole group of processes."""
-        self.store("exec sleep 300")
+        self.long()
         run = self.started(process_group=0)
-        self.is_soon(self.served, run)
+        self.assertTrue(self.is_soon(lambda: self.running(run), run))
         os.killpg(run.pid, signal.SIGINT)
         self.ended(run, "interrupted", 130)
-        self.assertTrue(self.are_gone())
+
+    def test_worker_that_is_lost(self):
+        self.long()
+        run = self.started()
+        self.assertTrue(self.is_soon(lambda: self.running(run), run))
+        os.kill(self.running(run)[0], signal.SIGKILL)
+        self.ended(run, "a part was not served: part ")
 
     def test_workers_of_another_scheduler_stop(self):
         from distributed import LocalCluster
 
-        self.store("exec sleep 300")
+        self.long()
         with LocalCluster(n_workers=2, processes=False, protocol="tcp", dashboard_address=None) as cluster:
+            begun = time.process_time()
             run = self.started("--scheduler", cluster.scheduler_address)
-            self.is_soon(self.served, run)
+            self.assertTrue(self.is_soon(lambda: time.process_time() - begun > RUNS, run))
             run.send_signal(signal.SIGINT)
             self.ended(run, "interrupted", 130)
-            self.assertTrue(self.are_gone())
+            self.assertTrue(self.is_soon(lambda: used_in(1) < 0.5))
+
+    def test_closed_pipe(self):
+        run = self.started()
+        run.stdout.close()
+        run.stdout = None
+        _, said = run.communicate(timeout=LONGEST)
+        self.assertEqual((run.returncode, said), (1, "edgebpf-spread: standard output: Broken pipe\n"))
 
     def test_missing_package(self):
         packages = self.folder / "temporary" / "packages"
@@ -324,3 +389,10 @@ class SpreadEnds(unittest.TestCase):
         _, said = run.communicate()
         self.assertEqual((run.returncode, len(said.splitlines())), (1, 1))
         self.assertIn("apt-get install python3-distributed", said)
+
+
+def used_in(seconds):
+    """How many seconds of a processor this process uses meanwhile."""
+    begun = time.process_time()
+    time.sleep(seconds)
+    return time.process_time() - begun

@@ -49,7 +49,8 @@ class Cluster:
     the graph, its vertices and its parts. The version of the whole graph is one number: how many batches there were.
 
     copies: programs may also ask the graph about the target of their edge; each part keeps copies of the lists that its edges name. whole: they may
-    ask about any vertex; each part has every edge, and runs over its own sources.
+    ask about any vertex; each part has every edge, and runs over its own sources. own_source_only: no program's code is looked at. A part answers as if
+    vertices whose edges others have had none, so numbers are wrong if a program asks about them.
 
     With a folder a part that is lost begins again on another worker, and an acknowledged batch is on the disk. Without one a lost part ends the
     batches, and its versions are gone.
@@ -57,9 +58,12 @@ class Cluster:
 
     def __init__(
         self, client: Any, vertices: int | None = None, parts: int | None = None, folder: str | os.PathLike[str] | None = None, *,
-        copies: bool = False, whole: bool = False,
+        copies: bool = False, whole: bool = False, own_source_only: bool = False,
     ) -> None:
+        if own_source_only and (copies or whole):
+            raise ValueError("own_source_only is for a cluster without copies and without whole")
         self._open(Engine(client), vertices, parts, folder, ANY if whole else TARGET if copies else OWN)
+        self._router.trusts = own_source_only
 
     @classmethod
     def _over(cls, engine: Any, vertices: int | None = None, parts: int | None = None, folder: Any = None, asks: str = OWN) -> Cluster:
@@ -191,7 +195,7 @@ class ClusterVersion:
         handle_of(program)
         argument, lasts = argument_of(program, inputs.argument, len(inputs.columns)), None if seconds is None else seconds_of(seconds)
         asked = Asked(kind, program.assembled(), program.record, program.table, argument, reduction, lasts, next(TOKENS))
-        asks = asks_about(asked.code)
+        asks = OWN if self._router.trusts else asks_about(asked.code)
         refuse(asks, self._router.asks)
         places, given = self._split(*ends)
         try:

@@ -33,6 +33,8 @@ MESSAGE_LISTS = 16_384
 # After so many seconds without a message a part is looked at, and one that was lost is tried again.
 LOOK_SECONDS = 0.2
 CLOSE_SECONDS = 10.0
+# How long the end of a cluster waits for parts that are told to end a run.
+CANCEL_SECONDS = 2.0
 # A part that was lost so often without having had all its batches in between is given up; and one that no worker takes for so many seconds.
 MOST_LOSSES, PATIENCE_SECONDS = 5, 60.0
 # After so many batches, or edits, parts write a checkpoint; one that failed is tried again after some seconds.
@@ -49,7 +51,8 @@ class Router:
         self.next = self.committed = -1
         self.edges = 0
         self.failure: Error | None = None
-        self.is_open = self.is_closed = False
+        # Whether programs are taken without a look at what they ask.
+        self.is_open = self.is_closed = self.trusts = False
         self.pins: Counter[int] = Counter()
         self._parts: list[Held] = []
         # Of each number that is not committed: the edits of each part, and who waits.
@@ -60,6 +63,8 @@ class Router:
         # How many edits came since the last checkpoint, and when the next one may begin.
         self._edits, self._next_checkpoint = 0, 0.0
         self._others: set[asyncio.Task[None]] = set()
+        # Parts that are being told to end a run.
+        self._cancels: set[asyncio.Task[None]] = set()
         self._thread.start()
 
     def _serve(self) -> None:
@@ -133,7 +138,10 @@ class Router:
     async def close(self) -> None:
         """Gives all parts up. What waits is told that the cluster is closed."""
         self.is_closed = True
-        tasks = [*self._tasks, *self._others]
+        if self._cancels:
+            # A part that was not told would go on with a run for nobody.
+            await asyncio.wait(self._cancels, timeout=CANCEL_SECONDS)
+        tasks = [*self._tasks, *self._others, *self._cancels]
         for task in tasks:
             task.cancel()
         if tasks:
@@ -371,11 +379,12 @@ class Router:
             self._next_checkpoint = time.monotonic() + AGAIN_SECONDS
             self._keep(self._checkpoint_by_itself())
 
-    def _keep(self, work: Coroutine[Any, Any, None]) -> None:
+    def _keep(self, work: Coroutine[Any, Any, None], among: set[asyncio.Task[None]] | None = None) -> None:
         """Does some work that nobody waits for."""
+        tasks = self._others if among is None else among
         task = asyncio.ensure_future(work)
-        self._others.add(task)
-        task.add_done_callback(self._others.discard)
+        tasks.add(task)
+        task.add_done_callback(tasks.discard)
 
     def _lose(self, part: Held) -> None:
         """A part was lost, and so are its versions. No number is committed before it has them again."""
@@ -480,7 +489,7 @@ class Router:
         """Ends a run in all parts soon."""
         for part in self._parts:
             if part.is_live:
-                self._keep(self._cancel(part, token))
+                self._keep(self._cancel(part, token), self._cancels)
 
     async def _cancel(self, part: Held, token: int) -> None:
         with contextlib.suppress(Gone):

@@ -1,5 +1,4 @@
-"""Whether a program asks the graph only about the source of its own edge, or only about both its ends: a walk over its code. The tools have this
-module by a link, and take nothing else of this package: they run where it is not installed."""
+"""Whether a program asks the graph only about the source of its own edge, or only about both its ends: a walk over its code."""
 from __future__ import annotations
 
 import struct
@@ -21,11 +20,6 @@ KNOWN_HELPERS = range(1, 6)
 
 class NotSeen(Exception):
     """The walk does not see that the program asks only about its edge's source."""
-
-
-def asks_of_others(code: bytes) -> bool:
-    """False only if no run of the code, once a verifier accepted it, asks about another vertex than its edge's source."""
-    return asks_of(code) != "own"
 
 
 def asks_of(code: bytes) -> str:
