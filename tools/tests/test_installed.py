@@ -232,11 +232,19 @@ class Installed(unittest.TestCase):
         self.assertEqual((run.stderr, run.returncode), ("", 0))
         self.assertIn("refused", run.stdout)
 
-    @unittest.skipIf(importlib.util.find_spec("distributed") is None, "missing: python3-distributed")
+    @unittest.skipIf(any(importlib.util.find_spec(name) is None for name in ("distributed", "numpy", "cffi")), "missing: python3-distributed or python3-cffi")
     def test_spread(self):
+        """It says what to install if the Python package is not there, and finds the one of its own installation."""
         (self.work / "score.code").write_text("code score 16 61100400000000009500000000000000\n")
         (self.work / "score.code").chmod(0o644)
-        run = self.run_as_user("edgebpf-spread", "--processes", "2", "graph.script", "score.code")
+        words = ["edgebpf-spread", "--processes", "2", "graph.script", "score.code"]
+        if importlib.util.find_spec("edgebpf") is None:
+            run = self.run_as_user(*words)
+            said = "edgebpf-spread: the Python package edgebpf is missing; install it by: apt-get install python3-edgebpf\n"
+            self.assertEqual((run.stdout, run.stderr, run.returncode), ("", said, 1))
+        make(f"BUILD={self.room / 'build'}", "install-python", f"PREFIX={self.place}")
+        self.addCleanup(shutil.rmtree, self.place / "lib/python3")
+        run = self.run_as_user(*words)
         self.assertEqual(run.returncode, 0, run.stderr)
         self.assertEqual(run.stdout, "run score last edges 3 total 5\nrow 0 3\nrow 1 2\n")
 
@@ -374,6 +382,8 @@ class Package(unittest.TestCase):
                 listed = subprocess.run(["dpkg-deb", "-c", package], stdout=subprocess.PIPE, text=True, check=True).stdout
                 self.assertNotIn("__pycache__", listed)
                 self.assertTrue(all(line.split()[1] == "root/root" for line in listed.splitlines()))
+            said = subprocess.run(["dpkg-deb", "-f", made[0], "Recommends"], capture_output=True, text=True, check=True).stdout
+            self.assertRegex(said, r"^python3, python3-edgebpf \(= [0-9.]+\)$")
             self.python_in(unpacked, made[1])
             self.service_in(unpacked, made[2])
 

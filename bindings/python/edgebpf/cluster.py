@@ -56,6 +56,8 @@ class Cluster:
     batches, and its versions are gone.
     """
 
+    _router: Router
+
     def __init__(
         self, client: Any, vertices: int | None = None, parts: int | None = None, folder: str | os.PathLike[str] | None = None, *,
         copies: bool = False, whole: bool = False, own_source_only: bool = False,

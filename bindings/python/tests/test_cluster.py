@@ -181,6 +181,25 @@ class OverAnEngine(Base):
             nothing = version.run(target, "min", [])
             self.assertEqual((nothing.edges, nothing.total, len(nothing.values), len(version.numbers(target, b"", []))), (0, 2**64 - 1, 0, 0))
 
+    def test_own_source_only(self):
+        """The user's word is taken, also where it is wrong: vertex 256 is of another part, and has no edge in that of vertex 0."""
+        program = edgebpf.assemble(DEGREE_OF_TARGET)
+        with wild() as (cluster, _):
+            cluster.apply([0, 0, 256], [1, 256, 3])
+            self.raises(edgebpf.NotHere, "copies=True$", cluster.pin().run, program)
+            cluster._router.trusts = True
+            self.assertEqual((cluster.pin().run(program).total, cluster.pin().run(program).edges), (0, 3))
+        for more in ({"copies": True}, {"whole": True}):
+            self.raises(ValueError, "^own_source_only is for a cluster without copies and without whole$", lambda: edgebpf.Cluster(None, 4, own_source_only=True, **more))
+
+    def test_a_run_that_is_given_up(self):
+        """Parts are told before the cluster closes, also right after it was given up."""
+        told = []
+        with unittest.mock.patch.object(cluster_part.Part, "cancel", lambda part, era, token: told.append(token)), wild() as (cluster, _):
+            cluster.apply([0, 256, 512], [1, 1, 1])
+            cluster._router.soon(cluster._router.cancel, 7)
+        self.assertEqual(told, [7, 7, 7])
+
     def test_copies(self):
         """A program asks about targets of other parts at each version as it was, also while their lists change; about any vertex it is refused."""
         with wild(asks="target") as (cluster, _), edgebpf.Store(600) as store:
