@@ -232,7 +232,7 @@ def served(options, folder):
     begun = time.monotonic()
     vertices, edits, lengths = read_script(asked, options.graph, folder)
     cut_in, begun = time.monotonic() - begun, time.monotonic()
-    with workers.told_of_dask("a part was not served"):
+    with workers.told_of_dask("the program cannot be loaded"):
         loaded = package.Program(program.code, program.length, program.table)
     with workers.silenced(f"{folder}/log"), workers.client_of(options, folder) as client, workers.told_of_dask("a part was not served"):
         with package.Cluster(client, vertices, options.processes, **kinds) as cluster:
