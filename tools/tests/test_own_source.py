@@ -139,6 +139,6 @@ class OwnSource(unittest.TestCase):
         with tempfile.TemporaryDirectory() as folder:
             source = pathlib.Path(folder) / "p.c"
             source.write_text(IN_C)
-            for name, asks in (("lead_back", "target"), ("next", "own"), ("nested", "own"), ("both", "target")):
+            for name, is_own in (("lead_back", False), ("next", True), ("nested", True), ("both", False)):
                 program = linked(arguments([str(source), name, "16"]), folder)[2]
-                self.assertEqual(asks_of(program.code), asks, name)
+                self.assertEqual(asks_of(program.code) == "own", is_own, name)
