@@ -363,7 +363,8 @@ class Router:
 
     def _advance(self) -> None:
         """Commits each number of which all parts have told."""
-        least = min(part.done for part in self._parts)
+        # Parts may have batches that were withdrawn.
+        least = min(self.next, *(part.done for part in self._parts))
         while self.is_open and self.committed < least:
             self.committed += 1
             told = [part.told.pop(self.committed) for part in self._parts if self.committed in part.told]
