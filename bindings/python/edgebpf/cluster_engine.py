@@ -99,6 +99,8 @@ class Engine:
                     # Dask would go on for 30 seconds to connect with a worker that has ended.
                     if self.is_gone(handle):
                         raise Gone(f"the worker {handle.worker} was lost")
+                if answer.cancelled():
+                    raise Gone("the client was closed")
                 return answer.result()
             finally:
                 answer.cancel()
