@@ -119,6 +119,7 @@ class Cluster:
         if len(sources) > MOST_EDITS:
             raise TooManyEdits(f"{len(sources)} edits; a batch has at most {MOST_EDITS}")
         edits = np.stack([sources | REMOVE * marks.astype(np.uint32), targets], axis=1)
+        self._router.check()
         self._room.acquire()
         try:
             counts = self._router.call(self._router.batch(edits))
@@ -130,7 +131,13 @@ class Cluster:
 
     def pin(self) -> ClusterVersion:
         """The last version that all parts have. It stays as it is while batches come, until it is closed."""
-        return ClusterVersion(self._router, *self._router.call(self._router.pin()).result())
+        pinned = self._router.call(self._router.pin())
+        try:
+            number, edges = pinned.result()
+        except BaseException:
+            pinned.add_done_callback(self._router.give_back)
+            raise
+        return ClusterVersion(self._router, number, edges)
 
     def checkpoint(self) -> int:
         """Has each part write its edges into the folder, at the oldest version that is pinned, or the last one, and returns its number. The cluster pins
@@ -139,10 +146,8 @@ class Cluster:
         return self._router.call(self._router.checkpoint()).result()
 
     def close(self) -> None:
-        """Drops the graph, with its versions. The workers and the folder stay. May be called twice."""
-        if not self._router.is_closed:
-            self._router.call(self._router.close()).result()
-            self._router.end()
+        """Drops the graph, with its versions. The workers and the folder stay. What other threads wait for raises `Closed`. May be called twice."""
+        self._router.end()
 
     def __enter__(self) -> Cluster:
         return self

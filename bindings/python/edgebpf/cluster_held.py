@@ -29,7 +29,8 @@ class Held:
         self.pinned: int | None = None
         self.holdings: Any = None
         self.told: dict[int, Told] = {}
-        self.losses = 0
+        # How often it was lost since it had all that there was when it was lost, and up to which number that is.
+        self.losses = self.owed = 0
         # Whether it can be asked; whether it never will be again; and whether somebody found that it does not answer.
         self.is_live = self.is_over = self.is_gone = False
         self.news = asyncio.Event()

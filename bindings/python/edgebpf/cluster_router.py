@@ -22,7 +22,7 @@ from edgebpf.cluster_engine import Gone
 from edgebpf.cluster_held import Held, Waiting, again, refused
 from edgebpf.cluster_part import Batches, Edits, Told, cut, owners
 from edgebpf.given import Vertices
-from edgebpf.errors import Closed, Error, PartLost
+from edgebpf.errors import Closed, Error, NoMemory, PartLost
 from edgebpf.store import Counts
 
 Answer = TypeVar("Answer")
@@ -32,7 +32,6 @@ MESSAGES, MESSAGE_EDITS = 4, 65_536
 MESSAGE_LISTS = 16_384
 # After so many seconds without a message a part is looked at, and one that was lost is tried again.
 LOOK_SECONDS = 0.2
-CLOSE_SECONDS = 10.0
 # How long the end of a cluster waits for parts that are told to end a run.
 CANCEL_SECONDS = 2.0
 # A part that was lost so often without having had all its batches in between is given up; and one that no worker takes for so many seconds.
@@ -53,16 +52,17 @@ class Router:
         self.failure: Error | None = None
         # Whether programs are taken without a look at what they ask.
         self.is_open = self.is_closed = self.trusts = False
+        # Whoever asks for something has it handed to the loop before the loop ends, or is refused.
+        self._calling = threading.RLock()
         self.pins: Counter[int] = Counter()
         self._parts: list[Held] = []
         # Of each number that is not committed: the edits of each part, and who waits.
         self._cuts: dict[int, list[Edits]] = {}
         self._waiting: dict[int, asyncio.Future[Counts]] = {}
         self._queue: list[Waiting] = []
-        self._tasks: list[asyncio.Task[None]] = []
         # How many edits came since the last checkpoint, and when the next one may begin.
         self._edits, self._next_checkpoint = 0, 0.0
-        self._others: set[asyncio.Task[None]] = set()
+        self._tasks: set[asyncio.Task[None]] = set()
         # Parts that are being told to end a run.
         self._cancels: set[asyncio.Task[None]] = set()
         self._thread.start()
@@ -71,15 +71,40 @@ class Router:
         asyncio.set_event_loop(self.loop)
         try:
             self.loop.run_forever()
+            self.loop.run_until_complete(self._close())
         finally:
             self.loop.close()
 
     def call(self, work: Coroutine[Any, Any, Answer]) -> concurrent.futures.Future[Answer]:
-        """Has the loop do some work, for another thread."""
-        if self.is_closed:
-            work.close()
-            raise Closed("the cluster is closed")
-        return asyncio.run_coroutine_threadsafe(work, self.loop)
+        """Has the loop do some work, for another thread. Raises `Closed` if the cluster is closed, and so does the future if it is closed meanwhile."""
+        with self._calling:
+            error = self._refusal()
+            if error is None:
+                return asyncio.run_coroutine_threadsafe(self._answered(work), self.loop)
+        work.close()
+        raise error
+
+    def check(self) -> None:
+        """Raises what `call` raises."""
+        error = self._refusal()
+        if error is not None:
+            raise error
+
+    def _refusal(self) -> Error | None:
+        """Why the loop can do nothing for this thread."""
+        if threading.current_thread() is self._thread:
+            return Error("callbacks of a cluster's futures run in its own thread, which would wait for itself here: ask it from another thread")
+        # After a fork the thread is the other process's.
+        return None if not self.is_closed and self._thread.is_alive() else Closed("the cluster is closed")
+
+    async def _answered(self, work: Coroutine[Any, Any, Answer]) -> Answer:
+        unheard(asyncio.current_task())
+        try:
+            return await work
+        except asyncio.CancelledError:
+            if self.is_closed:
+                raise Closed("the cluster is closed") from None
+            raise
 
     def soon(self, work: Callable[..., Any], *given: Any) -> None:
         """Has the loop call something, if it still runs."""
@@ -101,7 +126,8 @@ class Router:
                 raise PartLost(f"part {part.place} was lost: {error}") from None
         self.is_open = True
         self._advance()
-        self._tasks = [asyncio.ensure_future(self._tend(part)) for part in self._parts]
+        for part in self._parts:
+            self._keep(self._tend(part))
         # All batches of the journal are in effect again.
         await self._until(lambda: self.failure is not None or self.committed == self.next)
         if self.failure is not None:
@@ -135,31 +161,30 @@ class Router:
             self.pins[part.mark] += 1
             part.pinned = part.mark
 
-    async def close(self) -> None:
-        """Gives all parts up. What waits is told that the cluster is closed."""
-        self.is_closed = True
+    def end(self) -> None:
+        """Gives all parts up, and ends the thread. Whoever waits is told that the cluster is closed. May be called twice, and by any thread."""
+        with self._calling:
+            if not self.is_closed:
+                self.is_closed = True
+                self.soon(self.loop.stop)
+        if threading.current_thread() is not self._thread:
+            self._thread.join()
+
+    async def _close(self) -> None:
+        # What was handed in last has not begun yet.
+        await asyncio.sleep(0)
         if self._cancels:
             # A part that was not told would go on with a run for nobody.
             await asyncio.wait(self._cancels, timeout=CANCEL_SECONDS)
-        tasks = [*self._tasks, *self._others, *self._cancels]
-        for task in tasks:
-            task.cancel()
-        if tasks:
+        while tasks := asyncio.all_tasks() - {asyncio.current_task()}:
+            for task in tasks:
+                task.cancel()
             await asyncio.wait(tasks)
-        self._flush()
         for part in self._parts:
-            part.is_over = True
             if part.handle is not None:
                 self.engine.drop(part.handle)
-        self._refuse_all(Closed("the cluster is closed"))
-        self._notify()
         if self.journal is not None:
             self.journal.close()
-
-    def end(self) -> None:
-        """Ends the thread, after `close`, for another thread."""
-        self.soon(self.loop.stop)
-        self._thread.join(CLOSE_SECONDS)
 
     # Batches
 
@@ -175,22 +200,24 @@ class Router:
     def _flush(self) -> None:
         """Numbers all batches that wait, once they are on the disk."""
         batches, self._queue = [batch for batch in self._queue if not batch.counts.done()], []
-        if self.journal is not None and batches and self.failure is None and not self.is_closed:
+        if batches and self.failure is None and not self.is_closed:
             try:
-                self.journal.append(self.next + 1, [batch.edits for batch in batches])
+                cuts = [cut(batch.edits, self.count) for batch in batches]
+                if self.journal is not None:
+                    self.journal.append(self.next + 1, [batch.edits for batch in batches])
+                return self._number(batches, cuts)
+            except MemoryError:
+                self._fail(NoMemory(f"the router has no memory for a batch, and no batch after {self.committed} is taken"))
             except Error as error:
                 self._fail(Error(f"the journal cannot be written, and no batch after {self.committed} is taken: {error}"))
-        failure = Closed("the cluster is closed") if self.is_closed else self.failure
-        if failure is None:
-            self._number(batches)
-            return
+        failure = self.failure or Closed("the cluster is closed")
         for batch in batches:
             batch.counts.set_exception(again(failure))
 
-    def _number(self, batches: list[Waiting]) -> None:
-        for batch in batches:
+    def _number(self, batches: list[Waiting], cuts: list[list[Edits]]) -> None:
+        for batch, edits in zip(batches, cuts):
             self.next += 1
-            self._cuts[self.next], self._waiting[self.next] = cut(batch.edits, self.count), batch.counts
+            self._cuts[self.next], self._waiting[self.next] = edits, batch.counts
         for part in self._parts:
             part.news.set()
 
@@ -224,7 +251,7 @@ class Router:
                 for task in done & flying:
                     flying.discard(task)
                     task.result()
-                if part.done == self.next:
+                if part.done >= min(part.owed, self.next):
                     part.losses = 0
                 if part.is_gone or self.engine.is_gone(part.handle):
                     raise Gone("its worker has ended")
@@ -382,14 +409,14 @@ class Router:
 
     def _keep(self, work: Coroutine[Any, Any, None], among: set[asyncio.Task[None]] | None = None) -> None:
         """Does some work that nobody waits for."""
-        tasks = self._others if among is None else among
+        tasks = self._tasks if among is None else among
         task = asyncio.ensure_future(work)
         tasks.add(task)
         task.add_done_callback(tasks.discard)
 
     def _lose(self, part: Held) -> None:
         """A part was lost, and so are its versions. No number is committed before it has them again."""
-        part.is_live, part.losses = False, part.losses + 1
+        part.is_live, part.losses, part.owed = False, part.losses + 1, self.next
         part.own = part.done = -1
         self._let_go(part)
         self.engine.drop(part.handle)
@@ -414,7 +441,7 @@ class Router:
         return is_much and self.low() > journal.newest and time.monotonic() >= self._next_checkpoint
 
     async def _checkpoint_by_itself(self) -> None:
-        with contextlib.suppress(Error):
+        with contextlib.suppress(Error, MemoryError):
             await self.checkpoint()
             self._next_checkpoint = 0.0
 
@@ -467,6 +494,11 @@ class Router:
         self.pins[self.committed] += 1
         return self.committed, self.edges
 
+    def give_back(self, pinned: concurrent.futures.Future[tuple[int, int]]) -> None:
+        """Gives up what `pin` pinned for somebody who does not wait for it any more."""
+        if not pinned.cancelled() and pinned.exception() is None:
+            self.soon(self.release, pinned.result()[0])
+
     def release(self, number: int) -> None:
         """Gives a pin up."""
         self.pins[number] -= 1
@@ -499,8 +531,6 @@ class Router:
     async def _read(self, part: Held, number: int, question: str, given: tuple[Any, ...]) -> Any:
         while True:
             await self._until(lambda: part.is_over or part.is_live and (part.done if question == "run" else part.own) >= number)
-            if self.is_closed:
-                raise Closed("the cluster is closed")
             if part.is_over:
                 raise PartLost(f"part {part.place} was lost: {self.failure}")
             era = part.era
@@ -519,3 +549,8 @@ class Router:
         """Wakes who waits for a change."""
         self._changed.set()
         self._changed = asyncio.Event()
+
+
+def unheard(task: Any) -> None:
+    """Has asyncio not complain of a task's error if nobody asks for it, as after a Ctrl-C."""
+    task.add_done_callback(lambda done: done.cancelled() or done.exception())

@@ -1,14 +1,23 @@
-"""How an `edgebpf.Cluster` ends: batches that were withdrawn."""
+"""How an `edgebpf.Cluster` ends: batches that were withdrawn, `close` beside other threads, callbacks, forks, Ctrl-C, and losses in a steady stream."""
+import asyncio
+import concurrent.futures
+import gc
+import os
 import pathlib
+import signal
 import sys
+import threading
 import time
 import unittest
 import unittest.mock
+import warnings
 
 sys.path.insert(0, str(pathlib.Path(__file__).resolve().parent))
 import test_cluster
-from test_cluster import edgebpf, np
+from test_cluster import edgebpf, no_memory, np, wild
 
+if np is not None:
+    from edgebpf import cluster_engine, cluster_router
 SECONDS = 30
 
 
@@ -19,6 +28,20 @@ def until(is_so):
         if time.monotonic() > ends:
             raise AssertionError("it does not become so")
         time.sleep(0.001)
+
+
+def outcome(call, *given):
+    """What a call returns or raises, in another thread."""
+    told = concurrent.futures.Future()
+
+    def work():
+        try:
+            told.set_result(call(*given))
+        except BaseException as error:
+            told.set_exception(error)
+
+    threading.Thread(target=work, daemon=True).start()
+    return told
 
 
 @unittest.skipIf(np is None, "not there: numpy")
@@ -65,3 +88,172 @@ class Ends(test_cluster.Base):
             self.raises(edgebpf.Error, "they may be in effect when the cluster begins again: it is full$", counts.result, SECONDS)
             self.assertEqual(cluster.pin().csr()[1].tolist(), [1, 2])
         self.assertEqual(self.edges(), (2, [1, 5, 2, 6]))
+
+    def test_no_memory_at_the_router(self):
+        """A batch that the router cannot cut is refused in words, and is not in the folder."""
+        with self.again(vertices=600, parts=3) as (cluster, _):
+            cluster.apply([0], [1])
+            with unittest.mock.patch.object(cluster_router, "cut", side_effect=MemoryError):
+                self.raises(edgebpf.NoMemory, "^the router has no memory for a batch, and no batch after 1 is taken$", cluster.apply, [0], [2])
+            self.raises(edgebpf.NoMemory, "^the router has no memory", cluster.begin([0], [2]).result, SECONDS)
+            self.assertEqual(cluster.pin().csr()[1].tolist(), [1])
+        self.assertEqual(self.edges(), (1, [1]))
+
+    def test_close_beside_others(self):
+        """Whoever waits as the cluster is closed is told so: readers, runs, batches, a checkpoint, and another `close`."""
+        with self.again(vertices=600, parts=3) as (cluster, engine):
+            cluster.apply([0, 300], [1, 2])
+            version, program, logged = cluster.pin(), edgebpf.assemble("ldxw r0, [r1+4]\nexit"), []
+            cluster._router.loop.set_exception_handler(lambda _, context: logged.append(context))
+            engine.most = SECONDS
+            waiting = [outcome(*one) for one in ((version.csr,), (version.run, program), (cluster.checkpoint,), (cluster.apply, [0], [4]))]
+            waiting.append(cluster.begin([0], [5]))
+            # All of them have begun to wait.
+            until(lambda: cluster._router.next == 3 and cluster._router._checkpointing.locked())
+            time.sleep(0.05)
+            begun = time.monotonic()
+            closed = [outcome(cluster.close) for _ in range(2)]
+            for one in waiting:
+                self.raises(edgebpf.Closed, "^the cluster is closed$", one.result, SECONDS)
+            self.assertEqual([one.result(SECONDS) for one in closed], [None] * 2)
+            self.assertLess(time.monotonic() - begun, SECONDS / 3)
+            for call in (version.csr, cluster.pin, cluster.checkpoint):
+                self.raises(edgebpf.Closed, "^the cluster is closed$", call)
+            gc.collect()
+            self.assertEqual(logged, [])
+            engine.most = 0.001
+        # A batch that was under way is in doubt, and the folder is free.
+        self.assertIn(self.edges(), [(1, [1, 2]), (3, [1, 4, 5, 2])])
+
+    def test_close_with_a_full_room(self):
+        """Who waits for room for a batch as the cluster is closed is told so."""
+        with unittest.mock.patch("edgebpf.cluster.MOST_UNDER_WAY", 2), wild() as (cluster, engine):
+            engine.held.extend(engine.placed)
+            counts = [cluster.begin([0], [1]), cluster.begin([0], [2])]
+            third = outcome(cluster.begin, [0], [3])
+            time.sleep(0.05)
+            self.assertFalse(third.done())
+            cluster.close()
+            for one in (*counts, third):
+                self.raises(edgebpf.Closed, "^the cluster is closed$", one.result, SECONDS)
+
+    def test_callbacks(self):
+        """A callback of a future, which runs in the cluster's own thread, is refused what would wait for ever; it may close the cluster."""
+        with wild() as (cluster, _):
+            told = []
+
+            def callback(_):
+                for call in (cluster.pin, lambda: cluster.begin([0], [1]), version.csr):
+                    try:
+                        call()
+                    except edgebpf.Error as error:
+                        told.append(str(error))
+                cluster.close()
+
+            version, counts = cluster.pin(), cluster.begin([0], [2])
+            counts.add_done_callback(callback)
+            self.assertEqual(counts.result(SECONDS).added, 1)
+            until(lambda: not cluster._router._thread.is_alive())
+            if told:
+                self.assertEqual([words[:40] for words in told], ["callbacks of a cluster's futures run in "] * 3)
+
+    def test_a_fork(self):
+        """A process that was forked has no cluster, and waits for nothing."""
+        with wild() as (cluster, _):
+            cluster.apply([0], [1])
+            with warnings.catch_warnings():
+                warnings.simplefilter("ignore")
+                child = os.fork()
+            if child == 0:
+                signal.alarm(SECONDS)
+                try:
+                    cluster.apply([0], [2])
+                except edgebpf.Closed:
+                    cluster.close()
+                    os._exit(0)
+                finally:
+                    os._exit(1)
+            until(lambda: os.waitpid(child, os.WNOHANG)[0] == child)
+            self.assertEqual(cluster.apply([0], [2]).version, 2)
+
+    def test_a_pin_that_nobody_waits_for(self):
+        """A Ctrl-C while a version is pinned leaves no pin, so that parts may forget."""
+        with wild() as (cluster, _):
+            self.addCleanup(signal.signal, signal.SIGALRM, signal.signal(signal.SIGALRM, signal.default_int_handler))
+            cluster._router.soon(time.sleep, 0.4)
+            signal.setitimer(signal.ITIMER_REAL, 0.1)
+            self.raises(KeyboardInterrupt, "", cluster.pin)
+            cluster.apply([0], [1])
+            self.assertEqual(dict(cluster._router.pins), {})
+
+    def test_batches_that_are_cancelled(self):
+        """A batch whose future is cancelled is in effect or not, and those after it are."""
+        with self.again(vertices=600, parts=3) as (cluster, engine):
+            engine.held.append(engine.placed[0])
+            counts = [cluster.begin([0, 300], [target, target]) for target in range(20)]
+            self.assertTrue(all(one.cancel() for one in counts[::3]))
+            engine.held.clear()
+            self.assertEqual([counts[place].result(SECONDS).added for place in range(20) if place % 3], [2] * 13)
+            version = cluster.pin()
+            there = version.neighbours(0).tolist()
+            self.assertEqual((version.neighbours(300).tolist(), [place for place in there if place % 3]), (there, [place for place in range(20) if place % 3]))
+            self.assertEqual(version.number, len(there))
+        self.assertEqual(self.edges(), (len(there), there * 2))
+
+    def test_losses_in_a_steady_stream(self):
+        """A part that has had what was there when it was lost may be lost again, also if it never has all, since batches go on to come."""
+        patches = unittest.mock.patch.multiple(cluster_router, MOST_LOSSES=1, MESSAGES=1, MESSAGE_EDITS=1, LOOK_SECONDS=0.005)
+        with patches, self.again(vertices=600, parts=2) as (cluster, engine):
+            waiting, count = [], 0
+            for _ in range(4):
+                cluster._router._parts[0].handle.lost.append("lost")
+                owed = count
+                while cluster._router._parts[0].done <= owed or len(waiting) < 20:
+                    count += 1
+                    waiting.append(cluster.begin([0], [count % 600]))
+                    if len(waiting) > 20:
+                        waiting.pop(0).result(SECONDS)
+            self.assertEqual([one.result(SECONDS).version for one in waiting], list(range(count - len(waiting) + 1, count + 1)))
+            self.assertEqual(len(engine.placed), 6)
+
+    def test_nothing_is_logged(self):
+        """Where several things fail at once, one is told, and asyncio complains of none of the others."""
+        logged = []
+        with self.again(vertices=600, parts=3) as (cluster, engine):
+            cluster._router.loop.set_exception_handler(lambda _, context: logged.append(context))
+            engine.most = 0
+            for _ in range(5):
+                with unittest.mock.patch.object(cluster_router, "MESSAGE_EDITS", 1):
+                    counts = [cluster.begin([0, 300], [target, target]) for target in range(30)]
+                    for part in cluster._router._parts:
+                        if part.is_live:
+                            part.handle.lost.append("lost")
+                    self.assertEqual(sum(one.result(SECONDS).added for one in counts), 60 if cluster.pin().number == 30 else 0)
+            with unittest.mock.patch.object(engine, "place", no_memory), unittest.mock.patch.object(cluster_router, "PATIENCE_SECONDS", 0):
+                version = cluster.pin()
+                for part in cluster._router._parts:
+                    part.handle.lost.append("lost")
+                until(lambda: all(part.is_over for part in cluster._router._parts))
+                self.raises(edgebpf.PartLost, "^part . was lost", version.csr)
+            gc.collect()
+        self.assertEqual(logged, [])
+
+    def test_an_answer_that_is_cancelled(self):
+        """A part whose answer the engine gives up is lost, and its task does not end with it."""
+        class Actor:
+            @staticmethod
+            async def apply():
+                raise asyncio.CancelledError
+
+        class Client:
+            class loop:
+                asyncio_loop = None
+
+        async def ask():
+            Client.loop.asyncio_loop = asyncio.get_running_loop()
+            engine = cluster_engine.Engine.__new__(cluster_engine.Engine)
+            engine._client = Client
+            future = unittest.mock.Mock(status="finished")
+            await engine.ask(cluster_engine.Handle(Actor, future, "here"), "apply")
+
+        self.raises(cluster_engine.Gone, "^the client was closed$", asyncio.run, ask())
