@@ -77,6 +77,9 @@ OWN = {
         "MOST_PARTS": ("`parts=` of a `Cluster`", "`ValueError`"),
         "MOST_UNDER_WAY": ("batches of a `Cluster` that are not committed", "the next one waits"),
     },
+    "bindings/python/edgebpf/cluster_part.py": {
+        "MOST_READERS": ("questions that a part of a `Cluster` answers at once, runs too", "the next one waits"),
+    },
     "bindings/python/edgebpf/given.py": {"MOST_THREADS": ("`threads=` of a call in Python", "`ValueError`")},
     "bindings/rust/src/steps.rs": {"MOST_THREADS": ("threads of a call in Rust", "as many as the limit work on it")},
     "tools/playground/reading.js": {

@@ -32,7 +32,8 @@ WHOLE_LIST = np.uint32((1 << 32) - 1)
 REBASE_BATCHES = 256
 # It also does if its log is so long, as copies of long lists are many batches.
 MOST_LOG = MOST_BATCHES // 2
-READERS = 4
+# Questions that a part answers at once.
+MOST_READERS = 4
 # If one of so many values was changed, all are sent without their vertices.
 DENSE = 2
 # Programs that stay verified, and runs that were cancelled and are known.
@@ -202,7 +203,7 @@ class Part:
         self._early: dict[int, tuple[Edits, Edits]] = {}
         self._versions: dict[int, Version] = {}
         self._applying, self._cancelled = threading.Lock(), collections.deque[int](maxlen=MOST_CANCELLED)
-        self._readers = concurrent.futures.ThreadPoolExecutor(READERS, thread_name_prefix="edgebpf-part")
+        self._readers = concurrent.futures.ThreadPoolExecutor(MOST_READERS, thread_name_prefix="edgebpf-part")
 
     def begin(self, era: int, release: str, vertices: int, number: int, base: Base) -> int:
         """Begins with the graph of a number, and returns how many edges the part has then."""

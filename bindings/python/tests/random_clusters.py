@@ -34,6 +34,8 @@ from edgebpf import cluster, cluster_copies, cluster_part, cluster_router
 from edgebpf.cluster_engine import Gone
 from programs import Programs
 
+# After so long something hangs, also on a machine with much to do.
+HANGS_SECONDS = 300
 SIZES = (1, 255, 256, 257, 600, 3_000)
 REDUCTIONS = ("sum", "min", "max")
 # The target, the place with the degree, what helpers say of the source, and what an argument and a table have; of each what record it wants.
@@ -157,7 +159,7 @@ class Trial:
     def finish(self):
         """Waits for all batches."""
         for number, wanted, counts in self.under_way:
-            told = counts.result(60)
+            told = counts.result(HANGS_SECONDS)
             same(f"batch {number}", (told.version, told.added, told.removed), (number, wanted.added, wanted.removed))
         self.under_way = []
 
@@ -270,7 +272,7 @@ class Trial:
         self.finish()
         one, parts = self.versions[self.number], self.cluster._router._parts
         starts, targets = one.csr()
-        ends = time.monotonic() + 60
+        ends = time.monotonic() + HANGS_SECONDS
         while any(part.done < self.number or part.handle.lost for part in parts):
             if time.monotonic() > ends:
                 raise Difference("a part that was lost does not begin again")
@@ -294,7 +296,7 @@ class Trial:
             return self.cluster._router.low()
 
         # A part that gets copies has a version pinned, too.
-        low = min([self.cluster.pin().number, *(version.number for version in self.pins), self.cluster._router.call(lowest()).result(60)])
+        low = min([self.cluster.pin().number, *(version.number for version in self.pins), self.cluster._router.call(lowest()).result(HANGS_SECONDS)])
         number = self.cluster.checkpoint()
         if number < low or number > self.number:
             raise Difference(f"a checkpoint at {number}, and not from {low} to {self.number}")
@@ -314,7 +316,7 @@ class Trial:
                 router.soon(copy)
 
         router.soon(copy)
-        acknowledged = copied.result(60)
+        acknowledged = copied.result(HANGS_SECONDS)
         self.close()
         self.open()
         now = self.cluster.pin()

@@ -343,15 +343,16 @@ class OverAnEngine(Base):
             begun = time.monotonic()
             for call in (lambda: version.run(hostile, seconds=0.05), lambda: version.numbers(hostile, seconds=0.05),
                          lambda: version.pairs(hostile, range(600), range(600), seconds=0.05)):
-                with self.assertRaisesRegex(edgebpf.TimedOut, "^0.05 seconds were over$") as told:
+                # It is the parts that end it, and not those who wait, also on a machine with much to do.
+                with unittest.mock.patch("edgebpf.cluster.LATE_SECONDS", 60), self.assertRaisesRegex(edgebpf.TimedOut, "^0.05 seconds were over$") as told:
                     call()
                 self.assertIsNone(told.exception.run)
-            self.assertLess(time.monotonic() - begun, 5)
+            self.assertLess(time.monotonic() - begun, 30)
             self.addCleanup(signal.signal, signal.SIGALRM, signal.signal(signal.SIGALRM, signal.default_int_handler))
             signal.setitimer(signal.ITIMER_REAL, 0.2)
             with self.assertRaises(KeyboardInterrupt):
                 version.run(hostile)
-            ends = time.monotonic() + 5
+            ends = time.monotonic() + 30
             while running and time.monotonic() < ends:
                 time.sleep(0.01)
             self.assertEqual(running, [])
@@ -581,7 +582,9 @@ class OverDask(Base):
         """Two worker processes, three parts: workers of another release; a random stream in which workers are killed, and the router's process."""
         from edgebpf.cluster_engine import Engine
 
-        with dask(2) as client, tempfile.TemporaryDirectory() as folder:
+        # On a machine with much to do a worker that was killed is there again later than a cluster waits.
+        patience = unittest.mock.patch.object(cluster_router, "PATIENCE_SECONDS", 600)
+        with patience, dask(2) as client, tempfile.TemporaryDirectory() as folder:
             client.run(set_release, "0.0.9")
             self.raises(edgebpf.Error, "^a worker has edgebpf 0.0.9, and the cluster", edgebpf.Cluster, client, 4)
             client.run(set_release, edgebpf.__version__)
@@ -599,7 +602,7 @@ class OverDask(Base):
 
     def kill_beside_a_wrong_worker(self, client, folder):
         """A part that is lost does not stay with a worker that has another release."""
-        client.wait_for_workers(2, timeout=30)
+        client.wait_for_workers(2, timeout=300)
         with edgebpf.Cluster(client, 600, 1, folder) as cluster:
             cluster.apply([0], [1])
             mine = cluster._router._parts[0].handle.worker
