@@ -2,6 +2,7 @@
 so that a part may begin again on any worker."""
 from __future__ import annotations
 
+import concurrent.futures
 import contextlib
 import pathlib
 import sqlite3
@@ -18,6 +19,8 @@ SERVES = "edgebpf-serve"
 PARTS = "parts"
 # Batches that are read at once for a part that begins again.
 MOST_READ = 256
+# Threads that read and write checkpoints.
+FILES = 4
 
 
 class Journal:
@@ -27,6 +30,8 @@ class Journal:
     def __init__(self, folder: Any, vertices: int | None, count: int, usual: int) -> None:
         self._disk, self._rows = (module("edgebpf_serve", name, SERVES) for name in ("disk", "rows"))
         self.folder, self._all = pathlib.Path(folder), list[Any]()
+        # The threads of `read` and `write`.
+        self.files = concurrent.futures.ThreadPoolExecutor(FILES, thread_name_prefix="edgebpf-files")
         with self._told():
             try:
                 self._batches = self._opened(self.folder, vertices)
@@ -135,6 +140,8 @@ class Journal:
             return bool(self._batches.cut(min((rows[1][0] if len(rows) > 1 else 0) for rows in kept)))
 
     def close(self) -> None:
+        """Gives the folder up, once nothing is written there any more."""
+        self.files.shutdown()
         for disk in self._all:
             disk.close()
         self._all = []

@@ -138,7 +138,7 @@ class Router:
         part.era += 1
         era, number, base = part.era, 0, None
         if self.journal is not None:
-            number, base = await self.loop.run_in_executor(None, self.journal.read, part.place, self.journal.rows(part.place))
+            number, base = await self.loop.run_in_executor(self.journal.files, self.journal.read, part.place, self.journal.rows(part.place))
         handle = await self.engine.place()
         try:
             edges = await self.engine.ask(handle, "begin", era, edgebpf.__version__, self.vertices, number, base)
@@ -459,7 +459,7 @@ class Router:
             try:
                 for part in self._parts:
                     arrays = await self._read(part, number, *self.csr_of(part.place))
-                    journal.enter(part.place, await self.loop.run_in_executor(None, journal.write, part.place, number, *arrays))
+                    journal.enter(part.place, await self.loop.run_in_executor(journal.files, journal.write, part.place, number, *arrays))
                 while not journal.cut(number):
                     await asyncio.sleep(0)
             finally:

@@ -125,6 +125,26 @@ class Ends(test_cluster.Base):
         # A batch that was under way is in doubt, and the folder is free.
         self.assertIn(self.edges(), [(1, [1, 2]), (3, [1, 4, 5, 2])])
 
+    def test_close_beside_a_write(self):
+        """After `close` no thread writes into the folder, which another process may have then."""
+        with self.again(vertices=600, parts=2) as (cluster, _):
+            cluster.apply([0, 300], [1, 2])
+            part, written = cluster._router.journal._parts[0], []
+            write = part.write_snapshot
+
+            def slow(*given):
+                written.append("begun")
+                time.sleep(0.3)
+                written.append(write(*given)[0])
+
+            with unittest.mock.patch.object(part, "write_snapshot", slow):
+                number = outcome(cluster.checkpoint)
+                until(lambda: written)
+                cluster.close()
+            self.assertEqual(written, ["begun", 1])
+            self.raises(edgebpf.Closed, "^the cluster is closed$", number.result, SECONDS)
+        self.assertEqual(self.edges(), (1, [1, 2]))
+
     def test_close_with_a_full_room(self):
         """Who waits for room for a batch as the cluster is closed is told so."""
         with unittest.mock.patch("edgebpf.cluster.MOST_UNDER_WAY", 2), wild() as (cluster, engine):
@@ -204,17 +224,23 @@ class Ends(test_cluster.Base):
         """A part that has had what was there when it was lost may be lost again, also if it never has all, since batches go on to come."""
         patches = unittest.mock.patch.multiple(cluster_router, MOST_LOSSES=1, MESSAGES=1, MESSAGE_EDITS=1, LOOK_SECONDS=0.005)
         with patches, self.again(vertices=600, parts=2) as (cluster, engine):
-            waiting, count = [], 0
-            for _ in range(4):
-                cluster._router._parts[0].handle.lost.append("lost")
-                owed = count
-                while cluster._router._parts[0].done <= owed or len(waiting) < 20:
-                    count += 1
-                    waiting.append(cluster.begin([0], [count % 600]))
+            waiting, told, part = [], [], cluster._router._parts[0]
+
+            def stream(is_so):
+                """Hands batches in until something is so, of which 20 are always under way."""
+                while not is_so() or len(waiting) < 20:
+                    self.assertIsNone(cluster._router.failure)
+                    waiting.append(cluster.begin([0], [len(told) % 600]))
                     if len(waiting) > 20:
-                        waiting.pop(0).result(SECONDS)
-            self.assertEqual([one.result(SECONDS).version for one in waiting], list(range(count - len(waiting) + 1, count + 1)))
-            self.assertEqual(len(engine.placed), 6)
+                        told.append(waiting.pop(0).result(SECONDS).version)
+                    self.assertLess(len(told), 20_000)
+
+            for loss in range(1, 5):
+                part.handle.lost.append("lost")
+                stream(lambda: len(engine.placed) == 2 + loss)
+                stream(lambda: not part.losses)
+            told += [one.result(SECONDS).version for one in waiting]
+            self.assertEqual((told, len(engine.placed)), (list(range(1, len(told) + 1)), 6))
 
     def test_nothing_is_logged(self):
         """Where several things fail at once, one is told, and asyncio complains of none of the others."""
