@@ -9,6 +9,7 @@ import sqlite3
 import subprocess
 import sys
 import tempfile
+import threading
 import time
 import unittest
 import unittest.mock
@@ -41,14 +42,35 @@ def dask(workers):
     """A client of so many worker processes, which end with it. What Dask warns of is not tested here."""
     with warnings.catch_warnings():
         warnings.simplefilter("ignore")
+        import dask.config
         import distributed
 
+        # One that is killed is begun again once: on a machine with much to do it may take more than half a minute to find the scheduler.
+        dask.config.set({"distributed.comm.timeouts.connect": "300s", "distributed.comm.timeouts.tcp": "300s"})
         more = {"threads_per_worker": 1, "processes": True, "memory_limit": 0} if workers else {}
         with distributed.Client(n_workers=workers, dashboard_address=None, silence_logs=50, **more) as client:
             yield client
 
 
 class Base(unittest.TestCase):
+    def run(self, result=None):
+        """A test that hangs fails, and the next one runs."""
+        if np is None:
+            return super().run(result)
+
+        def fail(*_):
+            raise AssertionError(f"the test hangs: it has taken {random_clusters.HANGS_SECONDS} seconds")
+
+        before = signal.signal(signal.SIGUSR1, fail)
+        watch = threading.Timer(random_clusters.HANGS_SECONDS, signal.pthread_kill, (threading.main_thread().ident, signal.SIGUSR1))
+        watch.daemon = True
+        watch.start()
+        try:
+            return super().run(result)
+        finally:
+            watch.cancel()
+            signal.signal(signal.SIGUSR1, before)
+
     def raises(self, kind, words, call, *given, **more):
         with self.assertRaisesRegex(kind, words) as told:
             call(*given, **more)

@@ -89,6 +89,24 @@ class Ends(test_cluster.Base):
             self.assertEqual(cluster.pin().csr()[1].tolist(), [1, 2])
         self.assertEqual(self.edges(), (2, [1, 5, 2, 6]))
 
+    def test_synced_before_it_is_sent(self):
+        """No part gets a batch that is not in the journal, of which each transaction is synced."""
+        with self.again(vertices=600, parts=3) as (cluster, engine):
+            batches, ask, late = cluster._router.journal._batches, engine.ask, []
+            self.assertEqual([batches.db.execute(f"pragma {name}").fetchone()[0] for name in ("synchronous", "journal_mode")], [2, "wal"])
+
+            async def asked(worker, method, *given):
+                if method == "apply":
+                    with batches.reader() as db:
+                        there = db.execute("select max(seq) from journal").fetchone()[0] or 0
+                    late.append(given[1] + len(given[2].ends) - 1 > there)
+                return await ask(worker, method, *given)
+
+            with unittest.mock.patch.object(engine, "ask", asked):
+                counts = [cluster.begin([0, 300], [target, target]) for target in range(40)]
+                self.assertEqual([one.result(SECONDS).added for one in counts], [2] * 40)
+            self.assertEqual((len(late) >= 3, any(late)), (True, False))
+
     def test_no_memory_at_the_router(self):
         """A batch that the router cannot cut is refused in words, and is not in the folder."""
         with self.again(vertices=600, parts=3) as (cluster, _):
