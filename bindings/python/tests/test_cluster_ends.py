@@ -238,6 +238,30 @@ class Ends(test_cluster.Base):
             self.assertEqual(version.number, len(there))
         self.assertEqual(self.edges(), (len(there), there * 2))
 
+    def test_what_a_lost_part_told(self):
+        """What a part told before it was lost does not count for the one that begins again, which tells of each batch itself."""
+        patches = unittest.mock.patch.multiple(cluster_router, MESSAGES=1, MESSAGE_EDITS=1)
+        with patches, self.again(vertices=600, parts=3) as (cluster, engine):
+            parts, ask, free = cluster._router._parts, engine.ask, []
+
+            async def asked(worker, method, *given):
+                # The one that begins again gets one batch, and then waits.
+                while method == "apply" and worker is engine.placed[-1] and given[1] > 1 and not free:
+                    await asyncio.sleep(0.001)
+                return await ask(worker, method, *given)
+
+            engine.held.append(engine.placed[1])
+            counts = [cluster.begin([0, 300], [target, target]) for target in range(3)]
+            until(lambda: parts[0].done == parts[2].done == 3)
+            with unittest.mock.patch.object(engine, "ask", asked):
+                engine.placed[0].lost.append("lost")
+                until(lambda: len(engine.placed) == 4)
+                engine.held.clear()
+                until(lambda: parts[1].done == 3 and counts[0].done())
+                self.assertEqual((parts[0].own, cluster.pin().number, counts[1].done()), (1, 1, False))
+                free.append("free")
+                self.assertEqual([one.result(SECONDS) for one in counts], [edgebpf.Counts(number, 2, 0) for number in (1, 2, 3)])
+
     def test_losses_in_a_steady_stream(self):
         """A part that has had what was there when it was lost may be lost again, also if it never has all, since batches go on to come."""
         patches = unittest.mock.patch.multiple(cluster_router, MOST_LOSSES=1, MESSAGES=1, MESSAGE_EDITS=1, LOOK_SECONDS=0.005)
