@@ -11,7 +11,7 @@ import unittest
 
 from tools_here import MISSING, PYTHON, TOOLS, newest, run_tool
 
-HAS_AIOHTTP = importlib.util.find_spec("aiohttp") is not None
+HAS_SERVICE = all(importlib.util.find_spec(name) for name in ("aiohttp", "cffi", "numpy", "prometheus_client"))
 HAS_NUMPY = importlib.util.find_spec("numpy") is not None
 STORE = str(TOOLS / "tests" / "second_store.py")
 EDGES = "".join(f"{vertex} {vertex + 1}\n" for vertex in range(200_000))
@@ -129,7 +129,7 @@ class Ends(unittest.TestCase):
         # These two import more than the others before they can clean up.
         steps, told = {"edgebpf-client": 0.015, "edgebpf-serve": 0.05}, set()
         for name, words in asked.items():
-            if name == "edgebpf-serve" and not HAS_AIOHTTP:
+            if name == "edgebpf-serve" and not HAS_SERVICE:
                 continue
             for place in range(16):
                 run = subprocess.Popen(
