@@ -9,7 +9,7 @@ import os
 import threading
 import weakref
 from collections.abc import Callable
-from typing import Any
+from typing import Any, NamedTuple
 
 import numpy as np
 import numpy.typing as npt
@@ -21,7 +21,7 @@ from edgebpf.cluster_part import REMOVE, Asked, owners
 from edgebpf.cluster_router import Router
 from edgebpf.errors import Closed, NotHere, TimedOut, TooManyEdits
 from edgebpf.given import (
-    NO_COLUMNS, Columns, Edges, Numbers, Pairs, Vertices, columns_of, edits_of, edits_of_batch, ends_of_pairs, reduction_of, seconds_of,
+    NO_COLUMNS, Columns, Edges, Numbers, Pairs, Vertices, columns_of, edits_of, edits_of_batch, ends_of_pairs, reduction_of, seconds_of, threads_of,
     values_into, vertex_count, vertex_of, vertices_of, whole,
 )
 from edgebpf.given import columns as ends_of
@@ -156,6 +156,13 @@ class Cluster:
         self.close()
 
 
+class Effort(NamedTuple):
+    """How a run is made: how many seconds it may take, and by how many threads of each part."""
+
+    seconds: float | None
+    threads: int
+
+
 class ClusterVersion:
     """A version of a cluster's graph, by its number in all parts. `vertices` and `edges` are how large it is. Threads may use it at the same time.
     Parts keep it until it is closed, or dropped. A question waits for a part that begins again, and raises `PartLost` if no worker takes it."""
@@ -196,12 +203,14 @@ class ClusterVersion:
         return answers
 
     def _run(
-        self, program: Program, kind: str, reduction: str, ends: tuple[Vertices, ...], inputs: Inputs, seconds: float | None,
+        self, program: Program, kind: str, reduction: str, ends: tuple[Vertices, ...], inputs: Inputs, effort: Effort,
     ) -> tuple[Any, dict[int, Any]]:
         """Where the sources of each part stand, and what a run gives over them."""
         handle_of(program)
-        argument, lasts = argument_of(program, inputs.argument, len(inputs.columns)), None if seconds is None else seconds_of(seconds)
-        asked = Asked(kind, program.assembled(), program.record, program.table, argument, reduction, lasts, next(TOKENS))
+        argument = argument_of(program, inputs.argument, len(inputs.columns))
+        seconds = None if effort.seconds is None else seconds_of(effort.seconds)
+        code, threads = program.assembled(), threads_of(effort.threads)
+        asked = Asked(kind, code, program.record, program.table, argument, reduction, seconds, threads, next(TOKENS))
         asks = OWN if self._router.trusts else asks_about(asked.code)
         refuse(asks, self._router.asks)
         places, given = self._split(*ends)
@@ -240,14 +249,14 @@ class ClusterVersion:
 
     def run(
         self, program: Program, reduction: str = "sum", frontier: npt.ArrayLike | None = None, argument: bytes = b"", *,
-        columns: Columns = NO_COLUMNS, seconds: float | None = None,
+        columns: Columns = NO_COLUMNS, seconds: float | None = None, threads: int = 1,
     ) -> Result:
         """Runs a program for each edge of some vertices, each part its own, and reduces the numbers, as `Version.run` does. Raises `NotHere` for a
         program that may ask the graph about other vertices than the cluster is for: its edge's source, with `copies` its target too, and with
         `whole` any. Raises `TimedOut`, whose `run` is None, after so many seconds. A Ctrl-C ends the run in all parts. Columns are sent whole to each
-        part."""
+        part. threads: so many threads of each part share its sources, 1 to 64."""
         chosen = self._frontier(frontier)
-        places, answers = self._run(program, "run", reduction_of(reduction), (chosen,), self._inputs(argument, columns), seconds)
+        places, answers = self._run(program, "run", reduction_of(reduction), (chosen,), self._inputs(argument, columns), Effort(seconds, threads))
         values = np.empty(len(chosen), np.uint64)
         for place, (_, _, found) in answers.items():
             values[places[place]] = found
@@ -255,13 +264,13 @@ class ClusterVersion:
 
     def push(
         self, program: Program, reduction: str = "sum", frontier: npt.ArrayLike | None = None, argument: bytes = b"", *, into: Numbers,
-        columns: Columns = NO_COLUMNS, changed: bool = False, seconds: float | None = None,
+        columns: Columns = NO_COLUMNS, changed: bool = False, seconds: float | None = None, threads: int = 1,
     ) -> Pushed:
         """Runs a program for each edge of some vertices, and reduces the number of each edge into the value of its target, as `Version.push` does. Each
         part reduces into values of its own, which are joined with `into`. After an error `into` is as it was."""
         inputs = self._inputs(argument, columns)
         values, ends = values_into(into, self.vertices, inputs.columns), (self._frontier(frontier),)
-        _, answers = self._run(program, "push", reduction_of(reduction), ends, inputs, seconds)
+        _, answers = self._run(program, "push", reduction_of(reduction), ends, inputs, Effort(seconds, threads))
         before = values.copy() if changed else None
         for _, _, some, found in answers.values():
             at = slice(None) if some is None else some
@@ -271,21 +280,21 @@ class ClusterVersion:
 
     def numbers(
         self, program: Program, argument: bytes = b"", frontier: npt.ArrayLike | None = None, *, columns: Columns = NO_COLUMNS,
-        seconds: float | None = None,
+        seconds: float | None = None, threads: int = 1,
     ) -> Numbers:
         """The number of each edge in the order of `csr`, or of a frontier's edges, as `Version.numbers` has them. Raises what `run` raises."""
         chosen = self._frontier(frontier)
-        places, answers = self._run(program, "numbers", "", (chosen,), self._inputs(argument, columns), seconds)
+        places, answers = self._run(program, "numbers", "", (chosen,), self._inputs(argument, columns), Effort(seconds, threads))
         numbers: Numbers = joined(len(chosen), [(places[place], *answer) for place, answer in answers.items()], np.uint64)[1]
         return numbers
 
     def pairs(
         self, program: Program, sources: npt.ArrayLike, targets: npt.ArrayLike, argument: bytes = b"", *,
-        columns: Columns = NO_COLUMNS, seconds: float | None = None,
+        columns: Columns = NO_COLUMNS, seconds: float | None = None, threads: int = 1,
     ) -> Numbers:
         """A number for each pair of a source and a target, which need not be an edge, as `Version.pairs` has them. Raises what `run` raises."""
         ends = ends_of_pairs(sources, targets)
-        places, answers = self._run(program, "pairs", "", ends, self._inputs(argument, columns), seconds)
+        places, answers = self._run(program, "pairs", "", ends, self._inputs(argument, columns), Effort(seconds, threads))
         numbers = np.empty(len(ends[0]), np.uint64)
         for place, (answer,) in answers.items():
             numbers[places[place]] = answer
@@ -293,12 +302,12 @@ class ClusterVersion:
 
     def each(
         self, program: Program, reduction: str = "sum", frontier: npt.ArrayLike | None = None, argument: bytes = b"", *, into: Numbers,
-        columns: Columns = NO_COLUMNS, changed: bool = False, seconds: float | None = None,
+        columns: Columns = NO_COLUMNS, changed: bool = False, seconds: float | None = None, threads: int = 1,
     ) -> Visited:
         """Runs a program once for each vertex of a frontier, whose number becomes the vertex's value in `into`, as `Version.each` does."""
         start, combine = REDUCTIONS[reduction_of(reduction)]
         values, chosen = values_into(into, self.vertices, columns_of(columns, self.vertices)), self._frontier(frontier)
-        numbers = self.pairs(program, chosen, chosen, argument, columns=columns, seconds=seconds)
+        numbers = self.pairs(program, chosen, chosen, argument, columns=columns, seconds=seconds, threads=threads)
         before = values.copy() if changed else None
         values[chosen] = numbers
         others = None if before is None else np.flatnonzero(before != values).astype(np.uint32)

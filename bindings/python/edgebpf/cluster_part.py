@@ -20,7 +20,7 @@ from edgebpf.given import Numbers, Vertices
 from edgebpf.limits import MOST_BATCHES, MOST_EDITS, RANGE_VERTICES
 from edgebpf.native import Store, Version
 from edgebpf.programs import Program
-from edgebpf.steps import Steps, end_after
+from edgebpf.steps import End, Steps, end_after
 from edgebpf.store import REDUCTIONS, Counts
 
 # Edits as two words each: the source, with this bit if the edge is taken out, and the target.
@@ -36,6 +36,8 @@ MOST_LOG = MOST_BATCHES // 2
 MOST_READERS = 4
 # If one of so many values was changed, all are sent without their vertices.
 DENSE = 2
+# Each thread of a run takes so many pieces of it, so that none waits long for another; and a piece has so many sources at least.
+PIECES_OF_A_THREAD, LEAST_PIECE = 4, 256
 # Programs that stay verified, and runs that were cancelled and are known.
 MOST_PROGRAMS, MOST_CANCELLED = 64, 1_000
 # What a part tells of a batch: its number, how many edges came and went, and how many there are.
@@ -83,8 +85,9 @@ class Batches(NamedTuple):
 
 
 class Asked(NamedTuple):
-    """What a run is asked: its kind (`run`, `numbers`, `pairs` or `push`), a program, its argument, a reduction, how long it may take, a number by
-    which it is cancelled, and edits that put in the lists of vertices that pairs name, for a part that has none of them."""
+    """What a run is asked: its kind (`run`, `numbers`, `pairs` or `push`), a program, its argument, a reduction, how long it may take, by how many
+    threads of each part, a number by which it is cancelled, and edits that put in the lists of vertices that pairs name, for a part that has none of
+    them."""
 
     kind: str
     code: bytes
@@ -93,6 +96,7 @@ class Asked(NamedTuple):
     argument: bytes
     reduction: str
     seconds: float | None
+    threads: int
     token: int
     lists: Edits | None = None
 
@@ -122,11 +126,16 @@ def with_more(version: Version, edits: Edits) -> Version:
         return store.pin()
 
 
+def in_pieces(asked: Asked, ends: Sequence[Vertices]) -> list[Sequence[Vertices]]:
+    """The ends of a run in pieces for its threads. Each piece of a push has an array of all vertices, so there is one for each thread."""
+    most = asked.threads * (1 if asked.kind == "push" or asked.threads == 1 else PIECES_OF_A_THREAD)
+    count = max(1, min(most, len(ends[0]) // LEAST_PIECE))
+    return list(zip(*(np.array_split(each, count) for each in ends)))
+
+
 def begun(version: Version, asked: Asked, ends: Sequence[Vertices], columns: list[Numbers]) -> Any:
-    """A run over the sources of a part, of which nothing is done yet. `ends` are a frontier, or the sources and the targets of pairs."""
+    """A run over sources of a part, of which nothing is done yet. `ends` are a frontier, or the sources and the targets of pairs."""
     program = program_of(asked.code, asked.record, asked.table)
-    if asked.lists is not None:
-        version = with_more(version, asked.lists)
     if asked.kind == "pairs":
         return version.begin_pairs(program, ends[0], ends[1], asked.argument, columns=columns)
     if asked.kind == "numbers":
@@ -137,24 +146,27 @@ def begun(version: Version, asked: Asked, ends: Sequence[Vertices], columns: lis
     return version.begin_push(program, asked.reduction, ends[0], asked.argument, into=into, columns=columns)
 
 
-def answer_of(work: Any, asked: Asked, version: Version, ends: Sequence[Vertices]) -> tuple[Any, ...]:
-    """What a run gave: edges, total and values; for a push those that edges changed, and their vertices, or all if they are many; where the numbers of
-    each vertex begin, and the numbers; or the numbers of pairs."""
+def answer_of(works: list[Any], asked: Asked, version: Version, ends: Sequence[Vertices]) -> tuple[Any, ...]:
+    """What the pieces of a run gave: edges, total and values; for a push those that edges changed, and their vertices, or all if they are many; where the
+    numbers of each vertex begin, and the numbers; or the numbers of pairs."""
     if asked.kind == "pairs":
-        return (work.numbers,)
+        return (np.concatenate([work.numbers for work in works]),)
     if asked.kind == "numbers":
-        return np.append(np.int64(0), np.cumsum(version.degrees(ends[0]), dtype=np.int64)), work.numbers
+        starts = np.append(np.int64(0), np.cumsum(version.degrees(ends[0]), dtype=np.int64))
+        return starts, np.concatenate([work.numbers for work in works])
+    start, combine = REDUCTIONS[asked.reduction]
+    edges, total = sum(work.edges for work in works), int(combine.reduce(np.array([work.total for work in works], np.uint64)))
     if asked.kind == "run":
-        return work.edges, work.total, work.values
-    changed = np.flatnonzero(work.values != REDUCTIONS[asked.reduction][0]).astype(np.uint32)
-    if DENSE * len(changed) >= len(work.values):
-        return work.edges, work.total, None, work.values
-    return work.edges, work.total, changed, work.values[changed]
+        return edges, total, np.concatenate([work.values for work in works])
+    values = functools.reduce(combine, [work.values for work in works])
+    changed = np.flatnonzero(values != start).astype(np.uint32)
+    if DENSE * len(changed) >= len(values):
+        return edges, total, None, values
+    return edges, total, changed, values[changed]
 
 
-def finished(work: Steps, asked: Asked, cancelled: collections.deque[int]) -> bool:
-    """Does all that is left, in steps, unless the seconds end before, or it is cancelled."""
-    end = end_after(asked.seconds)
+def finished(work: Steps, asked: Asked, end: End | None, cancelled: collections.deque[int]) -> bool:
+    """Does all that is left, in steps, unless it is the end of its time before, or it is cancelled."""
     while not work.done:
         if asked.token in cancelled:
             return False
@@ -286,8 +298,12 @@ class Part:
         """What a run over some vertices, or pairs, gives; None if it was ended."""
         *ends, columns, asked = given
         # What came over a network may lie at any address.
-        work = begun(version, asked, ends, [np.require(column, np.uint64, ["C", "A"]) for column in columns])
-        return answer_of(work, asked, version, ends) if finished(work, asked, self._cancelled) else None
+        columns = [np.require(column, np.uint64, ["C", "A"]) for column in columns]
+        end, lent = end_after(asked.seconds), version if asked.lists is None else with_more(version, asked.lists)
+        works = [begun(lent, asked, piece, columns) for piece in in_pieces(asked, ends)]
+        with concurrent.futures.ThreadPoolExecutor(min(asked.threads, len(works))) as threads:
+            are_done = all([*threads.map(lambda work: finished(work, asked, end, self._cancelled), works)])
+        return answer_of(works, asked, version, ends) if are_done else None
 
     def _of(self, era: int) -> Store:
         if era != self.era or self._store is None:

@@ -229,28 +229,30 @@ class Trial:
         # What the record has beyond the edge's own bytes are numbers of columns, as far as these go, or an argument.
         count = self.chance.randint(0, (program.record - 16) // 16)
         given = {"argument": self.chance.randbytes(program.record - 16 - 16 * count), "columns": [self.numbers() for _ in range(count)]}
+        threads = self.chance.choice((1, 1, 3))
         if kind == 4:
             given["reduction"], begins = self.chance.choice(REDUCTIONS), self.numbers()
             given["frontier"] = None if self.chance.random() < 0.5 else self.chance.choices((*self.chosen, self.vertices - 1), k=self.chance.randrange(30))
             values = begins.copy(), begins.copy()
             kind = self.chance.choice(("push", "each"))
-            told = [getattr(graph, kind)(program, into=into, changed=True, **given) for graph, into in zip((version, one), values)]
+            more = {"threads": threads}, {}
+            told = [getattr(graph, kind)(program, into=into, changed=True, **given, **by) for graph, into, by in zip((version, one), values, more)]
             same(kind, *((*one, into) for one, into in zip(told, values)))
             return
         if kind == 3:
             most = self.chance.choice((self.vertices, 1 << 32))
             ends = [self.chance.choices((*self.chosen, self.chance.randrange(most)), k=20) for _ in range(2)]
-            same("pairs", version.pairs(program, *ends, **given), one.pairs(program, *ends, **given))
+            same("pairs", version.pairs(program, *ends, **given, threads=threads), one.pairs(program, *ends, **given))
             return
         if kind < 2:
             given["frontier"] = self.chance.choices((*self.chosen, self.vertices - 1), k=self.chance.randrange(30))
         if self.chance.random() < 0.3:
             given["seconds"] = 60
         if self.chance.random() < 0.5:
-            same("numbers", version.numbers(program, **given), one.numbers(program, **given))
+            same("numbers", version.numbers(program, **given, threads=threads), one.numbers(program, **given))
             return
         given["reduction"] = self.chance.choice(REDUCTIONS)
-        answers = [graph.run(program, **given) for graph in (version, one)]
+        answers = [version.run(program, **given, threads=threads), one.run(program, **given)]
         same("run", *((answer.edges, answer.total, answer.values) for answer in answers))
 
     def step(self):
@@ -331,7 +333,7 @@ class Trial:
 
 def lossy_stream(chance, steps=80):
     """One random stream with losses, and how many batches and losses it had."""
-    patches = (cluster_part, "REBASE_BATCHES", chance.randint(1, 7)), (cluster_router, "LOOK_SECONDS", 0.005), \
+    patches = (cluster_part, "REBASE_BATCHES", chance.randint(1, 7)), (cluster_part, "LEAST_PIECE", 2), (cluster_router, "LOOK_SECONDS", 0.005), \
         (cluster_router, "CHECKPOINT_BATCHES", chance.randint(5, 30)), (cluster_copies, "LEAST_LOOK", 2)
     with tempfile.TemporaryDirectory() as folder, contextlib.ExitStack() as stack:
         for patch in patches:
@@ -353,7 +355,10 @@ def lossy_stream(chance, steps=80):
 
 def stream(chance, steps=80):
     """One random stream, and how many batches it had."""
-    with unittest.mock.patch.object(cluster_part, "REBASE_BATCHES", chance.randint(1, 7)), unittest.mock.patch.object(cluster_copies, "LEAST_LOOK", 2):
+    patches = (cluster_part, "REBASE_BATCHES", chance.randint(1, 7)), (cluster_part, "LEAST_PIECE", 2), (cluster_copies, "LEAST_LOOK", 2)
+    with contextlib.ExitStack() as stack:
+        for patch in patches:
+            stack.enter_context(unittest.mock.patch.object(*patch))
         trial = Trial(chance)
         try:
             for _ in range(steps):

@@ -380,6 +380,48 @@ class OverAnEngine(Base):
             self.assertEqual(running, [])
             self.assertEqual(version.run(edgebpf.assemble(TARGET)).edges, 60_000)
 
+    def test_threads(self):
+        """Several threads of each part make a run, and its answer is that of one."""
+        at_work, most = [], []
+
+        def counted(*given):
+            at_work.append(given)
+            most.append(len(at_work))
+            try:
+                # Whoever begins meanwhile is at work beside this one.
+                time.sleep(0.02)
+                return finished(*given)
+            finally:
+                at_work.remove(given)
+
+        finished, vertices = cluster_part.finished, 4096
+        program = edgebpf.assemble("ldxw r0, [r1+4]\nldxdw r2, [r1+24]\nmul r0, 3\nadd r0, r2\nexit", 32)
+        chance = np.random.default_rng(5)
+        column, ends = chance.integers(0, 1 << 62, vertices, np.uint64), chance.integers(0, vertices, (2, 30_000)).astype(np.uint32)
+        with wild(vertices, 2) as (cluster, _), unittest.mock.patch.object(cluster_part, "finished", counted):
+            cluster.apply(*ends)
+            version, more = cluster.pin(), {"columns": [column]}
+            calls = [
+                lambda threads: version.run(program, "sum", **more, threads=threads).values,
+                lambda threads: version.run(program, "min", **more, threads=threads).total,
+                lambda threads: version.numbers(program, **more, threads=threads),
+                lambda threads: version.pairs(program, *ends, **more, threads=threads),
+            ]
+            for call in calls:
+                alone = call(1)
+                most.clear()
+                self.assertTrue(np.array_equal(call(3), alone))
+                self.assertGreater(max(most), 2)
+            for reduction in ("sum", "min", "max"):
+                one, three = (np.full(vertices, 7, np.uint64) for _ in range(2))
+                alone = version.push(program, reduction, into=one, changed=True, **more)
+                several = version.push(program, reduction, into=three, changed=True, **more, threads=3)
+                self.assertEqual((several.edges, several.total), (alone.edges, alone.total))
+                self.assertTrue(np.array_equal(several.changed, alone.changed) and np.array_equal(one, three))
+            self.raises(edgebpf.TimedOut, "^0.01 seconds were over$", version.run, edgebpf.assemble(HOSTILE), seconds=0.01, threads=3)
+            for wrong in (0, 65):
+                self.raises(ValueError, "^threads is 1 to 64$", version.run, program, threads=wrong, **more)
+
     def test_no_worker(self):
         engine = random_clusters.Wild(random.Random(1))
         with unittest.mock.patch.object(engine, "place", side_effect=edgebpf.Error("the engine has no worker")):
