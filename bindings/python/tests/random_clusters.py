@@ -35,7 +35,7 @@ from edgebpf.cluster_engine import Gone
 from programs import Programs
 
 # After so long something hangs, also on a machine with much to do.
-HANGS_SECONDS = 240
+HANGS_SECONDS = 600
 SIZES = (1, 255, 256, 257, 600, 3_000)
 REDUCTIONS = ("sum", "min", "max")
 # The target, the place with the degree, what helpers say of the source, and what an argument and a table have; of each what record it wants.
