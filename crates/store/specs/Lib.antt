@@ -8,7 +8,7 @@ pub mod Showing
 pub mod Recorded
 pub mod Receipts
 pub mod Refused
-pub mod Held
+pub mod Pending
 pub mod Storing
 pub mod Feeds
 pub mod Ties

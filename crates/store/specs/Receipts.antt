@@ -4,7 +4,7 @@ use Rattle.past_model.specs.declared.entry.Entry.{Entry}
 use Rattle.past_model.specs.Edits.{added, removed}
 use Rattle.past_model.specs.Past.{graph_of}
 use Rattle.history.specs.Moment.{Moment, after_entry, after_rebase}
-use Rattle.store.specs.declared.held.Change.{Change}
+use Rattle.store.specs.declared.pending.Change.{Change}
 
 -- the version that was made, the batch, which a rebase does not have, and how many edges it added and removed
 pub record Publication : Type 0 where

@@ -7,7 +7,7 @@ use Rattle.past_model.specs.declared.limits.TheConstants.{FEEDS}
 use Rattle.past_model.specs.Epochs.{AreSince}
 use Rattle.history.specs.Moment.{Moment, opening_moment, after_rebase}
 use Rattle.store.specs.Ends.{Feeding, new_feeds, one_more, taking, WasEmpty}
-use Rattle.store.specs.Held.{entries_held}
+use Rattle.store.specs.Pending.{entries_held}
 use Rattle.store.specs.Receipts.{Publication, publication, rebase_of}
 
 -- the last version's moment, the batch that was taken and is not published, how often nothing was found, and the queue

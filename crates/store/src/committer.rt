@@ -1,28 +1,26 @@
 //! How a taken batch becomes the version that readers are shown.
-ghost use Rattle.std.specs.Prelude.{◌≡◌, ◌<◌, ◌≤◌, IfOk, IfErr};
+ghost use Rattle.std.specs.Prelude.{◌≡◌, ◌≤◌, Some, None, true, is_some, option_map, IfOk, IfErr};
 ghost use Rattle.std.specs.Arc.{arc_value};
 ghost use Rattle.past_model.specs.declared.limits.TheConstants.{MOST_BATCHES, SERVED_EPOCHS};
 ghost use Rattle.past_model.specs.Edits.{added, removed};
-ghost use Rattle.past_model.specs.Past.{number_of, epoch_of, graph_of, longer};
-ghost use Rattle.history.specs.Moment.{after_entry, after_rebase};
+ghost use Rattle.past_model.specs.Past.{number_of, epoch_of, graph_of};
 ghost use Rattle.workers.specs.declared.work_error.WorkError.TheVariants.{OutOfMemory};
-ghost use Rattle.store.specs.Held.{at_rest, and_waiting, entry_in, IsNext, IsChange, AreOwnersOf, IsHeld, IsGoneOn, IsTurn, IsTurned};
+ghost use Rattle.store.specs.Pending.{at_rest, and_waiting, entry_of, moment_after, IsNext, HasRoom, MayFollow, AreOwnersOf, IsPending, IsWaiting, IsGoneOn, IsRebasing};
 
 use crate::board::Board;
-use crate::held::{Change, Held, Stopped, Turn};
+use crate::pending::{Change, Pending, Stage};
 use crate::receipt::Receipt;
 use crate::recorded::{Owners, Recorded};
 use history::Head;
 use past_model::Entry;
 use std::alloc::{AllocError, Global};
 use std::marker::Model;
-use std::mem;
 use std::sync::{Arc, Wait};
 use std::thread::Threads;
 use version::{Counts, Version};
 use workers::{Gate, WorkError, Workers};
 
-/// From so many edits on, workers drop the version before a batch.
+/// After a batch of so many edits or more, the version before it is dropped at once.
 const LET_GO_EDITS: usize = 4_096;
 
 /// Where versions are made and shown. It has to be ended by `close`.
@@ -35,7 +33,7 @@ pub struct Committer {
 
 impl Model for Committer {
     ghost use Rattle.std.specs.Prelude.{◌≡◌};
-    ghost use Rattle.store.specs.Held.{Committing};
+    ghost use Rattle.store.specs.Pending.{Committing};
 
     ghost Value = { Committing };
 
@@ -61,218 +59,181 @@ impl Committer {
         self.current.epoch()
     }
 
-    /// Goes on with a held batch, from where it stopped.
-    pub(crate) fn go_on<Ga: Gate, R: Threads + Wait>(
-        &mut self,
-        held: Held,
-        rt: &R,
-        workers: Workers,
-        gate: &Ga,
-    ) -> Result<Receipt, Stopped>
-        requires { IsHeld self.old held }
-        ensures gone_on { IsGoneOn self.old (entry_in held) result self.new }
-        ensures alone { workers.count ≡ 1 → IfErr result (λ s. s.want ≡ OutOfMemory) }
-    {
-        match held {
-            Held::Taken(entry) => self.add(entry, rt, workers, gate),
-            Held::Added(change, owners) => self.hand_in(change, owners, rt, workers),
-            Held::Ready(change, kept, told) => self.show(change, kept, told, rt, workers),
-        }
-    }
-
-    // Makes the next version with all its owners, and only then adds the batch to the history.
-    fn add<Ga: Gate, R: Threads + Wait>(
-        &mut self,
-        entry: Entry,
-        rt: &R,
-        workers: Workers,
-        gate: &Ga,
-    ) -> Result<Receipt, Stopped>
-        requires next { IsNext self.old.moment entry }
-        requires rest { self.old ≡ at_rest self.old.moment }
-        ensures gone_on { IsGoneOn self.old entry result self.new }
-        ensures alone { workers.count ≡ 1 → IfErr result (λ s. s.want ≡ OutOfMemory) }
-    {
-        let (shown, counts) = match self.next(&entry, rt, workers, gate) {
-            Ok(made) => made,
-            Err(want) => {
-                return Err(Stopped {
-                    held: Held::Taken(entry),
-                    want,
-                });
-            }
-        };
-        let Ok(kept) = Arc::try_clone(&shown) else {
-            return Err(Stopped::for_memory(Held::Taken(entry)));
-        };
-        let Ok(told) = Arc::try_clone(&shown) else {
-            return Err(Stopped::for_memory(Held::Taken(entry)));
-        };
-        // The history is never longer than what its only publisher knows.
-        let recorded = self
-            .current
-            .record_next(&self.head, &entry, shown, kept, told);
-        let Some(owners) = recorded else {
-            return Err(Stopped::for_memory(Held::Taken(entry)));
-        };
-        self.hand_in(Change { entry, counts }, owners, rt, workers)
-    }
-
-    // The version after this batch, and what the batch does.
-    fn next<Ga: Gate, R: Threads + Wait>(
+    /// Makes the version after a batch with all its owners, and only then adds the batch to the history. After an error the history
+    /// is as it was.
+    pub(crate) fn begin<Ga: Gate, R: Threads + Wait>(
         &self,
         entry: &Entry,
         rt: &R,
         workers: Workers,
         gate: &Ga,
-    ) -> Result<(Arc<Version>, Counts), WorkError>
+    ) -> Result<(Owners<Recorded>, Counts), WorkError>
         requires { IsNext self.now.moment entry.now }
-        ensures next { IfOk result (λ made. arc_value made.0 ≡ longer self.now.moment.past entry.now) }
+        ensures owners { IfOk result (λ made. AreOwnersOf (moment_after self.now.moment (Some entry.now)) made.0) }
         ensures gained { IfOk result (λ made. made.1.added ≡ added entry.now.batch (graph_of self.now.moment.past)) }
         ensures lost { IfOk result (λ made. made.1.removed ≡ removed entry.now.batch (graph_of self.now.moment.past)) }
         ensures alone { workers.count ≡ 1 → IfErr result (λ e. e ≡ OutOfMemory) }
     {
-        let (version, counts) = self
-            .current
-            .version()
-            .next(rt, self.alloc, entry, workers, gate)?;
-        Ok((Arc::new(self.alloc, version)?, counts))
+        let last = self.current.version();
+        let (version, counts) = last.next(rt, self.alloc, entry, workers, gate)?;
+        Ok((self.record(version, Some(entry))?, counts))
+    }
+
+    // Makes the owners of the version after a batch, or after a rebase, and adds that to the history.
+    fn record(
+        &self,
+        version: Version,
+        added: Option<&Entry>,
+    ) -> Result<Owners<Recorded>, AllocError>
+        requires room { HasRoom self.now.moment.past (option_map (λ e. e.now) added) }
+        requires version { version ≡ (moment_after self.now.moment (option_map (λ e. e.now) added)).past }
+        ensures { IfOk result (AreOwnersOf (moment_after self.now.moment (option_map (λ e. e.now) added.entry))) }
+    {
+        let shares = Owners::of(version, self.alloc)?;
+        // The history is never longer than what its only publisher knows.
+        match self.current.record(&self.head, added, shares) {
+            Some(owners) => Ok(owners),
+            None => Err(AllocError),
+        }
+    }
+
+    /// Goes on with a batch, from where it stopped; a rebase comes back as it is. The version before it goes by workers, where nobody
+    /// else has it.
+    pub(crate) fn publish<R: Threads + Wait>(
+        &mut self,
+        pending: Pending,
+        rt: &R,
+        workers: Workers,
+    ) -> Result<Receipt, Pending>
+        requires { IsPending self.old pending }
+        ensures gone_on { IsGoneOn self.old pending.change result self.new }
+        ensures batch { IfOk result (λ _. is_some pending.change ≡ true) }
+    {
+        if pending.change.is_none() {
+            return Err(pending);
+        }
+        let before = self.current.share();
+        let receipt = self.go_on(pending, rt)?;
+        if let Ok(before) = before {
+            before.let_go(rt, self.alloc, workers);
+        }
+        Ok(receipt)
+    }
+
+    /// Goes on with a rebase, from where it stopped, or else begins one: it makes the rebase of the last version with all its owners, and
+    /// only then adds it to the history. A batch comes back as it is.
+    pub(crate) fn rebase<R: Wait>(
+        &mut self,
+        pending: Option<Pending>,
+        rt: &R,
+    ) -> Result<Receipt, Option<Pending>>
+        requires room { HasRoom self.old.moment.past None }
+        requires waits { IsWaiting self.old pending }
+        ensures { IsRebasing self.old pending result self.new }
+    {
+        match pending {
+            None => match self.begin_rebase() {
+                Ok(pending) => self.go_on(pending, rt).map_err(Some),
+                Err(_) => Err(None),
+            },
+            Some(pending) => {
+                // No refused allocation leads there: the version of a batch is made with all its owners before the history has it, and
+                // the board has room for it.
+                if pending.change.is_some() {
+                    return Err(Some(pending));
+                }
+                self.go_on(pending, rt).map_err(Some)
+            }
+        }
+    }
+
+    // A new rebase.
+    fn begin_rebase(&self) -> Result<Pending, AllocError>
+        requires room { HasRoom self.now.moment.past None }
+        requires rest { self.now ≡ at_rest self.now.moment }
+        ensures { IfOk result (λ pending. (pending.change ≡ None) × IsPending self.now pending) }
+    {
+        let version = self.current.version().rebased(self.alloc)?;
+        let stage = Stage::Added(self.record(version, None)?);
+        Ok(Pending {
+            change: None,
+            stage,
+        })
+    }
+
+    // Goes on with a publication, from where it stopped.
+    fn go_on<R: Wait>(&mut self, pending: Pending, rt: &R) -> Result<Receipt, Pending>
+        requires { IsPending self.old pending }
+        ensures { IsGoneOn self.old pending.change result self.new }
+    {
+        let Pending { change, stage } = pending;
+        match stage {
+            Stage::Added(owners) => self.hand_in(change, owners, rt),
+            Stage::Ready(kept, told) => self.show(change, kept, told, rt),
+        }
     }
 
     // Hands the version in to be shown.
-    fn hand_in<R: Threads + Wait>(
+    fn hand_in<R: Wait>(
         &mut self,
-        change: Change,
-        owners: Owners,
+        change: Option<Change>,
+        owners: Owners<Recorded>,
         rt: &R,
-        workers: Workers,
-    ) -> Result<Receipt, Stopped>
-        requires change { IsChange self.old.moment change }
-        requires owners { AreOwnersOf (after_entry self.old.moment change.entry) owners }
+    ) -> Result<Receipt, Pending>
+        requires change { MayFollow self.old.moment change }
+        requires owners { AreOwnersOf (moment_after self.old.moment (entry_of change)) owners }
         requires rest { self.old ≡ at_rest self.old.moment }
-        ensures gone_on { IsGoneOn self.old change.entry result self.new }
-        ensures alone { workers.count ≡ 1 → IfErr result (λ s. s.want ≡ OutOfMemory) }
+        ensures { IsGoneOn self.old change result self.new }
     {
         let Owners { shown, kept, told } = owners;
         match self.board.append(shown) {
-            Ok(()) => self.show(change, kept, told, rt, workers),
+            Ok(()) => self.show(change, kept, told, rt),
             Err(shown) => {
-                let owners = Owners { shown, kept, told };
-                Err(Stopped::for_memory(Held::Added(change, owners)))
+                let stage = Stage::Added(Owners { shown, kept, told });
+                Err(Pending { change, stage })
             }
         }
     }
 
     // Shows it.
-    fn show<R: Threads + Wait>(
+    fn show<R: Wait>(
         &mut self,
-        change: Change,
+        change: Option<Change>,
         kept: Recorded,
         told: Recorded,
         rt: &R,
-        workers: Workers,
-    ) -> Result<Receipt, Stopped>
-        requires change { IsChange self.old.moment change }
-        requires kept { kept ≡ after_entry self.old.moment change.entry }
-        requires told { told ≡ after_entry self.old.moment change.entry }
-        requires waits { self.old ≡ and_waiting self.old.moment (after_entry self.old.moment change.entry) }
-        ensures gone_on { IsGoneOn self.old change.entry result self.new }
-        ensures alone { workers.count ≡ 1 → IfErr result (λ s. s.want ≡ OutOfMemory) }
-    {
-        match self.board.show(rt) {
-            Ok(()) => {
-                let before = mem::replace(&mut self.current, kept);
-                self.let_go(before, change.entry.batch.edits().len(), rt, workers);
-                Ok(Receipt::of(told, Some(change)))
-            }
-            Err(_) => Err(Stopped::for_memory(Held::Ready(change, kept, told))),
-        }
-    }
-
-    /// Makes the rebase of the last version with all its owners, and only then adds it to the history. After an error nothing is
-    /// changed.
-    pub(crate) fn begin_turn(&mut self) -> Result<Turn, AllocError>
-        requires room { epoch_of self.old.moment.past < SERVED_EPOCHS }
-        requires rest { self.old ≡ at_rest self.old.moment }
-        ensures turn { IfOk result (λ turn. IsTurn self.new turn) }
-        ensures same { self.new ≡ self.old }
-    {
-        let version = self.current.version().rebased(self.alloc)?;
-        let shown = Arc::new(self.alloc, version)?;
-        let kept = Arc::try_clone(&shown)?;
-        let told = Arc::try_clone(&shown)?;
-        // The history is never longer than what its only publisher knows.
-        match self.current.record_rebased(&self.head, shown, kept, told) {
-            Some(owners) => Ok(Turn::Added(owners)),
-            None => Err(AllocError),
-        }
-    }
-
-    /// Goes on with a rebase, from where it stopped.
-    pub(crate) fn turn<R: Wait>(&mut self, turn: Turn, rt: &R) -> Result<Receipt, Turn>
-        requires { IsTurn self.old turn }
-        ensures { IsTurned self.old result self.new }
-    {
-        match turn {
-            Turn::Added(owners) => self.hand_in_turn(owners, rt),
-            Turn::Ready(kept, told) => self.show_turn(kept, told, rt),
-        }
-    }
-
-    // Hands the version of a rebase in to be shown.
-    fn hand_in_turn<R: Wait>(&mut self, owners: Owners, rt: &R) -> Result<Receipt, Turn>
-        requires owners { AreOwnersOf (after_rebase self.old.moment) owners }
-        requires rest { self.old ≡ at_rest self.old.moment }
-        ensures { IsTurned self.old result self.new }
-    {
-        let Owners { shown, kept, told } = owners;
-        match self.board.append(shown) {
-            Ok(()) => self.show_turn(kept, told, rt),
-            Err(shown) => Err(Turn::Added(Owners { shown, kept, told })),
-        }
-    }
-
-    // Shows it, and drops the version before: the board's other copy is brought up to the version that is shown, so that
-    // the log that ended has no owner here.
-    fn show_turn<R: Wait>(
-        &mut self,
-        kept: Recorded,
-        told: Recorded,
-        rt: &R,
-    ) -> Result<Receipt, Turn>
-        requires kept { kept ≡ after_rebase self.old.moment }
-        requires told { told ≡ after_rebase self.old.moment }
-        requires waits { self.old ≡ and_waiting self.old.moment (after_rebase self.old.moment) }
-        ensures { IsTurned self.old result self.new }
+    ) -> Result<Receipt, Pending>
+        requires change { MayFollow self.old.moment change }
+        requires kept { kept ≡ moment_after self.old.moment (entry_of change) }
+        requires told { told ≡ moment_after self.old.moment (entry_of change) }
+        requires waits { self.old ≡ and_waiting self.old.moment (moment_after self.old.moment (entry_of change)) }
+        ensures { IsGoneOn self.old change result self.new }
     {
         match self.board.show(rt) {
             Ok(()) => {
                 self.current = kept;
-                let _ = self.board.show(rt);
-                Ok(Receipt::of(told, None))
+                self.bring_up(&change, rt);
+                Ok(Receipt::of(told, change))
             }
-            Err(_) => Err(Turn::Ready(kept, told)),
+            Err(_) => {
+                let stage = Stage::Ready(kept, told);
+                Err(Pending { change, stage })
+            }
         }
     }
 
-    // Drops the version before a batch of so many edits. Before a large one it goes now, and by workers: the board's other
-    // copy is brought up to the version that is shown, so that the one before has no owner here but this one.
-    fn let_go<R: Threads + Wait>(
-        &mut self,
-        before: Recorded,
-        edits: usize,
-        rt: &R,
-        workers: Workers,
-    )
+    // After a rebase, and after a large batch, the board's other copy is brought up to the version that is shown, so that the one before
+    // has no owner here.
+    fn bring_up<R: Wait>(&mut self, change: &Option<Change>, rt: &R)
         requires { self.old ≡ at_rest self.old.moment }
         ensures { self.new ≡ self.old }
     {
-        if edits < LET_GO_EDITS {
-            return;
-        }
-        let _ = self.board.show(rt);
-        if let Some(before) = Arc::into_inner(before.into_version()) {
-            before.let_go(rt, self.alloc, workers);
+        let is_large = match change {
+            None => true,
+            Some(change) => change.entry.batch.edits().len() >= LET_GO_EDITS,
+        };
+        if is_large {
+            let _ = self.board.show(rt);
         }
     }
 

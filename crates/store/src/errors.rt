@@ -1,7 +1,6 @@
 //! Why a store, a batch or a step is refused.
 ghost use Rattle.std.specs.Prelude.{◌≡◌};
 ghost use Rattle.store.specs.declared.errors.StoreError.TheVariants as opening;
-ghost use Rattle.store.specs.declared.errors.RebaseError.TheVariants as rebasing;
 ghost use Rattle.store.specs.Refused.{refused_as};
 
 use past_model::Batch;
@@ -82,14 +81,6 @@ pub enum RebaseError {
     /// 1,024 rebases were published, and there is room for no more.
     #[error("1024 rebases were published, and there is room for no more")]
     EpochsFull = 2,
-}
-
-impl From<AllocError> for RebaseError {
-    ghost from_gives = { λ _ e. e ≡ rebasing.OutOfMemory };
-
-    fn from(_e: AllocError) -> RebaseError {
-        RebaseError::OutOfMemory
-    }
 }
 
 impl From<WorkError> for PublishError {

@@ -7,7 +7,7 @@ mod committer;
 mod errors;
 mod feed;
 mod finished;
-mod held;
+mod pending;
 mod pin;
 mod publisher;
 mod queue;

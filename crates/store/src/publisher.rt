@@ -5,7 +5,7 @@ ghost use Rattle.past_model.specs.declared.limits.TheConstants.{MOST_BATCHES, SE
 ghost use Rattle.past_model.specs.Past.{number_of, epoch_of};
 ghost use Rattle.store_model.specs.declared.limits.TheConstants.{QUEUE_PLACES};
 ghost use Rattle.history.specs.Moment.{OneStore};
-ghost use Rattle.store.specs.Held.{entry_held, IsTurn, IsAside, IsHolding, IsNoted};
+ghost use Rattle.store.specs.Pending.{entry_held, ComesNext};
 ghost use Rattle.store.specs.Feeds.{AreFeedsOf, AreDelivered};
 ghost use Rattle.store.specs.Ties.{PublishesAsEvents, RebasesAsEvent, TakesAsEvent};
 ghost use Rattle.store.specs.Storing.{taken_of, IsPublished, IsRebased, IsIdle, IsKept};
@@ -14,11 +14,10 @@ use crate::committer::Committer;
 use crate::errors::{PublishError, RebaseError};
 use crate::feed::Feed;
 use crate::finished::Finished;
-use crate::held::{Held, Stopped, Turn};
+use crate::pending::{Change, Pending, Stage};
 use crate::queue::Receiver;
 use crate::receipt::Receipt;
-use past_model::{MOST_BATCHES, SERVED_EPOCHS};
-use std::alloc::AllocError;
+use past_model::{Entry, MOST_BATCHES, SERVED_EPOCHS};
 use std::marker::Model;
 use std::sync::Wait;
 use std::thread::Threads;
@@ -28,30 +27,30 @@ use workers::{Gate, Workers};
 /// ended by `finish`. Contracts see it as a `Storing`.
 pub struct Publisher {
     pub(crate) committer: Committer,
-    pub(crate) held: Option<Held>,
-    // A rebase that the history has, and that is not shown yet.
-    pub(crate) turn: Option<Turn>,
+    // A batch that was taken, and that the history does not have.
+    pub(crate) held: Option<Entry>,
+    pub(crate) pending: Option<Pending>,
     pub(crate) receiver: Receiver,
 }
 
 impl Model for Publisher {
     ghost use Rattle.std.specs.Prelude.{◌≡◌, ◌++◌};
     ghost use Rattle.past_model.specs.Epochs.{AreSince};
-    ghost use Rattle.store.specs.Held.{entry_held, entries_held, IsHolding};
+    ghost use Rattle.store.specs.Pending.{entry_held, entries_held, IsHolding};
     ghost use Rattle.store.specs.Storing.{Storing};
 
     ghost Value = { Storing };
 
     ghost view = { λ p. record {
       moment = p.committer.moment;
-      held = entry_held p.held;
+      held = entry_held p.held p.pending;
       empties = p.receiver.empties;
       queue = p.receiver.queue;
     } };
 
     ghost invariant = { λ p. AreSince p.committer.moment.past.marks p.receiver.taken
-        (p.committer.moment.past.log ++ entries_held (entry_held p.held))
-        × (p.receiver.vertex_count ≡ p.committer.moment.past.vertex_count) × IsHolding p.committer p.held p.turn };
+        (p.committer.moment.past.log ++ entries_held (entry_held p.held p.pending))
+        × (p.receiver.vertex_count ≡ p.committer.moment.past.vertex_count) × IsHolding p.committer p.held p.pending };
 }
 
 impl Publisher {
@@ -79,44 +78,41 @@ impl Publisher {
         ensures full_same { IsErrOf result PublishError.LogFull → self.new ≡ self.old }
         ensures alone { workers.count ≡ 1 → IsErrOf result PublishError.WorkerRefused → ⊥ }
     {
-        self.publish_next(rt, workers, gate)
-    }
-
-    // Publishes the batch that comes next.
-    fn publish_next<Ga: Gate, R: Threads + Wait>(
-        &mut self,
-        rt: &R,
-        workers: Workers,
-        gate: &Ga,
-    ) -> Result<Option<Receipt>, PublishError>
-        ensures same_queue { self.new.queue ≡ self.old.queue }
-        ensures same_store { OneStore self.old.moment self.new.moment }
-        ensures published { IfOk result (λ done. IfSome done (λ receipt. IsPublished self.old receipt self.new)) }
-        ensures idle { IfOk result (λ done. IfNone done (IsIdle self.old self.new)) }
-        ensures kept { IfErr result (λ _. IsKept self.old self.new) }
-        ensures full { IsErrOf result PublishError.LogFull ↔ (number_of self.old.moment.past ≡ MOST_BATCHES) }
-        ensures full_same { IsErrOf result PublishError.LogFull → self.new ≡ self.old }
-        ensures alone { workers.count ≡ 1 → IsErrOf result PublishError.WorkerRefused → ⊥ }
-    {
         if self.committer.number() >= MOST_BATCHES {
             return Err(PublishError::LogFull);
         }
-        // A rebase that is not shown yet comes first.
-        if self.turn.is_some() {
-            return Err(PublishError::OutOfMemory);
+        if let Some(pending) = self.pending.take() {
+            // A rebase that is not shown yet comes first.
+            return match self.committer.publish(pending, rt, workers) {
+                Ok(receipt) => Ok(Some(receipt)),
+                Err(pending) => {
+                    self.pending = Some(pending);
+                    Err(PublishError::OutOfMemory)
+                }
+            };
         }
-        match self.held.take() {
-            Some(held) => note(
-                self.committer.go_on(held, rt, workers, gate),
-                &mut self.held,
-            ),
-            None => match self.receiver.pop(rt) {
-                Some(entry) => note(
-                    self.committer.go_on(Held::Taken(entry), rt, workers, gate),
-                    &mut self.held,
-                ),
-                None => Ok(None),
-            },
+        let Some(entry) = next_entry(&mut self.held, &mut self.receiver, rt) else {
+            return Ok(None);
+        };
+        match self.committer.begin(&entry, rt, workers, gate) {
+            Ok((owners, counts)) => {
+                let change = Some(Change { entry, counts });
+                let stage = Stage::Added(owners);
+                match self
+                    .committer
+                    .publish(Pending { change, stage }, rt, workers)
+                {
+                    Ok(receipt) => Ok(Some(receipt)),
+                    Err(pending) => {
+                        self.pending = Some(pending);
+                        Err(PublishError::OutOfMemory)
+                    }
+                }
+            }
+            Err(error) => {
+                self.held = Some(entry);
+                Err(PublishError::from(error))
+            }
         }
     }
 
@@ -131,25 +127,13 @@ impl Publisher {
         ensures same { IfErr result (λ _. self.new ≡ self.old) }
         ensures full { IsErrOf result RebaseError.EpochsFull ↔ (epoch_of self.old.moment.past ≡ SERVED_EPOCHS) }
     {
-        self.rebase_next(rt)
-    }
-
-    // Publishes it, or goes on with one that is not shown yet.
-    fn rebase_next<R: Wait>(&mut self, rt: &R) -> Result<Receipt, RebaseError>
-        ensures same_queue { self.new.queue ≡ self.old.queue }
-        ensures same_store { OneStore self.old.moment self.new.moment }
-        ensures rebased { IfOk result (λ receipt. IsRebased self.old receipt self.new) }
-        ensures same { IfErr result (λ _. self.new ≡ self.old) }
-        ensures full { IsErrOf result RebaseError.EpochsFull ↔ (epoch_of self.old.moment.past ≡ SERVED_EPOCHS) }
-    {
         if self.committer.epoch() >= SERVED_EPOCHS {
             return Err(RebaseError::EpochsFull);
         }
-        let turn = begun(&mut self.committer, &self.held, self.turn.take())?;
-        match self.committer.turn(turn, rt) {
+        match self.committer.rebase(self.pending.take(), rt) {
             Ok(receipt) => Ok(receipt),
-            Err(turn) => {
-                self.turn = Some(turn);
+            Err(pending) => {
+                self.pending = pending;
                 Err(RebaseError::OutOfMemory)
             }
         }
@@ -159,9 +143,13 @@ impl Publisher {
     pub fn holds(&self) -> Option<u8>
         ensures { result ≡ option_map (λ entry. entry.feed) self.now.held }
     {
-        match &self.held {
-            None => None,
-            Some(held) => Some(held.entry().feed),
+        match (&self.held, &self.pending) {
+            (Some(entry), _) => Some(entry.feed),
+            (None, None) => None,
+            (None, Some(pending)) => match &pending.change {
+                Some(change) => Some(change.entry.feed),
+                None => None,
+            },
         }
     }
 
@@ -177,56 +165,38 @@ impl Publisher {
         let Publisher {
             committer,
             held,
-            turn: _turn,
+            pending,
             receiver,
         } = self;
         let left = receiver.finish(feeds, rt);
         Finished {
             last: committer.close(rt),
-            held: held.map(Held::into_entry),
+            held: into_entry(held, pending),
             left,
         }
     }
 }
 
-// The rebase that is not shown yet, or else a new one.
-fn begun(
-    committer: &mut Committer,
-    held: &Option<Held>,
-    turn: Option<Turn>,
-) -> Result<Turn, AllocError>
-    requires holding { IsHolding committer.old held.now turn }
-    requires room { epoch_of committer.old.moment.past < SERVED_EPOCHS }
-    ensures turn { IfOk result (λ turn. IsTurn committer.new turn × IsAside committer.new.moment held.now) }
-    ensures same { committer.new ≡ committer.old }
-    ensures none { IfErr result (λ _. turn ≡ None) }
+// The batch that comes next: the held one, and else the one that waits longest.
+fn next_entry<R: Wait>(held: &mut Option<Entry>, receiver: &mut Receiver, rt: &R) -> Option<Entry>
+    ensures next { ComesNext held.old receiver.old result receiver.new }
+    ensures none { held.new ≡ None }
 {
-    match turn {
-        Some(turn) => Ok(turn),
-        None => match held {
-            None => committer.begin_turn(),
-            Some(Held::Taken(_)) => committer.begin_turn(),
-            // A batch that the history has comes first. No refused allocation leads there: its version is made with all its owners before
-            // the history has it, and the board has room for it.
-            Some(Held::Added(_, _)) => Err(AllocError),
-            Some(Held::Ready(_, _, _)) => Err(AllocError),
-        },
+    match held.take() {
+        Some(entry) => Some(entry),
+        None => receiver.pop(rt),
     }
 }
 
-// The receipt; or the batch is held again.
-fn note(
-    answer: Result<Receipt, Stopped>,
-    held: &mut Option<Held>,
-) -> Result<Option<Receipt>, PublishError>
-    requires { held.old ≡ None }
-    ensures { IsNoted answer result held.new }
+// The batch that was taken and is not published.
+fn into_entry(held: Option<Entry>, pending: Option<Pending>) -> Option<Entry>
+    ensures { result ≡ entry_held held pending }
 {
-    match answer {
-        Ok(receipt) => Ok(Some(receipt)),
-        Err(stopped) => {
-            *held = Some(stopped.held);
-            Err(PublishError::from(stopped.want))
-        }
+    match held {
+        Some(entry) => Some(entry),
+        None => match pending {
+            Some(pending) => pending.into_entry(),
+            None => None,
+        },
     }
 }

@@ -4,7 +4,7 @@ ghost use Rattle.past_model.specs.declared.limits.TheConstants.{MOST_BATCHES, SE
 ghost use Rattle.past_model.specs.Past.{number_of, epoch_of};
 ghost use Rattle.store.specs.Receipts.{IsPublication, publication_by};
 
-use crate::held::Change;
+use crate::pending::Change;
 use crate::recorded::Recorded;
 use past_model::Batch;
 use std::marker::Model;

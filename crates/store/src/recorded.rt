@@ -1,19 +1,21 @@
 //! A version with the history's word that it was published.
-ghost use Rattle.std.specs.Prelude.{◌≡◌, ◌<◌, ◌≤◌, IfOk, IfSome};
+ghost use Rattle.std.specs.Prelude.{◌≡◌, ◌<◌, ◌≤◌, option_map, IfOk, IfSome};
 ghost use Rattle.std.specs.Arc.{arc_value};
 ghost use Rattle.past_model.specs.declared.limits.TheConstants.{MOST_BATCHES, SERVED_EPOCHS};
-ghost use Rattle.past_model.specs.Past.{number_of, epoch_of, longer};
-ghost use Rattle.past_model.specs.Epochs.{rebased};
-ghost use Rattle.history.specs.Moment.{moment_of, count_of, after_entry, after_rebase};
-ghost use Rattle.store.specs.Recorded.{moment_in, AreFew};
-ghost use Rattle.store.specs.Held.{AreOwnersOf};
+ghost use Rattle.past_model.specs.Past.{number_of, epoch_of};
+ghost use Rattle.history.specs.declared.limits.TheConstants.{MOST_PUBLICATIONS};
+ghost use Rattle.history.specs.Moment.{moment_of, count_of, and_then};
+ghost use Rattle.store.specs.Recorded.{moment_in, AreFew, AreSharesOf};
+ghost use Rattle.store.specs.Pending.{published_of, moment_after, HasRoom, AreOwnersOf};
 
 use history::{Head, Known};
 use past_model::Entry;
-use std::alloc::AllocError;
+use std::alloc::{AllocError, Global};
 use std::marker::Model;
-use std::sync::Arc;
+use std::sync::{Arc, Wait};
+use std::thread::Threads;
 use version::Version;
+use workers::Workers;
 
 /// A version, and the history's word that it was published. Contracts see it as its moment.
 #[derive(Drop)]
@@ -40,10 +42,39 @@ impl Model for Recorded {
 
 /// The owners of one version: for the board, for the publisher and for the receipt.
 #[derive(Drop)]
-pub struct Owners {
-    pub shown: Recorded,
-    pub kept: Recorded,
-    pub told: Recorded,
+pub struct Owners<T> {
+    pub shown: T,
+    pub kept: T,
+    pub told: T,
+}
+
+impl Owners<Arc<Version>> {
+    /// The owners of a version that the history does not have.
+    pub(crate) fn of(version: Version, alloc: Global) -> Result<Owners<Arc<Version>>, AllocError>
+        ensures { IfOk result (AreSharesOf version) }
+    {
+        let shown = Arc::new(alloc, version)?;
+        Ok(Owners {
+            kept: Arc::try_clone(&shown)?,
+            told: Arc::try_clone(&shown)?,
+            shown,
+        })
+    }
+
+    // The same, with the history's word for the version, to which so many publications led.
+    fn recorded(self, known: Known, count: u64) -> Owners<Recorded>
+        requires known { moment_of (arc_value self.shown).vertex_count known ≡ moment_in (arc_value self.shown) known }
+        requires count { count ≡ count_of known }
+        requires few { AreFew (arc_value self.shown) count }
+        requires shares { AreSharesOf (arc_value self.shown) self }
+        ensures { AreOwnersOf (moment_in (arc_value self.shown) known) result }
+    {
+        Owners {
+            shown: Recorded::of(self.shown, known.again(), count),
+            kept: Recorded::of(self.kept, known.again(), count),
+            told: Recorded::of(self.told, known, count),
+        }
+    }
 }
 
 impl Recorded {
@@ -122,68 +153,41 @@ impl Recorded {
         })
     }
 
-    /// Adds a batch to the history, whose next version these three own. `None`, and the history is as it was, where it
-    /// is longer than what led to this version.
-    pub(crate) fn record_next(
-        &self,
-        head: &Head,
-        entry: &Entry,
-        shown: Arc<Version>,
-        kept: Arc<Version>,
-        told: Arc<Version>,
-    ) -> Option<Owners>
-        requires book { head.now ≡ self.now.book }
-        requires room { number_of self.now.past < MOST_BATCHES }
-        requires shown { arc_value shown ≡ longer self.now.past entry.now }
-        requires kept { arc_value kept ≡ longer self.now.past entry.now }
-        requires told { arc_value told ≡ longer self.now.past entry.now }
-        ensures { IfSome result (AreOwnersOf (after_entry self.now entry.now)) }
-    {
-        let known = head.add(&self.known, self.count, entry)?;
-        let count = self.count + 1;
-        Some(three_owners(known, count, shown, kept, told))
+    /// Drops this owner; by workers, if it is the last.
+    pub(crate) fn let_go<R: Threads + Wait>(self, rt: &R, alloc: Global, workers: Workers) {
+        if let Some(version) = Arc::into_inner(self.into_version()) {
+            version.let_go(rt, alloc, workers);
+        }
     }
 
-    /// Adds a rebase to the history, whose version these three own. `None`, and the history is as it was, where it is
-    /// longer than what led to this version.
-    pub(crate) fn record_rebased(
+    /// Adds a batch to the history, or without one a rebase, whose version these are the owners of. `None`, and the history is as
+    /// it was, where it is longer than what led to this version.
+    pub(crate) fn record(
         &self,
         head: &Head,
-        shown: Arc<Version>,
-        kept: Arc<Version>,
-        told: Arc<Version>,
-    ) -> Option<Owners>
+        added: Option<&Entry>,
+        shares: Owners<Arc<Version>>,
+    ) -> Option<Owners<Recorded>>
         requires book { head.now ≡ self.now.book }
-        requires room { epoch_of self.now.past < SERVED_EPOCHS }
-        requires shown { arc_value shown ≡ rebased self.now.past }
-        requires kept { arc_value kept ≡ rebased self.now.past }
-        requires told { arc_value told ≡ rebased self.now.past }
-        ensures { IfSome result (AreOwnersOf (after_rebase self.now)) }
+        requires room { HasRoom self.now.past (option_map (λ e. e.now) added) }
+        requires shares { AreSharesOf (moment_after self.now (option_map (λ e. e.now) added)).past shares }
+        ensures { IfSome result (AreOwnersOf (moment_after self.now (option_map (λ e. e.now) added.entry))) }
     {
-        let known = head.rebase(&self.known, self.count)?;
+        let known = next_word(head, &self.known, self.count, added)?;
         let count = self.count + 1;
-        Some(three_owners(known, count, shown, kept, told))
+        Some(shares.recorded(known, count))
     }
 }
 
-// The owners of a version, with the history's word for it, to which so many publications led.
-fn three_owners(
-    known: Known,
-    count: u64,
-    shown: Arc<Version>,
-    kept: Arc<Version>,
-    told: Arc<Version>,
-) -> Owners
-    requires known { moment_of (arc_value shown).vertex_count known ≡ moment_in (arc_value shown) known }
-    requires count { count ≡ count_of known }
-    requires few { AreFew (arc_value shown) count }
-    requires kept { arc_value kept ≡ arc_value shown }
-    requires told { arc_value told ≡ arc_value shown }
-    ensures { AreOwnersOf (moment_in (arc_value shown) known) result }
+// The history's word that it has a batch more, or without one a rebase.
+fn next_word(head: &Head, known: &Known, count: u64, added: Option<&Entry>) -> Option<Known>
+    requires book { known.now.book ≡ head.now }
+    requires count { count ≡ count_of known.now }
+    requires room { count < MOST_PUBLICATIONS }
+    ensures { IfSome result (λ next. next ≡ and_then known.now (published_of (option_map (λ e. e.now) added.entry))) }
 {
-    Owners {
-        shown: Recorded::of(shown, known.again(), count),
-        kept: Recorded::of(kept, known.again(), count),
-        told: Recorded::of(told, known, count),
+    match added {
+        Some(entry) => head.add(known, count, entry),
+        None => head.rebase(known, count),
     }
 }

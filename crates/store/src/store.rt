@@ -55,7 +55,7 @@ impl Store {
         let publisher = Publisher {
             committer,
             held: None,
-            turn: None,
+            pending: None,
             receiver,
         };
         Ok(Ends {
