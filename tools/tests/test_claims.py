@@ -8,7 +8,7 @@ import documents
 CRATES = documents.ROOT / "crates"
 # Wrong bodies that something in the gate has to refuse by name, each with its crate and edit, its crate and law, or a row of program_rows.
 EDITS = {
-    "bpf_machine/r1_left_set_after_a_helper", "verifier/argument_known_after_a_helper", "migration/changed_list_shared", "migration/edited_page_shared",
+    "bpf_machine/r1_left_set_after_a_helper", "verifier/argument_known_after_a_helper", "shards/changed_list_shared", "shards/edited_page_shared",
     "store/earlier_version_pinned", "store/earlier_epoch_pinned", "session/pin_of_another_epoch", "bpf_runs/table_written",
     "bpf_blocks/table_read_a_byte_early", "verifier/gather_is_no_write", "bpf_runs/words_gathered_without_a_limit",
 }

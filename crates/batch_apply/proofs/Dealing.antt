@@ -5,14 +5,14 @@ use Rattle.std.proofs.lemmas.Bool.{cases_Bool, cases_lt}
 use Rattle.std.proofs.lemmas.Nat.{div-add-mod'}
 use Rattle.std.proofs.lemmas.List.{get_or_push, get_or_append_left, length_push, length-map, get_or-map}
 use Rattle.past_model.specs.declared.limits.TheConstants.{MOST_RANGES}
-use Rattle.migration.specs.declared.edited_shard.EditedShard.{EditedShard}
-use Rattle.migration.specs.Groups.{Grouped, edits_of, is_filled, filled_below, filled_groups}
-use Rattle.migration.specs.Part.{Part, AreEditsOf}
-use Rattle.migration.specs.Table.{part_at}
-use Rattle.migration.specs.Made.{IsBatch, IsMade, AreMade}
-use Rattle.migration.proofs.RangeLemmas.{range_edits, range_own}
-use Rattle.migration.proofs.MadeLemmas.{edits_in}
-use Rattle.migration.proofs.FilledLemmas.{filled_more, filled_same}
+use Rattle.shards.specs.declared.edited_shard.EditedShard.{EditedShard}
+use Rattle.shards.specs.Groups.{Grouped, edits_of, is_filled, filled_below, filled_groups}
+use Rattle.shards.specs.Part.{Part, AreEditsOf}
+use Rattle.shards.specs.Table.{part_at}
+use Rattle.shards.specs.Made.{IsBatch, IsMade, AreMade}
+use Rattle.shards.proofs.RangeLemmas.{range_edits, range_own}
+use Rattle.shards.proofs.MadeLemmas.{edits_in}
+use Rattle.shards.proofs.FilledLemmas.{filled_more, filled_same}
 use Rattle.batch_apply.specs.Dealt.{Piece, pieces_of, IsReady, IsMadeOf, IsDealt, AreDealt}
 
 -- ---- the ranges that have an edit

@@ -7,13 +7,13 @@ use Rattle.past_model.specs.declared.limits.TheConstants.{MOST_VERTICES}
 use Rattle.past_model.specs.declared.edit.Edit.{Edit}
 use Rattle.past_model.specs.Edits.{source_of, AreEditsBelow}
 use Rattle.graph_model.specs.Graph.{Graph}
-use Rattle.migration.specs.declared.edited_shard.EditedShard.{EditedShard}
-use Rattle.migration.specs.Groups.{is_filled, edits_of, filled_below}
-use Rattle.migration.specs.Part.{Part, AreEditsOf}
-use Rattle.migration.specs.Table.{IsTable, part_at}
-use Rattle.migration.specs.Made.{IsMade, AreMade}
-use Rattle.migration.proofs.FilledLemmas.{empty_is, none_between}
-use Rattle.migration.proofs.RangeLemmas.{in_ranges, range_own}
+use Rattle.shards.specs.declared.edited_shard.EditedShard.{EditedShard}
+use Rattle.shards.specs.Groups.{is_filled, edits_of, filled_below}
+use Rattle.shards.specs.Part.{Part, AreEditsOf}
+use Rattle.shards.specs.Table.{IsTable, part_at}
+use Rattle.shards.specs.Made.{IsMade, AreMade}
+use Rattle.shards.proofs.FilledLemmas.{empty_is, none_between}
+use Rattle.shards.proofs.RangeLemmas.{in_ranges, range_own}
 use Rattle.batch_apply.specs.Splits.{AreOfRange, range_of, edits_in, by_ranges}
 use Rattle.batch_apply.proofs.Cuts.{none_in, each_in}
 

@@ -4,9 +4,9 @@ use Rattle.past_model.specs.declared.limits.TheConstants.{MOST_EDITS}
 use Rattle.past_model.specs.declared.edit.Edit.{Edit}
 use Rattle.graph_model.specs.Graph.{Graph}
 use Rattle.past_model.specs.Edits.{AreEditsBelow}
-use Rattle.migration.specs.declared.counts.Counts.{Counts}
-use Rattle.migration.specs.Part.{Part}
-use Rattle.migration.specs.Table.{IsTable, AreAfter, AreMoved}
+use Rattle.shards.specs.declared.counts.Counts.{Counts}
+use Rattle.shards.specs.Part.{Part}
+use Rattle.shards.specs.Table.{IsTable, AreAfter, AreMoved}
 use Rattle.batch_apply.specs.declared.errors.ApplyError.{ApplyError}
 use Rattle.batch_apply.specs.declared.errors.ApplyError.TheVariants.{VertexRange, TooManyEdits, OutOfMemory, WorkerRefused}
 

@@ -2,11 +2,11 @@
 use Rattle.std.specs.Prelude.{ℕ, ◌+◌, ◌*◌, ◌<◌, List, length, map, Vec, slice_index_or}
 use Rattle.std.specs.declared.alloc.Global.{Global}
 use Rattle.past_model.specs.declared.edit.Edit.{Edit}
-use Rattle.migration.specs.declared.edited_shard.EditedShard.{EditedShard}
-use Rattle.migration.specs.Groups.{Grouped, edits_of, filled_groups}
-use Rattle.migration.specs.Part.{Part, AreEditsOf}
-use Rattle.migration.specs.Table.{part_at}
-use Rattle.migration.specs.Made.{IsMade}
+use Rattle.shards.specs.declared.edited_shard.EditedShard.{EditedShard}
+use Rattle.shards.specs.Groups.{Grouped, edits_of, filled_groups}
+use Rattle.shards.specs.Part.{Part, AreEditsOf}
+use Rattle.shards.specs.Table.{part_at}
+use Rattle.shards.specs.Made.{IsMade}
 
 -- a range's number, and its edits
 abbrev pub Piece : Type 0

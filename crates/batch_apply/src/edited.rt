@@ -2,16 +2,16 @@
 ghost use Rattle.std.specs.Prelude.{◌≡◌, ◌<◌, ◌≤◌, All, length, IfOk, IfErr};
 ghost use Rattle.past_model.specs.declared.limits.TheConstants.{MOST_RANGES};
 ghost use Rattle.workers.specs.declared.limits.TheConstants.{MOST_WORKERS};
-ghost use Rattle.migration.specs.Made.{IsBatch};
-ghost use Rattle.migration.specs.Table.{IsEditable, AreAfter, AreMoved};
+ghost use Rattle.shards.specs.Made.{IsBatch};
+ghost use Rattle.shards.specs.Table.{IsEditable, AreAfter, AreMoved};
 ghost use Rattle.workers.specs.declared.work_error.WorkError.TheVariants.{OutOfMemory};
 ghost use Rattle.batch_apply.specs.Dealt.{IsReady, AreDealt, pieces_of};
 
 use crate::hands::{spread, work};
 use crate::one_range::{edit_range, only_range};
 use crate::pieces::Pieces;
-use migration::{Counts, EditedShard, Grouping, Groups, Table};
 use past_model::Edit;
+use shards::{Counts, EditedShard, Grouping, Groups, Table};
 use std::alloc::{AllocError, Global};
 use std::sync::Wait;
 use std::thread::Threads;

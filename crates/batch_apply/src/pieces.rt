@@ -3,8 +3,8 @@ ghost use Rattle.std.specs.Prelude.{◌≡◌, ◌<◌, ◌≤◌, length, slice
 ghost use Rattle.past_model.specs.declared.limits.TheConstants.{MOST_RANGES};
 ghost use Rattle.batch_apply.specs.Dealt.{Piece, pieces_of};
 
-use migration::Groups;
 use past_model::Edit;
+use shards::Groups;
 use std::alloc::{AllocError, Global};
 use std::marker::Model;
 

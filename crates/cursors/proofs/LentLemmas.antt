@@ -2,7 +2,7 @@
 use Rattle.std.proofs.Common.{◌≡◌, ℕ, ◌+◌, ◌<◌, List, length, get_or, drop, sym, ap, ◌∙◌, slice_get, Some, arith}
 use Rattle.std.proofs.lemmas.Option.{slice_get-get_or}
 use Rattle.std.proofs.lemmas.List.{get_or-drop, get_or_append_left}
-use Rattle.migration.specs.Lent.{IsLentAt}
+use Rattle.shards.specs.Lent.{IsLentAt}
 
 pub first_lent : (targets : List ℕ) (place : ℕ) (lent : List ℕ) → IsLentAt targets place lent → place < length targets → slice_get lent 0 ≡ slice_get targets place
 first_lent targets place lent is inside =

@@ -1,7 +1,7 @@
 -- A list under way of being lent.
 use Rattle.std.specs.Prelude.{ℕ, ◌<◌, ◌≤◌, List, [], length, drop, Option, Some, None}
 use Rattle.std.specs.Borrow.{Bor}
-use Rattle.migration.specs.Part.{Part, row_at}
+use Rattle.shards.specs.Part.{Part, row_at}
 
 -- what stands in a vertex's list from a place on; no shard has nothing
 abbrev pub left_at : Option (Bor Part) → ℕ → ℕ → List ℕ

@@ -2,10 +2,10 @@
 ghost use Rattle.std.specs.Prelude.{◌≡◌, ◌+◌, ◌<◌, ◌≤◌, ◌↔◌, ℕ, length, slice_get, Contains, IsTrue};
 ghost use Rattle.past_model.specs.declared.limits.TheConstants.{MOST_VERTICES};
 ghost use Rattle.graph_model.specs.Graph.{Graph, neighbours};
-ghost use Rattle.migration.specs.Table.{IsShardOf};
+ghost use Rattle.shards.specs.Table.{IsShardOf};
 
 use crate::place::place_of;
-use migration::Shard;
+use shards::Shard;
 
 /// How many neighbours a vertex has, where this is the shard in which its list stands. A vertex outside has
 /// none.

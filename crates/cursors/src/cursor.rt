@@ -4,11 +4,11 @@ ghost use Rattle.past_model.specs.declared.limits.TheConstants.{MOST_VERTICES};
 ghost use Rattle.graph_model.specs.Graph.{Graph, neighbours};
 ghost use Rattle.past_model.specs.Past.{Past};
 ghost use Rattle.handle_model.specs.Calls.{IsLend};
-ghost use Rattle.migration.specs.Part.{row_at};
-ghost use Rattle.migration.specs.Table.{IsShardOf};
+ghost use Rattle.shards.specs.Part.{row_at};
+ghost use Rattle.shards.specs.Table.{IsShardOf};
 
 use crate::place::place_of;
-use migration::Shard;
+use shards::Shard;
 use std::marker::Model;
 
 /// A vertex's neighbours, lent in slices. A slice lives as long as the shards, and not as long as the

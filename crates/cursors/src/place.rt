@@ -1,11 +1,11 @@
 //! Where a vertex's list stands.
 ghost use Rattle.std.specs.Prelude.{◌≡◌, ◌+◌, ◌<◌, ◌≤◌, ℕ, length, IfSome, MatchOption};
 ghost use Rattle.graph_model.specs.Graph.{Graph, neighbours};
-ghost use Rattle.migration.specs.Part.{row_at};
-ghost use Rattle.migration.specs.Table.{IsShardOf};
+ghost use Rattle.shards.specs.Part.{row_at};
+ghost use Rattle.shards.specs.Table.{IsShardOf};
 
-use migration::Shard;
 use past_model::RANGE_VERTICES;
+use shards::Shard;
 
 /// A vertex's list by the shard in which it stands and its place there. A vertex outside the graph has none.
 pub(crate) fn place_of(shard: Option<&Shard>, vertex: u64) -> Option<(&Shard, u8)>

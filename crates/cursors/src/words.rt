@@ -4,10 +4,10 @@ ghost use Rattle.std.specs.Int.{w32, to_le_bytes};
 ghost use Rattle.past_model.specs.declared.limits.TheConstants.{MOST_VERTICES};
 ghost use Rattle.graph_model.specs.Graph.{Graph};
 ghost use Rattle.graph_model.specs.Views.{words_from, neighbour_words, neighbours_among, word_bytes};
-ghost use Rattle.migration.specs.Table.{IsShardOf};
+ghost use Rattle.shards.specs.Table.{IsShardOf};
 
 use crate::cursor::Cursor;
-use migration::Shard;
+use shards::Shard;
 use std::marker::Model;
 
 /// The word where there is no neighbour. It is no vertex.

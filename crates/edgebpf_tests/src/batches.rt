@@ -1,8 +1,8 @@
 //! A batch in its ranges, below the number of edits from which threads sort them, at it, and at the most; and the greatest batch on
 //! the greatest graph that is served.
 use batch_apply::{ApplyError, apply_batch, split};
-use migration::Table;
 use past_model::{Batch, Edit, SERVED_VERTICES};
+use shards::Table;
 use std::alloc::{AllocError, Global};
 use std::sync::Wait;
 use std::test::Fail;

@@ -4,7 +4,7 @@ use Rattle.std.proofs.lemmas.Bool.{cases_eq}
 use Rattle.std.proofs.lemmas.List.{get_or-take, get_or-drop, length-take}
 use Rattle.word_sets.specs.Words.{IsWithin}
 use Rattle.word_sets.proofs.Within.{within_from}
-use Rattle.migration.specs.Arrays.{start_at, list_of}
+use Rattle.shards.specs.Arrays.{start_at, list_of}
 use Rattle.version.specs.Sorted.{AreSorted}
 use Rattle.version.proofs.SortedLemmas.{starts_within}
 use Rattle.version.specs.Version.{IsVertexCount}

@@ -1,6 +1,6 @@
 -- A store of edges that are given in sorted arrays, as a host asks for it: which test fails first.
 use Rattle.std.specs.Prelude.{◌≡◌, ◌≢◌, ℕ, suc, ◌+◌, ◌<◌, List, length, slice_index_or}
-use Rattle.migration.specs.Arrays.{list_of}
+use Rattle.shards.specs.Arrays.{list_of}
 use Rattle.version.specs.Version.{IsVertexCount}
 use Rattle.version.specs.Sorted.{AreStarts}
 use Rattle.embedding.specs.declared.statuses.TheConstants.{DONE, VERTEX_COUNT, VERTEX_RANGE, LENGTHS, NOT_SORTED}

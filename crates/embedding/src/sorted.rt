@@ -1,6 +1,6 @@
 //! Stores of edges that are given in sorted arrays.
 ghost use Rattle.std.specs.Prelude.{◌≡◌, ◌≢◌, ◌+◌, ◌<◌, ◌≤◌, ℕ, length, true, false};
-ghost use Rattle.migration.specs.Arrays.{list_of, start_at};
+ghost use Rattle.shards.specs.Arrays.{list_of, start_at};
 ghost use Rattle.version.specs.Version.{IsVertexCount};
 ghost use Rattle.version.specs.Sorted.{AreSorted, AreStarts, past_of};
 ghost use Rattle.embedding.specs.declared.statuses.TheConstants.{DONE, NO_MEMORY};

@@ -4,8 +4,8 @@ use Rattle.past_model.specs.declared.limits.TheConstants.{RANGE_VERTICES}
 use Rattle.past_model.specs.declared.edit.Edit.{Edit}
 use Rattle.graph_model.specs.Graph.{Graph}
 use Rattle.past_model.specs.Edits.{after_batch}
-use Rattle.migration.specs.Part.{Part}
-use Rattle.migration.specs.Table.{IsPartAt, part_at}
+use Rattle.shards.specs.Part.{Part}
+use Rattle.shards.specs.Table.{IsPartAt, part_at}
 use Rattle.store_model.specs.Core.{range_of, is_done}
 
 -- the edits of a range, in their order

@@ -6,7 +6,7 @@ use Rattle.past_model.specs.declared.edit.Edit.{Edit}
 use Rattle.past_model.specs.declared.entry.Entry.{Entry}
 use Rattle.graph_model.specs.Graph.{Graph}
 use Rattle.past_model.specs.Edits.{AreEditsBelow}
-use Rattle.migration.specs.Part.{Part}
+use Rattle.shards.specs.Part.{Part}
 use Rattle.store_model.specs.Core.{Holding, is_open, is_done}
 use Rattle.stream_core.specs.Tables.{own_edits, IsTableInWork}
 

@@ -5,8 +5,8 @@ use Rattle.past_model.specs.declared.limits.TheConstants.{MOST_VERTICES}
 use Rattle.past_model.specs.declared.entry.Entry.{Entry}
 use Rattle.past_model.specs.Edits.{AreEditsBelow}
 use Rattle.past_model.specs.Past.{Past, IsPast, graph_of}
-use Rattle.migration.specs.Part.{Part}
-use Rattle.migration.specs.Table.{IsTable}
+use Rattle.shards.specs.Part.{Part}
+use Rattle.shards.specs.Table.{IsTable}
 use Rattle.store_model.specs.declared.limits.TheConstants.{READERS}
 use Rattle.store_model.specs.Core.{Core}
 use Rattle.stream_core.specs.declared.reader_run.ReaderRun.{ReaderRun}

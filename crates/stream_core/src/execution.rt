@@ -2,12 +2,12 @@
 ghost use Rattle.std.specs.Prelude.{◌≡◌, ◌≤◌, IfOk, OnErr};
 ghost use Rattle.past_model.specs.declared.limits.TheConstants.{MOST_VERTICES};
 ghost use Rattle.past_model.specs.Past.{graph_of};
-ghost use Rattle.migration.specs.Table.{IsTable, parts_of};
+ghost use Rattle.shards.specs.Table.{IsTable, parts_of};
 ghost use Rattle.store_model.specs.Core.{opening_core};
 ghost use Rattle.store_model.specs.Events.{Steps, Ran};
 
 use crate::world::World;
-use migration::Shard;
+use shards::Shard;
 use std::alloc::{AllocError, Global};
 use std::sync::Arc;
 use store_model::{Event, Reply};

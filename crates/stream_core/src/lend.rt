@@ -1,11 +1,11 @@
 //! Which words are lent next.
 ghost use Rattle.std.specs.Prelude.{◌≡◌, ◌<◌, [], length, drop, MatchOption};
 ghost use Rattle.graph_model.specs.Graph.{Graph, neighbours};
-ghost use Rattle.migration.specs.Table.{IsTable, parts_of};
+ghost use Rattle.shards.specs.Table.{IsTable, parts_of};
 ghost use Rattle.store_model.specs.Events.{IsBeginning};
 
 use cursors::Cursor;
-use migration::{Shard, shard_of};
+use shards::{Shard, shard_of};
 use std::sync::Arc;
 
 /// The next words of a vertex's neighbours from a place on, as they lie in one slice. There are none past the end.

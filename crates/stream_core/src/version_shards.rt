@@ -3,11 +3,11 @@ ghost use Rattle.std.specs.Prelude.{◌≡◌, ◌<◌, ◌≤◌, length, slice
 ghost use Rattle.std.specs.Arc.{arc_value};
 ghost use Rattle.past_model.specs.declared.limits.TheConstants.{MOST_VERTICES};
 ghost use Rattle.graph_model.specs.Graph.{empty_graph};
-ghost use Rattle.migration.specs.Part.{AreEditsOf, IsPartAfter};
-ghost use Rattle.migration.specs.Table.{IsTable, parts_of, part_at};
+ghost use Rattle.shards.specs.Part.{AreEditsOf, IsPartAfter};
+ghost use Rattle.shards.specs.Table.{IsTable, parts_of, part_at};
 
-use migration::{Shard, empty_shards, share_shards};
 use past_model::Edit;
+use shards::{Shard, empty_shards, share_shards};
 use std::alloc::{AllocError, Global};
 use std::marker::Model;
 use std::sync::Arc;
@@ -20,8 +20,8 @@ pub(crate) struct VersionShards {
 
 impl Model for VersionShards {
     ghost use Rattle.std.specs.Prelude.{List};
-    ghost use Rattle.migration.specs.Part.{Part};
-    ghost use Rattle.migration.specs.Table.{parts_of};
+    ghost use Rattle.shards.specs.Part.{Part};
+    ghost use Rattle.shards.specs.Table.{parts_of};
 
     ghost Value = { List Part };
 

@@ -16,10 +16,10 @@ use Rattle.graph_model.proofs.Pairs.{count_pairs-zero, count_pairs-suc}
 use Rattle.word_sets.specs.Words.{has_word}
 use Rattle.word_sets.proofs.Within.{IsWithin-wider}
 use Rattle.word_sets.proofs.Members.{bounds_of}
-use Rattle.migration.specs.Arrays.{start_at, list_of, first_home, AreLists, AreListsOf}
-use Rattle.migration.specs.Part.{Part}
-use Rattle.migration.specs.Table.{IsTable, row_in, home_in, base_in}
-use Rattle.migration.proofs.ArrayLemmas.{set_is_filter}
+use Rattle.shards.specs.Arrays.{start_at, list_of, first_home, AreLists, AreListsOf}
+use Rattle.shards.specs.Part.{Part}
+use Rattle.shards.specs.Table.{IsTable, row_in, home_in, base_in}
+use Rattle.shards.proofs.ArrayLemmas.{set_is_filter}
 use Rattle.version.specs.Version.{IsVersion, IsVertexCount}
 use Rattle.version.specs.Ground.{Ground, ground, past_on}
 use Rattle.version.specs.Sorted.{AreStarts, AreSorted, past_of}

@@ -19,9 +19,9 @@ use Rattle.graph_model.proofs.Neighbours.{neighbours-outside}
 use Rattle.graph_model.proofs.ViewLemmas.{neighbour-is_edge, is_edge-neighbour}
 use Rattle.past_model.proofs.Batches.{change_of_size, edge_count-empty_graph, edge_count-le, new_edges-le}
 use Rattle.past_model.proofs.Pasts.{graph_of-longer, vertex_count-graph_of, number_of-longer, IsPast-longer, IsPast-opening}
-use Rattle.migration.specs.declared.counts.Counts.{Counts}
-use Rattle.migration.specs.Part.{Part, row_at, vertex_at}
-use Rattle.migration.specs.Table.{IsTable, IsEditable, AreAfter, AreMoved, part_at, row_in, home_in, base_in}
+use Rattle.shards.specs.declared.counts.Counts.{Counts}
+use Rattle.shards.specs.Part.{Part, row_at, vertex_at}
+use Rattle.shards.specs.Table.{IsTable, IsEditable, AreAfter, AreMoved, part_at, row_in, home_in, base_in}
 use Rattle.version.specs.Version.{IsVersion, IsVertexCount, IsMade}
 
 -- edits below a version's vertices are below its graph's

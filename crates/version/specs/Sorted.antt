@@ -3,7 +3,7 @@ use Rattle.std.specs.Prelude.{◌≡◌, ℕ, ◌+◌, ◌<◌, ◌≤◌, List,
 use Rattle.graph_model.specs.Graph.{numbers_below}
 use Rattle.past_model.specs.Past.{Past}
 use Rattle.word_sets.specs.Words.{IsWithin}
-use Rattle.migration.specs.Arrays.{start_at, list_of, first_home}
+use Rattle.shards.specs.Arrays.{start_at, list_of, first_home}
 
 -- where the list of each of n vertices begins among the targets, and the end of them all: none begins before the one before it
 pub record AreStarts (n : ℕ) (starts targets : List ℕ) : Type 0 where

@@ -6,9 +6,9 @@ use Rattle.past_model.specs.declared.entry.Entry.{Entry}
 use Rattle.past_model.specs.Edits.{added, removed}
 use Rattle.past_model.specs.Past.{Past, IsPast, graph_of, number_of, epoch_of, longer}
 use Rattle.past_model.specs.Homes.{home_of}
-use Rattle.migration.specs.declared.counts.Counts.{Counts}
-use Rattle.migration.specs.Part.{Part}
-use Rattle.migration.specs.Table.{IsTable, home_in}
+use Rattle.shards.specs.declared.counts.Counts.{Counts}
+use Rattle.shards.specs.Part.{Part}
+use Rattle.shards.specs.Table.{IsTable, home_in}
 
 -- how many vertices a version may have
 abbrev pub IsVertexCount : ℕ → Type 0

@@ -5,7 +5,7 @@ ghost use Rattle.version.specs.Ground.{ground};
 
 use crate::log::Mark;
 use crate::marks::Marks;
-use migration::Table;
+use shards::Table;
 use std::alloc::{AllocError, Global};
 use std::marker::Model;
 

@@ -1,5 +1,5 @@
 use Rattle.std.proofs.Common.{◌≡◌, ℕ, ◌<◌, length, get_or, Bor}
-use Rattle.migration.specs.declared.edited_shard.EditedShard.{EditedShard}
+use Rattle.shards.specs.declared.edited_shard.EditedShard.{EditedShard}
 use Rattle.batch_apply.specs.Dealt.{Piece, IsMadeOf}
 use Rattle.batch_apply.proofs.edited.put_in.Given as goal
 

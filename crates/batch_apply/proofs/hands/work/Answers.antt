@@ -1,9 +1,9 @@
 use Rattle.std.proofs.Common.{◌≡◌, ◌+◌, ◌*◌, ◌<◌, [], length, sym, ap, subst, subst₂, ◌∙◌, get_or, ◌≤◌, inl, inr, mul-le-mul, le_refl, arith}
 use Rattle.std.proofs.lemmas.Bool.{cases_lt}
 use Rattle.std.proofs.lemmas.List.{length_push}
-use Rattle.migration.specs.Part.{AreEditsOf}
-use Rattle.migration.specs.Table.{part_at}
-use Rattle.migration.specs.Made.{IsMade}
+use Rattle.shards.specs.Part.{AreEditsOf}
+use Rattle.shards.specs.Table.{part_at}
+use Rattle.shards.specs.Made.{IsMade}
 use Rattle.batch_apply.specs.Dealt.{Piece, IsMadeOf}
 use Rattle.batch_apply.proofs.Dealing.{AreMadeOf, piece_more}
 use Rattle.batch_apply.proofs.hands.work.Goals as goal

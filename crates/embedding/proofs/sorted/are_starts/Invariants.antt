@@ -1,5 +1,5 @@
 use Rattle.std.proofs.Common.{ℕ, ◌+◌, ◌<◌, ◌≤◌}
-use Rattle.migration.specs.Arrays.{start_at}
+use Rattle.shards.specs.Arrays.{start_at}
 use Rattle.embedding.proofs.sorted.are_starts.Given as goal
 
 abbrev pub invariant-loop-vertex : goal.invariant-loop-vertex

@@ -1,5 +1,5 @@
 use Rattle.std.proofs.Common.{ℕ, ◌<◌}
-use Rattle.migration.specs.Arrays.{list_of}
+use Rattle.shards.specs.Arrays.{list_of}
 use Rattle.embedding.specs.Sorted.{Rises}
 use Rattle.embedding.proofs.sorted.lists_rise.Given as goal
 

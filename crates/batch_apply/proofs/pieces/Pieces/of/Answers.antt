@@ -1,7 +1,7 @@
 use Rattle.std.proofs.Common.{◌≡◌, ◌+◌, ◌<◌, ◌++◌, ◌∷◌, [], length, map, All, sym, ap, subst, ◌∙◌, length-append, arith}
 use Rattle.std.proofs.lemmas.List.{get_or_read}
 use Rattle.std.proofs.lemmas.List.Elements.{All-push}
-use Rattle.migration.specs.Groups.{edits_of}
+use Rattle.shards.specs.Groups.{edits_of}
 use Rattle.batch_apply.specs.declared.pieces.Run.{Run}
 use Rattle.batch_apply.specs.Pieces.{piece_in, IsWithin}
 use Rattle.batch_apply.proofs.Dealing.{filled_one}

@@ -1,5 +1,5 @@
 use Rattle.std.proofs.Common.{◌≡◌, length, take, map, All}
-use Rattle.migration.specs.Groups.{edits_of}
+use Rattle.shards.specs.Groups.{edits_of}
 use Rattle.batch_apply.specs.Pieces.{piece_in, IsWithin}
 use Rattle.batch_apply.proofs.pieces.Pieces.of.Given as goal
 

@@ -1,5 +1,5 @@
 use Rattle.std.proofs.Common.{◌≡◌, Some, List, set, sym, ap, subst, ◌∙◌}
-use Rattle.migration.specs.Part.{Part}
+use Rattle.shards.specs.Part.{Part}
 use Rattle.store_model.specs.declared.event.Event.TheVariants.{Pin}
 use Rattle.store_model.specs.declared.reply.Reply.TheVariants.{Done}
 use Rattle.store_model.specs.Events.{after}

@@ -1,7 +1,7 @@
 use Rattle.std.proofs.Common.{◌≡◌, ◌<◌, Some, List, [], length, sym, ap, subst, ◌∙◌}
 use Rattle.std.specs.List.{AllByRecursion}
 use Rattle.past_model.specs.declared.entry.Entry.{Entry}
-use Rattle.migration.specs.Part.{Part}
+use Rattle.shards.specs.Part.{Part}
 use Rattle.store_model.specs.Core.{range_of}
 use Rattle.stream_core.specs.Work.{Work}
 use Rattle.stream_core.specs.Runs.{past_at}

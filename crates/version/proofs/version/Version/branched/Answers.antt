@@ -3,7 +3,7 @@ use Rattle.std.specs.Arc.{arc_value}
 use Rattle.past_model.specs.declared.entry.Entry.{Entry}
 use Rattle.past_model.specs.Past.{Past, Base}
 use Rattle.past_model.specs.Epochs.{branched}
-use Rattle.migration.specs.Part.{Part}
+use Rattle.shards.specs.Part.{Part}
 use Rattle.version.specs.Ground.{Ground, ground, past_on}
 use Rattle.version.specs.Version.{IsVersion}
 use Rattle.version.proofs.VersionLemmas.{branched_version, base_is}

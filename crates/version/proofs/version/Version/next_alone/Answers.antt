@@ -3,8 +3,8 @@ use Rattle.std.specs.Arc.{arc_value}
 use Rattle.past_model.specs.declared.edit.Edit.{Edit}
 use Rattle.past_model.specs.Edits.{AreEditsBelow}
 use Rattle.past_model.specs.Past.{Past, number_of}
-use Rattle.migration.specs.Part.{Part}
-use Rattle.migration.specs.Table.{IsEditable, AreAfter, AreMoved}
+use Rattle.shards.specs.Part.{Part}
+use Rattle.shards.specs.Table.{IsEditable, AreAfter, AreMoved}
 use Rattle.version.specs.Ground.{past_on}
 use Rattle.version.specs.Version.{IsMade}
 use Rattle.version.proofs.VersionLemmas.{editable, made}

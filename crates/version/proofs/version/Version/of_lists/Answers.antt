@@ -1,8 +1,8 @@
 use Rattle.std.proofs.Common.{◌≡◌, [], List, ℕ, sym, ap, subst, ◌∙◌, rules, length, Some}
 use Rattle.std.specs.Arc.{arc_value}
 use Rattle.past_model.specs.Past.{Past, graph_of}
-use Rattle.migration.specs.Part.{Part}
-use Rattle.migration.specs.Table.{IsTable}
+use Rattle.shards.specs.Part.{Part}
+use Rattle.shards.specs.Table.{IsTable}
 use Rattle.version.specs.Ground.{ground, past_on}
 use Rattle.version.specs.Version.{IsVersion}
 use Rattle.version.specs.Sorted.{past_of}

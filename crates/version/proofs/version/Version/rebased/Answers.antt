@@ -4,7 +4,7 @@ use Rattle.past_model.specs.declared.limits.TheConstants.{MOST_EPOCHS}
 use Rattle.past_model.specs.declared.entry.Entry.{Entry}
 use Rattle.past_model.specs.Past.{Past, Base, epoch_of}
 use Rattle.past_model.specs.Epochs.{mark_of, rebased}
-use Rattle.migration.specs.Part.{Part}
+use Rattle.shards.specs.Part.{Part}
 use Rattle.version.specs.Ground.{Ground, ground, past_on}
 use Rattle.version.specs.Version.{IsVersion}
 use Rattle.version.proofs.VersionLemmas.{rebased_version, base_is}

@@ -1,5 +1,0 @@
-use Rattle.migration.proofs.ArrayLemmas.{AreFrom}
-use Rattle.migration.proofs.arrays.pages_of_lists.Given as goal
-
-abbrev pub invariant-loop-number : goal.invariant-loop-number
-invariant-loop-number l = AreFrom l.starts l.targets l.first l.width l.vertices l.number l.pages.items

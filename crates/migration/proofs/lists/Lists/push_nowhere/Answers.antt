@@ -1,6 +1,0 @@
-use Rattle.std.proofs.Common.{refl}
-use Rattle.migration.proofs.ListLemmas.{pushed_nowhere}
-use Rattle.migration.proofs.lists.Lists.push_nowhere.Goals as goal
-
-pub returns : goal.returns
-returns c = pushed_nowhere c.args.self.now _ c.requires.kept c.push.ensures.items refl refl refl refl

@@ -1,6 +1,0 @@
-use Rattle.std.proofs.Common.{rules}
-use Rattle.migration.proofs.NearbyLemmas.{missed_nearby}
-use Rattle.migration.proofs.nearby.place_nearby.Goals as goal
-
-pub returns-then-words-place-2-clause-position : goal.returns-then-words-place-2-clause-position
-returns-then-words-place-2-clause-position c = missed_nearby c.args.words.now c.args.word c.loop-place.place c.loop-place.invariant (search rules) (search rules)

@@ -1,5 +1,0 @@
-use Rattle.migration.proofs.PageLemmas.{AreEmpty}
-use Rattle.migration.proofs.pages.empty_pages.Given as goal
-
-abbrev pub invariant-loop-number : goal.invariant-loop-number
-invariant-loop-number l = AreEmpty l.vertices l.number l.pages.items

@@ -1,0 +1,6 @@
+use Rattle.std.proofs.Common.{refl}
+use Rattle.shards.proofs.ListLemmas.{pushed_nowhere}
+use Rattle.shards.proofs.lists.Lists.push_nowhere.Goals as goal
+
+pub returns : goal.returns
+returns c = pushed_nowhere c.args.self.now _ c.requires.kept c.push.ensures.items refl refl refl refl
