@@ -15,7 +15,7 @@ HERE = pathlib.Path(__file__).resolve().parent
 sys.path.insert(0, str(HERE.parent))
 from building import build  # noqa: E402
 
-USED = ["cursors", "shards", "past_model", "stream_core"]
+USED = ["cursors", "past_model", "shard_table", "stream_core"]
 EVENTS = 100_000
 FEEDS = 4
 

@@ -69,14 +69,14 @@ def picture(title, width, height, lines, boxes, notes):
 def version():
     """Two versions, the second one after a batch that edits one vertex."""
     rows, columns = [30 + 72 * height for height in range(6)], [20, 212, 404, 620]
-    first = [Box("version::Version", "the one before", columns[0], rows[0]), Box("shards::Table", "all shards, in blocks", columns[0], rows[1])]
-    blocks = [Box("shards::Block", "shards side by side", columns[place], rows[2]) for place in (0, 1)]
+    first = [Box("version::Version", "the one before", columns[0], rows[0]), Box("shard_table::Table", "all shards, in blocks", columns[0], rows[1])]
+    blocks = [Box("shard_table::Block", "shards side by side", columns[place], rows[2]) for place in (0, 1)]
     shards = [Box("shards::Shard", f"{number('past_model', 'RANGE_VERTICES')} vertices", columns[place], rows[3]) for place in (0, 1, 2)]
     pages = [Box("shards::Lists", f"a page, 4 to {number('shards', 'PAGE_VERTICES')} vertices", columns[place], rows[4]) for place in (0, 1, 2)]
     homes = [Box(of, note, columns[place], rows[5]) for place, (of, note) in enumerate((
         ("vertex_block::VertexBlock", "few neighbours"), ("gapped_array::GappedArray", "more, one for a page"), ("neighbour_btree::NeighbourTree", "many")))]
     new = [Box(of, note, columns[3], rows[height], "made") for height, (of, note) in enumerate((
-        ("version::Version", "after one edit"), ("shards::Table", "shares other blocks"), ("shards::Block", "shares other shards"),
+        ("version::Version", "after one edit"), ("shard_table::Table", "shares other blocks"), ("shard_table::Block", "shares other shards"),
         ("shards::Shard", "shares other pages"), ("shards::Lists", "the page of the vertex")))]
     pairs = [(first[0], first[1]), *((first[1], block) for block in blocks), (blocks[0], shards[0]), (blocks[1], shards[1]), (blocks[1], shards[2])]
     pairs += [(shards[1], pages[0]), (shards[1], pages[1]), (shards[2], pages[2])] + [(pages[1], home) for home in homes]

@@ -8,10 +8,10 @@ use Rattle.past_model.specs.declared.limits.TheConstants.{MOST_RANGES}
 use Rattle.shards.specs.declared.edited_shard.EditedShard.{EditedShard}
 use Rattle.shards.specs.Groups.{Grouped, edits_of, is_filled, filled_below, filled_groups}
 use Rattle.shards.specs.Part.{Part, AreEditsOf}
-use Rattle.shards.specs.Table.{part_at}
-use Rattle.shards.specs.Made.{IsBatch, IsMade, AreMade}
-use Rattle.shards.proofs.RangeLemmas.{range_edits, range_own}
-use Rattle.shards.proofs.MadeLemmas.{edits_in}
+use Rattle.shard_table.specs.Table.{part_at}
+use Rattle.shard_table.specs.Made.{IsBatch, IsMade, AreMade}
+use Rattle.shard_table.proofs.RangeLemmas.{range_edits, range_own}
+use Rattle.shard_table.proofs.MadeLemmas.{edits_in}
 use Rattle.shards.proofs.FilledLemmas.{filled_more, filled_same}
 use Rattle.batch_apply.specs.Dealt.{Piece, pieces_of, IsReady, IsMadeOf, IsDealt, AreDealt}
 

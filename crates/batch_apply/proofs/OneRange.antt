@@ -10,10 +10,10 @@ use Rattle.graph_model.specs.Graph.{Graph}
 use Rattle.shards.specs.declared.edited_shard.EditedShard.{EditedShard}
 use Rattle.shards.specs.Groups.{is_filled, edits_of, filled_below}
 use Rattle.shards.specs.Part.{Part, AreEditsOf}
-use Rattle.shards.specs.Table.{IsTable, part_at}
-use Rattle.shards.specs.Made.{IsMade, AreMade}
+use Rattle.shard_table.specs.Table.{IsTable, part_at}
+use Rattle.shard_table.specs.Made.{IsMade, AreMade}
 use Rattle.shards.proofs.FilledLemmas.{empty_is, none_between}
-use Rattle.shards.proofs.RangeLemmas.{in_ranges, range_own}
+use Rattle.shard_table.proofs.RangeLemmas.{in_ranges, range_own}
 use Rattle.batch_apply.specs.Splits.{AreOfRange, range_of, edits_in, by_ranges}
 use Rattle.batch_apply.proofs.Cuts.{none_in, each_in}
 

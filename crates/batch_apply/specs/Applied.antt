@@ -6,7 +6,7 @@ use Rattle.graph_model.specs.Graph.{Graph}
 use Rattle.past_model.specs.Edits.{AreEditsBelow}
 use Rattle.shards.specs.declared.counts.Counts.{Counts}
 use Rattle.shards.specs.Part.{Part}
-use Rattle.shards.specs.Table.{IsTable, AreAfter, AreMoved}
+use Rattle.shard_table.specs.Table.{IsTable, AreAfter, AreMoved}
 use Rattle.batch_apply.specs.declared.errors.ApplyError.{ApplyError}
 use Rattle.batch_apply.specs.declared.errors.ApplyError.TheVariants.{VertexRange, TooManyEdits, OutOfMemory, WorkerRefused}
 

@@ -5,8 +5,8 @@ use Rattle.past_model.specs.declared.edit.Edit.{Edit}
 use Rattle.shards.specs.declared.edited_shard.EditedShard.{EditedShard}
 use Rattle.shards.specs.Groups.{Grouped, edits_of, filled_groups}
 use Rattle.shards.specs.Part.{Part, AreEditsOf}
-use Rattle.shards.specs.Table.{part_at}
-use Rattle.shards.specs.Made.{IsMade}
+use Rattle.shard_table.specs.Table.{part_at}
+use Rattle.shard_table.specs.Made.{IsMade}
 
 -- a range's number, and its edits
 abbrev pub Piece : Type 0

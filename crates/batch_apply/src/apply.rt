@@ -1,12 +1,13 @@
 //! A batch on a table of shards.
 ghost use Rattle.std.specs.Prelude.{◌≡◌, IsErrOf};
-ghost use Rattle.shards.specs.Table.{IsOfGraph};
+ghost use Rattle.shard_table.specs.Table.{IsOfGraph};
 ghost use Rattle.batch_apply.specs.Applied.{IsApplied};
 
 use crate::edited::edit_table;
 use crate::errors::ApplyError;
 use past_model::{Batch, MOST_EDITS, are_below};
-use shards::{Counts, Table};
+use shard_table::Table;
+use shards::Counts;
 use std::alloc::Global;
 use std::sync::Wait;
 use std::thread::Threads;

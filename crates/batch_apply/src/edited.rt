@@ -2,8 +2,8 @@
 ghost use Rattle.std.specs.Prelude.{◌≡◌, ◌<◌, ◌≤◌, All, length, IfOk, IfErr};
 ghost use Rattle.past_model.specs.declared.limits.TheConstants.{MOST_RANGES};
 ghost use Rattle.workers.specs.declared.limits.TheConstants.{MOST_WORKERS};
-ghost use Rattle.shards.specs.Made.{IsBatch};
-ghost use Rattle.shards.specs.Table.{IsEditable, AreAfter, AreMoved};
+ghost use Rattle.shard_table.specs.Made.{IsBatch};
+ghost use Rattle.shard_table.specs.Table.{IsEditable, AreAfter, AreMoved};
 ghost use Rattle.workers.specs.declared.work_error.WorkError.TheVariants.{OutOfMemory};
 ghost use Rattle.batch_apply.specs.Dealt.{IsReady, AreDealt, pieces_of};
 
@@ -11,7 +11,8 @@ use crate::hands::{spread, work};
 use crate::one_range::{edit_range, only_range};
 use crate::pieces::Pieces;
 use past_model::Edit;
-use shards::{Counts, EditedShard, Grouping, Groups, Table};
+use shard_table::Table;
+use shards::{Counts, EditedShard, Grouping, Groups};
 use std::alloc::{AllocError, Global};
 use std::sync::Wait;
 use std::thread::Threads;

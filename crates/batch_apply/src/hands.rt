@@ -5,7 +5,8 @@ ghost use Rattle.workers.specs.declared.limits.TheConstants.{MOST_WORKERS};
 ghost use Rattle.batch_apply.specs.Dealt.{IsReady, IsDealt, AreDealt};
 
 use crate::pieces::Pieces;
-use shards::{EditedShard, Scratch, Table};
+use shard_table::Table;
+use shards::{EditedShard, Scratch};
 use std::alloc::{AllocError, Global};
 use std::thread::{Promise, Scope, Threads};
 use workers::{Gate, WorkError};

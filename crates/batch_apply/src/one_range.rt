@@ -1,11 +1,12 @@
 //! A batch whose edits are all of one range.
 ghost use Rattle.std.specs.Prelude.{IfSome, IfOk};
-ghost use Rattle.shards.specs.Table.{IsEditable, AreAfter, AreMoved};
+ghost use Rattle.shard_table.specs.Table.{IsEditable, AreAfter, AreMoved};
 ghost use Rattle.batch_apply.specs.Splits.{AreOfRange};
 
 use crate::runs::run_length;
 use past_model::{Edit, RANGE_VERTICES};
-use shards::{Counts, Grouping, Groups, Scratch, Table};
+use shard_table::Table;
+use shards::{Counts, Grouping, Groups, Scratch};
 use std::alloc::{AllocError, Global};
 use std::slice;
 use workers::Gate;

@@ -2,7 +2,7 @@
 ghost use Rattle.std.specs.Prelude.{◌≡◌, ◌+◌, ◌<◌, ◌≤◌, ◌↔◌, ℕ, length, slice_get, Contains, IsTrue};
 ghost use Rattle.past_model.specs.declared.limits.TheConstants.{MOST_VERTICES};
 ghost use Rattle.graph_model.specs.Graph.{Graph, neighbours};
-ghost use Rattle.shards.specs.Table.{IsShardOf};
+ghost use Rattle.shard_table.specs.Table.{IsShardOf};
 
 use crate::place::place_of;
 use shards::Shard;

@@ -5,7 +5,7 @@ ghost use Rattle.graph_model.specs.Graph.{Graph, neighbours};
 ghost use Rattle.past_model.specs.Past.{Past};
 ghost use Rattle.handle_model.specs.Calls.{IsLend};
 ghost use Rattle.shards.specs.Part.{row_at};
-ghost use Rattle.shards.specs.Table.{IsShardOf};
+ghost use Rattle.shard_table.specs.Table.{IsShardOf};
 
 use crate::place::place_of;
 use shards::Shard;

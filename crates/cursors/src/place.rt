@@ -2,7 +2,7 @@
 ghost use Rattle.std.specs.Prelude.{◌≡◌, ◌+◌, ◌<◌, ◌≤◌, ℕ, length, IfSome, MatchOption};
 ghost use Rattle.graph_model.specs.Graph.{Graph, neighbours};
 ghost use Rattle.shards.specs.Part.{row_at};
-ghost use Rattle.shards.specs.Table.{IsShardOf};
+ghost use Rattle.shard_table.specs.Table.{IsShardOf};
 
 use past_model::RANGE_VERTICES;
 use shards::Shard;

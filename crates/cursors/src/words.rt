@@ -4,7 +4,7 @@ ghost use Rattle.std.specs.Int.{w32, to_le_bytes};
 ghost use Rattle.past_model.specs.declared.limits.TheConstants.{MOST_VERTICES};
 ghost use Rattle.graph_model.specs.Graph.{Graph};
 ghost use Rattle.graph_model.specs.Views.{words_from, neighbour_words, neighbours_among, word_bytes};
-ghost use Rattle.shards.specs.Table.{IsShardOf};
+ghost use Rattle.shard_table.specs.Table.{IsShardOf};
 
 use crate::cursor::Cursor;
 use shards::Shard;

@@ -2,7 +2,7 @@
 //! the greatest graph that is served.
 use batch_apply::{ApplyError, apply_batch, split};
 use past_model::{Batch, Edit, SERVED_VERTICES};
-use shards::Table;
+use shard_table::Table;
 use std::alloc::{AllocError, Global};
 use std::sync::Wait;
 use std::test::Fail;

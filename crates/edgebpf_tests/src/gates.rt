@@ -6,7 +6,7 @@ use crate::shop::{Shop, pin_of};
 use batch_apply::{ApplyError, apply_batch};
 use edge_map::{Crew, MapError, MapRequest, Pin, Reduction, Verified, map_edges};
 use past_model::{Batch, Edit};
-use shards::Table;
+use shard_table::Table;
 use std::alloc::{AllocError, Global};
 use std::sync::Wait;
 use std::test::Fail;

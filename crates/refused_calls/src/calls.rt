@@ -4,7 +4,7 @@ use batch_apply::{ApplyError, apply_batch};
 use bpf_image::Image;
 use edge_map::{Crew, MapError, MapRequest, Pin, Reduction, Verified, list_edges, map_edges};
 use past_model::{Batch, Edit};
-use shards::{Table, shard_of};
+use shard_table::{Table, shard_of};
 use std::alloc::{AllocError, Global};
 use std::sync::Wait;
 use std::thread::Threads;

@@ -1,11 +1,12 @@
 //! Batches on a table whose lists stand in each home. One that is refused memory leaves the table as it was.
 ghost use Rattle.std.specs.Prelude.{IfOk};
-ghost use Rattle.shards.specs.Table.{IsOfGraph};
+ghost use Rattle.shard_table.specs.Table.{IsOfGraph};
 
 use crate::stop::Stop;
 use batch_apply::{ApplyError, apply_batch};
 use past_model::{Batch, Edit};
-use shards::{Counts, Shard, Table};
+use shard_table::Table;
+use shards::{Counts, Shard};
 use std::alloc::{AllocError, Global};
 use std::sync::Wait;
 use std::thread::Threads;

@@ -1,13 +1,10 @@
 -- Parts whose lists stand in sorted arrays.
 use Rattle.std.proofs.Common.{◌≡◌, ◌⊎◌, ℕ, zero, suc, ◌+◌, ◌-◌, ◌*◌, ◌/◌, ◌%◌, ◌<◌, ◌≤◌, Bool, true, false, ◌&&◌, ltb, min, List, [], ◌∷◌, ◌++◌, length, get_or, map, filter, refl, sym, ap, subst, ◌∙◌, inl, inr, append-nil, append_assoc, lt-ltb, arith}
-use Rattle.std.specs.List.{AllByRecursion}
 use Rattle.std.specs.declared.sync.Arc.{Arc}
 use Rattle.std.specs.declared.alloc.Global.{Global}
 use Rattle.std.specs.Arc.{arc_value}
-use Rattle.std.proofs.lemmas.Bool.{cases_lt, cases_eq, false_from_ne_true}
-use Rattle.std.proofs.lemmas.List.{length-map, length_push, map_push, get_or-map, get_or_append_left, get_or_push, get_or_past}
+use Rattle.std.proofs.lemmas.List.{length-map, map_push, get_or-map}
 use Rattle.past_model.specs.declared.limits.TheConstants.{MOST_VERTICES, MOST_RANGES}
-use Rattle.past_model.specs.declared.home.Home.{Home}
 use Rattle.past_model.specs.declared.home.Home.TheVariants.{Block}
 use Rattle.past_model.specs.Homes.{IsHomeOf}
 use Rattle.past_model.proofs.HomeLemmas.{homes_hold}
@@ -20,19 +17,14 @@ use Rattle.word_sets.proofs.Targets.{IsWithin-numbers_below, has-numbers_below}
 use Rattle.word_sets.proofs.Within.{IsWithin-filter}
 use Rattle.shards.specs.declared.lists.Lists.{Lists}
 use Rattle.shards.specs.Lists.{rows_of, homes_of, AreKept}
-use Rattle.shards.specs.Pages.{rows_in, homes_in, sizes_in, ArePages}
-use Rattle.shards.specs.Part.{Part, IsShard, AreHomes, vertex_at, row_at, home_at}
-use Rattle.shards.specs.Table.{IsTable, IsPartAt, part_at, home_in}
-use Rattle.shards.specs.Blocks.{AreHoused}
-use Rattle.shards.specs.Arrays.{list_of, first_home, rows_from, homes_from, part_from, AreLists, ArePartsOf, AreListsOf}
-use Rattle.shards.proofs.BlockLemmas.{no_times, next_times, past_end}
+use Rattle.shards.specs.Pages.{rows_in, homes_in, ArePages}
+use Rattle.shards.specs.Part.{IsShard, AreHomes}
+use Rattle.shards.specs.Arrays.{list_of, first_home, rows_from, homes_from, part_from, AreLists}
+use Rattle.shards.proofs.SizeLemmas.{no_times, next_times, past_end}
 use Rattle.shards.proofs.PageLemmas.{AreFirst, none_first, one_first, all_first, rows_push, homes_push}
 
 abbrev Page : Type 0
 Page = Arc Lists Global
-
-abbrev nothing : Part
-nothing = record { range = 0; rows = []; homes = [] }
 
 -- ---- something of each vertex from one on
 
@@ -60,7 +52,7 @@ more_from {X = X} f first a (suc b) =
 pub length-from : {X : Type 0} (f : ℕ → X) (first count : ℕ) → length (map (λ k. f (first + k)) (numbers_below count)) ≡ count
 length-from f first count = length-map (numbers_below count) (λ k. f (first + k)) ∙ length-numbers_below count
 
-at_from : {X : Type 0} (f : ℕ → X) (first count i : ℕ) (d : X) → i < count → get_or (map (λ k. f (first + k)) (numbers_below count)) i d ≡ f (first + i)
+pub at_from : {X : Type 0} (f : ℕ → X) (first count i : ℕ) (d : X) → i < count → get_or (map (λ k. f (first + k)) (numbers_below count)) i d ≡ f (first + i)
 at_from f first count i d h =
     get_or-map (λ k. f (first + k)) (numbers_below count) i 0 d (omega (arith, h, length-numbers_below count)) ∙ ap (λ k. f (first + k)) (get_or-numbers_below count i h)
 
@@ -141,7 +133,7 @@ set_is_filter n xs set =
 own_neighbours : (starts targets : List ℕ) (v : ℕ) → v < MOST_VERTICES → IsSet (list_of starts targets v) → list_of starts targets v ≡ neighbours (graph_in starts targets) v
 own_neighbours starts targets v below set = sym (neighbours-within (graph_in starts targets) v below ∙ set_is_filter MOST_VERTICES (list_of starts targets v) set)
 
-homes_of_part : (starts targets : List ℕ) (range vertices : ℕ) → AreHomes (part_from starts targets range vertices)
+pub homes_of_part : (starts targets : List ℕ) (range vertices : ℕ) → AreHomes (part_from starts targets range vertices)
 homes_of_part starts targets range vertices =
     let first : ℕ = 256 * range in
     let homes : length (homes_from starts targets first vertices) ≡ vertices = length-from (λ v. first_home (list_of starts targets v)) first vertices in
@@ -176,79 +168,3 @@ shard_from starts targets range vertices low some few lists inside =
 
 pub length-part_from : (starts targets : List ℕ) (range vertices : ℕ) → length (rows_from starts targets (256 * range) vertices) ≡ vertices
 length-part_from starts targets range vertices = length-from (list_of starts targets) (256 * range) vertices
-
--- ---- tables
-
-abbrev size_at : ℕ → ℕ → ℕ
-size_at n range = min 256 (n - 256 * range)
-
-pub part_more : (starts targets : List ℕ) (n range : ℕ) (parts : List Part) (p : Part) → length parts ≡ range → ((r : ℕ) → r < length parts → part_at parts r ≡ part_from starts targets r (size_at n r)) → p ≡ part_from starts targets range (size_at n range)
-    → (r : ℕ) → r < length (parts ++ p ∷ []) → part_at (parts ++ p ∷ []) r ≡ part_from starts targets r (size_at n r)
-part_more starts targets n range parts p long so_far is r h =
-    elim (cases_lt r (length parts)) [
-      | inl lt ↦ get_or_append_left parts (p ∷ []) nothing r lt ∙ so_far r lt
-      | inr ge ↦ (
-          let same : length parts ≡ r = omega (arith, length_push parts p) in
-          get_or_push parts p nothing r same ∙ is ∙ ap (λ k. part_from starts targets k (size_at n k)) (sym long ∙ same))
-    ]
-
-pub parts_from : (starts targets : List ℕ) (n : ℕ) (parts : List Part) → 1 ≤ n → length parts ≡ (n - 1) / 256 + 1 → ((r : ℕ) → r < length parts → part_at parts r ≡ part_from starts targets r (size_at n r)) → ArePartsOf starts targets n parts
-parts_from starts targets n parts some long each = record {
-  ranges = λ r. (λ h. omega (arith, long), λ h. omega (arith, long));
-  each = each;
-}
-
-pub parts_few : (starts targets : List ℕ) (n : ℕ) (parts : List Part) → ArePartsOf starts targets n parts → n ≤ MOST_VERTICES → length parts ≤ MOST_RANGES
-parts_few starts targets n parts are small =
-    elim (cases_lt 0 (length parts)) [
-      | inl some ↦ (let last = (are.ranges (length parts - 1)).0 (omega arith) in omega arith)
-      | inr none ↦ omega arith
-    ]
-
-pub table_from : (g : Graph) (starts targets : List ℕ) (n : ℕ) (parts : List Part) → length starts ≡ n + 1 → ArePartsOf starts targets n parts → AreListsOf g starts targets → IsTable g parts
-table_from g starts targets n parts long are own =
-    let same : n ≡ g.vertex_count = omega (arith, long, own.count) in
-    record {
-      ranges = λ r. (
-        λ h. (let low = (are.ranges r).0 h in omega (arith, low, same)),
-        λ h. (are.ranges r).1 (omega (arith, h, same)),
-      );
-      each = λ r h. (
-          let size : ℕ = size_at n r in
-          let low = (are.ranges r).0 h in
-          let rows : length (rows_from starts targets (256 * r) size) ≡ size = length-part_from starts targets r size in
-          subst (IsPartAt g r) (sym (are.each r h)) record {
-            number = refl;
-            size = rows ∙ ap (λ k. min 256 (k - 256 * r)) same;
-            part = record {
-              within = omega (arith, rows, low, same);
-              each = λ i inside. (
-                  let low_i : i < size = omega (arith, inside, rows) in
-                  at_from (list_of starts targets) (256 * r) size i [] low_i ∙ sym (own.each (256 * r + i) (omega (arith, low_i, low, same))));
-            };
-          });
-    }
-
-all_housed : (parts : List Part) → ((k : ℕ) → k < length parts → AreHomes (part_at parts k)) → AreHoused parts
-all_housed [] each = tt
-all_housed (p ∷ ps) each = (each 0 (omega arith), all_housed ps (λ k h. each (suc k) (omega arith)))
-
-pub parts_housed : (starts targets : List ℕ) (n : ℕ) (parts : List Part) → ArePartsOf starts targets n parts → AreHoused parts
-parts_housed starts targets n parts are = all_housed parts (λ k h. subst AreHomes (sym (are.each k h)) (homes_of_part starts targets k (size_at n k)))
-
-pub home_from : (starts targets : List ℕ) (n : ℕ) (parts : List Part) (v : ℕ) → ArePartsOf starts targets n parts → v < n → home_in parts v ≡ first_home (list_of starts targets v)
-home_from starts targets n parts v are below =
-    let here : v / 256 < length parts = (are.ranges (v / 256)).1 (omega arith) in
-    let whole : 256 * (v / 256) + v % 256 ≡ v = omega arith in
-    ap (λ (p : Part). home_at p (v % 256)) (are.each (v / 256) here)
-    ∙ at_from (λ w. first_home (list_of starts targets w)) (256 * (v / 256)) (size_at n (v / 256)) (v % 256) Block (omega arith)
-    ∙ ap (λ w. first_home (list_of starts targets w)) whole
-
-pub home_past : (starts targets : List ℕ) (n : ℕ) (parts : List Part) (v : ℕ) → ArePartsOf starts targets n parts → n ≤ v → home_in parts v ≡ Block
-home_past starts targets n parts v are past = elim (cases_lt (v / 256) (length parts)) [
-  | inl here ↦ (
-      let size : ℕ = size_at n (v / 256) in
-      let homes : length (homes_from starts targets (256 * (v / 256)) size) ≡ size = length-from (λ w. first_home (list_of starts targets w)) (256 * (v / 256)) size in
-      ap (λ (p : Part). home_at p (v % 256)) (are.each (v / 256) here) ∙ get_or_past (homes_from starts targets (256 * (v / 256)) size) (v % 256) Block (omega (arith, homes)))
-  | inr none ↦ ap (λ (p : Part). home_at p (v % 256)) (get_or_past parts (v / 256) nothing none)
-]

@@ -12,7 +12,7 @@ use Rattle.past_model.specs.declared.home.Home.TheVariants.{Block}
 use Rattle.shards.specs.declared.counts.Counts.{Counts}
 use Rattle.shards.specs.declared.lists.Lists.{Lists}
 use Rattle.shards.specs.Begun.{AreBegun, IsVertexOf, IsPutLast}
-use Rattle.shards.specs.Blocks.{AreFull}
+use Rattle.shards.specs.Pages.{AreFull}
 use Rattle.shards.specs.Lists.{AreKept, AreSame, IsPushed, rows_of, homes_of}
 use Rattle.shards.specs.Pages.{rows_in, homes_in, sizes_in, part_in, ArePages}
 use Rattle.shards.specs.Part.{Part, AreEditsOf, IsShard}

@@ -4,10 +4,7 @@ pub mod SingleLemmas
 pub mod WordLemmas
 pub mod PartLemmas
 pub mod SearchLemmas
-pub mod RangeLemmas
-pub mod EditedLemmas
-pub mod TableLemmas
-pub mod BlockLemmas
+pub mod SizeLemmas
 pub mod ShortLemmas
 pub mod SplicedLemmas
 pub mod ListLemmas
@@ -19,9 +16,7 @@ pub mod CutLemmas
 pub mod CopiedLemmas
 pub mod HomeLemmas
 pub mod PutLemmas
-pub mod HousedLemmas
 pub mod FilledLemmas
-pub mod MadeLemmas
 pub mod ArrayLemmas
 mod SeenLemmas
 mod NearbyLemmas

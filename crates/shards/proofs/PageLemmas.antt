@@ -14,9 +14,9 @@ use Rattle.past_model.specs.declared.home.Home.{Home}
 use Rattle.past_model.specs.declared.home.Home.TheVariants.{Block}
 use Rattle.shards.specs.declared.lists.Lists.{Lists}
 use Rattle.shards.specs.Lists.{list_at, home_of, rows_of, homes_of, AreKept}
-use Rattle.shards.specs.Blocks.{AreFull}
+use Rattle.shards.specs.Pages.{AreFull}
 use Rattle.shards.specs.Pages.{rows_in, homes_in, sizes_in, ArePages}
-use Rattle.shards.proofs.BlockLemmas.{total, starts, no_times, next_times, past_blocks, past_block, before_end, past_end}
+use Rattle.shards.proofs.SizeLemmas.{total, starts, no_times, next_times, past_pieces, past_piece, before_end, past_end}
 
 abbrev Page : Type 0
 Page = Arc Lists Global
@@ -76,7 +76,7 @@ pub page_there : (w : ℕ) (pages : List Page) (v : ℕ) → ArePages w pages �
 page_there w pages v are h = elim (cases_lt (v / w) (length pages)) [
   | inl there ↦ there
   | inr past ↦ (
-      let all = past_blocks w (sizes_in pages) (v / w) are.full (omega (arith, past, length-sizes_in pages)) in
+      let all = past_pieces w (sizes_in pages) (v / w) are.full (omega (arith, past, length-sizes_in pages)) in
       absurd (omega (arith, all, length-rows_in pages, div-add-mod v w)))
 ]
 
@@ -87,7 +87,7 @@ place_there w pages v d some are h =
     elim (cases_lt (v % w) (length (rows_at (get_or pages (v / w) d)))) [
       | inl inside ↦ inside
       | inr past ↦ (
-          let all = past_block w (sizes_in pages) (v / w) (v % w) are.full (omega (arith, there, length-sizes_in pages)) (omega (arith, past, size)) (omega arith) in
+          let all = past_piece w (sizes_in pages) (v / w) (v % w) are.full (omega (arith, there, length-sizes_in pages)) (omega (arith, past, size)) (omega arith) in
           absurd (omega (arith, all, length-rows_in pages, div-add-mod v w)))
     ]
 

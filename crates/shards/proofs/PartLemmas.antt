@@ -18,7 +18,7 @@ use Rattle.past_model.specs.declared.home.Home.TheVariants.{Block}
 use Rattle.past_model.specs.Homes.{IsHomeOf}
 use Rattle.shards.specs.Part.{Part, vertex_at, row_at, IsPart, IsEditOf, AreEditsOf, IsPartAfter, AreCounts, AreHomes, IsShard}
 use Rattle.shards.specs.Merge.{decision, AreEditsFrom, IsMerged}
-use Rattle.shards.specs.Blocks.{is_new, is_gone}
+use Rattle.shards.specs.Begun.{is_new, is_gone}
 use Rattle.shards.specs.Begun.{IsDone}
 use Rattle.shards.proofs.WordLemmas.{last_word-filter}
 

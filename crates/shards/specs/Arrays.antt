@@ -1,13 +1,12 @@
 -- Edges in sorted arrays: where each vertex's list of targets begins, the end of them all after the last, and the targets.
-use Rattle.std.specs.Prelude.{◌≡◌, ◌↔◌, ℕ, ◌+◌, ◌-◌, ◌*◌, ◌<◌, ◌≤◌, min, List, length, map, take, drop, slice_index_or}
+use Rattle.std.specs.Prelude.{◌≡◌, ℕ, ◌+◌, ◌-◌, ◌*◌, ◌<◌, ◌≤◌, List, length, map, take, drop, slice_index_or}
 use Rattle.past_model.specs.declared.limits.TheConstants.{RANGE_VERTICES}
 use Rattle.past_model.specs.declared.home.Home.{Home}
 use Rattle.past_model.specs.declared.home.Home.TheVariants.{Block}
 use Rattle.past_model.specs.Homes.{home_after}
-use Rattle.graph_model.specs.Graph.{Graph, neighbours, numbers_below}
+use Rattle.graph_model.specs.Graph.{numbers_below}
 use Rattle.word_sets.specs.Words.{IsSet}
 use Rattle.shards.specs.Part.{Part}
-use Rattle.shards.specs.Table.{part_at}
 
 abbrev pub start_at : List ℕ → ℕ → ℕ
 start_at starts v = slice_index_or starts v 0
@@ -40,14 +39,3 @@ part_from starts targets range vertices = record {
   rows = rows_from starts targets (RANGE_VERTICES * range) vertices;
   homes = homes_from starts targets (RANGE_VERTICES * range) vertices;
 }
-
--- a part for each range of so many vertices, with their lists in their homes
-pub record ArePartsOf (starts targets : List ℕ) (n : ℕ) (parts : List Part) : Type 0 where
-  pub ranges : (range : ℕ) → (range < length parts) ↔ (RANGE_VERTICES * range < n)
-  pub each : (range : ℕ) → range < length parts
-      → part_at parts range ≡ part_from starts targets range (min RANGE_VERTICES (n - RANGE_VERTICES * range))
-
--- these are the lists of a graph's vertices
-pub record AreListsOf (g : Graph) (starts targets : List ℕ) : Type 0 where
-  pub count : length starts ≡ g.vertex_count + 1
-  pub each : (v : ℕ) → v < g.vertex_count → neighbours g v ≡ list_of starts targets v

@@ -1,5 +1,5 @@
 -- A shard under edit: the lists of its first vertices are made.
-use Rattle.std.specs.Prelude.{◌≡◌, ℕ, ◌+◌, ◌^◌, ◌<◌, ◌≤◌, List, [], ◌∷◌, ◌++◌, length, slice_index_or}
+use Rattle.std.specs.Prelude.{◌≡◌, ℕ, ◌+◌, ◌^◌, ◌<◌, ◌≤◌, Bool, not, ◌&&◌, List, [], ◌∷◌, ◌++◌, length, slice_index_or}
 use Rattle.past_model.specs.declared.edit.Edit.{Edit}
 use Rattle.past_model.specs.declared.home.Home.{Home}
 use Rattle.past_model.specs.declared.home.Home.TheVariants.{Block}
@@ -8,9 +8,15 @@ use Rattle.past_model.specs.Edits.{after_batch, AreEditsBelow}
 use Rattle.past_model.specs.Homes.{home_after}
 use Rattle.shards.specs.declared.counts.Counts.{Counts}
 use Rattle.shards.specs.declared.lists.Lists.{Lists}
-use Rattle.shards.specs.Blocks.{is_new, is_gone}
 use Rattle.shards.specs.Lists.{AreKept, IsPushed, rows_of, homes_of}
 use Rattle.shards.specs.Part.{Part, vertex_at, row_at, home_at, IsPart, AreEditsOf, IsShard}
+
+-- a pair is an edge after edits and was none before, or was one and is none
+abbrev pub is_new : List Edit → Graph → ℕ → ℕ → Bool
+is_new es g u v = (after_batch es g).has_edge u v && not (g.has_edge u v)
+
+abbrev pub is_gone : List Edit → Graph → ℕ → ℕ → Bool
+is_gone es g u v = g.has_edge u v && not ((after_batch es g).has_edge u v)
 
 -- the lists of the first vertices of a part of a graph after edits, and how many edges out of them are new and are gone
 pub record IsDone (es : List Edit) (p : Part) (g : Graph) (rows : List (List ℕ)) (counts : Counts) : Type 0 where

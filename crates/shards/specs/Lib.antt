@@ -1,7 +1,5 @@
 pub mod Groups
 pub mod Part
-pub mod Table
-pub mod Blocks
 pub mod Lent
 pub mod Merge
 pub mod Put
@@ -9,6 +7,5 @@ pub mod ShortBlocks
 pub mod Lists
 pub mod Pages
 pub mod Begun
-pub mod Made
 pub mod Edited
 pub mod Arrays

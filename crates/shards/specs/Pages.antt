@@ -1,12 +1,11 @@
 -- The lists of a range's vertices in pages.
-use Rattle.std.specs.Prelude.{ℕ, List, length, map}
+use Rattle.std.specs.Prelude.{◌≡◌, ℕ, ◌+◌, ◌<◌, ◌≤◌, List, length, map, slice_index_or}
 use Rattle.std.specs.List.{AllByRecursion, flat_map}
 use Rattle.std.specs.declared.sync.Arc.{Arc}
 use Rattle.std.specs.declared.alloc.Global.{Global}
 use Rattle.std.specs.Arc.{arc_value}
 use Rattle.past_model.specs.declared.home.Home.{Home}
 use Rattle.shards.specs.declared.lists.Lists.{Lists}
-use Rattle.shards.specs.Blocks.{AreFull}
 use Rattle.shards.specs.Lists.{rows_of, homes_of, AreKept}
 use Rattle.shards.specs.Part.{Part}
 
@@ -24,6 +23,11 @@ part_in range pages = record { range = range; rows = rows_in pages; homes = home
 -- how many lists each page has
 abbrev pub sizes_in : List (Arc Lists Global) → List ℕ
 sizes_in pages = map (λ page. length (rows_of (arc_value page))) pages
+
+-- each of these sizes but the last is the width, and the last one at most that
+pub record AreFull (width : ℕ) (sizes : List ℕ) : Type 0 where
+  pub full : (i : ℕ) → i + 1 < length sizes → slice_index_or sizes i 0 ≡ width
+  pub few : (i : ℕ) → i < length sizes → slice_index_or sizes i 0 ≤ width
 
 -- each list is where its page says, and each page but the last has as many as the size says
 pub record ArePages (size : ℕ) (pages : List (Arc Lists Global)) : Type 0 where

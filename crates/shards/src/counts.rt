@@ -25,7 +25,7 @@ impl Counts {
     }
 
     /// What was done in two parts of a graph together.
-    pub(crate) fn plus(self, more: Counts) -> Counts
+    pub fn plus(self, more: Counts) -> Counts
         requires added { self.added + more.added < 2 ^ 64 }
         requires removed { self.removed + more.removed < 2 ^ 64 }
         ensures { result ≡ record { added = self.added + more.added; removed = self.removed + more.removed } }

@@ -13,8 +13,10 @@ use std::sync::Arc;
 
 /// A shard to which edits were applied, and what they did. Its type keeps that it is an earlier shard after edits.
 pub struct EditedShard {
-    pub(crate) shard: Arc<Shard>,
-    pub(crate) counts: Counts,
+    /// The shard after the edits.
+    pub shard: Arc<Shard>,
+    /// What they did.
+    pub counts: Counts,
     ghost edited: { ∥ IsEdited (arc_value shard) counts ∥₁ },
 }
 

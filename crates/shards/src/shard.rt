@@ -4,7 +4,7 @@ ghost use Rattle.past_model.specs.declared.home.Home.TheVariants.{Block};
 ghost use Rattle.past_model.specs.declared.limits.TheConstants.{MOST_VERTICES, MOST_RANGES, RANGE_VERTICES};
 ghost use Rattle.shards.specs.declared.groups.Grouping.TheVariants.{ByVertex};
 
-use crate::arrays::pages_of_lists;
+use crate::arrays::{SortedLists, pages_of_lists};
 use crate::counts::Counts;
 use crate::edited_page::edited_page;
 use crate::groups::{Grouping, Groups};
@@ -83,24 +83,26 @@ impl Shard {
         })
     }
 
-    /// A range of so many vertices with the lists that sorted arrays have of them. `page` is lent for that.
-    pub(crate) fn of_lists(
+    /// A range of so many vertices with the lists that sorted arrays have of them, made in space that is lent. Each list
+    /// is in the home to which its degree leads from a block.
+    pub fn of_lists(
         alloc: Global,
         range: u32,
         vertices: u16,
-        starts: &[u64],
-        targets: &[u32],
-        page: &mut Lists,
+        lists: SortedLists<'_>,
+        scratch: &mut Scratch,
     ) -> Result<Shard, AllocError>
         requires range { range < MOST_RANGES }
         requires some { 1 ≤ vertices }
         requires few { vertices ≤ RANGE_VERTICES }
-        requires lists { AreLists starts.now targets.now }
-        requires inside { RANGE_VERTICES * range + vertices < length starts.now }
-        ensures { IfOk result (λ shard. shard ≡ part_from starts.now targets.now range vertices) }
+        requires lists { AreLists lists.starts.now lists.targets.now }
+        requires inside { RANGE_VERTICES * range + vertices < length lists.starts.now }
+        ensures { IfOk result (λ shard.
+            shard ≡ part_from lists.entry.starts.now lists.entry.targets.now range vertices) }
     {
         let first = (RANGE_VERTICES * range) as usize;
-        let cut = pages_of_lists(alloc, starts, targets, first, usize::from(vertices), page)?;
+        let page = &mut scratch.lists;
+        let cut = pages_of_lists(alloc, lists, first, usize::from(vertices), page)?;
         let Cut { pages, size, words } = cut;
         Ok(Shard {
             range,

@@ -8,8 +8,8 @@ use Rattle.past_model.specs.declared.edit.Edit.{Edit}
 use Rattle.graph_model.specs.Graph.{Graph}
 use Rattle.past_model.specs.Edits.{source_of, after_batch, AreEditsBelow}
 use Rattle.shards.specs.Part.{Part, IsPartAfter}
-use Rattle.shards.specs.Table.{IsTable, IsPartAt, part_at}
-use Rattle.shards.proofs.RangeLemmas.{range_below, part_after, same_part}
+use Rattle.shard_table.specs.Table.{IsTable, IsPartAt, part_at}
+use Rattle.shard_table.proofs.RangeLemmas.{range_below, part_after, same_part}
 use Rattle.store_model.specs.Core.{range_of, is_done}
 use Rattle.stream_core.specs.Tables.{own_edits, IsTableInWork}
 

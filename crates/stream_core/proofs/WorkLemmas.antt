@@ -7,11 +7,11 @@ use Rattle.past_model.specs.declared.edit.Edit.{Edit}
 use Rattle.graph_model.specs.Graph.{Graph}
 use Rattle.past_model.specs.Edits.{after_batch}
 use Rattle.shards.specs.Part.{Part, AreEditsOf, IsPartAfter}
-use Rattle.shards.specs.Table.{IsPartAt, part_at}
+use Rattle.shard_table.specs.Table.{IsPartAt, part_at}
 use Rattle.store_model.specs.Core.{range_of, is_done, is_open}
 use Rattle.stream_core.specs.Tables.{own_edits, IsTableInWork}
 use Rattle.stream_core.specs.Work.{Work, AreLeft, IsEditable, IsWorkAfter, holding_of, lists_of}
-use Rattle.shards.proofs.RangeLemmas.{range_own}
+use Rattle.shard_table.proofs.RangeLemmas.{range_own}
 use Rattle.stream_core.proofs.LeftLemmas.{open_inside, read_left, left_own}
 use Rattle.stream_core.proofs.TableLemmas.{range_within, table_applied}
 

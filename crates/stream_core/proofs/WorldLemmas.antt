@@ -18,7 +18,7 @@ use Rattle.history.proofs.Moments.{after_all-append, vertex_count-moment_of}
 use Rattle.past_model.proofs.Below.{below_from_test}
 use Rattle.past_model.proofs.Pasts.{graph_of-longer, vertex_count-graph_of, IsPast-opening, IsPast-longer}
 use Rattle.shards.specs.Part.{Part}
-use Rattle.shards.specs.Table.{IsTable}
+use Rattle.shard_table.specs.Table.{IsTable}
 use Rattle.store_model.specs.declared.limits.TheConstants.{QUEUE_PLACES}
 use Rattle.store_model.specs.declared.event.Event.TheVariants.{Submit, Publish, Pin, Lend}
 use Rattle.store_model.specs.declared.reply.Reply.{Reply}

@@ -4,7 +4,7 @@ use Rattle.past_model.specs.declared.limits.TheConstants.{MOST_VERTICES}
 use Rattle.graph_model.specs.Graph.{neighbours}
 use Rattle.past_model.specs.Past.{Past, graph_of}
 use Rattle.history.specs.Moment.{Beginning, moment_of}
-use Rattle.shards.specs.Table.{IsTable}
+use Rattle.shard_table.specs.Table.{IsTable}
 use Rattle.store_model.specs.declared.reply.Reply.{Reply}
 use Rattle.store_model.specs.Core.{Run}
 use Rattle.store_model.specs.Events.{Lends, after_lend}

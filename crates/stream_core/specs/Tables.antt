@@ -5,7 +5,7 @@ use Rattle.past_model.specs.declared.edit.Edit.{Edit}
 use Rattle.graph_model.specs.Graph.{Graph}
 use Rattle.past_model.specs.Edits.{after_batch}
 use Rattle.shards.specs.Part.{Part}
-use Rattle.shards.specs.Table.{IsPartAt, part_at}
+use Rattle.shard_table.specs.Table.{IsPartAt, part_at}
 use Rattle.store_model.specs.Core.{range_of, is_done}
 
 -- the edits of a range, in their order

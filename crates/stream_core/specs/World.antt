@@ -6,7 +6,7 @@ use Rattle.past_model.specs.declared.entry.Entry.{Entry}
 use Rattle.past_model.specs.Edits.{AreEditsBelow}
 use Rattle.past_model.specs.Past.{Past, IsPast, graph_of}
 use Rattle.shards.specs.Part.{Part}
-use Rattle.shards.specs.Table.{IsTable}
+use Rattle.shard_table.specs.Table.{IsTable}
 use Rattle.store_model.specs.declared.limits.TheConstants.{READERS}
 use Rattle.store_model.specs.Core.{Core}
 use Rattle.stream_core.specs.declared.reader_run.ReaderRun.{ReaderRun}

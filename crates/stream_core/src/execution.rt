@@ -2,7 +2,7 @@
 ghost use Rattle.std.specs.Prelude.{◌≡◌, ◌≤◌, IfOk, OnErr};
 ghost use Rattle.past_model.specs.declared.limits.TheConstants.{MOST_VERTICES};
 ghost use Rattle.past_model.specs.Past.{graph_of};
-ghost use Rattle.shards.specs.Table.{IsTable, parts_of};
+ghost use Rattle.shard_table.specs.Table.{IsTable, parts_of};
 ghost use Rattle.store_model.specs.Core.{opening_core};
 ghost use Rattle.store_model.specs.Events.{Steps, Ran};
 

@@ -1,11 +1,12 @@
 //! Which words are lent next.
 ghost use Rattle.std.specs.Prelude.{◌≡◌, ◌<◌, [], length, drop, MatchOption};
 ghost use Rattle.graph_model.specs.Graph.{Graph, neighbours};
-ghost use Rattle.shards.specs.Table.{IsTable, parts_of};
+ghost use Rattle.shard_table.specs.Table.{IsTable, parts_of};
 ghost use Rattle.store_model.specs.Events.{IsBeginning};
 
 use cursors::Cursor;
-use shards::{Shard, shard_of};
+use shard_table::shard_of;
+use shards::Shard;
 use std::sync::Arc;
 
 /// The next words of a vertex's neighbours from a place on, as they lie in one slice. There are none past the end.

@@ -4,10 +4,11 @@ ghost use Rattle.std.specs.Arc.{arc_value};
 ghost use Rattle.past_model.specs.declared.limits.TheConstants.{MOST_VERTICES};
 ghost use Rattle.graph_model.specs.Graph.{empty_graph};
 ghost use Rattle.shards.specs.Part.{AreEditsOf, IsPartAfter};
-ghost use Rattle.shards.specs.Table.{IsTable, parts_of, part_at};
+ghost use Rattle.shard_table.specs.Table.{IsTable, parts_of, part_at};
 
 use past_model::Edit;
-use shards::{Shard, empty_shards, share_shards};
+use shard_table::{empty_shards, share_shards};
+use shards::Shard;
 use std::alloc::{AllocError, Global};
 use std::marker::Model;
 use std::sync::Arc;
@@ -21,7 +22,7 @@ pub(crate) struct VersionShards {
 impl Model for VersionShards {
     ghost use Rattle.std.specs.Prelude.{List};
     ghost use Rattle.shards.specs.Part.{Part};
-    ghost use Rattle.shards.specs.Table.{parts_of};
+    ghost use Rattle.shard_table.specs.Table.{parts_of};
 
     ghost Value = { List Part };
 

@@ -2,7 +2,7 @@
 ghost use Rattle.std.specs.Prelude.{◌≡◌, ◌<◌, ◌≤◌, true, is_some, IfOk, OnOk, OnErr};
 ghost use Rattle.past_model.specs.declared.limits.TheConstants.{MOST_VERTICES};
 ghost use Rattle.past_model.specs.Past.{graph_of};
-ghost use Rattle.shards.specs.Table.{IsTable, parts_of};
+ghost use Rattle.shard_table.specs.Table.{IsTable, parts_of};
 ghost use Rattle.history.specs.declared.limits.TheConstants.{MOST_PUBLICATIONS};
 ghost use Rattle.history.specs.declared.published.Published.TheVariants.{Batch as OneBatch, Rebase as OneRebase};
 ghost use Rattle.history.specs.Moment.{count_of, and_then};

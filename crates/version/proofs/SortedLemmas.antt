@@ -16,9 +16,10 @@ use Rattle.graph_model.proofs.Pairs.{count_pairs-zero, count_pairs-suc}
 use Rattle.word_sets.specs.Words.{has_word}
 use Rattle.word_sets.proofs.Within.{IsWithin-wider}
 use Rattle.word_sets.proofs.Members.{bounds_of}
-use Rattle.shards.specs.Arrays.{start_at, list_of, first_home, AreLists, AreListsOf}
+use Rattle.shards.specs.Arrays.{start_at, list_of, first_home, AreLists}
+use Rattle.shard_table.specs.Arrays.{AreListsOf}
 use Rattle.shards.specs.Part.{Part}
-use Rattle.shards.specs.Table.{IsTable, row_in, home_in, base_in}
+use Rattle.shard_table.specs.Table.{IsTable, row_in, home_in, base_in}
 use Rattle.shards.proofs.ArrayLemmas.{set_is_filter}
 use Rattle.version.specs.Version.{IsVersion, IsVertexCount}
 use Rattle.version.specs.Ground.{Ground, ground, past_on}

@@ -21,7 +21,7 @@ use Rattle.past_model.proofs.Batches.{change_of_size, edge_count-empty_graph, ed
 use Rattle.past_model.proofs.Pasts.{graph_of-longer, vertex_count-graph_of, number_of-longer, IsPast-longer, IsPast-opening}
 use Rattle.shards.specs.declared.counts.Counts.{Counts}
 use Rattle.shards.specs.Part.{Part, row_at, vertex_at}
-use Rattle.shards.specs.Table.{IsTable, IsEditable, AreAfter, AreMoved, part_at, row_in, home_in, base_in}
+use Rattle.shard_table.specs.Table.{IsTable, IsEditable, AreAfter, AreMoved, part_at, row_in, home_in, base_in}
 use Rattle.version.specs.Version.{IsVersion, IsVertexCount, IsMade}
 
 -- edits below a version's vertices are below its graph's

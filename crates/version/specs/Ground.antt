@@ -3,7 +3,7 @@ use Rattle.std.specs.Prelude.{ℕ, List, Option}
 use Rattle.past_model.specs.declared.entry.Entry.{Entry}
 use Rattle.past_model.specs.Past.{Past}
 use Rattle.shards.specs.Part.{Part}
-use Rattle.shards.specs.Table.{base_at}
+use Rattle.shard_table.specs.Table.{base_at}
 
 -- the parts of the base, of which the first epoch has none, and the marks of the epochs before
 pub record Ground : Type 0 where

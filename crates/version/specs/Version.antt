@@ -8,7 +8,7 @@ use Rattle.past_model.specs.Past.{Past, IsPast, graph_of, number_of, epoch_of, l
 use Rattle.past_model.specs.Homes.{home_of}
 use Rattle.shards.specs.declared.counts.Counts.{Counts}
 use Rattle.shards.specs.Part.{Part}
-use Rattle.shards.specs.Table.{IsTable, home_in}
+use Rattle.shard_table.specs.Table.{IsTable, home_in}
 
 -- how many vertices a version may have
 abbrev pub IsVertexCount : ℕ → Type 0

@@ -5,7 +5,7 @@ ghost use Rattle.version.specs.Ground.{ground};
 
 use crate::log::Mark;
 use crate::marks::Marks;
-use shards::Table;
+use shard_table::Table;
 use std::alloc::{AllocError, Global};
 use std::marker::Model;
 

@@ -2,10 +2,10 @@ use Rattle.std.proofs.Common.{◌/◌, ◌<◌, sym, ap, subst, ◌∙◌, arith
 use Rattle.std.specs.List.{AllByRecursion}
 use Rattle.past_model.specs.Edits.{source_of}
 use Rattle.shards.specs.Groups.{Grouped}
-use Rattle.shards.specs.Table.{IsEditable}
-use Rattle.shards.specs.Made.{IsBatch}
-use Rattle.shards.proofs.RangeLemmas.{in_ranges}
-use Rattle.shards.proofs.TableLemmas.{few_parts}
+use Rattle.shard_table.specs.Table.{IsEditable}
+use Rattle.shard_table.specs.Made.{IsBatch}
+use Rattle.shard_table.proofs.RangeLemmas.{in_ranges}
+use Rattle.shard_table.proofs.TableLemmas.{few_parts}
 use Rattle.batch_apply.proofs.Dealing.{all_ready, few_pieces}
 use Rattle.batch_apply.proofs.edited.edit_table.Goals as goal
 

@@ -1,7 +1,7 @@
 use Rattle.std.proofs.Common.{◌≡◌, ℕ, ◌+◌, ◌<◌, List, length, get_or, Bor, sym, ap, subst, ◌∙◌, arith}
 use Rattle.std.proofs.lemmas.List.{length_push}
 use Rattle.shards.specs.declared.edited_shard.EditedShard.{EditedShard}
-use Rattle.shards.specs.Made.{AreMade}
+use Rattle.shard_table.specs.Made.{AreMade}
 use Rattle.batch_apply.specs.Dealt.{Piece, IsMadeOf}
 use Rattle.batch_apply.proofs.Dealing.{all_made, in_turn, made_more}
 use Rattle.batch_apply.proofs.edited.put_in.Goals as goal

@@ -2,8 +2,8 @@ use Rattle.std.proofs.Common.{◌≡◌, ◌+◌, ◌*◌, ◌<◌, [], length, 
 use Rattle.std.proofs.lemmas.Bool.{cases_lt}
 use Rattle.std.proofs.lemmas.List.{length_push}
 use Rattle.shards.specs.Part.{AreEditsOf}
-use Rattle.shards.specs.Table.{part_at}
-use Rattle.shards.specs.Made.{IsMade}
+use Rattle.shard_table.specs.Table.{part_at}
+use Rattle.shard_table.specs.Made.{IsMade}
 use Rattle.batch_apply.specs.Dealt.{Piece, IsMadeOf}
 use Rattle.batch_apply.proofs.Dealing.{AreMadeOf, piece_more}
 use Rattle.batch_apply.proofs.hands.work.Goals as goal

@@ -1,8 +1,8 @@
 use Rattle.std.proofs.Common.{◌/◌, ◌<◌, sym, subst}
 use Rattle.std.specs.List.{AllByRecursion}
 use Rattle.past_model.specs.Edits.{source_of}
-use Rattle.shards.specs.Made.{AreMade}
-use Rattle.shards.proofs.RangeLemmas.{in_ranges}
+use Rattle.shard_table.specs.Made.{AreMade}
+use Rattle.shard_table.proofs.RangeLemmas.{in_ranges}
 use Rattle.batch_apply.proofs.OneRange.{range_inside, own_edits, one_made}
 use Rattle.batch_apply.proofs.one_range.edit_range.Goals as goal
 

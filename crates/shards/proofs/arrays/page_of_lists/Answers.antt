@@ -10,21 +10,21 @@ use Rattle.shards.proofs.arrays.page_of_lists.Goals as goal
 pub overflow_cast-words : goal.overflow_cast-words
 overflow_cast-words c =
     let v : ℕ = c.args.first + c.loop-place.place in
-    let there : v + 1 < length c.args.starts.now = (let test = c.loop-place-test.true in let inside = c.requires.inside in omega arith) in
-    omega (arith, IsWithin-length 0 MOST_VERTICES (list_of c.args.starts.now c.args.targets.now v) (c.requires.lists.sets v there))
+    let there : v + 1 < length c.args.lists.starts.now = (let test = c.loop-place-test.true in let inside = c.requires.inside in omega arith) in
+    omega (arith, IsWithin-length 0 MOST_VERTICES (list_of c.args.lists.starts.now c.args.lists.targets.now v) (c.requires.lists.sets v there))
 
 pub push-requires-clause-room : goal.push-requires-clause-room
 push-requires-clause-room c =
     let long = ap (length {A = List ℕ}) c.loop-place.invariant.rows in
-    let size = length-from (list_of c.args.starts.now c.args.targets.now) c.args.first c.loop-place.place in
+    let size = length-from (list_of c.args.lists.starts.now c.args.lists.targets.now) c.args.first c.loop-place.place in
     let test = c.loop-place-test.true in
     let few = c.requires.few in
     omega (arith, long, size)
 
 pub loop-place-preserved : goal.loop-place-preserved
 loop-place-preserved c =
-    let starts : List ℕ = c.args.starts.now in
-    let targets : List ℕ = c.args.targets.now in
+    let starts : List ℕ = c.args.lists.starts.now in
+    let targets : List ℕ = c.args.lists.targets.now in
     let first : ℕ = c.args.first in
     let place : ℕ = c.loop-place.place in
     let row : List ℕ = list_of starts targets (first + place) in

@@ -3,16 +3,16 @@ use Rattle.shards.specs.Arrays.{rows_from, homes_from}
 use Rattle.shards.specs.Lists.{rows_of, homes_of, AreKept}
 use Rattle.shards.specs.Pages.{rows_in, homes_in, ArePages}
 use Rattle.shards.proofs.ArrayLemmas.{AreFrom, none_from, page_more, all_from}
-use Rattle.shards.proofs.BlockLemmas.{before_end}
+use Rattle.shards.proofs.SizeLemmas.{before_end}
 use Rattle.shards.proofs.arrays.pages_of_lists.Goals as goal
 
 pub loop-number-init : goal.loop-number-init
-loop-number-init c = none_from c.args.starts.now c.args.targets.now c.args.first c.from-width.result c.args.vertices c.in_ok-pages.pages.items c.in_ok-pages.ensures.items
+loop-number-init c = none_from c.args.lists.starts.now c.args.lists.targets.now c.args.first c.from-width.result c.args.vertices c.in_ok-pages.pages.items c.in_ok-pages.ensures.items
 
 pub loop-number-preserved : goal.loop-number-preserved
 loop-number-preserved c =
-    let starts : List ℕ = c.args.starts.now in
-    let targets : List ℕ = c.args.targets.now in
+    let starts : List ℕ = c.args.lists.starts.now in
+    let targets : List ℕ = c.args.lists.targets.now in
     let first : ℕ = c.args.first in
     let n : ℕ = c.args.vertices in
     let w : ℕ = c.from-width.result in

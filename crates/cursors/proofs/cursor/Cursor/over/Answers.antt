@@ -1,6 +1,6 @@
 use Rattle.std.proofs.Common.{◌≤◌, sym, subst}
 use Rattle.graph_model.proofs.Neighbours.{neighbours-outside}
-use Rattle.shards.specs.Table.{IsShardOf}
+use Rattle.shard_table.specs.Table.{IsShardOf}
 use Rattle.cursors.proofs.cursor.Cursor.over.Goals as goal
 
 pub returns-in-None : goal.returns-in-None

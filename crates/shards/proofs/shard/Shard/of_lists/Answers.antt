@@ -7,8 +7,8 @@ use Rattle.shards.proofs.shard.Shard.of_lists.Goals as goal
 
 pub invariant_of-result : goal.invariant_of-result
 invariant_of-result c =
-    let starts : List ℕ = c.args.starts.now in
-    let targets : List ℕ = c.args.targets.now in
+    let starts : List ℕ = c.args.lists.starts.now in
+    let targets : List ℕ = c.args.lists.targets.now in
     let range : ℕ = c.args.range in
     let vertices : ℕ = c.args.vertices in
     let made = c.in_ok-cut.ensures in

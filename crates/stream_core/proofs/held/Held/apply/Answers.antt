@@ -1,7 +1,7 @@
 use Rattle.std.proofs.Common.{set, sym, subst, subst₂, ◌∙◌}
 use Rattle.std.specs.Arc.{arc_value}
 use Rattle.shards.specs.Part.{AreEditsOf, IsPartAfter}
-use Rattle.shards.specs.Table.{part_at}
+use Rattle.shard_table.specs.Table.{part_at}
 use Rattle.stream_core.specs.Tables.{own_edits}
 use Rattle.stream_core.specs.Work.{Work, IsEditable, IsWorkAfter, AreLeft, holding_of, lists_of}
 use Rattle.stream_core.proofs.LeftLemmas.{open_inside, left_applied}

@@ -1,6 +1,6 @@
 use Rattle.std.proofs.Common.{◌≡◌, ◌+◌, ◌<◌, length, drop, sym, ap, subst, arith}
 use Rattle.past_model.specs.Past.{graph_of}
-use Rattle.shards.specs.Table.{IsTable}
+use Rattle.shard_table.specs.Table.{IsTable}
 use Rattle.store_model.specs.declared.reply.Reply.TheVariants.{Slice}
 use Rattle.store_model.specs.Events.{IsBeginning}
 use Rattle.stream_core.specs.Runs.{words_in, version_of, IsLent}

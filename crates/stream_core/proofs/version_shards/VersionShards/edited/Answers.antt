@@ -1,9 +1,9 @@
 use Rattle.std.proofs.Common.{◌≡◌, ◌<◌, length, sym, ap, subst, ◌∙◌}
 use Rattle.std.specs.Arc.{arc_value}
 use Rattle.std.proofs.lemmas.List.{length-map}
-use Rattle.shards.proofs.TableLemmas.{shown_part}
+use Rattle.shard_table.proofs.TableLemmas.{shown_part}
 use Rattle.shards.specs.Part.{IsPartAfter}
-use Rattle.shards.specs.Table.{part_at}
+use Rattle.shard_table.specs.Table.{part_at}
 use Rattle.stream_core.proofs.version_shards.VersionShards.edited.Goals as goal
 
 pub returns : goal.returns

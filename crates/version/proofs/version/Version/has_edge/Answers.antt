@@ -3,7 +3,7 @@ use Rattle.std.specs.Arc.{arc_value}
 use Rattle.graph_model.specs.Views.{is_edge}
 use Rattle.past_model.specs.Past.{Past, graph_of}
 use Rattle.version.specs.Ground.{past_on}
-use Rattle.shards.specs.Table.{IsTable}
+use Rattle.shard_table.specs.Table.{IsTable}
 use Rattle.version.proofs.VersionLemmas.{edge_listed}
 use Rattle.version.proofs.version.Version.has_edge.Goals as goal
 

@@ -4,7 +4,7 @@ use Rattle.past_model.specs.declared.edit.Edit.{Edit}
 use Rattle.past_model.specs.Edits.{AreEditsBelow}
 use Rattle.past_model.specs.Past.{Past, number_of}
 use Rattle.shards.specs.Part.{Part}
-use Rattle.shards.specs.Table.{IsEditable, AreAfter, AreMoved}
+use Rattle.shard_table.specs.Table.{IsEditable, AreAfter, AreMoved}
 use Rattle.version.specs.Ground.{past_on}
 use Rattle.version.specs.Version.{IsMade}
 use Rattle.version.proofs.VersionLemmas.{editable, made}

@@ -2,7 +2,7 @@ use Rattle.std.proofs.Common.{◌≡◌, [], List, ℕ, sym, ap, subst, ◌∙�
 use Rattle.std.specs.Arc.{arc_value}
 use Rattle.past_model.specs.Past.{Past, graph_of}
 use Rattle.shards.specs.Part.{Part}
-use Rattle.shards.specs.Table.{IsTable}
+use Rattle.shard_table.specs.Table.{IsTable}
 use Rattle.version.specs.Ground.{ground, past_on}
 use Rattle.version.specs.Version.{IsVersion}
 use Rattle.version.specs.Sorted.{past_of}

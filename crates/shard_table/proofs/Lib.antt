@@ -1,0 +1,7 @@
+pub mod RangeLemmas
+pub mod TableLemmas
+pub mod MadeLemmas
+mod EditedLemmas
+mod BlockLemmas
+mod HousedLemmas
+mod ArrayLemmas

@@ -1,0 +1,4 @@
+pub mod Table
+pub mod Blocks
+pub mod Made
+pub mod Arrays
