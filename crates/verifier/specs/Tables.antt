@@ -7,12 +7,13 @@ use Rattle.abstract_state.specs.States.{AbstractState, most_callers, callee_stat
 use Rattle.verifier.specs.Rules.{Ways, target}
 use Rattle.verifier.specs.Described.{IsWay}
 use Rattle.bpf_model.specs.State.{most_frames}
+use Rattle.verifier.specs.declared.passage.Passage.{Passage as CodePassage}
 use Rattle.verifier.specs.declared.weights.Measure.{Measure}
 use Rattle.verifier.specs.declared.weights.Measure.TheVariants.{Instructions, Frames, Pairs}
 use Rattle.verifier.specs.Functions.{is_entry, function_end}
 use Rattle.verifier.specs.Listing.{instruction_at}
 use Rattle.verifier.specs.Walks.{IsOneOf, Successors, next_pcs, following_below, following, is_call, count_rule, frame_rule, weight_from}
-use Rattle.verifier.specs.Equations.{Passage, Calls, arrivals, first_refusal, exit_state}
+use Rattle.verifier.specs.Equations.{Passage, Calls, passage_at, arrivals, first_refusal, exit_state}
 use Rattle.verifier.specs.Verdict.{most_counted, most_pairs}
 
 -- what is known at each pc, where it is
@@ -22,6 +23,10 @@ Table = List (Option AbstractState)
 -- what a table of states has at a pc
 abbrev pub state_at : Table → ℕ → Option AbstractState
 state_at states q = slice_index_or states q None
+
+-- a passage of the code, as the equations have it
+abbrev pub passage_of : CodePassage → Passage
+passage_of v = passage_at v.entry v.frame v.known
 
 -- whether what starts somewhere is a call of a function of the program
 abbrev pub calls_one : Option Instruction → Bool

@@ -6,12 +6,14 @@ ghost use Rattle.verifier.specs.declared.known.KnownPassage.{KnownPassage as Lis
 ghost use Rattle.verifier.specs.Listing.{listing_of};
 ghost use Rattle.verifier.specs.Equations.{passage_at, calls_of, first_refusal};
 ghost use Rattle.verifier.specs.Verdict.{first_fault, decoding_fault, flow_fault, pairs_fault};
-ghost use Rattle.verifier.specs.Tables.{HasEnds};
+ghost use Rattle.verifier.specs.Tables.{HasEnds, passage_of};
 ghost use Rattle.verifier.specs.Known.{is_walkable, IsKnownOf, IsBrokenBy, IsDoneAt, Lists, IsKnown};
 
 use crate::flow::find_flow_fault;
 use crate::functions::{find_ends, has_calls};
+use crate::layout::Layout;
 use crate::listing::list;
+use crate::passage::{Passage, Point};
 use crate::refusal::Refusal;
 use crate::states::{arrive, no_states};
 use crate::walking::{go_on_after, go_through, visit};
@@ -36,7 +38,7 @@ pub struct KnownPassage {
 
 /// What starts at each pc, and where its function ends.
 #[derive(Drop)]
-struct Layout {
+struct LaidOut {
     listing: Vec<Option<Instruction>>,
     ends: Vec<u16>,
 }
@@ -44,7 +46,7 @@ struct Layout {
 /// What starts at each pc and where its function ends, if the code decodes and flows, and a walk goes through few enough
 /// instructions.
 #[tactic(auto, using(crate::proofs::Verdicts::few_pairs_pass))]
-fn lay_out(alloc: Global, image: &Image) -> Result<Option<Layout>, AllocError>
+fn lay_out(alloc: Global, image: &Image) -> Result<Option<LaidOut>, AllocError>
     ensures { IfOk result (λ found. MatchOption found (is_walkable image.now ≡ false)
         (λ layout. (layout.listing.items ≡ listing_of image.now (units image.now))
         × ((first_fault (decoding_fault image.now) (units image.now) ≡ None)
@@ -66,7 +68,7 @@ fn lay_out(alloc: Global, image: &Image) -> Result<Option<Layout>, AllocError>
         return Ok(None);
     }
     match check_pairs(alloc, image, &listing, &ends, calls) {
-        Ok(()) => Ok(Some(Layout { listing, ends })),
+        Ok(()) => Ok(Some(LaidOut { listing, ends })),
         Err(refusal) => {
             refusal.rule_or_memory()?;
             Ok(None)
@@ -91,33 +93,31 @@ fn copy_of(
 /// breaks it, it answers where the called function begins, and what is known there.
 fn go_over(
     alloc: Global,
-    image: &Image,
-    listing: &[Option<Instruction>],
-    ends: &[u16],
-    entry: usize,
-    frame: u8,
-    known: AbstractState,
+    layout: &Layout<'_>,
+    passage: Passage,
 ) -> Result<(KnownPassage, Option<(usize, AbstractState)>), AllocError>
-    requires listing { listing.now ≡ listing_of image.now (units image.now) }
-    requires decodes { first_fault (decoding_fault image.now) (units image.now) ≡ None }
-    requires flow { first_fault (flow_fault image.now) (units image.now) ≡ None }
-    requires ends { HasEnds image.now ends.now }
-    requires inside { entry < units image.now }
-    requires frame { frame ≤ most_callers }
-    ensures known { IfOk result (λ listed. IsKnownOf image.now (passage_at entry frame known) listed.0) }
-    ensures stopped { IfOk result (λ listed. MatchOption listed.1
-        (IsDoneAt image.now (passage_at entry frame known) listed.0.last
-        (first_refusal image.now (calls_of image.now (passage_at entry frame known)) (passage_at entry frame known) (units image.now)))
-        (λ call. IsBrokenBy image.now (passage_at entry frame known) listed.0.last (passage_at call.0 (frame + 1) call.1))) }
+    requires inside { passage.entry < units layout.now.image.now }
+    requires frame { passage.frame ≤ most_callers }
+    ensures known { IfOk result (λ listed. IsKnownOf layout.now.image.now (passage_of passage) listed.0) }
+    ensures stopped { IfOk result (λ listed. let p = layout.now.image.now in let v = passage_of passage in
+        MatchOption listed.1 (IsDoneAt p v listed.0.last (first_refusal p (calls_of p v) v (units p)))
+        (λ call. IsBrokenBy p v listed.0.last (passage_at call.0 (passage.frame + 1) call.1))) }
 {
-    let mut kept = no_states(alloc, image.code().len() / 8)?;
-    let mut states = no_states(alloc, image.code().len() / 8)?;
+    let Passage {
+        entry,
+        frame,
+        known,
+    } = passage;
+    let units = layout.image.code().len() / 8;
+    let mut kept = no_states(alloc, units)?;
+    let mut states = no_states(alloc, units)?;
     let mut exits = None;
     arrive(&mut states, entry as i64, known);
-    let end = usize::from(ends[entry]);
+    let end = usize::from(layout.ends[entry]);
     for pc in entry..end {
         kept[pc] = copy_of(alloc, &states[pc])?;
-        let opened = match visit(alloc, image, listing, &mut states, &mut exits, pc, frame) {
+        let here = Point { pc, frame };
+        let opened = match visit(alloc, layout, &mut states, &mut exits, here) {
             Err(refusal) => {
                 refusal.rule_or_memory()?;
                 return Ok((
@@ -133,16 +133,12 @@ fn go_over(
         };
         if let Some((begins, known)) = opened {
             let again = known.copy(alloc)?;
-            match go_through(
-                alloc,
-                image,
-                listing,
-                ends,
-                &mut states,
-                begins,
-                frame + 1,
+            let callee = Passage {
+                entry: begins,
+                frame: frame + 1,
                 known,
-            ) {
+            };
+            match go_through(alloc, layout, &mut states, callee) {
                 Err(refusal) => {
                     refusal.rule_or_memory()?;
                     return Ok((
@@ -171,44 +167,29 @@ fn go_over(
 /// Lists a passage, and those that are open within it where a rule is broken.
 fn list_passages(
     alloc: Global,
-    image: &Image,
-    layout: &Layout,
+    layout: &Layout<'_>,
     passages: &mut Vec<KnownPassage>,
-    entry: usize,
-    frame: u8,
-    known: AbstractState,
+    passage: Passage,
 ) -> Result<(), AllocError>
-    requires listing { layout.now.listing.items ≡ listing_of image.now (units image.now) }
-    requires decodes { first_fault (decoding_fault image.now) (units image.now) ≡ None }
-    requires flow { first_fault (flow_fault image.now) (units image.now) ≡ None }
-    requires ends { HasEnds image.now layout.now.ends.items }
-    requires inside { entry < units image.now }
-    requires frame { frame ≤ most_callers }
-    ensures { IfOk result (λ _. (listed : List Listed) × (passages.new.items ≡ passages.old.items ++ listed)
-        × Lists image.now (passage_at entry frame known)
-        (first_refusal image.now (calls_of image.now (passage_at entry frame known)) (passage_at entry frame known) (units image.now)) listed) }
+    requires inside { passage.entry < units layout.now.image.now }
+    requires frame { passage.frame ≤ most_callers }
+    ensures { IfOk result (λ _. let p = layout.now.image.now in let v = passage_of passage in
+        (listed : List Listed) × (passages.new.items ≡ passages.old.items ++ listed)
+        × Lists p v (first_refusal p (calls_of p v) v (units p)) listed) }
 {
-    let (passage, called) = go_over(
-        alloc,
-        image,
-        &layout.listing,
-        &layout.ends,
-        entry,
-        frame,
-        known,
-    )?;
-    passages.push(passage)?;
+    let frame = passage.frame;
+    let (over, called) = go_over(alloc, layout, passage)?;
+    passages.push(over)?;
     match called {
         None => Ok(()),
-        Some((begins, known)) => list_passages(
-            alloc,
-            image,
-            layout,
-            passages,
-            begins,
-            frame + 1,
-            known,
-        ),
+        Some((begins, known)) => {
+            let callee = Passage {
+                entry: begins,
+                frame: frame + 1,
+                known,
+            };
+            list_passages(alloc, layout, passages, callee)
+        }
     }
 }
 
@@ -222,9 +203,19 @@ pub fn known_states(alloc: Global, image: &Image) -> Result<Vec<KnownPassage>, A
     ensures { IfOk result (λ listed. IsKnown image.now listed.items) }
 {
     let mut passages = Vec::new(alloc);
-    if let Some(layout) = lay_out(alloc, image)? {
-        let entry = AbstractState::entry(alloc, image.lengths())?;
-        list_passages(alloc, image, &layout, &mut passages, 0, 0, entry)?;
+    if let Some(found) = lay_out(alloc, image)? {
+        let layout = Layout {
+            image,
+            listing: &found.listing,
+            ends: &found.ends,
+        };
+        let known = AbstractState::entry(alloc, image.lengths())?;
+        let main = Passage {
+            entry: 0,
+            frame: 0,
+            known,
+        };
+        list_passages(alloc, &layout, &mut passages, main)?;
     }
     Ok(passages)
 }

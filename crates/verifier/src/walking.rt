@@ -6,50 +6,76 @@ ghost use Rattle.bpf_image.specs.Program.{units};
 ghost use Rattle.abstract_state.specs.States.{AbstractState as Known, most_callers};
 ghost use Rattle.verifier.specs.Rules.{branch_ways};
 ghost use Rattle.verifier.specs.RuleAnswers.{ways_onward};
-ghost use Rattle.verifier.specs.Listing.{listing_of};
-ghost use Rattle.verifier.specs.Equations.{Passage, passage_at, joined_with, joined_ways, ways_after, outcome, calls_of};
-ghost use Rattle.verifier.specs.Verdict.{first_fault, decoding_fault, flow_fault, rule_refusal, unless_memory};
+ghost use Rattle.verifier.specs.Equations.{Passage as Gone, joined_with, joined_ways, ways_after, outcome, calls_of};
+ghost use Rattle.verifier.specs.Verdict.{rule_refusal, unless_memory};
 ghost use Rattle.verifier.specs.Known.{IsBrokenAt};
-ghost use Rattle.verifier.specs.Tables.{Table, state_at, HasEnds, LeadInside, IsGoneTo, IsAtCall, Reaches};
+ghost use Rattle.verifier.specs.Tables.{Table, state_at, passage_of, LeadInside, IsGoneTo, IsAtCall, Reaches};
 
+use crate::layout::Layout;
+use crate::passage::{Passage, Point};
 use crate::places::{entry_called_at, length_of, place_at, starting_at};
 use crate::refusal::Refusal;
 use crate::rules::{Onward, exit};
-use crate::states::{arrive, arrive_beside, arrive_by_side, move_on, no_states, step_at};
+use crate::states::{Side, arrive, arrive_beside, arrive_by_side, move_on, no_states, step_at};
 use abstract_state::{AbstractState, MOST_CALLERS, enter_call, join_into, leave_call};
 use abstract_values::Sides;
 use bpf_image::Image;
 use bpf_isa::{Instruction, Operand, Register};
 use std::alloc::{AllocError, Global};
 
-/// Both sides of a branch go on with what they know.
-#[inline(never)]
-fn split(
-    alloc: Global,
-    states: &mut Vec<Option<AbstractState>>,
-    pc: usize,
+/// A branch that was gone over: what it compares, how far it goes, and what each side shows.
+#[derive(Clone, Copy)]
+struct Split {
     compared: (Register, Operand),
     distance: i16,
     sides: Sides,
+}
+
+/// Both sides of a branch go on with what they know.
+#[inline(never)]
+fn go_both_ways(
+    alloc: Global,
+    states: &mut Vec<Option<AbstractState>>,
+    pc: usize,
+    split: Split,
     state: AbstractState,
 ) -> Result<(), AllocError>
     requires near { pc ≤ MOST_UNITS }
     requires inside { LeadInside (length states.old.items)
-        (branch_ways pc distance state compared.0 compared.1 sides) }
+        (branch_ways pc split.distance state split.compared.0 split.compared.1 split.sides) }
     ensures gone { IfOk result (λ _. (q : ℕ) → state_at states.new.items q
         ≡ joined_ways (state_at states.old.items q)
-        (branch_ways pc distance state compared.0 compared.1 sides) q) }
+        (branch_ways pc split.distance state split.compared.0 split.compared.1 split.sides) q) }
     ensures same_length { length states.new.items ≡ length states.old.items }
 {
-    let target = place_at(pc, i32::from(distance));
+    let Split {
+        compared,
+        distance,
+        sides,
+    } = split;
+    let taken = Side {
+        place: place_at(pc, i32::from(distance)),
+        values: sides.taken,
+    };
+    let passed = Side {
+        place: (pc + 1) as i64,
+        values: sides.passed,
+    };
     if sides.passed.is_none() {
-        arrive_by_side(states, target, compared, sides.taken, state);
+        arrive_by_side(states, compared, taken, state);
         return Ok(());
     }
     let mut state = state;
-    arrive_beside(alloc, states, target, compared, sides.taken, &mut state)?;
-    arrive_by_side(states, (pc + 1) as i64, compared, sides.passed, state);
+    arrive_beside(alloc, states, compared, taken, &mut state)?;
+    arrive_by_side(states, compared, passed, state);
     Ok(())
+}
+
+/// An instruction that was gone over, and how a run may go on after it.
+#[derive(Clone, Copy)]
+struct Stepped {
+    instruction: Instruction,
+    onward: Onward,
 }
 
 /// A run goes on after an instruction with what is known there, in the same function.
@@ -57,18 +83,17 @@ fn go_on(
     alloc: Global,
     states: &mut Vec<Option<AbstractState>>,
     pc: usize,
-    instruction: Instruction,
-    onward: Onward,
+    stepped: Stepped,
     state: AbstractState,
 ) -> Result<(), AllocError>
     requires near { pc ≤ MOST_UNITS }
-    requires inside { LeadInside (length states.old.items) (ways_onward pc instruction onward state) }
+    requires inside { LeadInside (length states.old.items) (ways_onward pc stepped.instruction stepped.onward state) }
     ensures gone { IfOk result (λ _. (q : ℕ) → state_at states.new.items q
-        ≡ joined_ways (state_at states.old.items q) (ways_onward pc instruction onward state) q) }
+        ≡ joined_ways (state_at states.old.items q) (ways_onward pc stepped.instruction stepped.onward state) q) }
     ensures same_length { length states.new.items ≡ length states.old.items }
 {
-    match (onward, instruction) {
-        (Onward::Next, _) => arrive(states, (pc + instruction.units()) as i64, state),
+    match (stepped.onward, stepped.instruction) {
+        (Onward::Next, instruction) => arrive(states, (pc + instruction.units()) as i64, state),
         (Onward::Jumps, Instruction::Jump { distance }) => {
             arrive(states, place_at(pc, length_of(distance)), state);
         }
@@ -80,7 +105,14 @@ fn go_on(
                 distance,
                 ..
             },
-        ) => return split(alloc, states, pc, (left, right), distance, sides, state),
+        ) => {
+            let split = Split {
+                compared: (left, right),
+                distance,
+                sides,
+            };
+            return go_both_ways(alloc, states, pc, split, state);
+        }
         _ => {}
     }
     Ok(())
@@ -111,7 +143,13 @@ fn go_on_from(
         }
         _ => match states[pc].take() {
             None => Ok(()),
-            Some(state) => go_on(alloc, states, pc, instruction, onward, state),
+            Some(state) => {
+                let stepped = Stepped {
+                    instruction,
+                    onward,
+                };
+                go_on(alloc, states, pc, stepped, state)
+            }
         },
     }
 }
@@ -151,27 +189,26 @@ pub(crate) fn go_on_after(
 #[inline(always)]
 pub(crate) fn visit(
     alloc: Global,
-    image: &Image,
-    listing: &[Option<Instruction>],
+    layout: &Layout<'_>,
     states: &mut Vec<Option<AbstractState>>,
     exits: &mut Option<AbstractState>,
-    pc: usize,
-    frame: u8,
+    here: Point,
 ) -> Result<Option<(usize, AbstractState)>, Refusal>
-    requires listing { listing.now ≡ listing_of image.now (units image.now) }
-    requires decodes { first_fault (decoding_fault image.now) (units image.now) ≡ None }
-    requires flow { first_fault (flow_fault image.now) (units image.now) ≡ None }
-    requires inside { pc < units image.now }
-    requires long { length states.old.items ≡ units image.now }
-    requires frame { frame ≤ most_callers }
-    ensures gone { (v : Passage) (old : Table) (last : ℕ) → v.frame ≡ frame → v.entry ≤ pc
-        → IsGoneTo image.now (calls_of image.now v) v old pc last states.old.items exits.old
+    requires inside { here.pc < units layout.now.image.now }
+    requires long { length states.old.items ≡ units layout.now.image.now }
+    requires frame { here.frame ≤ most_callers }
+    ensures gone { (v : Gone) (old : Table) (last : ℕ) → v.frame ≡ here.frame → v.entry ≤ here.pc
+        → let p = layout.now.image.now in let calls = calls_of p v in
+        IsGoneTo p calls v old here.pc last states.old.items exits.old
         → MatchResult result
         (λ called. MatchOption called
-        ((further : ℕ) → last ≤ further → Reaches image.now pc further → IsGoneTo image.now (calls_of image.now v) v old (pc + 1) further states.new.items exits.new)
-        (λ call. IsAtCall image.now (calls_of image.now v) v old pc last states.new.items exits.new call.0 call.1))
-        (λ refusal. unless_memory refusal (IsBrokenAt image.now v pc refusal)) }
+        ((further : ℕ) → last ≤ further → Reaches p here.pc further
+        → IsGoneTo p calls v old (here.pc + 1) further states.new.items exits.new)
+        (λ call. IsAtCall p calls v old here.pc last states.new.items exits.new call.0 call.1))
+        (λ refusal. unless_memory refusal (IsBrokenAt p v here.pc refusal)) }
 {
+    let Point { pc, frame } = here;
+    let Layout { image, listing, .. } = *layout;
     let Some(instruction) = starting_at(image, listing, pc) else {
         states[pc] = None;
         return Ok(None);
@@ -218,48 +255,42 @@ pub(crate) fn visit(
 /// Goes through a passage: answers what is known after its exits.
 pub(crate) fn go_through(
     alloc: Global,
-    image: &Image,
-    listing: &[Option<Instruction>],
-    ends: &[u16],
+    layout: &Layout<'_>,
     states: &mut Vec<Option<AbstractState>>,
-    entry: usize,
-    frame: u8,
-    known: AbstractState,
+    passage: Passage,
 ) -> Result<Option<AbstractState>, Refusal>
-    requires listing { listing.now ≡ listing_of image.now (units image.now) }
-    requires decodes { first_fault (decoding_fault image.now) (units image.now) ≡ None }
-    requires flow { first_fault (flow_fault image.now) (units image.now) ≡ None }
-    requires few { units image.now ≤ MOST_UNITS }
-    requires ends { HasEnds image.now ends.now }
-    requires inside { entry < units image.now }
-    requires long { length states.old.items ≡ units image.now }
-    requires clear { (q : ℕ) → entry ≤ q → state_at states.old.items q ≡ None }
-    requires frame { frame ≤ most_callers }
-    ensures comes { MatchResult result
-        (λ exits. outcome image.now (calls_of image.now (passage_at entry frame known)) (passage_at entry frame known) ≡ Ok exits)
-        (λ refusal. unless_memory refusal (outcome image.now (calls_of image.now (passage_at entry frame known)) (passage_at entry frame known) ≡ Err refusal)) }
+    requires few { units layout.now.image.now ≤ MOST_UNITS }
+    requires inside { passage.entry < units layout.now.image.now }
+    requires long { length states.old.items ≡ units layout.now.image.now }
+    requires clear { (q : ℕ) → passage.entry ≤ q → state_at states.old.items q ≡ None }
+    requires frame { passage.frame ≤ most_callers }
+    ensures comes { let p = layout.now.image.now in let v = passage_of passage in
+        MatchResult result (λ exits. outcome p (calls_of p v) v ≡ Ok exits)
+        (λ refusal. unless_memory refusal (outcome p (calls_of p v) v ≡ Err refusal)) }
     ensures before { IfOk result (λ _. (q : ℕ) → state_at states.new.items q ≡ state_at states.old.items q) }
     ensures same_length { IfOk result (λ _. length states.new.items ≡ length states.old.items) }
 {
+    let Passage {
+        entry,
+        frame,
+        known,
+    } = passage;
     let mut exits = None;
     arrive(states, entry as i64, known);
-    let end = usize::from(ends[entry]);
+    let end = usize::from(layout.ends[entry]);
     for pc in entry..end {
-        let opened = match visit(alloc, image, listing, states, &mut exits, pc, frame) {
+        let here = Point { pc, frame };
+        let opened = match visit(alloc, layout, states, &mut exits, here) {
             Err(refusal) => return Err(refusal),
             Ok(opened) => opened,
         };
         if let Some((begins, known)) = opened {
-            match go_through(
-                alloc,
-                image,
-                listing,
-                ends,
-                states,
-                begins,
-                frame + 1,
+            let callee = Passage {
+                entry: begins,
+                frame: frame + 1,
                 known,
-            ) {
+            };
+            match go_through(alloc, layout, states, callee) {
                 Err(refusal) => return Err(refusal),
                 Ok(left) => go_on_after(states, pc, left),
             }
@@ -269,22 +300,19 @@ pub(crate) fn go_through(
 }
 
 /// Goes through the whole program, and finds the first broken rule.
-pub(crate) fn walk(
-    alloc: Global,
-    image: &Image,
-    listing: &[Option<Instruction>],
-    ends: &[u16],
-) -> Result<(), Refusal>
-    requires listing { listing.now ≡ listing_of image.now (units image.now) }
-    requires decodes { first_fault (decoding_fault image.now) (units image.now) ≡ None }
-    requires flow { first_fault (flow_fault image.now) (units image.now) ≡ None }
-    requires ends { HasEnds image.now ends.now }
-    ensures { MatchResult result (λ _. rule_refusal image.now ≡ None)
-        (λ refusal. unless_memory refusal (rule_refusal image.now ≡ Some refusal)) }
+pub(crate) fn walk(alloc: Global, layout: &Layout<'_>) -> Result<(), Refusal>
+    ensures { MatchResult result (λ _. rule_refusal layout.now.image.now ≡ None)
+        (λ refusal. unless_memory refusal (rule_refusal layout.now.image.now ≡ Some refusal)) }
 {
+    let image = layout.image;
     let mut states = no_states(alloc, image.code().len() / 8)?;
-    let entry = AbstractState::entry(alloc, image.lengths())?;
-    match go_through(alloc, image, listing, ends, &mut states, 0, 0, entry) {
+    let known = AbstractState::entry(alloc, image.lengths())?;
+    let main = Passage {
+        entry: 0,
+        frame: 0,
+        known,
+    };
+    match go_through(alloc, layout, &mut states, main) {
         Err(refusal) => Err(refusal),
         Ok(_) => Ok(()),
     }
