@@ -13,5 +13,5 @@ mod state;
 
 pub use calls::{enter_call, leave_call, return_from_helper};
 pub use joining::join_into;
-pub use memory::{gather, load, load_signed, store};
+pub use memory::{Address, gather, load, load_signed, store};
 pub use state::{AbstractState, Frame, MOST_CALLERS};

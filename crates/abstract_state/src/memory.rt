@@ -61,16 +61,25 @@ fn load_outside_frame(
     }
 }
 
+/// Where a load or a store goes: through a value, at an offset from it.
+#[derive(Clone, Copy, Debug, PartialEq, Eq)]
+pub struct Address {
+    /// What is known of the value.
+    pub base: AbstractValue,
+    /// How many bytes after the value, or before it, the accessed bytes begin.
+    pub offset: i16,
+}
+
 /// What a load through a value gives, with a record and a table of so many bytes.
 pub fn load(
     lengths: Lengths,
     state: &AbstractState,
-    base: AbstractValue,
-    offset: i16,
+    address: Address,
     size: Size,
 ) -> Result<AbstractValue, Cause>
-    ensures { result ≡ load_result lengths state.now base offset (size_bytes size) }
+    ensures { result ≡ load_result lengths state.now address.base address.offset (size_bytes size) }
 {
+    let Address { base, offset } = address;
     let bytes = usize::from(size.bytes());
     match base {
         AbstractValue::Unset => Err(Cause::UnsetRegister),
@@ -92,13 +101,12 @@ pub fn load(
 pub fn load_signed(
     lengths: Lengths,
     state: &AbstractState,
-    base: AbstractValue,
-    offset: i16,
+    address: Address,
     size: SignedSize,
 ) -> Result<AbstractValue, Cause>
-    ensures { result ≡ load_signed_result lengths state.now base offset size }
+    ensures { result ≡ load_signed_result lengths state.now address.base address.offset size }
 {
-    load(lengths, state, base, offset, size.plain())?;
+    load(lengths, state, address, size.plain())?;
     Ok(AbstractValue::Number {
         lo: 0,
         hi: u64::MAX,
@@ -223,15 +231,15 @@ fn cause_of_table_write(lengths: Lengths, lo: u16, hi: u16, offset: i16, bytes: 
 pub fn store(
     lengths: Lengths,
     state: &mut AbstractState,
-    base: AbstractValue,
-    offset: i16,
+    address: Address,
     size: Size,
     value: AbstractValue,
 ) -> Result<(), Cause>
-    ensures stored { store_result lengths state.old base offset (size_bytes size) value
+    ensures stored { store_result lengths state.old address.base address.offset (size_bytes size) value
         ≡ store_answer result state.new }
     ensures unchanged { IfErr result (λ cause. state.new ≡ state.old) }
 {
+    let Address { base, offset } = address;
     let bytes = usize::from(size.bytes());
     match base {
         AbstractValue::Unset => Err(Cause::UnsetRegister),
