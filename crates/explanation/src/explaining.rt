@@ -7,7 +7,7 @@ ghost use Rattle.explanation.specs.Explanation.{head_text, explanation_text, Exp
 use crate::ending::put_end;
 use crate::judgement::Judgement;
 use crate::labels::{Label, words_of_label};
-use crate::listing::put_listing;
+use crate::listing::{Listing, put_listing};
 use crate::source::SourceLine;
 use crate::values::{put, put_field};
 use bpf_image::Image;
@@ -48,7 +48,13 @@ fn write_all(
 {
     let mut text = String::new(alloc);
     put_head(&mut text, image)?;
-    put_listing(&mut text, image, source, judgement, passages)?;
+    let listing = Listing {
+        image,
+        source,
+        judgement,
+        passages,
+    };
+    put_listing(&mut text, &listing)?;
     put_end(&mut text, image, source, passages, judgement)?;
     Ok(text)
 }

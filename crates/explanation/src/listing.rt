@@ -25,6 +25,15 @@ use bpf_image::Image;
 use std::alloc::AllocError;
 use verifier::KnownPassage;
 
+/// What is listed: a program, the lines that it was assembled from, what the verifier answers, and what is known.
+#[derive(Clone, Copy)]
+pub(crate) struct Listing<'a> {
+    pub image: &'a Image,
+    pub source: &'a [SourceLine<'a>],
+    pub judgement: Judgement,
+    pub passages: &'a [KnownPassage],
+}
+
 /// What is known at a pc, if it is walked.
 fn known_at(states: &[Option<AbstractState>], pc: usize) -> Option<&AbstractState>
     ensures { option_map (λ s. s.now) result ≡ state_at states.now pc }
@@ -142,48 +151,39 @@ fn put_call_lines(text: &mut String, passages: &[KnownPassage], pc: usize) -> Re
 #[tactic(auto, using(crate::proofs::Starts::starts_here, crate::proofs::Starts::starts_not))]
 fn put_pc(
     text: &mut String,
-    image: &Image,
-    source: &[SourceLine<'_>],
-    judgement: Judgement,
-    passages: &[KnownPassage],
+    listing: &Listing<'_>,
     pc: usize,
     cursor: Cursor,
 ) -> Result<(), AllocError>
-    requires { IsAt image.now pc cursor }
-    ensures { OnOk result (string_bytes text.new
-        ≡ string_bytes text.old ++ pc_text image.now source.now judgement passages.now pc) }
+    requires { IsAt listing.now.image.now pc cursor }
+    ensures { OnOk result (string_bytes text.new ≡ string_bytes text.old
+        ++ pc_text listing.now.image.now listing.now.source.now listing.now.judgement listing.now.passages.now pc) }
 {
     if cursor.next != pc {
         return Ok(());
     }
-    let is_listed = judgement.lists_states();
+    let is_listed = listing.judgement.lists_states();
     if is_listed {
-        put_call_lines(text, passages, pc)?;
+        put_call_lines(text, listing.passages, pc)?;
     }
-    put_instruction(text, image, source, pc, cursor.ordinal)?;
+    put_instruction(text, listing.image, listing.source, pc, cursor.ordinal)?;
     if is_listed {
-        put_known_lines(text, passages, pc)?;
+        put_known_lines(text, listing.passages, pc)?;
     }
     Ok(())
 }
 
 /// Writes all instructions, with what is known before each.
 #[tactic(auto, using(crate::proofs::Written::pieces_none, crate::proofs::Written::written_more, crate::proofs::Starts::at_first))]
-pub(crate) fn put_listing(
-    text: &mut String,
-    image: &Image,
-    source: &[SourceLine<'_>],
-    judgement: Judgement,
-    passages: &[KnownPassage],
-) -> Result<(), AllocError>
-    ensures { OnOk result (string_bytes text.new
-        ≡ string_bytes text.old
-        ++ pieces_to (pc_text image.now source.now judgement passages.now) (units image.now)) }
+pub(crate) fn put_listing(text: &mut String, listing: &Listing<'_>) -> Result<(), AllocError>
+    ensures { OnOk result (string_bytes text.new ≡ string_bytes text.old
+        ++ pieces_to (pc_text listing.now.image.now listing.now.source.now listing.now.judgement listing.now.passages.now)
+        (units listing.now.image.now)) }
 {
     let mut cursor = Cursor::first();
-    for pc in 0..image.code().len() / 8 {
-        put_pc(text, image, source, judgement, passages, pc, cursor)?;
-        cursor = cursor.past(image, pc);
+    for pc in 0..listing.image.code().len() / 8 {
+        put_pc(text, listing, pc, cursor)?;
+        cursor = cursor.past(listing.image, pc);
     }
     Ok(())
 }

@@ -6,4 +6,4 @@ use Rattle.explanation.proofs.listing.put_listing.Goals as goal
 
 pub loop-pc-init : goal.loop-pc-init
 loop-pc-init c =
-    (at_first c.args.image.now c.first-cursor.result c.first-cursor.ensures.next c.first-cursor.ensures.ordinal, written_none (pc_text c.args.image.now c.args.source.now c.args.judgement c.args.passages.now) (string_bytes c.args.text.now))
+    (at_first c.args.listing.now.image.now c.first-cursor.result c.first-cursor.ensures.next c.first-cursor.ensures.ordinal, written_none (pc_text c.args.listing.now.image.now c.args.listing.now.source.now c.args.listing.now.judgement c.args.listing.now.passages.now) (string_bytes c.args.text.now))

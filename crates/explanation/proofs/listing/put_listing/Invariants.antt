@@ -7,4 +7,4 @@ use Rattle.explanation.proofs.listing.put_listing.Given as goal
 
 abbrev pub invariant-loop-pc : goal.invariant-loop-pc
 invariant-loop-pc l =
-    IsAt l.image l.pc l.cursor × (string_bytes l.text ≡ string_bytes l.fn.text ++ pieces_to (pc_text l.image l.source l.judgement l.passages) l.pc)
+    IsAt l.listing.image.now l.pc l.cursor × (string_bytes l.text ≡ string_bytes l.fn.text ++ pieces_to (pc_text l.listing.image.now l.listing.source.now l.listing.judgement l.listing.passages.now) l.pc)
