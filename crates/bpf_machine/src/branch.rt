@@ -27,30 +27,32 @@ pub(crate) fn jump_over(machine: &mut Machine, distance: Distance) -> Turn
     }
 }
 
+/// What a conditional jump compares, and how.
+#[derive(Clone, Copy)]
+pub(crate) struct Condition {
+    pub width: Width,
+    pub comparison: Comparison,
+    pub left: Register,
+    pub right: Operand,
+}
+
 /// A conditional jump (RFC 9669, section 4.3).
-pub(crate) fn branch(
-    machine: &mut Machine,
-    width: Width,
-    comparison: Comparison,
-    left: Register,
-    right: Operand,
-    distance: i16,
-) -> Turn
+pub(crate) fn branch(machine: &mut Machine, condition: Condition, distance: i16) -> Turn
     requires from { pos 0 ≤ℤ machine.old.pc }
     requires limit { machine.old.pc ≤ℤ pos MOST_UNITS }
     ensures { (lengths : Lengths) (g : Graph) (bytes table : List ℕ)
         → effect lengths g
-        (Branch width comparison left right distance)
+        (Branch condition.width condition.comparison condition.left condition.right distance)
         (state_of machine.old bytes table)
         ≡ answer result (state_of machine.new bytes table) }
 {
-    let Some(first) = machine.register(left) else {
+    let Some(first) = machine.register(condition.left) else {
         return Turn::Trapped(TrapKind::UnsetRegister);
     };
-    let Some(second) = machine.operand(right) else {
+    let Some(second) = machine.operand(condition.right) else {
         return Turn::Trapped(TrapKind::UnsetRegister);
     };
-    if holds(width, comparison, first, second) {
+    if holds(condition.width, condition.comparison, first, second) {
         machine.jump(i32::from(distance))
     } else {
         machine.jump(0)

@@ -6,9 +6,9 @@ ghost use Rattle.bpf_model.specs.State.{lent};
 ghost use Rattle.bpf_model.specs.Step.{effect};
 ghost use Rattle.bpf_machine.specs.Seen.{state_of, answer, Keeps};
 
-use crate::access::{load_plain, load_signed, store_immediate, store_register};
+use crate::access::{Access, load_plain, load_signed, store_immediate, store_register};
 use crate::alu::{move_signed, negate_register, operate, swap_register};
-use crate::branch::{branch, jump_over};
+use crate::branch::{Condition, branch, jump_over};
 use crate::calls::{call, exit};
 use crate::helpers::call_helper;
 use crate::machine::Machine;
@@ -59,7 +59,15 @@ pub(crate) fn perform<G: GraphView>(
             left,
             right,
             distance,
-        } => branch(machine, width, comparison, left, right, distance),
+        } => {
+            let condition = Condition {
+                width,
+                comparison,
+                left,
+                right,
+            };
+            branch(machine, condition, distance)
+        }
         Instruction::CallHelper { number } => call_helper(machine, bytes, table, graph, number),
         Instruction::CallLocal { distance } => call(machine, distance),
         Instruction::Exit => exit(machine),
@@ -68,25 +76,37 @@ pub(crate) fn perform<G: GraphView>(
             destination,
             base,
             offset,
-        } => load_plain(machine, bytes, table, size, destination, base, offset),
+        } => {
+            let access = Access { size, base, offset };
+            load_plain(machine, bytes, table, access, destination)
+        }
         Instruction::LoadSigned {
             size,
             destination,
             base,
             offset,
-        } => load_signed(machine, bytes, table, size, destination, base, offset),
+        } => {
+            let access = Access { size, base, offset };
+            load_signed(machine, bytes, table, access, destination)
+        }
         Instruction::Store {
             size,
             base,
             offset,
             immediate,
-        } => store_immediate(machine, bytes, table, size, base, offset, immediate),
+        } => {
+            let access = Access { size, base, offset };
+            store_immediate(machine, bytes, table, access, immediate)
+        }
         Instruction::StoreRegister {
             size,
             base,
             offset,
             source,
-        } => store_register(machine, bytes, table, size, base, offset, source),
+        } => {
+            let access = Access { size, base, offset };
+            store_register(machine, bytes, table, access, source)
+        }
         Instruction::Wide { destination, value } => machine.put(2, destination, value),
     }
 }

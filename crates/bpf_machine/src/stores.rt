@@ -69,21 +69,28 @@ pub(crate) fn store_bytes(
     }
 }
 
+/// Where a store goes: an address, and how many bytes from there on.
+#[derive(Clone, Copy)]
+pub(crate) struct Place {
+    pub address: u64,
+    pub size: Size,
+}
+
 /// Stores a number's low bytes at an address, where that is allowed, and goes on.
 pub(crate) fn store_to(
     machine: &mut Machine,
     bytes: &mut [u8],
     table: &[u8],
-    address: u64,
-    size: Size,
+    place: Place,
     value: u64,
 ) -> Turn
     requires pc { machine.old.pc ≤ℤ pos MOST_UNITS }
     requires record { length bytes.old ≤ MOST_RECORD_LENGTH }
-    ensures step { store (lent bytes.old table.now) (state_of machine.old bytes.old table.now) address size value
+    ensures step { store (lent bytes.old table.now) (state_of machine.old bytes.old table.now) place.address place.size value
         ≡ answer result (state_of machine.new bytes.new table.now) }
     ensures kept { Keeps result bytes.old bytes.new }
 {
+    let Place { address, size } = place;
     let spelled = value.to_le_bytes();
     let low = &spelled[..usize::from(size.bytes())];
     let frames = machine.live_frames();

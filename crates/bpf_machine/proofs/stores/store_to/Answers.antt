@@ -24,27 +24,27 @@ allowed record_length frames a size = in_record record_length a size || in_frame
 
 pub returns-then-not-store_bytes-clause-step : goal.returns-then-not-store_bytes-clause-step
 returns-then-not-store_bytes-clause-step c =
-    let count : c.from.result ≡ size_bytes c.args.size = c.from.ensures ∙ c.bytes.ensures.value in
-    let low : take c.from.result c.to_le_bytes-spelled.result ≡ low_bytes c.args.size c.args.value = ap₂ take count c.to_le_bytes-spelled.ensures in
-    let size : length (take c.from.result c.to_le_bytes-spelled.result) ≡ size_bytes c.args.size = ap length low ∙ low_length c.args.size c.args.value in
+    let count : c.from.result ≡ size_bytes c.args.place.size = c.from.ensures ∙ c.bytes.ensures.value in
+    let low : take c.from.result c.to_le_bytes-spelled.result ≡ low_bytes c.args.place.size c.args.value = ap₂ take count c.to_le_bytes-spelled.ensures in
+    let size : length (take c.from.result c.to_le_bytes-spelled.result) ≡ size_bytes c.args.place.size = ap length low ∙ low_length c.args.place.size c.args.value in
     let live = c.live_frames-frames.ensures.live c.args.bytes.now c.args.table.now in
-    let may : false ≡ may_write (lent c.args.bytes.now c.args.table.now) (state_of c.args.machine.now c.args.bytes.now c.args.table.now) c.args.address (size_bytes c.args.size) =
-    sym c.if-not-store_bytes.true ∙ c.store_bytes.ensures.allowed ∙ ap₂ (λ n m. allowed (length c.args.bytes.now) n c.args.address m) live size in
-    let kind : write_trap (lent c.args.bytes.now c.args.table.now) c.args.address (size_bytes c.args.size) ≡ c.write_refusal.result =
-    ap (write_trap (lent c.args.bytes.now c.args.table.now) c.args.address) (sym size) ∙ sym (c.write_refusal.ensures c.args.bytes.now) in
+    let may : false ≡ may_write (lent c.args.bytes.now c.args.table.now) (state_of c.args.machine.now c.args.bytes.now c.args.table.now) c.args.place.address (size_bytes c.args.place.size) =
+    sym c.if-not-store_bytes.true ∙ c.store_bytes.ensures.allowed ∙ ap₂ (λ n m. allowed (length c.args.bytes.now) n c.args.place.address m) live size in
+    let kind : write_trap (lent c.args.bytes.now c.args.table.now) c.args.place.address (size_bytes c.args.place.size) ≡ c.write_refusal.result =
+    ap (write_trap (lent c.args.bytes.now c.args.table.now) c.args.place.address) (sym size) ∙ sym (c.write_refusal.ensures c.args.bytes.now) in
     rw (← may) (ap (λ k. Traps k c.args.machine.now.pc) kind)
 
 pub returns-clause-step : goal.returns-clause-step
 returns-clause-step c =
-    let count : c.from.result ≡ size_bytes c.args.size = c.from.ensures ∙ c.bytes.ensures.value in
-    let low : take c.from.result c.to_le_bytes-spelled.result ≡ low_bytes c.args.size c.args.value = ap₂ take count c.to_le_bytes-spelled.ensures in
-    let size : length (take c.from.result c.to_le_bytes-spelled.result) ≡ size_bytes c.args.size = ap length low ∙ low_length c.args.size c.args.value in
+    let count : c.from.result ≡ size_bytes c.args.place.size = c.from.ensures ∙ c.bytes.ensures.value in
+    let low : take c.from.result c.to_le_bytes-spelled.result ≡ low_bytes c.args.place.size c.args.value = ap₂ take count c.to_le_bytes-spelled.ensures in
+    let size : length (take c.from.result c.to_le_bytes-spelled.result) ≡ size_bytes c.args.place.size = ap length low ∙ low_length c.args.place.size c.args.value in
     let live = c.live_frames-frames.ensures.live c.args.bytes.now c.args.table.now in
-    let may : true ≡ may_write (lent c.args.bytes.now c.args.table.now) (state_of c.args.machine.now c.args.bytes.now c.args.table.now) c.args.address (size_bytes c.args.size) =
-    sym c.if-not-store_bytes.false ∙ c.store_bytes.ensures.allowed ∙ ap₂ (λ n m. allowed (length c.args.bytes.now) n c.args.address m) live size in
-    let memory : with_values (memory_of c.args.bytes.now (values_of (cells_of c.args.machine.now.stack))) c.args.address (low_bytes c.args.size c.args.value) ≡ memory_of c.store_bytes.new.bytes (values_of (cells_of c.store_bytes.new.stack)) =
-    ap (with_values (memory_of c.args.bytes.now (values_of (cells_of c.args.machine.now.stack))) c.args.address) (sym low) ∙ c.store_bytes.ensures.stored c.if-not-store_bytes.false in
-    let seen = table_written c.args.table.now (memory_of c.args.bytes.now (values_of (cells_of c.args.machine.now.stack))) c.args.address (low_bytes c.args.size c.args.value) ∙ ap (with_table c.args.table.now) memory in
+    let may : true ≡ may_write (lent c.args.bytes.now c.args.table.now) (state_of c.args.machine.now c.args.bytes.now c.args.table.now) c.args.place.address (size_bytes c.args.place.size) =
+    sym c.if-not-store_bytes.false ∙ c.store_bytes.ensures.allowed ∙ ap₂ (λ n m. allowed (length c.args.bytes.now) n c.args.place.address m) live size in
+    let memory : with_values (memory_of c.args.bytes.now (values_of (cells_of c.args.machine.now.stack))) c.args.place.address (low_bytes c.args.place.size c.args.value) ≡ memory_of c.store_bytes.new.bytes (values_of (cells_of c.store_bytes.new.stack)) =
+    ap (with_values (memory_of c.args.bytes.now (values_of (cells_of c.args.machine.now.stack))) c.args.place.address) (sym low) ∙ c.store_bytes.ensures.stored c.if-not-store_bytes.false in
+    let seen = table_written c.args.table.now (memory_of c.args.bytes.now (values_of (cells_of c.args.machine.now.stack))) c.args.place.address (low_bytes c.args.place.size c.args.value) ∙ ap (with_table c.args.table.now) memory in
     let here : to_z w64 (of_z w64 c.args.machine.now.pc) ≡ c.args.machine.now.pc = to_z-of_z w64 c.args.machine.now.pc (search rules) in
     let fits : FitsSigned w64 (c.args.machine.now.pc +ℤ pos 1) = search rules in
     let pc : to_z w64 (of_z w64 (to_z w64 (of_z w64 c.args.machine.now.pc) +ℤ pos 1)) ≡ c.args.machine.now.pc +ℤ pos 1 = ap (λ z. to_z w64 (of_z w64 (z +ℤ pos 1))) here ∙ to_z-of_z w64 (c.args.machine.now.pc +ℤ pos 1) fits in
