@@ -11,7 +11,7 @@ use shards::Counts;
 use std::alloc::Global;
 use std::sync::Wait;
 use std::thread::Threads;
-use workers::{Gate, Workers};
+use workers::{Crew, Gate};
 
 /// The table of a graph after a batch, and what the batch did to the graph. The table stays. `TooManyEdits` exactly
 /// above 65,536 edits; else `VertexRange` exactly where an edit names a vertex that the graph does not have; then
@@ -21,16 +21,14 @@ use workers::{Gate, Workers};
 /// ascending, are dealt to these in turn, the j-th, from 0, to worker j modulo their number. A range's number is a
 /// piece of the gate's. With one worker at work no thread is started.
 pub fn apply_batch<Ga: Gate, R: Threads + Wait>(
-    rt: &R,
+    crew: &Crew<'_, R, Ga>,
     alloc: Global,
     table: &Table,
     batch: &Batch,
-    workers: Workers,
-    gate: &Ga,
 ) -> Result<(Table, Counts), ApplyError>
     requires { IsOfGraph table.now }
     ensures applied { IsApplied table.now batch.now result }
-    ensures alone { workers.count ≡ 1 → IsErrOf result ApplyError.WorkerRefused → ⊥ }
+    ensures alone { crew.now.workers.count ≡ 1 → IsErrOf result ApplyError.WorkerRefused → ⊥ }
 {
     let edits = batch.edits();
     if edits.len() > MOST_EDITS {
@@ -39,6 +37,6 @@ pub fn apply_batch<Ga: Gate, R: Threads + Wait>(
     if !are_below(edits, table.vertex_count()) {
         return Err(ApplyError::VertexRange);
     }
-    let next = edit_table(rt, alloc, table, edits, workers, gate)?;
+    let next = edit_table(crew, alloc, table, edits)?;
     Ok(next)
 }

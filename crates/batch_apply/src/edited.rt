@@ -7,7 +7,7 @@ ghost use Rattle.shard_table.specs.Table.{IsEditable, AreAfter, AreMoved};
 ghost use Rattle.workers.specs.declared.work_error.WorkError.TheVariants.{OutOfMemory};
 ghost use Rattle.batch_apply.specs.Dealt.{IsReady, AreDealt, pieces_of};
 
-use crate::hands::{spread, work};
+use crate::hands::{Deal, spread, work};
 use crate::one_range::{edit_range, only_range};
 use crate::pieces::Pieces;
 use past_model::Edit;
@@ -17,34 +17,50 @@ use std::alloc::{AllocError, Global};
 use std::sync::Wait;
 use std::thread::Threads;
 use std::{slice, thread};
-use workers::{Gate, OpenGate, WorkError, Workers};
+use workers::{Crew, Gate, OpenGate, WorkError};
 
 /// The edited shards of all workers, each in a thread of its own.
 fn made_by<Ga: Gate, R: Threads + Wait>(
-    rt: &R,
+    crew: &Crew<'_, R, Ga>,
     alloc: Global,
-    table: &Table,
-    pieces: &Pieces,
-    gate: &Ga,
-    hands: usize,
+    deal: Deal<'_>,
 ) -> Result<Vec<Vec<EditedShard>>, WorkError>
-    requires ready { All (IsReady table.now) pieces.now }
-    requires few { length pieces.now ≤ MOST_RANGES }
-    requires some { 0 < hands }
-    requires hands { hands ≤ MOST_WORKERS }
-    ensures dealt { IfOk result (λ lists. AreDealt table.now pieces.now hands lists.items) }
-    ensures all { IfOk result (λ lists. length lists.items ≡ hands) }
+    requires { 0 < deal.step }
+    ensures dealt { IfOk result (λ lists. AreDealt deal.entry.table.now deal.entry.pieces.now deal.entry.step lists.items) }
+    ensures all { IfOk result (λ lists. length lists.items ≡ deal.entry.step) }
 {
+    let rt = crew.rt;
+    let workers = crew.workers;
+    let gate = crew.gate;
+    let Deal {
+        table,
+        pieces,
+        step,
+    } = deal;
     thread::scope(
         thread::scope_env(),
         rt,
         move |scope| -> Result<Vec<Vec<EditedShard>>, WorkError>
             requires { All (IsReady table.now) pieces.now × (length pieces.now ≤ MOST_RANGES)
-                × (0 < hands) × (hands ≤ MOST_WORKERS) }
+                × (0 < step) × (step ≤ MOST_WORKERS) }
             ensures { IfOk result (λ lists.
-                AreDealt table.entry.now pieces.entry.now hands lists.items
-                × (length lists.items ≡ hands)) }
-        { spread(rt, alloc, scope, table, pieces, gate, hands, hands) },
+                AreDealt table.entry.now pieces.entry.now step lists.items
+                × (length lists.items ≡ step)) }
+        {
+            let crew = Crew { rt, workers, gate };
+            let deal = Deal {
+                table,
+                pieces,
+                step,
+            };
+            let lists = spread(&crew, alloc, scope, deal, step);
+            let Crew {
+                rt: _,
+                workers: _,
+                gate: _,
+            } = crew;
+            lists
+        },
     )
 }
 
@@ -89,7 +105,12 @@ fn edit_alone<Ga: Gate>(
     ensures after { IfOk result (λ next. AreAfter groups.now.edits table.now next.0 next.1) }
     ensures homes { IfOk result (λ next. AreMoved table.now next.0) }
 {
-    let own = work(alloc, table, pieces, gate, 0, 1)?;
+    let deal = Deal {
+        table,
+        pieces,
+        step: 1,
+    };
+    let own = work(alloc, deal, gate, 0)?;
     put_in(alloc, table, groups, pieces, slice::from_ref(&own))
 }
 
@@ -100,34 +121,37 @@ fn edit_alone<Ga: Gate>(
 /// `OutOfMemory` where there is no memory, `WorkerRefused` where a thread could not be started; with one worker at work
 /// none is.
 pub fn edit_table<Ga: Gate, R: Threads + Wait>(
-    rt: &R,
+    crew: &Crew<'_, R, Ga>,
     alloc: Global,
     table: &Table,
     edits: &[Edit],
-    workers: Workers,
-    gate: &Ga,
 ) -> Result<(Table, Counts), WorkError>
     requires { IsEditable table.now edits.now }
     ensures after { IfOk result (λ next. AreAfter edits.now table.now next.0 next.1) }
     ensures homes { IfOk result (λ next. AreMoved table.now next.0) }
-    ensures alone { workers.count ≡ 1 → IfErr result (λ e. e ≡ OutOfMemory) }
+    ensures alone { crew.now.workers.count ≡ 1 → IfErr result (λ e. e ≡ OutOfMemory) }
 {
     if let Some(range) = only_range(edits) {
-        let next = edit_range(alloc, table, edits, range, gate)?;
+        let next = edit_range(alloc, table, edits, range, crew.gate)?;
         return Ok(next);
     }
     let groups = Groups::of(alloc, Grouping::ByRange, table.count(), edits)?;
     let pieces = Pieces::of(alloc, &groups, edits.len())?;
-    let busy = edits.len() / gate.edits_a_worker();
-    let hands = usize::from(workers.count())
+    let busy = edits.len() / crew.gate.edits_a_worker();
+    let hands = usize::from(crew.workers.count())
         .min(pieces.len())
         .min(busy)
         .max(1);
     if hands == 1 {
-        let next = edit_alone(alloc, table, &groups, &pieces, gate)?;
+        let next = edit_alone(alloc, table, &groups, &pieces, crew.gate)?;
         return Ok(next);
     }
-    let lists = made_by(rt, alloc, table, &pieces, gate, hands)?;
+    let deal = Deal {
+        table,
+        pieces: &pieces,
+        step: hands,
+    };
+    let lists = made_by(crew, alloc, deal)?;
     let next = put_in(alloc, table, &groups, &pieces, &lists)?;
     Ok(next)
 }

@@ -1,5 +1,6 @@
 //! Workers, to whom the edited ranges are dealt in turn.
 ghost use Rattle.std.specs.Prelude.{◌≡◌, ◌<◌, ◌≤◌, All, length, IfOk};
+ghost use Rattle.std.proofs.Props.{props};
 ghost use Rattle.past_model.specs.declared.limits.TheConstants.{MOST_RANGES};
 ghost use Rattle.workers.specs.declared.limits.TheConstants.{MOST_WORKERS};
 ghost use Rattle.batch_apply.specs.Dealt.{IsReady, IsDealt, AreDealt};
@@ -9,7 +10,18 @@ use shard_table::Table;
 use shards::{EditedShard, Scratch};
 use std::alloc::{AllocError, Global};
 use std::thread::{Promise, Scope, Threads};
-use workers::{Gate, WorkError};
+use workers::{Crew, Gate, WorkError};
+
+/// The pieces of a batch on a table, which are dealt to so many workers.
+#[derive(Clone, Copy)]
+pub(crate) struct Deal<'a> {
+    pub table: &'a Table,
+    pub pieces: &'a Pieces,
+    pub step: usize,
+    ghost ready: { All (IsReady table.now) pieces.now } by { Prim.hlevel props },
+    ghost few: { length pieces.now ≤ MOST_RANGES },
+    ghost most: { step ≤ MOST_WORKERS },
+}
 
 /// What a worker will have made.
 #[derive(Clone, Copy)]
@@ -29,18 +41,18 @@ impl<'a> Promise<Result<Vec<EditedShard>, AllocError>> for Share<'a> {
 /// range is its number at the gate.
 pub(crate) fn work<Ga: Gate>(
     alloc: Global,
-    table: &Table,
-    pieces: &Pieces,
+    deal: Deal<'_>,
     gate: &Ga,
     first: usize,
-    step: usize,
 ) -> Result<Vec<EditedShard>, AllocError>
-    requires ready { All (IsReady table.now) pieces.now }
-    requires few { length pieces.now ≤ MOST_RANGES }
-    requires first { first < step }
-    requires step { step ≤ MOST_WORKERS }
-    ensures { IfOk result (λ made. IsDealt table.now pieces.now first step made.items) }
+    requires { first < deal.step }
+    ensures { IfOk result (λ made. IsDealt deal.entry.table.now deal.entry.pieces.now first deal.entry.step made.items) }
 {
+    let Deal {
+        table,
+        pieces,
+        step,
+    } = deal;
     let mut made = Vec::new(alloc);
     let mut scratch = Scratch::new(alloc);
     let mut next = first;
@@ -59,26 +71,27 @@ pub(crate) fn work<Ga: Gate>(
 // The caller's thread makes none: a system that starts a thread where its maker runs would have both in turn on one processor,
 // and another idle.
 pub(crate) fn spread<'s, E, Ga: Gate, R: Threads>(
-    rt: &R,
+    crew: &Crew<'s, R, Ga>,
     alloc: Global,
     scope: &Scope<'s, E>,
-    table: &'s Table,
-    pieces: &'s Pieces,
-    gate: &'s Ga,
+    deal: Deal<'s>,
     bound: usize,
-    step: usize,
 ) -> Result<Vec<Vec<EditedShard>>, WorkError>
-    requires ready { All (IsReady table.now) pieces.now }
-    requires few { length pieces.now ≤ MOST_RANGES }
-    requires bound { bound ≤ step }
-    requires step { step ≤ MOST_WORKERS }
-    ensures dealt { IfOk result (λ lists. AreDealt table.now pieces.now step lists.items) }
+    requires { bound ≤ deal.step }
+    ensures dealt { IfOk result (λ lists. AreDealt deal.entry.table.now deal.entry.pieces.now deal.entry.step lists.items) }
     ensures all { IfOk result (λ lists. length lists.items ≡ bound) }
 {
     if bound == 0 {
         return Ok(Vec::new(alloc));
     }
     let first = bound - 1;
+    let gate = crew.gate;
+    // The closure takes plain references, and makes the deal again.
+    let Deal {
+        table,
+        pieces,
+        step,
+    } = deal;
     let share = Share {
         table,
         pieces,
@@ -90,12 +103,19 @@ pub(crate) fn spread<'s, E, Ga: Gate, R: Threads>(
             × (first < step) × (step ≤ MOST_WORKERS) }
         ensures { IfOk result (λ made.
             IsDealt table.entry.now pieces.entry.now first step made.items) }
-    { work(alloc, table, pieces, gate, first, step) };
+    {
+        let deal = Deal {
+            table,
+            pieces,
+            step,
+        };
+        work(alloc, deal, gate, first)
+    };
     let Ok(thread) = scope.spawn_with(share, worker) else {
         return Err(WorkError::WorkerRefused);
     };
-    let here = spread(rt, alloc, scope, table, pieces, gate, first, step);
-    let there = thread.join(rt);
+    let here = spread(crew, alloc, scope, deal, first);
+    let there = thread.join(crew.rt);
     let mut lists = here?;
     lists.push(there?)?;
     Ok(lists)

@@ -7,7 +7,7 @@ use std::alloc::{AllocError, Global};
 use std::sync::Wait;
 use std::test::Fail;
 use std::thread::Threads;
-use workers::{OpenGate, Workers};
+use workers::{Crew, OpenGate, Workers};
 
 // So many insertions, each out of a vertex that is so much above the one before.
 fn spread(alloc: Global, count: u32, apart: u32) -> Result<Batch, AllocError> {
@@ -52,9 +52,19 @@ fn a_batch_is_split(rt: HostRuntime) -> Result<(), Fail> {
 
 // How many edges a batch adds to the greatest graph that is served, by four workers.
 fn added<R: Threads + Wait>(rt: &R, alloc: Global, batch: &Batch) -> Result<u64, ApplyError> {
-    let workers = Workers::new(4).unwrap_or(Workers::one());
     let table = Table::empty(alloc, SERVED_VERTICES)?;
-    let (_, counts) = apply_batch(rt, alloc, &table, batch, workers, &OpenGate)?;
+    let crew = Crew {
+        rt,
+        workers: Workers::new(4).unwrap_or(Workers::one()),
+        gate: &OpenGate,
+    };
+    let applied = apply_batch(&crew, alloc, &table, batch);
+    let Crew {
+        rt: _,
+        workers: _,
+        gate: _,
+    } = crew;
+    let (_, counts) = applied?;
     Ok(counts.added)
 }
 

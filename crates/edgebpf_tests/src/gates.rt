@@ -37,14 +37,12 @@ fn four_ranges(alloc: Global) -> Result<Batch, AllocError> {
 
 // How many edges a batch adds.
 fn added<R: Threads + Wait>(
-    rt: &R,
+    crew: &Crew<'_, R, HoldingGate>,
     alloc: Global,
-    workers: Workers,
-    gate: &HoldingGate,
 ) -> Result<u64, ApplyError> {
     let batch = four_ranges(alloc)?;
     let table = Table::empty(alloc, 1_024)?;
-    let (_, counts) = apply_batch(rt, alloc, &table, &batch, workers, gate)?;
+    let (_, counts) = apply_batch(crew, alloc, &table, &batch)?;
     Ok(counts.added)
 }
 
@@ -52,8 +50,17 @@ fn added<R: Threads + Wait>(
 fn of_a_batch(rt: HostRuntime) {
     for (count, inside) in CREWS {
         let gate = HoldingGate::until(inside);
-        let workers = Workers::new(count).unwrap_or(Workers::one());
-        let told = added(&rt, rt.alloc(), workers, &gate);
+        let crew = Crew {
+            rt: &rt,
+            workers: Workers::new(count).unwrap_or(Workers::one()),
+            gate: &gate,
+        };
+        let told = added(&crew, rt.alloc());
+        let Crew {
+            rt: _,
+            workers: _,
+            gate: _,
+        } = crew;
         assert_eq!(rt; told, Ok(4));
         assert_eq!(rt; seen(&gate), ALL_FOUR, "{count}");
     }

@@ -45,7 +45,18 @@ pub(crate) fn apply<R: Threads + Wait>(rt: &R, alloc: Global) -> Result<(), Stop
     };
     // A gate that holds nobody and lets a worker begin for each range.
     let gate = HoldingGate::until(0);
-    match apply_batch(rt, alloc, &table, &batch, two_workers(), &gate) {
+    let crew = Crew {
+        rt,
+        workers: two_workers(),
+        gate: &gate,
+    };
+    let applied = apply_batch(&crew, alloc, &table, &batch);
+    let Crew {
+        rt: _,
+        workers: _,
+        gate: _,
+    } = crew;
+    match applied {
         Ok((_, counts)) if counts.added == 3 && counts.removed == 0 => Ok(()),
         Err(ApplyError::OutOfMemory | ApplyError::WorkerRefused) => Err(Stop::NotApplied),
         _ => Err(Stop::Wrong),

@@ -11,6 +11,7 @@ use std::alloc::{AllocError, Global};
 use std::sync::Wait;
 use std::thread::Threads;
 use store::{OpenGate, Workers};
+use workers::Crew;
 
 // How many vertices the graph has, and so how many targets a vertex can have.
 const VERTICES: u32 = 1200;
@@ -131,7 +132,18 @@ fn applied<R: Threads + Wait>(
     requires { IsOfGraph table.now }
     ensures { IfOk result (λ next. IsOfGraph next.0) }
 {
-    let next = apply_batch(rt, alloc, table, batch, Workers::one(), &OpenGate)?;
+    let crew = Crew {
+        rt,
+        workers: Workers::one(),
+        gate: &OpenGate,
+    };
+    let told = apply_batch(&crew, alloc, table, batch);
+    let Crew {
+        rt: _,
+        workers: _,
+        gate: _,
+    } = crew;
+    let next = told?;
     Ok(next)
 }
 

@@ -18,7 +18,7 @@ use std::marker::Model;
 use std::sync::{Arc, Wait};
 use std::thread::Threads;
 use version::{Counts, Version};
-use workers::{Gate, WorkError, Workers};
+use workers::{Crew, Gate, WorkError, Workers};
 
 /// After a batch of so many edits or more, the version before it is dropped at once.
 const LET_GO_EDITS: usize = 4_096;
@@ -74,8 +74,14 @@ impl Committer {
         ensures lost { IfOk result (λ made. made.1.removed ≡ removed entry.now.batch (graph_of self.now.moment.past)) }
         ensures alone { workers.count ≡ 1 → IfErr result (λ e. e ≡ OutOfMemory) }
     {
-        let last = self.current.version();
-        let (version, counts) = last.next(rt, self.alloc, entry, workers, gate)?;
+        let crew = Crew { rt, workers, gate };
+        let next = self.current.version().next(&crew, self.alloc, entry);
+        let Crew {
+            rt: _,
+            workers: _,
+            gate: _,
+        } = crew;
+        let (version, counts) = next?;
         Ok((self.record(version, Some(entry))?, counts))
     }
 

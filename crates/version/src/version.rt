@@ -20,7 +20,7 @@ use std::alloc::{AllocError, Global};
 use std::marker::Model;
 use std::sync::{Arc, Wait};
 use std::thread::Threads;
-use workers::{Gate, WorkError, Workers};
+use workers::{Crew, Gate, WorkError, Workers};
 
 /// One state of a graph: what the log of its epoch's batches makes of the epoch's base. It never changes after it was
 /// made. Contracts see it as the past that it is the replay of.
@@ -202,20 +202,18 @@ impl Version {
     /// if there is no memory, `WorkerRefused` if a thread could not be started; with one worker none is.
     pub fn next<Ga: Gate, R: Threads + Wait>(
         &self,
-        rt: &R,
+        crew: &Crew<'_, R, Ga>,
         alloc: Global,
         entry: &Entry,
-        workers: Workers,
-        gate: &Ga,
     ) -> Result<(Version, Counts), WorkError>
         requires room { number_of self.now < MOST_BATCHES }
         requires below { AreEditsBelow self.now.vertex_count entry.now.batch }
         ensures next { IfOk result (λ next. next.0 ≡ longer self.now entry.now) }
         ensures gained { IfOk result (λ next. next.1.added ≡ added entry.now.batch (graph_of self.now)) }
         ensures lost { IfOk result (λ next. next.1.removed ≡ removed entry.now.batch (graph_of self.now)) }
-        ensures alone { workers.count ≡ 1 → IfErr result (λ e. e ≡ OutOfMemory) }
+        ensures alone { crew.now.workers.count ≡ 1 → IfErr result (λ e. e ≡ OutOfMemory) }
     {
-        let made = edit_table(rt, alloc, &self.shards, entry.batch.edits(), workers, gate)?;
+        let made = edit_table(crew, alloc, &self.shards, entry.batch.edits())?;
         let next = self.with_batch(alloc, entry, made)?;
         Ok(next)
     }

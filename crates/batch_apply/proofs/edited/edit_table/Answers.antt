@@ -42,8 +42,8 @@ edit_alone-requires-clause-few g c κs within =
     few_pieces c.in_ok-groups.groups c.in_ok-pieces.pieces c.in_ok-pieces.ensures
     (omega (arith, ap (λ (g : Grouped). g.count) c.in_ok-groups.ensures, c.count.ensures, few_parts c.requires.graph c.args.table.now c.requires.table c.requires.small))
 
-pub made_by-requires-clause-ready : goal.made_by-requires-clause-ready
-made_by-requires-clause-ready g c κs within =
+pub invariant_of-deal-clause-ready : goal.invariant_of-deal-clause-ready
+invariant_of-deal-clause-ready g c =
     let parts = c.args.table.now in
     let groups = c.in_ok-groups.groups in
     let is = c.in_ok-groups.ensures in
@@ -54,8 +54,8 @@ made_by-requires-clause-ready g c κs within =
     } in
     all_ready groups parts c.in_ok-pieces.pieces batch c.in_ok-pieces.ensures
 
-pub made_by-requires-clause-few : goal.made_by-requires-clause-few
-made_by-requires-clause-few g c κs within =
+pub invariant_of-deal-clause-few : goal.invariant_of-deal-clause-few
+invariant_of-deal-clause-few g c =
     few_pieces c.in_ok-groups.groups c.in_ok-pieces.pieces c.in_ok-pieces.ensures
     (omega (arith, ap (λ (g : Grouped). g.count) c.in_ok-groups.ensures, c.count.ensures, few_parts c.requires.graph c.args.table.now c.requires.table c.requires.small))
 

@@ -6,9 +6,9 @@ use Rattle.batch_apply.proofs.hands.+spread.Goals as goal
 
 pub returns-clause-dealt : goal.returns-clause-dealt
 returns-clause-dealt g t c =
-    let parts = c.args.table.now in
-    let pieces = c.args.pieces.now in
-    let step = c.args.step in
+    let parts = c.args.deal.table.now in
+    let pieces = c.args.deal.pieces.now in
+    let step = c.args.deal.step in
     let before = c.in_ok-lists.lists.items in
     let last = c.in_ok-there.field-0 in
     let own : IsDealt parts pieces (c.args.bound - 1) step last.items = subst (λ (s : Share). IsDealt s.table.now s.pieces.now s.first s.step last.items) c.in-Ok.ensures.ok c.in_ok-there.ensures in

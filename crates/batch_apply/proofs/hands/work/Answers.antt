@@ -11,23 +11,23 @@ use Rattle.batch_apply.proofs.hands.work.Goals as goal
 pub edit-edited-requires-clause-range : goal.edit-edited-requires-clause-range
 edit-edited-requires-clause-range g c =
     let d : Piece = (0, []) in
-    let here : c.pieces.next < length c.args.pieces.now = (let test = c.pieces-test.true in let all = c.len.ensures in omega arith) in
+    let here : c.pieces.next < length c.args.deal.pieces.now = (let test = c.pieces-test.true in let all = c.len.ensures in omega arith) in
     let range = c.range-range.ensures d in
-    let inside = (c.requires.ready c.pieces.next d here).0 in
+    let inside = (c.args.deal.ready c.pieces.next d here).0 in
     omega arith
 
 pub edit-edited-requires-clause-edits : goal.edit-edited-requires-clause-edits
 edit-edited-requires-clause-edits g c =
     let d : Piece = (0, []) in
-    let here : c.pieces.next < length c.args.pieces.now = (let test = c.pieces-test.true in let all = c.len.ensures in omega arith) in
-    subst₂ (λ r es. AreEditsOf (part_at c.args.table.now r) es) (sym (c.range-range.ensures d)) (sym (c.edits.ensures d)) (c.requires.ready c.pieces.next d here).1
+    let here : c.pieces.next < length c.args.deal.pieces.now = (let test = c.pieces-test.true in let all = c.len.ensures in omega arith) in
+    subst₂ (λ r es. AreEditsOf (part_at c.args.deal.table.now r) es) (sym (c.range-range.ensures d)) (sym (c.edits.ensures d)) (c.args.deal.ready c.pieces.next d here).1
 
 pub pieces-preserved : goal.pieces-preserved
 pieces-preserved g c =
-    let parts = c.args.table.now in
-    let pieces = c.args.pieces.now in
+    let parts = c.args.deal.table.now in
+    let pieces = c.args.deal.pieces.now in
     let first = c.args.first in
-    let step = c.args.step in
+    let step = c.args.deal.step in
     let made = c.pieces.made.items in
     let e = c.in_ok-edited.field-0 in
     let last : (p : Piece) → IsMadeOf parts (get_or pieces (first + length made * step) p) e =
@@ -50,7 +50,7 @@ returns g c =
     let place = c.pieces.invariant.place in
     let inside : i < length made = elim (cases_lt i (length made)) [
       | inl lt ↦ lt
-      | inr ge ↦ (let far : length made * c.args.step ≤ i * c.args.step = mul-le-mul ge (le_refl c.args.step) in absurd (omega arith))
+      | inr ge ↦ (let far : length made * c.args.deal.step ≤ i * c.args.deal.step = mul-le-mul ge (le_refl c.args.deal.step) in absurd (omega arith))
     ] in (
       inside,
       λ p d. c.pieces.invariant.each i p d inside,
