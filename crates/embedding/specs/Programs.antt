@@ -1,7 +1,7 @@
 -- What is reported of a program.
 use Rattle.std.specs.Prelude.{◌≡◌, ◌↔◌, ◌⊎◌, ℕ, ◌<◌, min, List, Result, Ok, Err, length}
 use Rattle.bpf_isa.specs.declared.limits.TheConstants.{MOST_UNITS}
-use Rattle.explanation.specs.Words.{cause_number}
+use Rattle.verifier.specs.Causes.{cause_number}
 use Rattle.bpf_image.specs.declared.limits.TheConstants.{MOST_TABLE_LENGTH}
 use Rattle.bpf_image.specs.Program.{Program, IsRecordLength, IsCodeLength, IsImage}
 use Rattle.verifier.specs.Verdict.{Verdict, Accepted, Refused, verdict}

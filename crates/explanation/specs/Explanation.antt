@@ -39,7 +39,8 @@ use Rattle.explanation.specs.Advice.{advice_for}
 use Rattle.explanation.specs.Pieces.{newline, pieces_to}
 use Rattle.explanation.specs.Values.{state_text, frame_text, register_line}
 use Rattle.bpf_model.specs.State.{most_frames}
-use Rattle.explanation.specs.Words.{cause_number, cause_text, advice_text}
+use Rattle.explanation.specs.Words.{cause_text, advice_text}
+use Rattle.verifier.specs.Causes.{cause_number}
 
 -- ---- an instruction
 

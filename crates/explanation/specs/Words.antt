@@ -5,26 +5,6 @@ use Rattle.bpf_model.specs.declared.cause.Cause.TheVariants as causes
 use Rattle.explanation.specs.declared.advice.Advice.{Advice}
 use Rattle.explanation.specs.declared.advice.Advice.TheVariants as advice
 
-abbrev pub cause_number : Cause → ℕ
-cause_number causes.BadInstruction = 1
-cause_number causes.JumpOut = 2
-cause_number causes.JumpBack = 3
-cause_number causes.CallTarget = 4
-cause_number causes.FallsOff = 5
-cause_number causes.TooDeep = 6
-cause_number causes.TooLong = 7
-cause_number causes.UnsetRegister = 8
-cause_number causes.FrameRegister = 9
-cause_number causes.PointerUse = 10
-cause_number causes.OutOfRange = 11
-cause_number causes.UnsetStackByte = 12
-cause_number causes.HelperArgument = 13
-cause_number causes.UnknownHelper = 14
-cause_number causes.ResultNotNumber = 15
-cause_number causes.OutOfMemory = 16
-cause_number causes.ReadOnly = 17
-cause_number causes.TooManyPairs = 18
-
 abbrev pub cause_text : Cause → List ℕ
 cause_text causes.BadInstruction = codes "no instruction stands there"
 cause_text causes.JumpOut = codes "a jump leads where no instruction starts, or out of its function"

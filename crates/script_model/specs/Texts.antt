@@ -2,11 +2,10 @@
 use Rattle.std.specs.Prelude.{ℕ, ◌==◌, if◌then◌else◌, List, [], ◌∷◌, ◌++◌, codes}
 use Rattle.std.specs.List.{flat_map}
 use Rattle.std.specs.Fmt.{decimal}
-use Rattle.bpf_model.specs.declared.cause.Cause.{Cause}
-use Rattle.bpf_model.specs.declared.cause.Cause.TheVariants.{BadInstruction, JumpOut, JumpBack, CallTarget, FallsOff, TooDeep, TooLong, UnsetRegister, FrameRegister, PointerUse, OutOfRange, UnsetStackByte, HelperArgument, UnknownHelper, ResultNotNumber, OutOfMemory, ReadOnly, TooManyPairs}
 use Rattle.bpf_image.specs.declared.image_error.ImageError.{ImageError}
 use Rattle.bpf_image.specs.declared.image_error.ImageError.TheVariants as images
 use Rattle.verifier.specs.declared.refusal.Refusal.{Refusal}
+use Rattle.verifier.specs.Causes.{cause_number}
 use Rattle.bpf_asm.specs.declared.errors.TextCause.{TextCause}
 use Rattle.bpf_asm.specs.declared.errors.TextCause.TheVariants.{Syntax, UnknownName, DoubleLabel, UnknownLabel, NumberRange, TooLong, OutOfMemory}
 use Rattle.bpf_asm.specs.declared.errors.AssembleError.{AssembleError}
@@ -40,26 +39,6 @@ line_fault_number line_faults.LongLine = 1
 line_fault_number line_faults.Words = 2
 line_fault_number (line_faults.Command fault) = fault_number fault
 line_fault_number line_faults.OpenBlock = 10
-
-abbrev pub cause_number : Cause → ℕ
-cause_number BadInstruction = 1
-cause_number JumpOut = 2
-cause_number JumpBack = 3
-cause_number CallTarget = 4
-cause_number FallsOff = 5
-cause_number TooDeep = 6
-cause_number TooLong = 7
-cause_number UnsetRegister = 8
-cause_number FrameRegister = 9
-cause_number PointerUse = 10
-cause_number OutOfRange = 11
-cause_number UnsetStackByte = 12
-cause_number HelperArgument = 13
-cause_number UnknownHelper = 14
-cause_number ResultNotNumber = 15
-cause_number OutOfMemory = 16
-cause_number ReadOnly = 17
-cause_number TooManyPairs = 18
 
 -- the number of what is wrong with a program's text
 abbrev pub text_cause_number : TextCause → ℕ

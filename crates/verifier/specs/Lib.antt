@@ -18,3 +18,4 @@ pub mod Known
 pub mod Actions
 pub mod Writing
 pub mod Singly
+pub mod Causes
